@@ -1,0 +1,16 @@
+-- The cell that counts live sthreads.
+use Rattle.std.specs.Prelude.{ℕ, ◌-◌}
+use Rattle.wedge_base.specs.declared.cells.LivesAsk.{LivesAsk}
+use Rattle.wedge_base.specs.declared.cells.LivesAsk.TheVariants as ask
+use Rattle.wedge_base.specs.declared.cells.LivesReply.{LivesReply}
+use Rattle.wedge_base.specs.declared.cells.LivesReply.TheVariants as reply
+
+abbrev pub lives_reply : ℕ → LivesAsk → LivesReply
+lives_reply n (ask.Release end) = reply.Released
+
+abbrev pub lives_next : ℕ → LivesAsk → ℕ
+lives_next n (ask.Release end) = n - 1
+
+-- a run begins with the root alone
+abbrev pub lives_opening : ℕ
+lives_opening = 1

@@ -1,0 +1,55 @@
+//! The parts of an image.
+
+use crate::items::Bytes;
+use crate::names::PathText;
+use crate::rights::{FdBits, Right, StreamKind};
+
+/// A procedure of the text.
+#[derive(Clone, Debug, Drop)]
+pub struct Procedure {
+    pub name: Bytes,
+    /// The address of its first instruction.
+    pub address: u32,
+}
+
+/// A range of memory: the address at which it begins, and its bytes.
+#[derive(Clone, Debug, Drop)]
+pub struct MemoryRange {
+    pub base: u32,
+    pub bytes: Bytes,
+}
+
+/// A declared tag. Its number and its slot are its place among the declared tags.
+#[derive(Clone, Debug, Drop)]
+pub struct TagEntry {
+    pub name: Bytes,
+    /// How many pages of 4,096 bytes.
+    pub pages: u32,
+    /// The root's right on it.
+    pub right: Option<Right>,
+    /// Its opening bytes; those after them are zero.
+    pub content: Bytes,
+}
+
+/// A declared descriptor. Its number is its place among the declared descriptors.
+#[derive(Clone, Debug, Drop)]
+pub struct FdEntry {
+    pub name: Bytes,
+    pub kind: StreamKind,
+    /// The root's bits on it.
+    pub bits: FdBits,
+    /// The bytes of a source; none of an append stream.
+    pub content: Bytes,
+}
+
+/// A file.
+#[derive(Clone, Debug, Drop)]
+pub struct FileEntry {
+    pub path: PathText,
+    /// The user who owns it.
+    pub owner: u32,
+    /// Bit 0 owner read, bit 1 owner append, bit 2 others read, bit 3 others append.
+    pub mode: u32,
+    pub kind: StreamKind,
+    pub content: Bytes,
+}

@@ -1,0 +1,23 @@
+//! The words that every crate of wedge shares: names, rights, what cells are asked and reply,
+//! events, and what a run reports. The definitions in `specs/` say what they mean.
+#![tactic(auto)]
+
+mod cells;
+mod errors;
+mod events;
+mod image;
+mod items;
+mod names;
+mod numbers;
+mod outcome;
+mod rights;
+
+pub use cells::{LivesAsk, LivesReply, StreamAsk, StreamReply};
+pub use errors::NoMemory;
+pub use events::{Ask, CellName, Event, Journal, LogEntry, Turn};
+pub use image::{FdEntry, FileEntry, MemoryRange, Procedure, TagEntry};
+pub use items::{Bytes, Items};
+pub use names::{ActorName, PathText};
+pub use numbers::{FdNo, Slot, Stamp, TagNo};
+pub use outcome::{ActorLine, DenialAt, Outcome, StreamLine};
+pub use rights::{Code, Denial, End, FdBits, Grant, Right, StreamKind};

@@ -1,0 +1,45 @@
+//! What a run ends with.
+
+use crate::items::{Bytes, Items};
+use crate::names::ActorName;
+use crate::numbers::FdNo;
+use crate::rights::{Denial, End};
+
+/// A denial, and the address of the instruction that was denied.
+#[derive(Clone, Copy, Debug, PartialEq, Eq)]
+pub struct DenialAt {
+    pub pc: u32,
+    pub denial: Denial,
+}
+
+/// What became of an actor.
+#[derive(Clone, Debug, Drop)]
+pub struct ActorLine {
+    pub name: ActorName,
+    /// The name of the procedure at which it began.
+    pub compartment: Bytes,
+    pub end: End,
+    /// The address of the instruction or fetch that ended it.
+    pub pc: u32,
+    /// The units of fuel that were left.
+    pub fuel: u32,
+    /// Its denials, in order.
+    pub denials: Items<DenialAt>,
+}
+
+/// What an append stream held at the end.
+#[derive(Clone, Debug, Drop)]
+pub struct StreamLine {
+    pub number: FdNo,
+    /// The name under which it was declared.
+    pub label: Bytes,
+    pub bytes: Bytes,
+}
+
+/// What a run ends with: a line for each actor, in order of name, and one for each append stream, by
+/// number.
+#[derive(Clone, Debug, Drop)]
+pub struct Outcome {
+    pub actors: Items<ActorLine>,
+    pub streams: Items<StreamLine>,
+}
