@@ -1,0 +1,5 @@
+pub mod Forms
+pub mod Spelling
+pub mod Rules
+pub mod Address
+pub mod View
