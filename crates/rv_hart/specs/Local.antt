@@ -1,0 +1,160 @@
+-- The local step of a hart: what an instruction makes of its registers and pc, or the one thing that it needs first.
+-- RISC-V Unprivileged ISA manual, document 20191213, chapters 2 and 7.
+use Rattle.std.specs.Prelude.{ℕ, ◌+◌, ◌-◌, ◌*◌, ◌/◌, ◌%◌, ◌^◌, ◌==◌, Bool, true, false, not, List, Option, Some, None, pos, ◌+ℤ◌, ◌-ℤ◌, int_lt, nat_lt, bit_and, bit_or, bit_xor, slice_index, slice_set, if◌then◌else◌}
+use Rattle.rv_isa.specs.declared.Op.{Op}
+use Rattle.rv_isa.specs.declared.Op.TheVariants as op
+use Rattle.rv_isa.specs.declared.Instr.{Instr}
+use Rattle.rv_hart.specs.declared.Hart.{Hart}
+use Rattle.rv_hart.specs.declared.Need.{Need}
+use Rattle.rv_hart.specs.declared.Need.TheVariants as need
+use Rattle.rv_hart.specs.declared.Reply.{Reply}
+use Rattle.rv_hart.specs.declared.Reply.TheVariants as reply
+use Rattle.rv_hart.specs.Alu as alu
+
+-- a pc, and the list of the registers
+abbrev pub HartState : Type 0
+HartState = Hart
+
+-- register 0 reads 0
+abbrev pub reg : List ℕ → ℕ → ℕ
+reg regs n = if n == 0 then 0 else slice_index regs n
+
+-- register 0 is never changed
+abbrev pub put : List ℕ → ℕ → ℕ → List ℕ
+put regs n value = if n == 0 then regs else slice_set regs n value
+
+-- the next hart, and what it needs
+pub record Began : Type 0 where
+  pub hart : HartState
+  pub need : Need
+
+abbrev pub next_pc : ℕ → ℕ
+next_pc pc = (pc + 4) % 2 ^ 32
+
+-- a register is set
+abbrev pub sets : Instr → HartState → ℕ → Began
+sets i h value = record { hart = record { pc = next_pc h.pc; regs = put h.regs i.rd value }; need = need.Done }
+
+-- nothing is changed yet
+abbrev pub asks : HartState → Need → Began
+asks h n = record { hart = h; need = n }
+
+-- to an address, with a link
+abbrev pub goes : Instr → HartState → ℕ → Began
+goes i h target =
+    if target % 4 == 0 then record { hart = record { pc = target; regs = put h.regs i.rd (next_pc h.pc) }; need = need.Done }
+    else asks h need.JumpMisaligned
+
+-- to an address, with no link
+abbrev pub turns : HartState → ℕ → Began
+turns h target = if target % 4 == 0 then record { hart = record h { pc = target }; need = need.Done } else asks h need.JumpMisaligned
+
+abbrev pub branches : Instr → HartState → Bool → Began
+branches i h taken = if taken then turns h (alu.as_word (pos h.pc +ℤ i.imm)) else record { hart = record h { pc = next_pc h.pc }; need = need.Done }
+
+-- the operands
+abbrev pub a : Instr → HartState → ℕ
+a i h = reg h.regs i.rs1
+
+abbrev pub b : Instr → HartState → ℕ
+b i h = reg h.regs i.rs2
+
+abbrev pub address : Instr → HartState → ℕ
+address i h = alu.as_word (pos (reg h.regs i.rs1) +ℤ i.imm)
+
+abbrev pub word : Instr → ℕ
+word i = alu.as_word i.imm
+
+unfoldable pub local : Instr → HartState → Began
+local i h = elim i.op [
+  | op.Lui ↦ sets i h (word i)
+  | op.Auipc ↦ sets i h (alu.add h.pc (word i))
+  | op.Jal ↦ goes i h (alu.as_word (pos h.pc +ℤ i.imm))
+  | op.Jalr ↦ goes i h (address i h / 2 * 2)
+  | op.Beq ↦ branches i h (a i h == b i h)
+  | op.Bne ↦ branches i h (not (a i h == b i h))
+  | op.Blt ↦ branches i h (int_lt (alu.as_signed (a i h)) (alu.as_signed (b i h)))
+  | op.Bge ↦ branches i h (not (int_lt (alu.as_signed (a i h)) (alu.as_signed (b i h))))
+  | op.Bltu ↦ branches i h (nat_lt (a i h) (b i h))
+  | op.Bgeu ↦ branches i h (not (nat_lt (a i h) (b i h)))
+  | op.Lb ↦ asks h (need.Load (address i h) 1 true)
+  | op.Lh ↦ asks h (need.Load (address i h) 2 true)
+  | op.Lw ↦ asks h (need.Load (address i h) 4 false)
+  | op.Lbu ↦ asks h (need.Load (address i h) 1 false)
+  | op.Lhu ↦ asks h (need.Load (address i h) 2 false)
+  | op.Sb ↦ asks h (need.Store (address i h) 1 (b i h))
+  | op.Sh ↦ asks h (need.Store (address i h) 2 (b i h))
+  | op.Sw ↦ asks h (need.Store (address i h) 4 (b i h))
+  | op.Addi ↦ sets i h (alu.add (a i h) (word i))
+  | op.Slti ↦ sets i h (alu.slt (a i h) (word i))
+  | op.Sltiu ↦ sets i h (alu.sltu (a i h) (word i))
+  | op.Xori ↦ sets i h (bit_xor (a i h) (word i))
+  | op.Ori ↦ sets i h (bit_or (a i h) (word i))
+  | op.Andi ↦ sets i h (bit_and (a i h) (word i))
+  | op.Slli ↦ sets i h (alu.sll (a i h) (word i))
+  | op.Srli ↦ sets i h (alu.srl (a i h) (word i))
+  | op.Srai ↦ sets i h (alu.sra (a i h) (word i))
+  | op.Add ↦ sets i h (alu.add (a i h) (b i h))
+  | op.Sll ↦ sets i h (alu.sll (a i h) (b i h))
+  | op.Slt ↦ sets i h (alu.slt (a i h) (b i h))
+  | op.Sltu ↦ sets i h (alu.sltu (a i h) (b i h))
+  | op.Xor ↦ sets i h (bit_xor (a i h) (b i h))
+  | op.Srl ↦ sets i h (alu.srl (a i h) (b i h))
+  | op.Or ↦ sets i h (bit_or (a i h) (b i h))
+  | op.And ↦ sets i h (bit_and (a i h) (b i h))
+  | op.Sub ↦ sets i h (alu.sub (a i h) (b i h))
+  | op.Sra ↦ sets i h (alu.sra (a i h) (b i h))
+  | op.Mul ↦ sets i h (alu.mul (a i h) (b i h))
+  | op.Mulh ↦ sets i h (alu.mulh (a i h) (b i h))
+  | op.Mulhsu ↦ sets i h (alu.mulhsu (a i h) (b i h))
+  | op.Mulhu ↦ sets i h (alu.mulhu (a i h) (b i h))
+  | op.Div ↦ sets i h (alu.div (a i h) (b i h))
+  | op.Divu ↦ sets i h (alu.divu (a i h) (b i h))
+  | op.Rem ↦ sets i h (alu.rem (a i h) (b i h))
+  | op.Remu ↦ sets i h (alu.remu (a i h) (b i h))
+  | op.Fence ↦ record { hart = record h { pc = next_pc h.pc }; need = need.Done }
+  | op.Ecall ↦ asks h need.Call
+  | op.Ebreak ↦ asks h need.Break
+]
+
+-- a loaded value of so many bytes, with its sign or without
+abbrev pub extended : ℕ → Bool → ℕ → ℕ
+extended width is_signed value = if is_signed then alu.as_word (if nat_lt value (2 ^ (8 * width - 1)) then pos value else pos value -ℤ pos (2 ^ (8 * width))) else value
+
+-- the value that a load of these bytes gives
+abbrev pub loaded_value : Op → ℕ → ℕ
+loaded_value op.Lb value = extended 1 true value
+loaded_value op.Lh value = extended 2 true value
+loaded_value o value = value
+
+-- a load is done, with its value; a store is done
+abbrev pub loaded : Instr → HartState → ℕ → HartState
+loaded i h value = record { pc = next_pc h.pc; regs = put h.regs i.rd value }
+
+abbrev pub stored : HartState → HartState
+stored h = record h { pc = next_pc h.pc }
+
+-- the answer of a call: a value in a0, a code in a1, and some calls answer in a2 too
+abbrev pub answered_with : HartState → ℕ → ℕ → Option ℕ → HartState
+answered_with h value code None = record { pc = next_pc h.pc; regs = put (put h.regs 10 value) 11 code }
+answered_with h value code (Some more) = record { pc = next_pc h.pc; regs = put (put (put h.regs 10 value) 11 code) 12 more }
+
+abbrev pub answered : HartState → ℕ → ℕ → HartState
+answered h value code = answered_with h value code None
+
+abbrev pub answered_more : HartState → ℕ → ℕ → HartState
+answered_more h value more = answered_with h value 0 (Some more)
+
+-- whether a reply is of the kind that was needed
+abbrev pub is_reply_to : Need → Reply → Bool
+is_reply_to (need.Load address width is_signed) (reply.Loaded value) = true
+is_reply_to (need.Store address width value) reply.Stored = true
+is_reply_to need.Call (reply.Answered value code more) = true
+is_reply_to n r = false
+
+-- the step that was begun is made, with the reply to what it needed
+abbrev pub finished : Instr → HartState → Need → Reply → HartState
+finished i h (need.Load address width is_signed) (reply.Loaded value) = loaded i h (extended width is_signed value)
+finished i h (need.Store address width value) reply.Stored = stored h
+finished i h need.Call (reply.Answered value code more) = answered_with h value code more
+finished i h n r = h

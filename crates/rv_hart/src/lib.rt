@@ -1,0 +1,265 @@
+//! The local step of a hart: what an instruction makes of its registers and pc. RISC-V Unprivileged
+//! ISA manual, document 20191213, chapters 2 and 7.
+#![tactic(auto)]
+
+mod alu;
+
+ghost use Rattle.std.specs.Prelude.{◌≡◌, ◌<◌, ◌*◌, ◌^◌, replicate, IsTrue, nat_lt, pos, ◌-ℤ◌, if◌then◌else◌};
+ghost use Rattle.rv_isa.specs.Table.{HasRegisters};
+ghost use Rattle.rv_hart.specs.Local.{reg, put, local, sets, goes, branches, finished, is_reply_to, loaded_value};
+ghost use Rattle.rv_hart.specs.Alu.{as_word};
+
+use alu::{div, divu, mulh, mulhsu, mulhu, offset, rem, remu, slt, sltu, sra};
+use rv_isa::{Instr, Op};
+
+/// What a hart needs before its step is made.
+#[derive(Clone, Copy, Debug, PartialEq, Eq)]
+pub enum Need {
+    /// Nothing: the step is made.
+    Done,
+    /// The value of so many bytes at an address.
+    Load {
+        address: u32,
+        width: u8,
+        signed: bool,
+    },
+    /// That the low bytes of a value be stored at an address.
+    Store {
+        address: u32,
+        width: u8,
+        value: u32,
+    },
+    /// A call of the environment.
+    Call,
+    /// A debugger.
+    Break,
+    /// A target that is a multiple of 4: the one of this jump or taken branch is none.
+    JumpMisaligned,
+}
+
+/// What a hart is told of what it needed.
+#[derive(Clone, Copy, Debug, PartialEq, Eq)]
+pub enum Reply {
+    /// The loaded bytes, as a number.
+    Loaded(u32),
+    /// The value is stored.
+    Stored,
+    /// What a call answers in a0, a1 and, where it has one, a2.
+    Answered { a0: u32, a1: u32, a2: Option<u32> },
+}
+
+/// A hart: its pc and its registers. Register 0 reads 0, whatever stands there.
+#[derive(Clone, Copy, Debug, PartialEq, Eq)]
+pub struct Hart {
+    pub pc: u32,
+    pub regs: [u32; 32],
+}
+
+impl Hart {
+    /// A hart whose registers are all 0.
+    pub fn new(pc: u32) -> Hart
+        ensures { result ≡ record { pc = pc; regs = replicate 32 0 } }
+    {
+        Hart { pc, regs: [0; 32] }
+    }
+
+    /// The value of a register.
+    pub fn reg(&self, n: u8) -> u32
+        requires { n < 32 }
+        ensures { result ≡ reg self.now.regs n }
+    {
+        if n == 0 { 0 } else { self.regs[usize::from(n)] }
+    }
+
+    /// Sets a register; register 0 is never changed.
+    pub fn put(&mut self, n: u8, value: u32)
+        requires { n < 32 }
+        ensures { self.new ≡ record self.old { regs = put self.old.regs n value } }
+    {
+        if n != 0 {
+            self.regs[usize::from(n)] = value;
+        }
+    }
+
+    /// The step of an instruction that sets a register.
+    fn set(&mut self, instr: Instr, value: u32) -> Need
+        requires { HasRegisters instr }
+        ensures { record { hart = self.new; need = result } ≡ sets instr self.old value }
+    {
+        self.put(instr.rd, value);
+        self.pc = self.pc.wrapping_add(4);
+        Need::Done
+    }
+
+    /// The step of a jump to a target, with a link.
+    fn jump(&mut self, instr: Instr, target: u32) -> Need
+        requires { HasRegisters instr }
+        ensures { record { hart = self.new; need = result } ≡ goes instr self.old target }
+    {
+        if target % 4 != 0 {
+            return Need::JumpMisaligned;
+        }
+        self.put(instr.rd, self.pc.wrapping_add(4));
+        self.pc = target;
+        Need::Done
+    }
+
+    /// The step of a branch that is taken or not.
+    fn branch(&mut self, instr: Instr, taken: bool) -> Need
+        ensures { record { hart = self.new; need = result } ≡ branches instr self.old taken }
+    {
+        if !taken {
+            self.pc = self.pc.wrapping_add(4);
+            return Need::Done;
+        }
+        let target = offset(self.pc, instr.imm);
+        if target % 4 != 0 {
+            return Need::JumpMisaligned;
+        }
+        self.pc = target;
+        Need::Done
+    }
+
+    /// Begins the step of an instruction, and makes it where nothing is needed for it. Where
+    /// something is, nothing is changed.
+    #[tactic(auto, unfolding(crate::specs::Local::local))]
+    pub fn begin(&mut self, instr: Instr) -> Need
+        requires { HasRegisters instr }
+        ensures { record { hart = self.new; need = result } ≡ local instr self.old }
+    {
+        let a = self.reg(instr.rs1);
+        let b = self.reg(instr.rs2);
+        let imm = instr.imm.cast_unsigned();
+        let address = offset(a, instr.imm);
+        match instr.op {
+            Op::Lui => self.set(instr, imm),
+            Op::Auipc => self.set(instr, self.pc.wrapping_add(imm)),
+            Op::Jal => self.jump(instr, offset(self.pc, instr.imm)),
+            Op::Jalr => self.jump(instr, address & !1),
+            Op::Beq => self.branch(instr, a == b),
+            Op::Bne => self.branch(instr, a != b),
+            Op::Blt => self.branch(instr, a.cast_signed() < b.cast_signed()),
+            Op::Bge => self.branch(instr, a.cast_signed() >= b.cast_signed()),
+            Op::Bltu => self.branch(instr, a < b),
+            Op::Bgeu => self.branch(instr, a >= b),
+            Op::Lb => Need::Load {
+                address,
+                width: 1,
+                signed: true,
+            },
+            Op::Lh => Need::Load {
+                address,
+                width: 2,
+                signed: true,
+            },
+            Op::Lw => Need::Load {
+                address,
+                width: 4,
+                signed: false,
+            },
+            Op::Lbu => Need::Load {
+                address,
+                width: 1,
+                signed: false,
+            },
+            Op::Lhu => Need::Load {
+                address,
+                width: 2,
+                signed: false,
+            },
+            Op::Sb => Need::Store {
+                address,
+                width: 1,
+                value: b,
+            },
+            Op::Sh => Need::Store {
+                address,
+                width: 2,
+                value: b,
+            },
+            Op::Sw => Need::Store {
+                address,
+                width: 4,
+                value: b,
+            },
+            Op::Addi => self.set(instr, a.wrapping_add(imm)),
+            Op::Slti => self.set(instr, slt(a, imm)),
+            Op::Sltiu => self.set(instr, sltu(a, imm)),
+            Op::Xori => self.set(instr, a ^ imm),
+            Op::Ori => self.set(instr, a | imm),
+            Op::Andi => self.set(instr, a & imm),
+            Op::Slli => self.set(instr, a.wrapping_shl(imm)),
+            Op::Srli => self.set(instr, a.wrapping_shr(imm)),
+            Op::Srai => self.set(instr, sra(a, imm)),
+            Op::Add => self.set(instr, a.wrapping_add(b)),
+            Op::Sll => self.set(instr, a.wrapping_shl(b)),
+            Op::Slt => self.set(instr, slt(a, b)),
+            Op::Sltu => self.set(instr, sltu(a, b)),
+            Op::Xor => self.set(instr, a ^ b),
+            Op::Srl => self.set(instr, a.wrapping_shr(b)),
+            Op::Or => self.set(instr, a | b),
+            Op::And => self.set(instr, a & b),
+            Op::Sub => self.set(instr, a.wrapping_sub(b)),
+            Op::Sra => self.set(instr, sra(a, b)),
+            Op::Mul => self.set(instr, a.wrapping_mul(b)),
+            Op::Mulh => self.set(instr, mulh(a, b)),
+            Op::Mulhsu => self.set(instr, mulhsu(a, b)),
+            Op::Mulhu => self.set(instr, mulhu(a, b)),
+            Op::Div => self.set(instr, div(a, b)),
+            Op::Divu => self.set(instr, divu(a, b)),
+            Op::Rem => self.set(instr, rem(a, b)),
+            Op::Remu => self.set(instr, remu(a, b)),
+            Op::Fence => {
+                self.pc = self.pc.wrapping_add(4);
+                Need::Done
+            }
+            Op::Ecall => Need::Call,
+            Op::Ebreak => Need::Break,
+        }
+    }
+
+    /// Makes the step that was begun, with the reply to what it needed: a load sets its register, a
+    /// call's answer stands in a0, a1 and, where it has one, a2.
+    #[tactic(auto, unfolding(crate::specs::Local::local))]
+    pub fn finish(&mut self, instr: Instr, reply: Reply)
+        requires registers { HasRegisters instr }
+        requires needed { IsTrue (is_reply_to (local instr self.old).need reply) }
+        ensures { self.new ≡ finished instr self.old (local instr self.old).need reply }
+    {
+        match reply {
+            Reply::Loaded(value) => self.put(instr.rd, loaded_value(instr.op, value)),
+            Reply::Stored => {}
+            Reply::Answered { a0, a1, a2 } => {
+                self.put(10, a0);
+                self.put(11, a1);
+                if let Some(a2) = a2 {
+                    self.put(12, a2);
+                }
+            }
+        }
+        self.pc = self.pc.wrapping_add(4);
+    }
+}
+
+/// The value that a load of these bytes gives: those of a signed load with their sign.
+fn loaded_value(op: Op, value: u32) -> u32
+    ensures { result ≡ loaded_value op value }
+{
+    match op {
+        Op::Lb => extended(value, 0x80),
+        Op::Lh => extended(value, 0x8000),
+        _ => value,
+    }
+}
+
+/// A number whose highest bit, of the weight `sign`, makes it negative.
+fn extended(number: u32, sign: u32) -> u32
+    requires { sign < 2 ^ 31 }
+    ensures { result ≡ as_word (if nat_lt number sign then pos number else pos number -ℤ pos (2 * sign)) }
+{
+    if number < sign {
+        number
+    } else {
+        number.wrapping_sub(2 * sign)
+    }
+}
