@@ -1,6 +1,6 @@
 -- The local step of a hart: what an instruction makes of its registers and pc, or the one thing that it needs first.
 -- RISC-V Unprivileged ISA manual, document 20191213, chapters 2 and 7.
-use Rattle.std.specs.Prelude.{ℕ, ◌+◌, ◌-◌, ◌*◌, ◌/◌, ◌%◌, ◌^◌, ◌==◌, Bool, true, false, not, List, Option, Some, None, pos, ◌+ℤ◌, ◌-ℤ◌, int_lt, nat_lt, bit_and, bit_or, bit_xor, slice_index, slice_set, if◌then◌else◌}
+use Rattle.std.specs.Prelude.{◌≡◌, ◌⊎◌, ℕ, ◌+◌, ◌-◌, ◌*◌, ◌/◌, ◌%◌, ◌^◌, ◌==◌, Bool, true, false, not, List, Option, Some, None, pos, ◌+ℤ◌, ◌-ℤ◌, int_lt, nat_lt, bit_and, bit_or, bit_xor, slice_index, slice_set, if◌then◌else◌}
 use Rattle.rv_isa.specs.declared.Op.{Op}
 use Rattle.rv_isa.specs.declared.Op.TheVariants as op
 use Rattle.rv_isa.specs.declared.Instr.{Instr}
@@ -158,3 +158,12 @@ finished i h (need.Load address width is_signed) (reply.Loaded value) = loaded i
 finished i h (need.Store address width value) reply.Stored = stored h
 finished i h need.Call (reply.Answered value code more) = answered_with h value code more
 finished i h n r = h
+
+-- a load or a store is of 1, 2 or 4 bytes
+abbrev pub IsWidth : ℕ → Type 0
+IsWidth width = (width ≡ 1) ⊎ (width ≡ 2) ⊎ (width ≡ 4)
+
+abbrev pub HasWidth : Need → Type 0
+HasWidth (need.Load address width is_signed) = IsWidth width
+HasWidth (need.Store address width value) = IsWidth width
+HasWidth n = Unit {0}

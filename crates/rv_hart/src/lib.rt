@@ -3,10 +3,11 @@
 #![tactic(auto)]
 
 mod alu;
+mod going_on;
 
-ghost use Rattle.std.specs.Prelude.{◌≡◌, ◌<◌, ◌*◌, ◌^◌, replicate, IsTrue, nat_lt, pos, ◌-ℤ◌, if◌then◌else◌};
+ghost use Rattle.std.specs.Prelude.{◌≡◌, ◌≢◌, ◌<◌, ◌*◌, ◌^◌, replicate, IsTrue, nat_lt, pos, ◌-ℤ◌, if◌then◌else◌};
 ghost use Rattle.rv_isa.specs.Table.{HasRegisters};
-ghost use Rattle.rv_hart.specs.Local.{reg, put, local, sets, goes, branches, finished, is_reply_to, loaded_value};
+ghost use Rattle.rv_hart.specs.Local.{reg, put, local, sets, goes, branches, finished, is_reply_to, loaded_value, HasWidth};
 ghost use Rattle.rv_hart.specs.Alu.{as_word};
 
 use alu::{div, divu, mulh, mulhsu, mulhu, offset, rem, remu, slt, sltu, sra};
@@ -125,7 +126,9 @@ impl Hart {
     #[tactic(auto, unfolding(crate::specs::Local::local))]
     pub fn begin(&mut self, instr: Instr) -> Need
         requires { HasRegisters instr }
-        ensures { record { hart = self.new; need = result } ≡ local instr self.old }
+        ensures is { record { hart = self.new; need = result } ≡ local instr self.old }
+        ensures asked { result ≢ Need.Done → self.new ≡ self.old }
+        ensures width { HasWidth result }
     {
         let a = self.reg(instr.rs1);
         let b = self.reg(instr.rs2);

@@ -1,4 +1,5 @@
 pub mod Bytes
+pub mod Names
 pub mod Maps
 pub mod Memory
 pub mod Images

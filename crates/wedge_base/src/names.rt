@@ -1,6 +1,7 @@
 //! Names of actors, and paths.
 
-ghost use Rattle.std.specs.Prelude.{◌≡◌, ◌∷◌, [], IfOk, IsTrue, ◌↔◌};
+ghost use Rattle.std.specs.Prelude.{◌≡◌, IfOk, IsTrue, ◌↔◌};
+ghost use Rattle.wedge_base.specs.Names.{same, root_name};
 
 use crate::errors::NoMemory;
 use crate::items::Bytes;
@@ -25,7 +26,7 @@ impl Model for ActorName {
 impl ActorName {
     /// The name of the root.
     pub fn root(alloc: Global) -> Result<ActorName, NoMemory>
-        ensures { IfOk result (λ n. n ≡ 0 ∷ []) }
+        ensures { IfOk result (λ n. n ≡ root_name) }
     {
         Ok(ActorName {
             parts: Vec::from_slice(alloc, &[0])?,
@@ -48,7 +49,8 @@ impl ActorName {
 
     /// Whether two names are the same.
     pub fn is_same(&self, other: &ActorName) -> bool
-        ensures { IsTrue result ↔ (self.now ≡ other.now) }
+        ensures is { result ≡ same self.now other.now }
+        ensures exact { IsTrue result ↔ (self.now ≡ other.now) }
     {
         self.parts.as_slice() == other.parts.as_slice()
     }

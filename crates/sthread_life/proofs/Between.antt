@@ -1,0 +1,85 @@
+-- In a world of a run every actor is between instructions.
+use Rattle.std.proofs.Common.{◌≡◌, ℕ, zero, suc, Bool, true, false, List, [], ◌∷◌, refl, sym, ap, subst, ◌∙◌}
+use Rattle.std.specs.Prelude.{Option, Some, None, find, if◌then◌else◌}
+use Rattle.wedge_base.specs.Names.{same}
+use Rattle.wedge_base.specs.Images.{Image}
+use Rattle.wedge_base.specs.declared.events.Ask.{Ask}
+use Rattle.wedge_base.specs.declared.events.Event.{Event}
+use Rattle.wedge_base.specs.declared.events.Event.TheVariants as event
+use Rattle.wedge_base.specs.declared.events.Turn.{Turn}
+use Rattle.wedge_base.specs.declared.cells.StreamReply.{StreamReply}
+use Rattle.wedge_base.specs.declared.cells.StreamReply.TheVariants as stream_reply
+use Rattle.wedge_base.specs.declared.cells.LivesAsk.{LivesAsk}
+use Rattle.wedge_base.specs.declared.cells.LivesAsk.TheVariants as lives_ask
+use Rattle.sthread_life.specs.declared.phase.Phase.{Phase}
+use Rattle.sthread_life.specs.declared.phase.Phase.TheVariants as phase
+use Rattle.sthread_life.specs.Actors.{ActorState, root}
+use Rattle.sthread_life.specs.Local.{rest}
+use Rattle.sthread_life.specs.Taking.{wanted, takes, takes_stream, takes_lives}
+use Rattle.sthread_life.specs.Worlds.{WorldState, opening, actor_named, put_actor, event_of, happened, wanting, coming, turn_with, turn_of, Taken, Runs}
+use Rattle.sthread_life.specs.Between.{IsBetween}
+
+abbrev pub AllBetween : List ActorState → Type 0
+AllBetween [] = Unit {0}
+AllBetween (a ∷ as_) = IsBetween a.phase × AllBetween as_
+
+-- the first of a name, or one of the rest
+first_or : (b a : ActorState) (rest : Option ActorState) (t : Bool) → (if t then Some b else rest) ≡ Some a → IsBetween b.phase → (rest ≡ Some a → IsBetween a.phase) → IsBetween a.phase
+first_or b a rest true e h others = let is : b ≡ a = cc in subst (λ (x : ActorState). IsBetween x.phase) is h
+first_or b a rest false e h others = others e
+
+pub named_between : (actors : List ActorState) (name : List ℕ) (a : ActorState) → AllBetween actors → actor_named actors name ≡ Some a → IsBetween a.phase
+named_between [] name a all e = absurd cc
+named_between (b ∷ bs) name a all e = first_or b a (actor_named bs name) (same b.name name) e all.0 (named_between bs name a all.1)
+
+put_or : (b a : ActorState) (bs others : List ActorState) (t : Bool) → IsBetween a.phase → IsBetween b.phase → AllBetween bs → AllBetween others → AllBetween (if t then a ∷ bs else b ∷ others)
+put_or b a bs others true h k all rest = (h, all)
+put_or b a bs others false h k all rest = (k, rest)
+
+put_between : (actors : List ActorState) (a : ActorState) → AllBetween actors → IsBetween a.phase → AllBetween (put_actor actors a)
+put_between [] a all h = tt
+put_between (b ∷ bs) a all h = put_or b a bs (put_actor bs a) (same b.name a.name) h all.0 all.1 (put_between bs a all.1 h)
+
+-- an event leaves the actor that did it between instructions
+pub takes_between : (a : ActorState) (e : Event) → IsBetween (takes a e).phase
+unfolding takes
+takes_between a (event.Fd fd q stream_reply.Appended) = tt
+takes_between a (event.Fd fd q stream_reply.NoSuch) = tt
+takes_between a (event.Fd fd q (stream_reply.Denied wants)) = tt
+takes_between a (event.Fd fd q stream_reply.Bad) = tt
+takes_between a (event.Lives (lives_ask.Release e) r) = tt
+
+-- what a turn is made of: the actor of the name, what it wants at rest, and the event of that ask
+pub record TurnParts (w : WorldState) (name : List ℕ) (e : Event) (new : WorldState) : Type 0 where
+  pub actor : ActorState
+  pub named : actor_named w.actors name ≡ Some actor
+  pub ask : Ask
+  pub wants : wanted (rest w.image actor).phase ≡ Some ask
+  pub event_is : e ≡ event_of w.cells ask
+  pub new_is : new ≡ (happened w (rest w.image actor) (event_of w.cells ask)).world
+
+parts_wanting : (w : WorldState) (name : List ℕ) (a : ActorState) (q : Option Ask) (e : Event) (new : WorldState)
+    → actor_named w.actors name ≡ Some a → wanted (rest w.image a).phase ≡ q → wanting w (rest w.image a) q ≡ Some (record { event = e; world = new }) → TurnParts w name e new
+parts_wanting w name a None e new named wants t = absurd cc
+parts_wanting w name a (Some q) e new named wants t =
+    let is : happened w (rest w.image a) (event_of w.cells q) ≡ record { event = e; world = new } = cc in
+    record { actor = a; named = named; ask = q; wants = wants; event_is = ap (λ (x : Taken). x.event) (sym is); new_is = ap (λ (x : Taken). x.world) (sym is) }
+
+parts_named : (w : WorldState) (name : List ℕ) (a : Option ActorState) (e : Event) (new : WorldState)
+    → actor_named w.actors name ≡ a → turn_with w a ≡ Some (record { event = e; world = new }) → TurnParts w name e new
+parts_named w name None e new named t = absurd cc
+parts_named w name (Some a) e new named t = parts_wanting w name a (wanted (rest w.image a).phase) e new named refl t
+
+pub turn_parts : (w : WorldState) (name : List ℕ) (e : Event) (new : WorldState) → turn_of w name ≡ Some (record { event = e; world = new }) → TurnParts w name e new
+unfolding turn_of
+turn_parts w name e new t = parts_named w name (actor_named w.actors name) e new refl t
+
+pub turn_between : (w : WorldState) (name : List ℕ) (e : Event) (new : WorldState) → AllBetween w.actors → turn_of w name ≡ Some (record { event = e; world = new }) → AllBetween new.actors
+turn_between w name e new all t =
+    let p = turn_parts w name e new t in
+    let b = rest w.image p.actor in
+    subst (λ (x : WorldState). AllBetween x.actors) (sym p.new_is) (put_between w.actors (takes b (event_of w.cells p.ask)) all (takes_between b (event_of w.cells p.ask)))
+
+pub opening_between : (i : Image) → AllBetween (opening i).actors
+unfolding root
+opening_between i = (tt, tt)

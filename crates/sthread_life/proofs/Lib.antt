@@ -1,0 +1,4 @@
+pub mod WritingRanges
+pub mod Resting
+pub mod Between
+pub mod Judging

@@ -1,0 +1,268 @@
+-- An actor at rest: it asks with its own rights, it keeps its name and sheet, it has paid for what it
+-- asks, and it does not run.
+use Rattle.std.proofs.Common.{◌≡◌, ℕ, zero, suc, ◌+◌, ◌-◌, ◌<◌, ◌≤◌, Bool, true, false, cond, refl, sym, ap, subst, ◌∙◌, arith}
+use Rattle.std.specs.Prelude.{Option, Some, None, not, ◌⊎◌, if◌then◌else◌, ◌==◌, nat_lt, nat_le}
+use Rattle.std.proofs.Common.{inl, inr}
+use Rattle.wedge_base.specs.Images.{Image, fetch, in_text, read_text}
+use Rattle.wedge_base.specs.Bytes.{number_of, bytes_of}
+use Rattle.wedge_base.specs.Memory.{range_at, read_range, write_at}
+use Rattle.wedge_base.specs.Rights.{Sheet, bits_on}
+use Rattle.wedge_base.specs.Streams.{most_fds}
+use Rattle.wedge_base.specs.declared.image.MemoryRange.{MemoryRange}
+use Rattle.wedge_base.specs.declared.rights.End.{End}
+use Rattle.wedge_base.specs.declared.rights.End.TheVariants as end_
+use Rattle.wedge_base.specs.declared.rights.Code.{Code}
+use Rattle.wedge_base.specs.declared.rights.Code.TheVariants as code
+use Rattle.wedge_base.specs.declared.events.Ask.{Ask}
+use Rattle.wedge_base.specs.declared.events.Ask.TheVariants as ask
+use Rattle.wedge_base.specs.declared.cells.StreamAsk.TheVariants as stream_ask
+use Rattle.rv_isa.specs.declared.Instr.{Instr}
+use Rattle.rv_isa.specs.Table.{decode}
+use Rattle.rv_hart.specs.declared.Need.{Need}
+use Rattle.rv_hart.specs.declared.Need.TheVariants as need
+use Rattle.rv_hart.specs.declared.Hart.{Hart}
+use Rattle.rv_hart.specs.Local.{local}
+use Rattle.sthread_life.specs.declared.phase.Phase.{Phase}
+use Rattle.sthread_life.specs.declared.phase.Phase.TheVariants as phase
+use Rattle.sthread_life.specs.Actors.{ActorState, ends, refuses, wants, spends}
+use Rattle.sthread_life.specs.Private.{loads, stores, load_range, store_range, has_loaded, has_stored, fits_read, buffer}
+use Rattle.sthread_life.specs.Calls.{serves, exit, fd_append, a0, a1, a2, a7}
+use Rattle.sthread_life.specs.Local.{needed, proceeds, executed, fuelled, fetched, step, is_running, has_ended, run_local, rest}
+use Rattle.sthread_life.specs.Between.{AsksItsOwn}
+
+-- what the work of an instruction keeps, and how it leaves the actor
+pub record Goes (a b : ActorState) : Type 0 where
+  pub name : b.name ≡ a.name
+  pub compartment : b.compartment ≡ a.compartment
+  pub sheet : b.sheet ≡ a.sheet
+  pub fuel : b.fuel ≡ a.fuel
+  pub own : AsksItsOwn a.sheet a.phase → AsksItsOwn b.sheet b.phase
+  pub live : has_ended a.phase ≡ false → has_ended b.phase ≡ false
+
+goes_if : (a x y : ActorState) (b : Bool) → Goes a x → Goes a y → Goes a (if b then x else y)
+goes_if a x y true p q = p
+goes_if a x y false p q = q
+
+goes_end : (a : ActorState) (e : End) → Goes a (ends a e)
+goes_end a e = record { name = refl; compartment = refl; sheet = refl; fuel = refl; own = λ h. tt; live = λ h. refl }
+
+goes_refused : (a : ActorState) (c : Code) → Goes a (refuses a c)
+goes_refused a c = record { name = refl; compartment = refl; sheet = refl; fuel = refl; own = λ h. tt; live = λ h. refl }
+
+goes_loaded : (ins : Instr) (s : Bool) (a : ActorState) (width value : ℕ) → Goes a (has_loaded ins s a width value)
+goes_loaded ins s a width value = record { name = refl; compartment = refl; sheet = refl; fuel = refl; own = λ h. h; live = λ h. h }
+
+goes_load_range : (ins : Instr) (s : Bool) (a : ActorState) (address width : ℕ) (r : Option MemoryRange) → Goes a (load_range ins s a address width r)
+goes_load_range ins s a address width (Some r) = goes_loaded ins s a width (number_of (read_range r address width))
+goes_load_range ins s a address width None = goes_end a end_.Unmapped
+
+goes_load : (i : Image) (ins : Instr) (s : Bool) (a : ActorState) (address width : ℕ) → Goes a (loads i ins s a address width)
+goes_load i ins s a address width =
+    goes_if a (ends a end_.Misaligned) _ _ (goes_end a end_.Misaligned)
+    (goes_if a (has_loaded ins s a width (number_of (read_text i address width))) _ (in_text i address width) (goes_loaded ins s a width (number_of (read_text i address width)))
+    (goes_load_range ins s a address width (range_at a.memory address width)))
+
+goes_store_range : (a : ActorState) (address width value : ℕ) (r : Option MemoryRange) → Goes a (store_range a address width value r)
+goes_store_range a address width value (Some r) = record { name = refl; compartment = refl; sheet = refl; fuel = refl; own = λ h. h; live = λ h. h }
+goes_store_range a address width value None = goes_end a end_.Unmapped
+
+goes_store : (i : Image) (a : ActorState) (address width value : ℕ) → Goes a (stores i a address width value)
+goes_store i a address width value =
+    goes_if a (ends a end_.Misaligned) _ _ (goes_end a end_.Misaligned)
+    (goes_if a (ends a end_.TextStore) _ (in_text i address width) (goes_end a end_.TextStore)
+    (goes_store_range a address width value (range_at a.memory address width)))
+
+goes_append : (i : Image) (a : ActorState) → Goes a (fd_append i a)
+goes_append i a =
+    goes_if a (refuses a code.Bad) _ (not (fits_read i a (a1 a) (a2 a))) (goes_refused a code.Bad)
+    (goes_if a (refuses a code.FuelShort) _ (nat_lt a.fuel (a2 a)) (goes_refused a code.FuelShort)
+    (goes_if a (refuses a code.NoSuch) _ (nat_le most_fds (a0 a)) (goes_refused a code.NoSuch)
+    (record { name = refl; compartment = refl; sheet = refl; fuel = refl; own = λ h. refl; live = λ h. refl })))
+
+goes_call : (i : Image) (a : ActorState) (n : ℕ) → Goes a (serves i a n)
+unfolding serves
+goes_call i a n =
+    goes_if a (exit a) _ (n == 0) (goes_end a (end_.Exited (a0 a)))
+    (goes_if a (fd_append i a) _ (n == 16) (goes_append i a) (goes_refused a code.Bad))
+
+goes_needed : (i : Image) (ins : Instr) (a : ActorState) (h : Hart) (n : Need) → Goes a (needed i ins a h n)
+goes_needed i ins a h need.Done = record { name = refl; compartment = refl; sheet = refl; fuel = refl; own = λ h. h; live = λ h. h }
+goes_needed i ins a h (need.Load address width s) = goes_load i ins s a address width
+goes_needed i ins a h (need.Store address width value) = goes_store i a address width value
+goes_needed i ins a h need.Call = goes_call i a (a7 a)
+goes_needed i ins a h need.Break = goes_end a end_.Break
+goes_needed i ins a h need.JumpMisaligned = goes_end a end_.JumpMisaligned
+
+goes_executed : (i : Image) (a : ActorState) (ins : Option Instr) → Goes a (executed i a ins)
+goes_executed i a None = goes_end a end_.BadInstruction
+goes_executed i a (Some ins) = let b = local ins a.hart in goes_needed i ins a b.hart b.need
+
+-- an end that is decided
+abbrev pub IsEnding : Phase → Type 0
+IsEnding phase.Running = ⊥
+IsEnding (phase.Within q) = ⊥
+IsEnding (phase.Ending e) = Unit {0}
+IsEnding (phase.Ended e) = ⊥
+
+-- one instruction: it takes fuel, or there was nothing to execute and the actor's end is decided
+pub record Steps (a b : ActorState) : Type 0 where
+  pub name : b.name ≡ a.name
+  pub compartment : b.compartment ≡ a.compartment
+  pub sheet : b.sheet ≡ a.sheet
+  pub spent : (b.fuel < a.fuel) ⊎ ((b.fuel ≡ a.fuel) × IsEnding b.phase)
+  pub own : AsksItsOwn a.sheet a.phase → AsksItsOwn b.sheet b.phase
+  pub live : has_ended a.phase ≡ false → has_ended b.phase ≡ false
+
+steps_fuelled : (i : Image) (a : ActorState) (word n : ℕ) → a.fuel ≡ n → Steps a (fuelled i a word n)
+steps_fuelled i a word zero e = record { name = refl; compartment = refl; sheet = refl; spent = inr (refl, tt); own = λ h. tt; live = λ h. refl }
+steps_fuelled i a word (suc n) e =
+    let g = goes_executed i (spends a 1) (decode word) in
+    record { name = g.name; compartment = g.compartment; sheet = g.sheet; spent = inl (omega (arith, g.fuel)); own = g.own; live = g.live }
+
+steps_fetched : (i : Image) (a : ActorState) (word : Option ℕ) → Steps a (fetched i a word)
+steps_fetched i a None = record { name = refl; compartment = refl; sheet = refl; spent = inr (refl, tt); own = λ h. tt; live = λ h. refl }
+steps_fetched i a (Some word) = steps_fuelled i a word a.fuel refl
+
+pub steps_step : (i : Image) (a : ActorState) → Steps a (step i a)
+unfolding step
+steps_step i a = steps_fetched i a (fetch i a.hart.pc)
+
+-- what an actor wants it has paid for
+abbrev pub HasPaid : ℕ → ℕ → Phase → Type 0
+HasPaid before after phase.Running = after ≤ before
+HasPaid before after (phase.Within q) = after < before
+HasPaid before after (phase.Ending e) = after ≤ before
+HasPaid before after (phase.Ended e) = after ≤ before
+
+-- from an actor that runs to where it rests
+pub record Rests (a b : ActorState) : Type 0 where
+  pub name : b.name ≡ a.name
+  pub compartment : b.compartment ≡ a.compartment
+  pub sheet : b.sheet ≡ a.sheet
+  pub paid : HasPaid a.fuel b.fuel b.phase
+  pub own : AsksItsOwn b.sheet b.phase
+  pub live : has_ended b.phase ≡ false
+
+paid_less : (before mid after : ℕ) (p : Phase) → mid ≤ before → HasPaid mid after p → HasPaid before after p
+paid_less before mid after phase.Running le h = omega arith
+paid_less before mid after (phase.Within q) le h = omega arith
+paid_less before mid after (phase.Ending e) le h = omega arith
+paid_less before mid after (phase.Ended e) le h = omega arith
+
+paid_step : (before after : ℕ) (p : Phase) → (after < before) ⊎ ((after ≡ before) × IsEnding p) → HasPaid before after p
+paid_step before after phase.Running (inl lt) = omega arith
+paid_step before after phase.Running (inr h) = absurd h.1
+paid_step before after (phase.Within q) (inl lt) = lt
+paid_step before after (phase.Within q) (inr h) = absurd h.1
+paid_step before after (phase.Ending e) (inl lt) = omega arith
+paid_step before after (phase.Ending e) (inr h) = omega arith
+paid_step before after (phase.Ended e) (inl lt) = omega arith
+paid_step before after (phase.Ended e) (inr h) = absurd h.1
+
+spent_le : (before after : ℕ) (p : Phase) → (after < before) ⊎ ((after ≡ before) × IsEnding p) → after ≤ before
+spent_le before after p (inl lt) = omega arith
+spent_le before after p (inr h) = omega arith
+
+-- an actor that does not run stays as it is
+pub stays : (i : Image) (n : ℕ) (a : ActorState) → is_running a.phase ≡ false → run_local i n a ≡ a
+unfolding run_local
+stays i zero a e = refl
+stays i (suc n) a e = ap (λ b. elim b [ true ↦ run_local i n (step i a) | false ↦ a ]) e
+
+pub goes_on : (i : Image) (n : ℕ) (a : ActorState) → is_running a.phase ≡ true → run_local i (suc n) a ≡ run_local i n (step i a)
+unfolding run_local
+goes_on i n a e = ap (λ b. elim b [ true ↦ run_local i n (step i a) | false ↦ a ]) e
+
+running_is : (p : Phase) → is_running p ≡ true → p ≡ phase.Running
+running_is phase.Running e = refl
+running_is (phase.Within q) e = cc
+running_is (phase.Ending x) e = cc
+running_is (phase.Ended x) e = cc
+
+-- an actor that runs asks nothing yet
+runs_own : (s : Sheet) (p : Phase) → is_running p ≡ true → AsksItsOwn s p
+runs_own s phase.Running e = tt
+runs_own s (phase.Within q) e = cc
+runs_own s (phase.Ending x) e = tt
+runs_own s (phase.Ended x) e = tt
+
+running_live : (p : Phase) → is_running p ≡ true → has_ended p ≡ false
+running_live phase.Running e = refl
+running_live (phase.Within q) e = refl
+running_live (phase.Ending x) e = refl
+running_live (phase.Ended x) e = cc
+
+rests_from : (i : Image) (n : ℕ) (a : ActorState) (b : Bool) → is_running a.phase ≡ b → AsksItsOwn a.sheet a.phase → Rests a (run_local i n a) ⊎ (a ≡ run_local i n a)
+rests_from i n a false e own = inr (sym (stays i n a e))
+rests_from i zero a true e own = inr (unfold run_local in refl)
+rests_from i (suc n) a true e own =
+    let s = steps_step i a in
+    let own2 = s.own own in
+    let b = step i a in
+    let le : b.fuel ≤ a.fuel = spent_le a.fuel b.fuel b.phase s.spent in
+    rw (goes_on i n a e) (inl (
+    elim (rests_from i n b _ refl own2) [
+      | inl r ↦ record { name = r.name ∙ s.name; compartment = r.compartment ∙ s.compartment; sheet = r.sheet ∙ s.sheet; paid = paid_less a.fuel b.fuel _ _ le r.paid; own = r.own; live = r.live }
+      | inr same ↦ subst (Rests a) same (record { name = s.name; compartment = s.compartment; sheet = s.sheet; paid = paid_step a.fuel b.fuel b.phase s.spent; own = own2; live = s.live (running_live a.phase e) })
+    ]))
+
+-- an actor that runs rests paid, and asks with its own rights
+paid_running : (f : ℕ) (p : Phase) → is_running p ≡ true → HasPaid f f p
+paid_running f phase.Running e = omega arith
+paid_running f (phase.Within q) e = cc
+paid_running f (phase.Ending x) e = omega arith
+paid_running f (phase.Ended x) e = omega arith
+
+pub rests : (i : Image) (a : ActorState) → is_running a.phase ≡ true → Rests a (rest i a)
+unfolding rest
+rests i a e =
+    elim (rests_from i (a.fuel + 1) a true e (runs_own a.sheet a.phase e)) [
+      | inl r ↦ r
+      | inr same ↦ subst (Rests a) same (record { name = refl; compartment = refl; sheet = refl; paid = paid_running a.fuel a.phase e; own = runs_own a.sheet a.phase e; live = running_live a.phase e })
+    ]
+
+pub rest-stays : (i : Image) (a : ActorState) → is_running a.phase ≡ false → rest i a ≡ a
+unfolding rest
+rest-stays i a e = stays i (a.fuel + 1) a e
+
+-- at rest an actor does not run
+ending_stops : (p : Phase) → IsEnding p → is_running p ≡ false
+ending_stops phase.Running h = absurd h
+ending_stops (phase.Within q) h = refl
+ending_stops (phase.Ending e) h = refl
+ending_stops (phase.Ended e) h = refl
+
+stops_from : (i : Image) (n : ℕ) (a : ActorState) (b : Bool) → is_running a.phase ≡ b → a.fuel < n → is_running (run_local i n a).phase ≡ false
+stops_from i n a false e lt = rw (stays i n a e) e
+stops_from i zero a true e lt = absurd (omega arith)
+stops_from i (suc n) a true e lt =
+    let s = steps_step i a in
+    rw (goes_on i n a e) (elim s.spent [
+      | inl less ↦ stops_from i n (step i a) _ refl (omega arith)
+      | inr h ↦ rw (stays i n (step i a) (ending_stops _ h.1)) (ending_stops _ h.1)
+    ])
+
+pub rest-stops : (i : Image) (a : ActorState) → is_running (rest i a).phase ≡ false
+unfolding rest
+rest-stops i a = stops_from i (a.fuel + 1) a _ refl (omega arith)
+
+-- rest keeps the name, and whether the actor has ended
+kept_by : (i : Image) (a : ActorState) (t : Bool) → is_running a.phase ≡ t → ((rest i a).name ≡ a.name) × (has_ended (rest i a).phase ≡ has_ended a.phase)
+kept_by i a true e = let r = rests i a e in (r.name, r.live ∙ sym (running_live a.phase e))
+kept_by i a false e = let same = rest-stays i a e in (ap (λ x. x.name) same, ap (λ x. has_ended x.phase) same)
+
+pub rest-name : (i : Image) (a : ActorState) → (rest i a).name ≡ a.name
+rest-name i a = (kept_by i a _ refl).0
+
+pub rest-ended : (i : Image) (a : ActorState) → has_ended (rest i a).phase ≡ has_ended a.phase
+rest-ended i a = (kept_by i a _ refl).1
+
+ended_stops : (p : Phase) → has_ended p ≡ true → is_running p ≡ false
+ended_stops phase.Running e = cc
+ended_stops (phase.Within q) e = refl
+ended_stops (phase.Ending x) e = refl
+ended_stops (phase.Ended x) e = refl
+
+-- an actor that has ended does nothing more
+pub ended-stays : (i : Image) (a : ActorState) → has_ended a.phase ≡ true → rest i a ≡ a
+ended-stays i a e = rest-stays i a (ended_stops a.phase e)

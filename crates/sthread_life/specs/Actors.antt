@@ -1,0 +1,106 @@
+-- Actors: their records, what the root begins as, and how an answer, a refusal or an end changes one.
+use Rattle.std.specs.Prelude.{ℕ, suc, ◌+◌, ◌-◌, List, [], ◌∷◌, ◌++◌, replicate, Option, Some, None}
+use Rattle.wedge_base.specs.Bytes.{zeros}
+use Rattle.wedge_base.specs.Names.{root_name}
+use Rattle.wedge_base.specs.Maps.{Map}
+use Rattle.wedge_base.specs.Images.{Image, private_base, private_size}
+use Rattle.wedge_base.specs.Rights.{Sheet}
+use Rattle.wedge_base.specs.declared.image.MemoryRange.{MemoryRange}
+use Rattle.wedge_base.specs.declared.image.TagEntry.{TagEntry}
+use Rattle.wedge_base.specs.declared.image.FdEntry.{FdEntry}
+use Rattle.wedge_base.specs.declared.outcome.DenialAt.{DenialAt}
+use Rattle.wedge_base.specs.declared.rights.FdBits.{FdBits}
+use Rattle.wedge_base.specs.declared.rights.Right.{Right}
+use Rattle.wedge_base.specs.declared.rights.Grant.{Grant}
+use Rattle.wedge_base.specs.declared.rights.Denial.{Denial}
+use Rattle.wedge_base.specs.declared.rights.Code.{Code}
+use Rattle.wedge_base.specs.declared.rights.Code.TheVariants as code
+use Rattle.wedge_base.specs.declared.rights.End.{End}
+use Rattle.wedge_base.specs.declared.events.Ask.{Ask}
+use Rattle.rv_hart.specs.declared.Hart.{Hart}
+use Rattle.rv_hart.specs.Local.{put, answered}
+use Rattle.sthread_life.specs.declared.phase.Phase.{Phase}
+use Rattle.sthread_life.specs.declared.phase.Phase.TheVariants as phase
+
+pub record ActorState : Type 0 where
+  pub name : List ℕ
+  pub compartment : ℕ
+  pub sheet : Sheet
+  pub hart : Hart
+  pub memory : List MemoryRange
+  pub fuel : ℕ
+  pub denials : List DenialAt
+  pub phase : Phase
+
+-- private memory as an actor begins: stack and heap, all zero, and the image's data as written in it
+abbrev pub pristine : Image → List MemoryRange
+pristine i = record { base = private_base; bytes = zeros private_size } ∷ i.ranges
+
+-- registers as an actor begins: sp is at the end of the private range
+abbrev pub opening_hart : ℕ → Hart
+opening_hart entry = record { pc = entry; regs = put (replicate 32 0) 2 (private_base + private_size) }
+
+-- the root's grants: the declared tags with a right, and the declared descriptors
+abbrev pub with_grant : ℕ → Option Right → Map Grant → Map Grant
+with_grant n None gs = gs
+with_grant n (Some r) gs = (n, record { right = r; slot = n }) ∷ gs
+
+abbrev pub root_tags : ℕ → List TagEntry → Map Grant
+root_tags n [] = []
+root_tags n (t ∷ ts) = with_grant n t.right (root_tags (n + 1) ts)
+
+abbrev pub root_fds : ℕ → List FdEntry → Map FdBits
+root_fds n [] = []
+root_fds n (f ∷ fs) = (n, f.bits) ∷ root_fds (n + 1) fs
+
+abbrev pub root_sheet : Image → Sheet
+root_sheet i = record { tags = root_tags 0 i.tags; fds = root_fds 0 i.fds }
+
+-- the root as a run begins
+unfoldable pub root : Image → ActorState
+root i = record {
+  name = root_name;
+  compartment = i.entry;
+  sheet = root_sheet i;
+  hart = opening_hart i.entry;
+  memory = pristine i;
+  fuel = i.fuel;
+  denials = [];
+  phase = phase.Running;
+}
+
+-- the number of a code
+abbrev pub code_number : Code → ℕ
+code_number code.Ok = 0
+code_number code.Denied = 1
+code_number code.Full = 2
+code_number code.FuelShort = 3
+code_number code.Deep = 4
+code_number code.NoSuch = 5
+code_number code.Bad = 6
+
+-- a service call answered with a value, or refused with a code
+abbrev pub answers : ActorState → ℕ → ActorState
+answers a value = record a { hart = answered a.hart value (code_number code.Ok); phase = phase.Running }
+
+abbrev pub refuses : ActorState → Code → ActorState
+refuses a c = record a { hart = answered a.hart 0 (code_number c); phase = phase.Running }
+
+-- a denial noted, with the address of the instruction
+abbrev pub notes : ActorState → Denial → ActorState
+notes a d = record a { denials = a.denials ++ record { pc = a.hart.pc; denial = d } ∷ [] }
+
+-- a service call denied
+abbrev pub denies : ActorState → Denial → ActorState
+denies a d = refuses (notes a d) code.Denied
+
+-- an actor whose end is decided, and one that wants an event
+abbrev pub ends : ActorState → End → ActorState
+ends a e = record a { phase = phase.Ending e }
+
+abbrev pub wants : ActorState → Ask → ActorState
+wants a q = record a { phase = phase.Within q }
+
+-- so many units of fuel taken
+abbrev pub spends : ActorState → ℕ → ActorState
+spends a n = record a { fuel = a.fuel - n }

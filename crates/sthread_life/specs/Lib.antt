@@ -1,0 +1,11 @@
+pub mod Actors
+pub mod Private
+pub mod Calls
+pub mod Local
+pub mod Taking
+pub mod Worlds
+pub mod Allowed
+pub mod Outcomes
+pub mod Between
+pub mod Laws
+pub mod Resting

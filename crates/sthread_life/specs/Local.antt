@@ -1,0 +1,63 @@
+-- The local step: one instruction of an actor, and all of them up to the next shared event.
+use Rattle.std.specs.Prelude.{ℕ, zero, suc, ◌+◌, Bool, true, false, Option, Some, None}
+use Rattle.wedge_base.specs.Images.{Image, fetch}
+use Rattle.wedge_base.specs.declared.rights.End.TheVariants as end_
+use Rattle.rv_isa.specs.declared.Instr.{Instr}
+use Rattle.rv_isa.specs.Table.{decode}
+use Rattle.rv_hart.specs.declared.Hart.{Hart}
+use Rattle.rv_hart.specs.declared.Need.{Need}
+use Rattle.rv_hart.specs.declared.Need.TheVariants as need
+use Rattle.rv_hart.specs.Local.{Began, local}
+use Rattle.sthread_life.specs.declared.phase.Phase.{Phase}
+use Rattle.sthread_life.specs.declared.phase.Phase.TheVariants as phase
+use Rattle.sthread_life.specs.Actors.{ActorState, ends, spends}
+use Rattle.sthread_life.specs.Private.{loads, stores}
+use Rattle.sthread_life.specs.Calls.{serves, a7}
+
+-- the step of the hart is made, or what it needs first is seen to
+abbrev pub needed : Image → Instr → ActorState → Hart → Need → ActorState
+needed i ins a hart need.Done = record a { hart = hart }
+needed i ins a hart (need.Load address width is_signed) = loads i ins is_signed a address width
+needed i ins a hart (need.Store address width value) = stores i a address width value
+needed i ins a hart need.Call = serves i a (a7 a)
+needed i ins a hart need.Break = ends a end_.Break
+needed i ins a hart need.JumpMisaligned = ends a end_.JumpMisaligned
+
+abbrev pub proceeds : Image → Instr → ActorState → Began → ActorState
+proceeds i ins a b = needed i ins a b.hart b.need
+
+-- a word that is no instruction ends the actor
+abbrev pub executed : Image → ActorState → Option Instr → ActorState
+executed i a None = ends a end_.BadInstruction
+executed i a (Some ins) = proceeds i ins a (local ins a.hart)
+
+-- an instruction takes a unit of fuel
+abbrev pub fuelled : Image → ActorState → ℕ → ℕ → ActorState
+fuelled i a word zero = ends a end_.FuelOut
+fuelled i a word (suc n) = executed i (spends a 1) (decode word)
+
+abbrev pub fetched : Image → ActorState → Option ℕ → ActorState
+fetched i a None = ends a end_.FetchFault
+fetched i a (Some word) = fuelled i a word a.fuel
+
+-- one instruction of an actor that runs
+unfoldable pub step : Image → ActorState → ActorState
+step i a = fetched i a (fetch i a.hart.pc)
+
+abbrev pub is_running : Phase → Bool
+is_running phase.Running = true
+is_running p = false
+
+abbrev pub has_ended : Phase → Bool
+has_ended (phase.Ended e) = true
+has_ended p = false
+
+-- at most so many instructions, while the actor runs
+unfoldable pub run_local : Image → ℕ → ActorState → ActorState
+run_local i zero a = a
+run_local i (suc n) a = elim (is_running a.phase) [ true ↦ run_local i n (step i a) | false ↦ a ]
+
+-- the actor at its next shared event, or ended: since each instruction takes a unit of fuel, one more
+-- than it has is enough
+unfoldable pub rest : Image → ActorState → ActorState
+rest i a = run_local i (a.fuel + 1) a

@@ -1,0 +1,49 @@
+-- What a run ends with: a line for each actor that has ended, and the bytes of each append stream.
+use Rattle.std.specs.Prelude.{ℕ, ◌+◌, List, [], ◌∷◌, slice_get, Option, Some, None, unwrap_or, option_map, if◌then◌else◌}
+use Rattle.std.specs.Ordering.{nat_cmp, is_lt}
+use Rattle.std.specs.Cmp.Lexicographic.{slice_cmp}
+use Rattle.wedge_base.specs.Images.{Image, procedure_name}
+use Rattle.wedge_base.specs.Streams.{Stream}
+use Rattle.wedge_base.specs.declared.rights.StreamKind.TheVariants as kind
+use Rattle.wedge_base.specs.declared.rights.StreamKind.{StreamKind}
+use Rattle.wedge_base.specs.declared.rights.End.{End}
+use Rattle.wedge_base.specs.declared.outcome.ActorLine.{ActorLine}
+use Rattle.wedge_base.specs.declared.outcome.StreamLine.{StreamLine}
+use Rattle.wedge_base.specs.declared.outcome.Outcome.{Outcome}
+use Rattle.sthread_life.specs.declared.phase.Phase.{Phase}
+use Rattle.sthread_life.specs.declared.phase.Phase.TheVariants as phase
+use Rattle.sthread_life.specs.Actors.{ActorState}
+use Rattle.sthread_life.specs.Worlds.{WorldState}
+
+-- the line of an actor that ended so
+abbrev pub line_of : Image → ActorState → End → ActorLine
+line_of i a e = record { name = a.name; compartment = procedure_name i a.compartment; end = e; pc = a.hart.pc; fuel = a.fuel; denials = a.denials }
+
+-- a line put in its place: lines stand in the order of names
+abbrev pub with_line : ActorLine → List ActorLine → List ActorLine
+with_line l [] = l ∷ []
+with_line l (m ∷ ms) = if is_lt (slice_cmp nat_cmp l.name m.name) then l ∷ m ∷ ms else m ∷ with_line l ms
+
+abbrev pub with_actor : Image → ActorState → Phase → List ActorLine → List ActorLine
+with_actor i a (phase.Ended e) ls = with_line (line_of i a e) ls
+with_actor i a p ls = ls
+
+abbrev pub lines_of : Image → List ActorState → List ActorLine
+lines_of i [] = []
+lines_of i (a ∷ as_) = with_actor i a a.phase (lines_of i as_)
+
+-- the name under which a descriptor was declared
+abbrev pub label_of : Image → ℕ → List ℕ
+label_of i n = unwrap_or (option_map (λ f. f.name) (slice_get i.fds n)) []
+
+-- an append stream has a line, a source none
+abbrev pub with_stream : Image → ℕ → Stream → StreamKind → List StreamLine → List StreamLine
+with_stream i n s kind.Append ls = record { number = n; label = label_of i n; bytes = s.bytes } ∷ ls
+with_stream i n s kind.Source ls = ls
+
+abbrev pub streams_of : Image → ℕ → List Stream → List StreamLine
+streams_of i n [] = []
+streams_of i n (s ∷ ss) = with_stream i n s s.kind (streams_of i (n + 1) ss)
+
+abbrev pub outcome_of : WorldState → Outcome
+outcome_of w = record { actors = lines_of w.image w.actors; streams = streams_of w.image 0 w.cells.streams }

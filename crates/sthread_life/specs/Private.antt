@@ -1,0 +1,58 @@
+-- Loads, stores and buffers: the text, and private memory.
+use Rattle.std.specs.Prelude.{ℕ, ◌+◌, ◌%◌, ◌==◌, Bool, not, ◌&&◌, ◌||◌, List, [], Option, Some, None, is_some, nat_le, if◌then◌else◌}
+use Rattle.wedge_base.specs.Bytes.{number_of, bytes_of}
+use Rattle.wedge_base.specs.Memory.{range_at, read_range, write_at}
+use Rattle.wedge_base.specs.Images.{Image, in_text, read_text}
+use Rattle.wedge_base.specs.declared.image.MemoryRange.{MemoryRange}
+use Rattle.wedge_base.specs.declared.rights.End.TheVariants as end_
+use Rattle.rv_isa.specs.declared.Instr.{Instr}
+use Rattle.rv_hart.specs.Local.{extended, loaded, stored}
+use Rattle.sthread_life.specs.declared.phase.Phase.TheVariants as phase
+use Rattle.sthread_life.specs.Actors.{ActorState, ends}
+
+-- a load that gave this value
+abbrev pub has_loaded : Instr → Bool → ActorState → ℕ → ℕ → ActorState
+has_loaded ins is_signed a width value = record a { hart = loaded ins a.hart (extended width is_signed value) }
+
+-- a store that was made
+abbrev pub has_stored : ActorState → ActorState
+has_stored a = record a { hart = stored a.hart }
+
+-- a load of private memory
+abbrev pub load_range : Instr → Bool → ActorState → ℕ → ℕ → Option MemoryRange → ActorState
+load_range ins is_signed a address width (Some r) = has_loaded ins is_signed a width (number_of (read_range r address width))
+load_range ins is_signed a address width None = ends a end_.Unmapped
+
+-- a load: an address that is no multiple of the width, the text, private memory
+abbrev pub loads : Image → Instr → Bool → ActorState → ℕ → ℕ → ActorState
+loads i ins is_signed a address width =
+    if not (address % width == 0) then ends a end_.Misaligned
+    else if in_text i address width then has_loaded ins is_signed a width (number_of (read_text i address width))
+    else load_range ins is_signed a address width (range_at a.memory address width)
+
+-- a store into private memory
+abbrev pub store_range : ActorState → ℕ → ℕ → ℕ → Option MemoryRange → ActorState
+store_range a address width value (Some r) = has_stored (record a { memory = write_at a.memory address (bytes_of width value) })
+store_range a address width value None = ends a end_.Unmapped
+
+-- a store: an address that is no multiple of the width, the text, private memory
+abbrev pub stores : Image → ActorState → ℕ → ℕ → ℕ → ActorState
+stores i a address width value =
+    if not (address % width == 0) then ends a end_.Misaligned
+    else if in_text i address width then ends a end_.TextStore
+    else store_range a address width value (range_at a.memory address width)
+
+abbrev pub most_buffer : ℕ
+most_buffer = 256
+
+-- whether a buffer that is read fits: it is empty, or lies wholly in one private range or in the text
+abbrev pub fits_read : Image → ActorState → ℕ → ℕ → Bool
+fits_read i a pointer n = nat_le n most_buffer && ((n == 0) || is_some (range_at a.memory pointer n) || in_text i pointer n)
+
+abbrev pub buffer_in : Image → ℕ → ℕ → Option MemoryRange → List ℕ
+buffer_in i pointer n (Some r) = read_range r pointer n
+buffer_in i pointer n None = read_text i pointer n
+
+-- the bytes of a buffer that fits
+abbrev pub buffer : Image → ActorState → ℕ → ℕ → List ℕ
+buffer i a pointer n = if n == 0 then [] else buffer_in i pointer n (range_at a.memory pointer n)

@@ -1,0 +1,177 @@
+//! Private memory: ranges of bytes.
+
+ghost use Rattle.std.specs.Prelude.{◌≡◌, ◌+◌, ◌*◌, ◌^◌, ◌<◌, ◌≤◌, ◌⊎◌, ◌∷◌, [], IfOk, IfSome, length, is_some, option_map, false, IsTrue};
+ghost use Rattle.wedge_base.specs.Bytes.{zeros, number_of, bytes_of};
+ghost use Rattle.wedge_base.specs.Memory.{lies_in, range_at, read_range, write_range, write_at};
+ghost use Rattle.wedge_base.specs.Images.{private_base, private_size};
+
+use std::alloc::Global;
+use std::marker::Model;
+use wedge_base::{Bytes, MemoryRange, NoMemory};
+
+/// Where the private range begins: stack and heap.
+const PRIVATE_BASE: u32 = 0x2000_0000;
+/// How many bytes it has.
+const PRIVATE_SIZE: usize = 0x2_0000;
+
+/// The private memory of an actor: the private range, and its own data ranges.
+#[derive(Debug, Drop)]
+pub struct Memory {
+    ranges: Vec<MemoryRange>,
+}
+
+impl Model for Memory {
+    ghost use Rattle.std.specs.Prelude.{List};
+    ghost use Rattle.wedge_base.specs.declared.image.MemoryRange.{MemoryRange};
+
+    ghost Value = { List MemoryRange };
+
+    ghost view = { λ m. m.ranges.items };
+}
+
+impl Memory {
+    /// Private memory as an actor begins: a private range of zeros, and a copy of the data ranges.
+    pub fn pristine(alloc: Global, data_ranges: &[MemoryRange]) -> Result<Memory, NoMemory>
+        ensures { IfOk result (λ m. m ≡ record { base = private_base; bytes = zeros private_size } ∷ data_ranges.now) }
+    {
+        let mut ranges = Vec::new(alloc);
+        let bytes = zeroed(alloc, PRIVATE_SIZE)?;
+        ranges.push(MemoryRange {
+            base: PRIVATE_BASE,
+            bytes,
+        })?;
+        for range in data_ranges {
+            ranges.push(copy_of_range(range)?)?;
+        }
+        Ok(Memory { ranges })
+    }
+
+    /// Whether so many bytes from an address on lie in one range.
+    pub fn holds(&self, address: u32, size: u32) -> bool
+        ensures { result ≡ is_some (range_at self.now address size) }
+    {
+        range_at(self.ranges.as_slice(), address, size).is_some()
+    }
+
+    /// The number of 1, 2 or 4 bytes at an address, if they lie in one range.
+    pub fn load(&self, address: u32, width: u8) -> Option<u32>
+        requires { (width ≡ 1) ⊎ (width ≡ 2) ⊎ (width ≡ 4) }
+        ensures { result ≡ option_map (λ r. number_of (read_range r address width)) (range_at self.now address width) }
+    {
+        match range_at(self.ranges.as_slice(), address, u32::from(width)) {
+            None => None,
+            Some(range) => Some(number_of(part_of(range, address, u32::from(width)))),
+        }
+    }
+
+    /// A copy of so many bytes at an address, if they lie in one range.
+    pub fn copy_of(&self, alloc: Global, address: u32, size: u32) -> Result<Option<Bytes>, NoMemory>
+        ensures { IfOk result (λ b. b ≡ option_map (λ r. read_range r address size) (range_at self.now address size)) }
+    {
+        match range_at(self.ranges.as_slice(), address, size) {
+            None => Ok(None),
+            Some(range) => Ok(Some(Bytes::from_slice(
+                alloc,
+                part_of(range, address, size),
+            )?)),
+        }
+    }
+
+    /// Writes 1, 2 or 4 low bytes of a number at an address, if they lie in one range; answers
+    /// whether they do.
+    pub fn store(&mut self, address: u32, width: u8, value: u32) -> bool
+        requires { (width ≡ 1) ⊎ (width ≡ 2) ⊎ (width ≡ 4) }
+        ensures found { result ≡ is_some (range_at self.old address width) }
+        ensures after { self.new ≡ write_at self.old address (bytes_of width value) }
+        ensures unfound { result ≡ false → self.new ≡ self.old }
+    {
+        let bytes = value.to_le_bytes();
+        match width {
+            1 => write_in(&mut self.ranges, address, &bytes[..1]),
+            2 => write_in(&mut self.ranges, address, &bytes[..2]),
+            _ => write_in(&mut self.ranges, address, &bytes),
+        }
+    }
+}
+
+/// So many zeros.
+#[tactic(auto, unfolding(wedge_base::specs::Bytes::zeros))]
+fn zeroed(alloc: Global, size: usize) -> Result<Bytes, NoMemory>
+    ensures { IfOk result (λ b. b ≡ zeros size) }
+{
+    Ok(Bytes::new(vec![in alloc; 0u8; size]?))
+}
+
+/// An equal range.
+fn copy_of_range(range: &MemoryRange) -> Result<MemoryRange, NoMemory>
+    ensures { IfOk result (λ r. r ≡ range.now) }
+{
+    Ok(range.clone()?)
+}
+
+/// Whether so many bytes from an address on lie in a range.
+fn lies_in(range: &MemoryRange, address: u32, size: u32) -> bool
+    ensures { result ≡ lies_in address size range.now }
+{
+    let base = u64::from(range.base);
+    let end = base.wrapping_add(range.bytes.as_slice().len() as u64);
+    let last = u64::from(address) + u64::from(size);
+    base <= u64::from(address) && last <= end
+}
+
+/// The range in which they lie.
+fn range_at(ranges: &[MemoryRange], address: u32, size: u32) -> Option<&MemoryRange>
+    ensures found { option_map (λ r. r.now) result ≡ range_at ranges.now address size }
+    ensures lies { IfSome result (λ r. IsTrue (lies_in address size r.now)) }
+{
+    ranges.iter().find(|r| lies_in(r, address, size))
+}
+
+/// The bytes of a range at an address.
+fn part_of(range: &MemoryRange, address: u32, size: u32) -> &[u8]
+    requires { IsTrue (lies_in address size range.now) }
+    ensures value { result.now ≡ read_range range.now address size }
+    ensures len { length result.now ≡ size }
+{
+    let place = (address - range.base) as usize;
+    &range.bytes.as_slice()[place..place + size as usize]
+}
+
+/// The number that bytes spell, the lowest first.
+fn number_of(bytes: &[u8]) -> u32
+    requires { (length bytes.now ≡ 1) ⊎ (length bytes.now ≡ 2) ⊎ (length bytes.now ≡ 4) }
+    ensures { result ≡ number_of bytes.now }
+{
+    match bytes {
+        [a] => u32::from(*a),
+        [a, b] => u32::from(*a) + 256 * u32::from(*b),
+        [a, b, c, d] => u32::from_le_bytes([*a, *b, *c, *d]),
+        _ => 0,
+    }
+}
+
+/// Writes bytes at an address of a range.
+fn write_range(range: &mut MemoryRange, address: u32, bytes: &[u8])
+    requires { IsTrue (lies_in address (length bytes.now) range.old) }
+    ensures { range.new ≡ write_range address bytes.now range.old }
+{
+    let place = (address - range.base) as usize;
+    range.bytes.write(place, bytes);
+}
+
+/// Writes bytes at an address, in the range in which they lie; answers whether they lie in one.
+fn write_in(ranges: &mut [MemoryRange], address: u32, bytes: &[u8]) -> bool
+    requires { length bytes.now < 2 ^ 32 }
+    ensures found { result ≡ is_some (range_at ranges.old address (length bytes.now)) }
+    ensures after { ranges.new ≡ write_at ranges.old address bytes.now }
+    ensures unfound { result ≡ false → ranges.new ≡ ranges.old }
+{
+    for i in 0..ranges.len() {
+        let range = &mut ranges[i];
+        if lies_in(range, address, bytes.len() as u32) {
+            write_range(range, address, bytes);
+            return true;
+        }
+    }
+    false
+}

@@ -1,0 +1,19 @@
+-- How a run begins and goes on.
+use Rattle.std.proofs.Common.{◌≡◌, ℕ, Bool, false, List, [], ◌∷◌, ◌++◌, refl, sym, ap, subst, ◌∙◌}
+use Rattle.std.specs.Prelude.{Some}
+use Rattle.wedge_base.specs.Images.{Image}
+use Rattle.wedge_base.specs.declared.events.Turn.{Turn}
+use Rattle.sthread_life.specs.Actors.{ActorState, root}
+use Rattle.sthread_life.specs.Worlds.{Cells, WorldState, opening, opening_cells, turn_of, Runs}
+use Rattle.wedge_core.specs.Progress.{IsRun, state_of}
+
+pub opened_is_run : (i : Image) (cells : Cells) (actors : List ActorState) (turns : List Turn) → cells ≡ opening_cells i → actors ≡ root i ∷ [] → turns ≡ []
+    → IsRun (record { state = state_of i cells actors; turns = turns; stopped = false })
+opened_is_run i cells actors turns c a t =
+    let state : state_of i cells actors ≡ opening i = cc in
+    rw t (record { last = opening i; run = refl; current = λ e. state })
+
+-- a run goes on by a turn from where it leads
+pub Runs-push : (old mid new : WorldState) (turns : List Turn) (t : Turn) → Runs old turns mid → turn_of mid t.actor ≡ Some (record { event = t.event; world = new }) → Runs old (turns ++ t ∷ []) new
+Runs-push old mid new [] t run e = (new, subst (λ w. turn_of w t.actor ≡ Some (record { event = t.event; world = new })) run e, refl)
+Runs-push old mid new (u ∷ us) t run e = (run.0, run.1, Runs-push run.0 mid new us t run.2 e)

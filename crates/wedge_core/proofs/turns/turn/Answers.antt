@@ -1,0 +1,22 @@
+use Rattle.std.proofs.Common.{◌≡◌, ap, sym, subst}
+use Rattle.sthread_life.specs.Allowed.{StepIsJudged}
+use Rattle.sthread_life.specs.Worlds.{WorldState, opening, Runs}
+use Rattle.sthread_life.proofs.Judging.{turn_judged}
+use Rattle.wedge_core.specs.Progress.{Progress, state_of}
+use Rattle.wedge_core.proofs.Turning.{run_goes_on}
+use Rattle.wedge_core.proofs.turns.turn.Goals as goal
+
+pub invariant_of-world : goal.invariant_of-world
+invariant_of-world c =
+    let w = c.world.inside in
+    run_goes_on w.image.now w.cells c.turn_over.new.cells w.actors.items c.turn_over.new.actors.items w.turns.items c.turn_over.new.turns.items c.args.name.now c.in-Ok.event w.stopped
+        c.world.invariant c.if-world.false c.in-Ok.ensures.took c.in-Ok.ensures.noted
+
+pub returns-in-Ok-clause-judged : goal.returns-in-Ok-clause-judged
+returns-in-Ok-clause-judged c =
+    let w = c.world.inside in
+    let i = w.image.now in
+    let new = state_of i c.turn_over.new.cells c.turn_over.new.actors.items in
+    let run = subst (λ s. Runs (opening i) w.turns.items s) (sym (c.world.invariant.current c.if-world.false)) c.world.invariant.run in
+    let judged = turn_judged i w.turns.items (state_of i w.cells w.actors.items) (record { actor = c.args.name.now; event = c.in-Ok.event }) new run c.in-Ok.ensures.took in
+    subst (λ (p : Progress). StepIsJudged p.state (record { actor = c.args.name.now; event = c.in-Ok.event }) new) c.world.view_is judged

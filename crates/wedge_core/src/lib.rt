@@ -1,0 +1,17 @@
+//! The core: a world of actors and cells, its turns, and whole runs of it on one thread.
+#![tactic(auto)]
+
+mod actors;
+mod cells;
+mod error;
+mod stream;
+mod turns;
+
+mod world;
+
+pub use cells::Cells;
+pub use error::NoTurn;
+pub use stream::Stream;
+pub use turns::{Taken, turn};
+
+pub use world::{World, open_world};
