@@ -83,3 +83,11 @@ turn_between w name e new all t =
 pub opening_between : (i : Image) → AllBetween (opening i).actors
 unfolding root
 opening_between i = (tt, tt)
+
+runs_between : (old : WorldState) (turns : List Turn) (new : WorldState) → AllBetween old.actors → Runs old turns new → AllBetween new.actors
+runs_between old [] new all run = subst (λ (w : WorldState). AllBetween w.actors) (sym run) all
+runs_between old (t ∷ ts) new all run = runs_between run.0 ts new (turn_between old t.actor t.event run.0 all run.1) run.2
+
+-- in a world to which a run leads no actor is within an instruction
+pub run_between : (i : Image) (turns : List Turn) (new : WorldState) → Runs (opening i) turns new → AllBetween new.actors
+run_between i turns new run = runs_between (opening i) turns new (opening_between i) run

@@ -26,7 +26,7 @@ use Rattle.sthread_life.specs.Allowed.{Request, Appends, allows, denied_by, requ
 use Rattle.sthread_life.specs.Between.{IsBetween, HasOwnBits, AsksItsOwn}
 use Rattle.sthread_life.specs.Laws.{RunsAreJudged}
 use Rattle.sthread_life.proofs.Resting.{rests, rest-stays}
-use Rattle.sthread_life.proofs.Between.{AllBetween, named_between, turn_between, opening_between, turn_parts}
+use Rattle.sthread_life.proofs.Between.{AllBetween, named_between, turn_between, run_between, opening_between, turn_parts}
 
 -- writing what stands there changes nothing
 set_same : {X : Type 0} (xs : List X) (n : ℕ) (x : X) → slice_get xs n ≡ Some x → slice_set xs n x ≡ xs
@@ -110,11 +110,7 @@ each_judged old (t ∷ ts) new all run = (run.0, run.1, step_judged old t run.0 
 pub runs_judged : RunsAreJudged
 runs_judged i turns new run = each_judged (opening i) turns new (opening_between i) run
 
-run_between : (old : WorldState) (turns : List Turn) (new : WorldState) → AllBetween old.actors → Runs old turns new → AllBetween new.actors
-run_between old [] new all run = subst (λ (w : WorldState). AllBetween w.actors) (sym run) all
-run_between old (t ∷ ts) new all run = run_between run.0 ts new (turn_between old t.actor t.event run.0 all run.1) run.2
-
 -- a turn from a world that a run leads to is judged
 pub turn_judged : (i : Image) (turns : List Turn) (mid : WorldState) (t : Turn) (new : WorldState) → Runs (opening i) turns mid
     → turn_of mid t.actor ≡ Some (record { event = t.event; world = new }) → StepIsJudged mid t new
-turn_judged i turns mid t new run e = step_judged mid t new (run_between (opening i) turns mid (opening_between i) run) e
+turn_judged i turns mid t new run e = step_judged mid t new (run_between i turns mid run) e

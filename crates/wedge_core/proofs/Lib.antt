@@ -1,3 +1,5 @@
 pub mod Places
 pub mod Runs
 pub mod Turning
+pub mod Working
+pub mod Numbering

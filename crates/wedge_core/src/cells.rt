@@ -1,7 +1,7 @@
 //! The cells of a world.
 
-ghost use Rattle.std.specs.Prelude.{◌≡◌, IfOk, OnErr, map, slice_get};
-ghost use Rattle.wedge_base.specs.Streams.{declared_stream, stream_reply, stream_after};
+ghost use Rattle.std.specs.Prelude.{◌≡◌, ◌≤◌, IfOk, OnErr, length, map, slice_get};
+ghost use Rattle.wedge_base.specs.Streams.{most_fds, declared_stream, stream_reply, stream_after};
 ghost use Rattle.sthread_life.specs.Worlds.{opening_cells, event_of, cells_after, put_stream};
 
 use crate::stream::Stream;
@@ -18,11 +18,15 @@ pub struct Cells {
 }
 
 impl Model for Cells {
+    ghost use Rattle.std.specs.Prelude.{◌≤◌, length};
+    ghost use Rattle.wedge_base.specs.Streams.{most_fds};
     ghost use Rattle.sthread_life.specs.Worlds.{Cells as Plain};
 
     ghost Value = { Plain };
 
     ghost view = { λ c. record { streams = c.streams.items; lives = c.lives } };
+
+    ghost invariant = { λ c. length c.streams.items ≤ most_fds };
 }
 
 impl Cells {
@@ -38,7 +42,8 @@ impl Cells {
 
     /// Lends the streams, by descriptor.
     pub fn streams(&self) -> &[Stream]
-        ensures { result.now ≡ self.now.streams }
+        ensures is { result.now ≡ self.now.streams }
+        ensures few { length result.now ≤ most_fds }
     {
         self.streams.as_slice()
     }
@@ -69,6 +74,7 @@ fn act_in(streams: &mut Vec<Stream>, fd: u32, ask: &StreamAsk) -> Result<StreamR
     ensures reply { IfOk result (λ r. r ≡ stream_reply (slice_get streams.old.items fd) ask.now) }
     ensures after { IfOk result (λ r. streams.new.items ≡ put_stream streams.old.items fd (stream_after (slice_get streams.old.items fd) ask.now r)) }
     ensures err { OnErr result (streams.new.items ≡ streams.old.items) }
+    ensures count { length streams.new.items ≡ length streams.old.items }
 {
     let place = fd as usize;
     if place >= streams.len() {
@@ -79,7 +85,7 @@ fn act_in(streams: &mut Vec<Stream>, fd: u32, ask: &StreamAsk) -> Result<StreamR
 
 /// The streams of the declared descriptors.
 fn declared_streams(alloc: Global, fds: &[FdEntry]) -> Result<Vec<Stream>, NoMemory>
-    ensures { IfOk result (λ v. v.items ≡ map declared_stream fds.now) }
+    ensures is { IfOk result (λ v. v.items ≡ map declared_stream fds.now) }
 {
     let mut streams = Vec::new(alloc);
     for fd in fds {

@@ -4,6 +4,8 @@
 mod actors;
 mod cells;
 mod error;
+mod ending;
+mod serially;
 mod stream;
 mod turns;
 
@@ -11,6 +13,8 @@ mod world;
 
 pub use cells::Cells;
 pub use error::NoTurn;
+pub use ending::outcome;
+pub use serially::serial;
 pub use stream::Stream;
 pub use turns::{Taken, turn};
 

@@ -1,6 +1,7 @@
 //! The world of a run.
 
-ghost use Rattle.std.specs.Prelude.{◌≡◌, IfOk};
+ghost use Rattle.std.specs.Prelude.{◌≡◌, IfOk, false};
+ghost use Rattle.sthread_life.specs.Worlds.{opening, Runs};
 ghost use Rattle.wedge_core.specs.Progress.{opened};
 
 use crate::cells::Cells;
@@ -38,6 +39,17 @@ impl<'a> Model for World<'a> {
         turns = w.turns.items;
         stopped = w.stopped;
     }) };
+}
+
+impl<'a> World<'a> {
+    /// Hands out the turns taken so far.
+    pub(crate) fn into_turns(self) -> Vec<Turn>
+        ensures turns { result.items ≡ self.entry.turns }
+        ensures run { self.entry.stopped ≡ false → Runs (opening self.entry.state.image) result.items self.entry.state }
+    {
+        let World { turns, .. } = self;
+        turns
+    }
 }
 
 /// The world as a run of an image begins.

@@ -1,0 +1,162 @@
+//! What a run ends with.
+
+ghost use Rattle.std.specs.Prelude.{◌≡◌, ◌≤◌, ◌++◌, [], length, IfOk, OnOk};
+ghost use Rattle.wedge_base.specs.Streams.{most_fds};
+ghost use Rattle.std.specs.Ordering.{nat_cmp, is_lt};
+ghost use Rattle.std.specs.Cmp.Lexicographic.{slice_cmp};
+ghost use Rattle.sthread_life.specs.Outcomes as outcomes;
+
+use crate::stream::Stream;
+use crate::world::World;
+use image_form::Image;
+use std::alloc::Global;
+use sthread_life::{Actor, Phase};
+use wedge_base::{
+    ActorLine, ActorName, Bytes, End, FdNo, Items, NoMemory, Outcome, StreamKind, StreamLine,
+};
+
+/// The outcome of a world: a line for each actor that has ended, and one for each append stream.
+pub fn outcome(alloc: Global, world: &World<'_>) -> Result<Outcome, NoMemory>
+    ensures { IfOk result (λ o. o ≡ outcomes.outcome_of world.now.state) }
+{
+    let image = world.image;
+    let actors = actor_lines(alloc, image, world.actors.as_slice())?;
+    let streams = stream_lines(alloc, image, world.cells.streams())?;
+    Ok(Outcome {
+        actors: Items::new(actors),
+        streams: Items::new(streams),
+    })
+}
+
+/// The lines of the actors that have ended, in the order of names.
+fn actor_lines(
+    alloc: Global,
+    image: &Image,
+    actors: &[Actor],
+) -> Result<Vec<ActorLine>, NoMemory>
+    ensures { IfOk result (λ v. v.items ≡ outcomes.lines_of image.now actors.now) }
+{
+    let mut lines = Vec::new(alloc);
+    let mut left = actors.len();
+    while left > 0 {
+        left -= 1;
+        add_actor(alloc, image, &actors[left], &mut lines)?;
+    }
+    Ok(lines)
+}
+
+/// Adds the line of an actor, if it has ended.
+fn add_actor(
+    alloc: Global,
+    image: &Image,
+    actor: &Actor,
+    lines: &mut Vec<ActorLine>,
+) -> Result<(), NoMemory>
+    ensures { OnOk result (lines.new.items ≡ outcomes.with_actor image.now actor.now actor.now.phase lines.old.items) }
+{
+    match actor.phase() {
+        Phase::Ended(end) => {
+            let line = line_of(alloc, image, actor, *end)?;
+            add_line(lines, line)
+        }
+        _ => Ok(()),
+    }
+}
+
+/// The line of an actor that ended so.
+fn line_of(alloc: Global, image: &Image, actor: &Actor, end: End) -> Result<ActorLine, NoMemory>
+    ensures { IfOk result (λ l. l ≡ outcomes.line_of image.now actor.now end) }
+{
+    Ok(ActorLine {
+        name: actor.name().copy()?,
+        compartment: image.procedure_name(alloc, actor.compartment())?,
+        end,
+        pc: actor.pc(),
+        fuel: actor.fuel(),
+        denials: actor.denials().clone()?,
+    })
+}
+
+/// Puts a line before the first whose name is after its own.
+fn add_line(lines: &mut Vec<ActorLine>, line: ActorLine) -> Result<(), NoMemory>
+    ensures { OnOk result (lines.new.items ≡ outcomes.with_line line lines.old.items) }
+{
+    for i in 0..lines.len() {
+        if is_before(&line.name, &lines[i].name) {
+            lines.insert(i, line)?;
+            return Ok(());
+        }
+    }
+    lines.push(line)?;
+    Ok(())
+}
+
+/// Whether a name stands before another: part by part, a prefix first.
+fn is_before(name: &ActorName, other: &ActorName) -> bool
+    ensures { result ≡ is_lt (slice_cmp nat_cmp name.now other.now) }
+{
+    name.parts().cmp(other.parts()).is_lt()
+}
+
+/// The lines of the append streams, by number.
+fn stream_lines(
+    alloc: Global,
+    image: &Image,
+    streams: &[Stream],
+) -> Result<Vec<StreamLine>, NoMemory>
+    requires { length streams.now ≤ most_fds }
+    ensures { IfOk result (λ v. v.items ≡ outcomes.streams_of image.now 0 streams.now) }
+{
+    let mut lines = Vec::new(alloc);
+    let mut number = 0u32;
+    for stream in streams {
+        add_stream(alloc, image, number, stream, &mut lines)?;
+        number += 1;
+    }
+    Ok(lines)
+}
+
+/// Adds the line of a stream, if it is an append stream.
+fn add_stream(
+    alloc: Global,
+    image: &Image,
+    number: u32,
+    stream: &Stream,
+    lines: &mut Vec<StreamLine>,
+) -> Result<(), NoMemory>
+    ensures { OnOk result (lines.new.items ≡ lines.old.items ++ outcomes.with_stream image.now number stream.now stream.now.kind []) }
+{
+    match stream.kind() {
+        StreamKind::Source => Ok(()),
+        StreamKind::Append => {
+            lines.push(stream_line(alloc, image, number, stream)?)?;
+            Ok(())
+        }
+    }
+}
+
+/// The line of an append stream.
+fn stream_line(
+    alloc: Global,
+    image: &Image,
+    number: u32,
+    stream: &Stream,
+) -> Result<StreamLine, NoMemory>
+    ensures { IfOk result (λ l. l ≡ record { number = number; label = outcomes.label_of image.now number; bytes = stream.now.bytes }) }
+{
+    Ok(StreamLine {
+        number: FdNo(number),
+        label: label_of(alloc, image, number)?,
+        bytes: Bytes::from_slice(alloc, stream.bytes())?,
+    })
+}
+
+/// The name under which a descriptor was declared.
+fn label_of(alloc: Global, image: &Image, number: u32) -> Result<Bytes, NoMemory>
+    ensures { IfOk result (λ b. b ≡ outcomes.label_of image.now number) }
+{
+    match image.fds().get(number as usize) {
+        Some(fd) => Ok(fd.name.clone()?),
+        None => Ok(Items::new(Vec::new(alloc))),
+    }
+}
