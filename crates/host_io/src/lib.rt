@@ -2,14 +2,22 @@
 //! often it has failed, and may tell its bytes.
 #![tactic(auto)]
 
+mod count;
 mod errors;
 mod files;
+mod mem_file;
+mod mem_files;
+mod mem_sink;
 mod pace;
+mod plan;
 mod sinks;
 mod whole;
 
 pub use errors::{Failed, ReadFault, WriteFault};
 pub use files::Files;
+pub use mem_file::MemFile;
+pub use mem_files::MemFiles;
+pub use mem_sink::MemSink;
 pub use pace::{NoPace, Pace};
 pub use sinks::Sink;
 pub use whole::{read_whole, write_whole};
