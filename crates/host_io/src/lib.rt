@@ -10,7 +10,11 @@ mod mem_files;
 mod mem_sink;
 mod pace;
 mod plan;
+mod real_files;
+mod real_sinks;
 mod sinks;
+#[cfg(test)]
+mod tests;
 mod whole;
 
 pub use errors::{Failed, ReadFault, WriteFault};
@@ -19,5 +23,7 @@ pub use mem_file::MemFile;
 pub use mem_files::MemFiles;
 pub use mem_sink::MemSink;
 pub use pace::{NoPace, Pace};
+pub use real_files::RealFiles;
+pub use real_sinks::{RealErr, RealOut, RealSink};
 pub use sinks::Sink;
 pub use whole::{read_whole, write_whole};
