@@ -1,6 +1,6 @@
 //! The files of the system.
 
-ghost use Rattle.std.specs.Prelude.{◌≡◌, ◌≤◌, length, None, IfOk};
+ghost use Rattle.std.specs.Prelude.{◌≡◌, ℕ, ◌≤◌, List, length, None, IfOk};
 
 use crate::count::Count;
 use crate::errors::Failed;
@@ -29,8 +29,10 @@ pub struct RealFiles<'a, R: rt::Files> {
 }
 
 impl<'a, R: rt::Files> RealFiles<'a, R> {
-    /// The files that a runtime opens.
-    pub fn new(rt: &'a R, alloc: Global) -> RealFiles<'a, R> {
+    /// The files that a runtime opens. No read of them has failed yet.
+    pub fn new(rt: &'a R, alloc: Global) -> RealFiles<'a, R>
+        ensures { (name : List ℕ) → ⟦<RealFiles<'a, R> as Files>⟧.faults result name ≡ 0 }
+    {
         RealFiles {
             rt,
             alloc,

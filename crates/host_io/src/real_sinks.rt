@@ -1,6 +1,6 @@
 //! The output and the error output of the process.
 
-ghost use Rattle.std.specs.Prelude.{None};
+ghost use Rattle.std.specs.Prelude.{◌≡◌, None};
 
 use crate::count::Count;
 use crate::errors::Failed;
@@ -21,8 +21,10 @@ pub type RealOut = RealSink<Stdout>;
 pub type RealErr = RealSink<Stderr>;
 
 impl<P: Print> RealSink<P> {
-    /// The sink that prints there.
-    pub fn new(to: P) -> RealSink<P> {
+    /// The sink that prints there. No write has failed yet.
+    pub fn new(to: P) -> RealSink<P>
+        ensures { ⟦<RealSink<P> as Sink>⟧.faults result ≡ 0 }
+    {
         RealSink {
             to,
             faults: Count::zero(),
