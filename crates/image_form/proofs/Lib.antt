@@ -1,1 +1,4 @@
 pub mod Addresses
+pub mod Loop
+pub mod Seen
+pub mod Lasts

@@ -71,7 +71,7 @@ is_among ns n = list_any (λ m. m == n) ns
 -- whether no number stands among those before it, nor among those that are given
 abbrev pub differ_from : List ℕ → List ℕ → Bool
 differ_from before [] = true
-differ_from before (n ∷ ns) = not (is_among before n) && differ_from (n ∷ before) ns
+differ_from before (n ∷ ns) = not (is_among before n) && differ_from (before ++ n ∷ []) ns
 
 abbrev pub addresses : List Procedure → List ℕ
 addresses ps = map (λ p. p.address) ps
