@@ -7,10 +7,13 @@ mod fields;
 mod files;
 mod forms;
 mod image;
+mod parts;
 mod procedures;
 mod ranges;
+mod reading;
 mod tags;
 mod text;
 
 pub use fault::{Fault, ImageError, Why};
 pub use image::{Image, Pristine};
+pub use parts::ImageParts;
