@@ -170,3 +170,8 @@ pub record IsImage (i : Image) : Type 0 where
   pub user_fits : i.user < 2 ^ 32
   pub root_canonical : IsTrue (is_root i.root)
   pub small : length (spelling i) ≤ most_bytes
+
+-- the bytes are the one spelling of the image, which meets every rule
+pub record Spells (i : Image) (bytes : List ℕ) : Type 0 where
+  pub valid : IsImage i
+  pub spelled : bytes ≡ spelling i

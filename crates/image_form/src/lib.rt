@@ -17,3 +17,4 @@ mod text;
 pub use fault::{Fault, ImageError, Why};
 pub use image::{Image, Pristine};
 pub use parts::ImageParts;
+pub use reading::read_image;

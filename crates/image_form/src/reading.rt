@@ -1,6 +1,8 @@
 //! Reading a whole image.
 
-ghost use Rattle.std.specs.Prelude.{◌≡◌, ◌==◌};
+ghost use Rattle.std.specs.Prelude.{◌≡◌, ◌==◌, IfOk, Ok};
+ghost use Rattle.wedge_base.specs.Images as images;
+ghost use Rattle.image_form.specs.Rules.{Spells};
 ghost use Rattle.image_form.specs.declared.fault.Why.TheVariants as why;
 ghost use Rattle.image_form.specs.Spelling as spelled;
 ghost use Rattle.image_form.specs.Rules as rules;
@@ -12,6 +14,7 @@ use crate::fault::{Fault, ImageError, Why};
 use crate::fds::fds;
 use crate::fields::{limited, number, refused, root};
 use crate::files::files;
+use crate::image::Image;
 use crate::parts::ImageParts;
 use crate::procedures::{TextSpan, entry, procedures};
 use crate::ranges::ranges;
@@ -116,4 +119,29 @@ fn all_parts(alloc: Global, bytes: &[u8]) -> Result<ImageParts, ImageError>
         return Err(refused(total, rest, Why::Trailing));
     }
     Ok(parts)
+}
+
+/// The same, and that the bytes are a spelling exactly where they are read.
+fn image_parts(alloc: Global, bytes: &[u8]) -> Result<ImageParts, ImageError>
+    ensures exact { Gives image_of result (reading.reading bytes.now) }
+    ensures found { IfOk result (λ p. Spells (image_of p) bytes.now) }
+    ensures only { (i : images.Image) → Spells i bytes.now → Gives image_of result (Ok i) }
+{
+    all_parts(alloc, bytes)
+}
+
+/// The image that the bytes are, or the first fault by the order of the fields. The bytes of a file of
+/// more than 16,777,216 bytes are not looked at.
+pub fn read_image(alloc: Global, bytes: &[u8]) -> Result<Image, ImageError>
+    // What is read, or which fault comes first.
+    ensures exact { Gives (λ i. i) result (reading.reading bytes.now) }
+    // What is read is an image, and all the bytes are its spelling.
+    ensures found { IfOk result (λ i. Spells i bytes.now) }
+    // What is the spelling of an image is read as that image, unless memory runs out.
+    ensures only { (i : images.Image) → Spells i bytes.now → Gives (λ j. j) result (Ok i) }
+{
+    match image_parts(alloc, bytes) {
+        Ok(parts) => Ok(Image::from_parts(parts)),
+        Err(error) => Err(error),
+    }
 }
