@@ -1,1 +1,10 @@
 pub mod Addresses
+pub mod Loop
+pub mod Seen
+pub mod Lasts
+pub mod Form
+pub mod FieldForms
+pub mod TableForms
+pub mod Scans
+pub mod EntryForms
+pub mod ImageForm

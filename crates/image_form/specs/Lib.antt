@@ -3,3 +3,4 @@ pub mod Spelling
 pub mod Rules
 pub mod Address
 pub mod View
+pub mod Reading

@@ -71,7 +71,7 @@ is_among ns n = list_any (λ m. m == n) ns
 -- whether no number stands among those before it, nor among those that are given
 abbrev pub differ_from : List ℕ → List ℕ → Bool
 differ_from before [] = true
-differ_from before (n ∷ ns) = not (is_among before n) && differ_from (n ∷ before) ns
+differ_from before (n ∷ ns) = not (is_among before n) && differ_from (before ++ n ∷ []) ns
 
 abbrev pub addresses : List Procedure → List ℕ
 addresses ps = map (λ p. p.address) ps
@@ -170,3 +170,8 @@ pub record IsImage (i : Image) : Type 0 where
   pub user_fits : i.user < 2 ^ 32
   pub root_canonical : IsTrue (is_root i.root)
   pub small : length (spelling i) ≤ most_bytes
+
+-- the bytes are the one spelling of the image, which meets every rule
+pub record Spells (i : Image) (bytes : List ℕ) : Type 0 where
+  pub valid : IsImage i
+  pub spelled : bytes ≡ spelling i

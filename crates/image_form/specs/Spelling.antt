@@ -18,9 +18,9 @@ use Rattle.wedge_base.specs.declared.rights.StreamKind.TheVariants as kind
 abbrev pub most_bytes : ℕ
 most_bytes = 16777216
 
--- `WEDG`
-abbrev pub magic : List ℕ
-magic = 0x57 ∷ 0x45 ∷ 0x44 ∷ 0x47 ∷ []
+-- the number that is spelled `WEDG`
+abbrev pub magic : ℕ
+magic = 0x47444557
 
 abbrev pub version : ℕ
 version = 1
@@ -72,7 +72,7 @@ file f = concat (string f.path ∷ number f.owner ∷ number f.mode ∷ number (
 
 unfoldable pub spelling : Image → List ℕ
 spelling i = concat (
-    magic ∷ number version ∷ number i.fuel ∷ number i.base ∷ table number i.words
+    number magic ∷ number version ∷ number i.fuel ∷ number i.base ∷ table number i.words
     ∷ table procedure i.procedures ∷ number i.entry ∷ table range i.ranges
     ∷ table tag i.tags ∷ table fd i.fds ∷ table file i.files
     ∷ number i.user ∷ string i.root ∷ [])

@@ -1,6 +1,7 @@
 -- The plain image that an image in memory is.
 use Rattle.wedge_base.specs.Images.{Image}
 use Rattle.image_form.specs.declared.image.Image.TheInside.{Inside}
+use Rattle.image_form.specs.declared.parts.ImageParts.{ImageParts}
 
 abbrev pub plain : Inside → Image
 plain i = record {
@@ -15,4 +16,20 @@ plain i = record {
   files = i.files;
   user = i.user;
   root = i.root;
+}
+
+-- the plain image whose parts are given
+abbrev pub image_of : ImageParts → Image
+image_of p = record {
+  fuel = p.fuel;
+  base = p.base;
+  words = p.words;
+  procedures = p.procedures;
+  entry = p.entry;
+  ranges = p.ranges;
+  tags = p.tags;
+  fds = p.fds;
+  files = p.files;
+  user = p.user;
+  root = p.root;
 }

@@ -7,6 +7,7 @@ ghost use Rattle.wedge_base.specs.Images as images;
 ghost use Rattle.image_form.specs.Rules as rules;
 ghost use Rattle.image_form.specs.Address.{greatest_from};
 
+use crate::parts::ImageParts;
 use std::alloc::Global;
 use std::marker::Model;
 use wedge_base::{
@@ -52,6 +53,29 @@ impl Model for Image {
 impl Image {
     ghost use Rattle.image_form.specs.Rules.{IsImage, addresses};
     ghost use Rattle.image_form.specs.Address.{proc_at, proc_of};
+    ghost use Rattle.image_form.specs.View.{image_of};
+
+    /// The image whose parts are given.
+    pub(crate) fn from_parts(parts: ImageParts) -> Image
+        requires { IsImage (image_of parts) }
+        ensures { result ≡ image_of parts }
+    {
+        Image {
+            fuel: parts.fuel,
+            pristine: Pristine {
+                base: parts.base,
+                words: parts.words,
+                ranges: parts.ranges,
+            },
+            procedures: parts.procedures,
+            entry: parts.entry,
+            tags: parts.tags,
+            fds: parts.fds,
+            files: parts.files,
+            user: parts.user,
+            root: parts.root,
+        }
+    }
 
     /// The fuel with which the root starts, in instructions.
     pub fn fuel(&self) -> u32

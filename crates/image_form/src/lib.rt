@@ -1,6 +1,20 @@
 //! An image: the type, and its binary form.
 #![tactic(auto)]
 
+mod fault;
+mod fds;
+mod fields;
+mod files;
+mod forms;
 mod image;
+mod parts;
+mod procedures;
+mod ranges;
+mod reading;
+mod tags;
+mod text;
 
+pub use fault::{Fault, ImageError, Why};
 pub use image::{Image, Pristine};
+pub use parts::ImageParts;
+pub use reading::read_image;

@@ -1,0 +1,117 @@
+-- The tests that run along a table: ascending texts, addresses that differ, ranges apart.
+use Rattle.std.proofs.Common.{◌≡◌, ℕ, ◌+◌, ◌≤◌, ◌<◌, ◌^◌, ◌*◌, ◌%◌, Bool, true, ◌&&◌, not, eqb, leb, List, [], ◌∷◌, ◌++◌, length, map, refl, sym, ap, subst, ◌∙◌, append_assoc, arith}
+use Rattle.std.specs.List.{sum_by, list_all, slice_split}
+use Rattle.std.proofs.lemmas.Bool.{leb-true}
+use Rattle.std.proofs.lemmas.Bool.Decides.{nat_tests}
+use Rattle.std.proofs.lemmas.List.{map-append}
+use Rattle.std.proofs.lemmas.List.Sums.{sum_by-append, sum_by-cons}
+use Rattle.wedge_base.specs.declared.image.Procedure.{Procedure}
+use Rattle.wedge_base.specs.declared.image.MemoryRange.{MemoryRange}
+use Rattle.image_form.specs.Forms.{is_below, ascend_from, is_name, is_path, is_root, starts_name, continues_name, is_printed, is_part}
+use Rattle.image_form.specs.Rules.{high_end, low_end, most_range_bytes, is_among, addresses, differ_from, end_of, is_off_text, lie_apart}
+use Rattle.image_form.specs.Reading.{last_of, is_base, is_word_count, is_address, is_range_length}
+use Rattle.image_form.proofs.Lasts.{last_of-push}
+use Rattle.image_form.proofs.TableForms.{Each, IsScan, both}
+
+pub names_scan : {X : Type 0} (key : X → List ℕ) → IsScan (last_of key []) (λ b x. is_below b (key x)) (λ b xs. ascend_from b (map key xs))
+names_scan key = record {
+  none = λ b. refl;
+  more = λ front x xs. ap (λ b. is_below (last_of key [] front) (key x) && ascend_from b (map key xs)) (sym (last_of-push key [] front x))
+}
+
+pub addresses_scan : IsScan addresses (λ ns p. not (is_among ns p.address)) (λ ns ps. differ_from ns (addresses ps))
+addresses_scan = record {
+  none = λ ns. refl;
+  more = λ front p ps. ap (λ ns. not (is_among (addresses front) p.address) && differ_from ns (addresses ps)) (sym (map-append (λ x. x.address) front (p ∷ [])))
+}
+
+pub ranges_scan : (base count : ℕ) → IsScan (last_of end_of 0) (λ e r. leb e r.base && is_off_text base count r.base (length r.bytes)) (lie_apart base count)
+ranges_scan base count = record {
+  none = λ e. refl;
+  more = λ front r rs. ap (λ e. (leb (last_of end_of 0 front) r.base && is_off_text base count r.base (length r.bytes)) && lie_apart base count e rs) (sym (last_of-push end_of 0 front r))
+}
+
+-- ---- sums
+
+abbrev pub size_of : MemoryRange → ℕ
+size_of r = length r.bytes
+
+pub sum_there : (Rest : List MemoryRange → MemoryRange → Type 0) (front rs : List MemoryRange)
+    → Each (λ f r. (leb (sum_by size_of f + size_of r) most_range_bytes ≡ true) × Rest f r) front rs → sum_by size_of front ≤ most_range_bytes
+    → (sum_by size_of front + sum_by size_of rs ≤ most_range_bytes) × Each Rest front rs
+sum_there Rest front [] each small = (omega arith, tt)
+sum_there Rest front (r ∷ rs) each small =
+    let grown : sum_by size_of (front ++ r ∷ []) ≡ sum_by size_of front + size_of r = sum_by-append size_of front (r ∷ []) ∙ omega arith in
+    let here : sum_by size_of front + size_of r ≤ most_range_bytes = leb-true _ _ each.0.0 in
+    let split : sum_by size_of (r ∷ rs) ≡ size_of r + sum_by size_of rs = sum_by-cons size_of r rs in
+    let later = sum_there Rest (front ++ r ∷ []) rs each.1 (omega (arith, grown, here)) in
+    (omega (arith, grown, split, later.0), (each.0.1, later.1))
+
+pub sum_back : (Rest : List MemoryRange → MemoryRange → Type 0) (front rs : List MemoryRange)
+    → sum_by size_of front + sum_by size_of rs ≤ most_range_bytes → Each Rest front rs
+    → Each (λ f r. (leb (sum_by size_of f + size_of r) most_range_bytes ≡ true) × Rest f r) front rs
+sum_back Rest front [] small each = tt
+sum_back Rest front (r ∷ rs) small each =
+    let grown : sum_by size_of (front ++ r ∷ []) ≡ sum_by size_of front + size_of r = sum_by-append size_of front (r ∷ []) ∙ omega arith in
+    let split : sum_by size_of (r ∷ rs) ≡ size_of r + sum_by size_of rs = sum_by-cons size_of r rs in
+    let here : sum_by size_of front + size_of r ≤ most_range_bytes = omega (arith, split, small) in
+    ((grind (arith, nat_tests, here), each.0), sum_back Rest (front ++ r ∷ []) rs (omega (arith, grown, split, small)) each.1)
+
+-- ---- tests of numbers
+
+pub base_there : (n : ℕ) → is_base n ≡ true → (n % 4 ≡ 0) × (low_end ≤ n) × (n < high_end)
+base_there n h = grind (arith, nat_tests)
+
+pub base_back : (n : ℕ) → n % 4 ≡ 0 → low_end ≤ n → n < high_end → is_base n ≡ true
+base_back n a b c = grind (arith, nat_tests)
+
+pub word_count_there : (base n : ℕ) → is_word_count base n ≡ true → (1 ≤ n) × (base + 4 * n ≤ high_end)
+word_count_there base n h = grind (arith, nat_tests)
+
+pub word_count_back : (base n : ℕ) → 1 ≤ n → base + 4 * n ≤ high_end → is_word_count base n ≡ true
+word_count_back base n a b = grind (arith, nat_tests)
+
+pub address_there : (base count n : ℕ) → is_address base count n ≡ true → (n % 4 ≡ 0) × (base ≤ n) × (n < base + 4 * count)
+address_there base count n h = grind (arith, nat_tests)
+
+pub address_back : (base count n : ℕ) → n % 4 ≡ 0 → base ≤ n → n < base + 4 * count → is_address base count n ≡ true
+address_back base count n a b c = grind (arith, nat_tests)
+
+pub range_length_there : (base n : ℕ) → is_range_length base n ≡ true → (n % 4 ≡ 0) × (1 ≤ n) × (base + n ≤ high_end)
+range_length_there base n h = grind (arith, nat_tests)
+
+pub range_length_back : (base n : ℕ) → n % 4 ≡ 0 → 1 ≤ n → base + n ≤ high_end → is_range_length base n ≡ true
+range_length_back base n a b c = grind (arith, nat_tests)
+
+pub leb_there : (m n : ℕ) → leb m n ≡ true → m ≤ n
+leb_there m n h = leb-true m n h
+
+pub leb_back : (m n : ℕ) → m ≤ n → leb m n ≡ true
+leb_back m n h = grind (arith, nat_tests)
+
+-- ---- texts are short
+
+pub name_short : (t : List ℕ) → is_name t ≡ true → length t < 2 ^ 16
+unfolding is_name
+name_short [] h = absurd cc
+name_short (c ∷ cs) h =
+    let rules = both (leb (length cs) 63 && starts_name c) (list_all continues_name cs) h in
+    omega (arith, leb-true (length cs) 63 (both (leb (length cs) 63) (starts_name c) rules.0).0)
+
+pub path_short : (t : List ℕ) → is_path t ≡ true → length t < 2 ^ 16
+unfolding is_path
+path_short [] h = absurd cc
+path_short (c ∷ cs) h =
+    let slash = eqb c 47 in
+    let short = leb (length cs) 254 in
+    let printed = list_all is_printed cs in
+    let parts = list_all is_part (slice_split (λ b. eqb b 47) cs) in
+    let a = both ((slash && short) && printed) parts h in
+    let b = both (slash && short) printed a.0 in
+    omega (arith, leb-true (length cs) 254 (both slash short b.0).1)
+
+pub root_short : (t : List ℕ) → is_root t ≡ true → length t < 2 ^ 16
+unfolding is_root
+root_short [] h = absurd cc
+root_short (c ∷ []) h = omega arith
+root_short (c ∷ d ∷ cs) h = path_short (c ∷ d ∷ cs) h

@@ -1,0 +1,73 @@
+//! Why an image is refused.
+
+use std::alloc::{AllocError, AllocFailed};
+use wedge_base::NoMemory;
+
+/// What is wrong at a place of an image's bytes.
+#[derive(Clone, Copy, Debug, PartialEq, Eq)]
+pub enum Why {
+    /// The bytes don't begin with `WEDG`.
+    Magic,
+    /// The version isn't 1.
+    Version,
+    /// A field, or the bytes after a length, go past the end.
+    Truncated,
+    /// A byte stands after the last field.
+    Trailing,
+    /// A name or a path doesn't stand after the one before it.
+    Order,
+    /// A value, or the form of a text, that its field doesn't allow.
+    Range,
+    /// Two procedures at one address, or data that shares memory with other data or the text.
+    Overlap,
+    /// More than a limit allows.
+    Limit,
+}
+
+/// The first thing that is wrong with an image, by the order of its fields.
+#[derive(Clone, Copy, Debug, PartialEq, Eq)]
+pub struct Fault {
+    /// How many bytes stand before the place.
+    pub at: usize,
+    pub why: Why,
+}
+
+/// Why there is no image.
+#[derive(Debug, Drop)]
+pub enum ImageError {
+    NoMemory,
+    Fault(Fault),
+}
+
+impl From<NoMemory> for ImageError {
+    ghost use Rattle.std.specs.Prelude.{◌≡◌};
+    ghost use Rattle.image_form.specs.declared.fault.ImageError.TheVariants.{NoMemory};
+
+    ghost from_gives = { λ _ e. e ≡ NoMemory };
+
+    fn from(_e: wedge_base::NoMemory) -> ImageError {
+        ImageError::NoMemory
+    }
+}
+
+impl From<AllocError> for ImageError {
+    ghost use Rattle.std.specs.Prelude.{◌≡◌};
+    ghost use Rattle.image_form.specs.declared.fault.ImageError.TheVariants.{NoMemory};
+
+    ghost from_gives = { λ _ e. e ≡ NoMemory };
+
+    fn from(_e: AllocError) -> ImageError {
+        ImageError::NoMemory
+    }
+}
+
+impl<T: Drop> From<AllocFailed<T>> for ImageError {
+    ghost use Rattle.std.specs.Prelude.{◌≡◌};
+    ghost use Rattle.image_form.specs.declared.fault.ImageError.TheVariants.{NoMemory};
+
+    ghost from_gives = { λ _ e. e ≡ NoMemory };
+
+    fn from(_e: AllocFailed<T>) -> ImageError {
+        ImageError::NoMemory
+    }
+}

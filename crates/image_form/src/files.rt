@@ -1,0 +1,93 @@
+//! Reading the table of files.
+
+ghost use Rattle.std.specs.Prelude.{◌≡◌, [], nat_le};
+ghost use Rattle.image_form.specs.declared.fault.Why.TheVariants as why;
+ghost use Rattle.image_form.specs.Reading as reading;
+ghost use Rattle.image_form.specs.Reading.{Gives, last_of};
+
+use crate::fault::{ImageError, Why};
+use crate::fields::{kind, limited, number, path_after, refused, stream_content};
+use std::alloc::Global;
+use wedge_base::{Bytes, FileEntry, PathText};
+
+/// The path of the last file, or no bytes.
+fn last_path(front: &[FileEntry]) -> &[u8]
+    ensures { result.now ≡ last_of (λ f. f.path) [] front.now }
+{
+    match front.last() {
+        Some(file) => file.path.as_slice(),
+        None => &[],
+    }
+}
+
+/// The mode of a file.
+#[tactic(auto, unfolding(crate::specs::Reading::checked_at))]
+fn mode(total: usize, bytes: &[u8]) -> Result<(u32, &[u8]), ImageError>
+    ensures { Gives (λ x. (x.0, x.1.now)) result (reading.checked_at (λ n. nat_le n 15) why.Range total bytes.now) }
+{
+    let (mode, rest) = number(total, bytes)?;
+    if 15 < mode {
+        return Err(refused(total, bytes, Why::Range));
+    }
+    Ok((mode, rest))
+}
+
+/// A file, where those before it are known.
+#[tactic(auto, unfolding(crate::specs::Reading::file_at))]
+fn file<'a>(
+    alloc: Global,
+    front: &[FileEntry],
+    total: usize,
+    bytes: &'a [u8],
+) -> Result<(FileEntry, &'a [u8]), ImageError>
+    ensures { Gives (λ x. (x.0, x.1.now)) result (reading.file_at total front.now bytes.now) }
+{
+    let (path, rest) = path_after(last_path(front), total, bytes)?;
+    let (owner, rest) = number(total, rest)?;
+    let (mode, rest) = mode(total, rest)?;
+    let (kind, rest) = kind(total, rest)?;
+    let (content, rest) = stream_content(alloc, kind, total, rest)?;
+    let path = PathText::new(Bytes::from_slice(alloc, path)?);
+    Ok((
+        FileEntry {
+            path,
+            owner,
+            mode,
+            kind,
+            content,
+        },
+        rest,
+    ))
+}
+
+/// So many files.
+fn file_list(
+    alloc: Global,
+    count: u32,
+    total: usize,
+    bytes: &[u8],
+) -> Result<(Vec<FileEntry>, &[u8]), ImageError>
+    ensures { Gives (λ x. (x.0.items, x.1.now)) result (reading.entries_at (reading.file_at total) count [] bytes.now) }
+{
+    let mut files = Vec::new(alloc);
+    let mut rest = bytes;
+    for _ in 0..count {
+        let (file, after) = file(alloc, &files, total, rest)?;
+        files.push(file)?;
+        rest = after;
+    }
+    Ok((files, rest))
+}
+
+/// The table of files.
+#[tactic(auto, unfolding(crate::specs::Reading::table_at, crate::specs::Reading::files_at))]
+pub(crate) fn files(
+    alloc: Global,
+    total: usize,
+    bytes: &[u8],
+) -> Result<(Vec<FileEntry>, &[u8]), ImageError>
+    ensures { Gives (λ x. (x.0.items, x.1.now)) result (reading.files_at total bytes.now) }
+{
+    let (count, rest) = limited(1024, total, bytes)?;
+    file_list(alloc, count, total, rest)
+}

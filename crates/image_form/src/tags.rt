@@ -1,0 +1,130 @@
+//! Reading the table of tags.
+
+ghost use Rattle.std.specs.Prelude.{◌≡◌, ◌*◌, ◌≤◌, [], IfOk, nat_le};
+ghost use Rattle.wedge_base.specs.Images.{page};
+ghost use Rattle.image_form.specs.declared.fault.Why.TheVariants as why;
+ghost use Rattle.image_form.specs.Reading as reading;
+ghost use Rattle.image_form.specs.Reading.{Gives, last_of};
+
+use crate::fault::{ImageError, Why};
+use crate::fields::{limited, name_after, number, refused, take};
+use std::alloc::Global;
+use wedge_base::{Bytes, Right, TagEntry};
+
+/// The bytes of a page.
+const PAGE: u32 = 4096;
+
+/// The name of the last tag, or no bytes.
+fn last_name(front: &[TagEntry]) -> &[u8]
+    ensures { result.now ≡ last_of (λ t. t.name) [] front.now }
+{
+    match front.last() {
+        Some(tag) => tag.name.as_slice(),
+        None => &[],
+    }
+}
+
+/// How many pages a tag has.
+#[tactic(auto, unfolding(crate::specs::Reading::checked_at))]
+fn pages(total: usize, bytes: &[u8]) -> Result<(u32, &[u8]), ImageError>
+    ensures is { Gives (λ x. (x.0, x.1.now)) result (reading.checked_at reading.is_page_count why.Range total bytes.now) }
+    ensures few { IfOk result (λ x. x.0 ≤ 16) }
+{
+    let (pages, rest) = number(total, bytes)?;
+    if pages < 1 || 16 < pages {
+        return Err(refused(total, bytes, Why::Range));
+    }
+    Ok((pages, rest))
+}
+
+/// The root's right on a tag.
+#[tactic(auto, unfolding(crate::specs::Reading::checked_at, crate::specs::Reading::right_at))]
+fn right(total: usize, bytes: &[u8]) -> Result<(Option<Right>, &[u8]), ImageError>
+    ensures { Gives (λ x. (x.0, x.1.now)) result (reading.right_at total bytes.now) }
+{
+    let (number, rest) = number(total, bytes)?;
+    match number {
+        0 => Ok((None, rest)),
+        1 => Ok((Some(Right::Cow), rest)),
+        2 => Ok((Some(Right::Read), rest)),
+        3 => Ok((Some(Right::ReadWrite), rest)),
+        _ => Err(refused(total, bytes, Why::Range)),
+    }
+}
+
+/// The opening bytes of a tag of so many pages.
+#[tactic(auto, unfolding(crate::specs::Reading::checked_at, crate::specs::Reading::content_at))]
+fn tag_content(
+    alloc: Global,
+    pages: u32,
+    total: usize,
+    bytes: &[u8],
+) -> Result<(Bytes, &[u8]), ImageError>
+    requires { pages ≤ 16 }
+    ensures { Gives (λ x. (x.0, x.1.now)) result (reading.content_at (λ n. nat_le n (pages * page)) total bytes.now) }
+{
+    let (length, after) = number(total, bytes)?;
+    if pages * PAGE < length {
+        return Err(refused(total, bytes, Why::Range));
+    }
+    let (content, rest) = take(total, length as usize, after)?;
+    Ok((Bytes::from_slice(alloc, content)?, rest))
+}
+
+/// A tag, where those before it are known.
+#[tactic(auto, unfolding(crate::specs::Reading::tag_at))]
+fn tag<'a>(
+    alloc: Global,
+    front: &[TagEntry],
+    total: usize,
+    bytes: &'a [u8],
+) -> Result<(TagEntry, &'a [u8]), ImageError>
+    ensures { Gives (λ x. (x.0, x.1.now)) result (reading.tag_at total front.now bytes.now) }
+{
+    let (name, rest) = name_after(last_name(front), total, bytes)?;
+    let (pages, rest) = pages(total, rest)?;
+    let (right, rest) = right(total, rest)?;
+    let (content, rest) = tag_content(alloc, pages, total, rest)?;
+    let name = Bytes::from_slice(alloc, name)?;
+    Ok((
+        TagEntry {
+            name,
+            pages,
+            right,
+            content,
+        },
+        rest,
+    ))
+}
+
+/// So many tags.
+fn tag_list(
+    alloc: Global,
+    count: u32,
+    total: usize,
+    bytes: &[u8],
+) -> Result<(Vec<TagEntry>, &[u8]), ImageError>
+    ensures { Gives (λ x. (x.0.items, x.1.now)) result (reading.entries_at (reading.tag_at total) count [] bytes.now) }
+{
+    let mut tags = Vec::new(alloc);
+    let mut rest = bytes;
+    for _ in 0..count {
+        let (tag, after) = tag(alloc, &tags, total, rest)?;
+        tags.push(tag)?;
+        rest = after;
+    }
+    Ok((tags, rest))
+}
+
+/// The table of tags.
+#[tactic(auto, unfolding(crate::specs::Reading::table_at, crate::specs::Reading::tags_at))]
+pub(crate) fn tags(
+    alloc: Global,
+    total: usize,
+    bytes: &[u8],
+) -> Result<(Vec<TagEntry>, &[u8]), ImageError>
+    ensures { Gives (λ x. (x.0.items, x.1.now)) result (reading.tags_at total bytes.now) }
+{
+    let (count, rest) = limited(256, total, bytes)?;
+    tag_list(alloc, count, total, rest)
+}
