@@ -1,2 +1,4 @@
+pub mod Encoding
 pub mod Fields
 pub mod Table
+pub mod Text

@@ -3,12 +3,17 @@
 #![tactic(auto)]
 
 mod decoding;
+mod encoding;
 mod immediates;
+mod text;
 
-ghost use Rattle.std.specs.Prelude.{◌≡◌, true};
-ghost use Rattle.rv_isa.specs.Table.{rows, each_apart, form_of};
+ghost use Rattle.std.specs.Prelude.{◌≡◌, true, Some};
+ghost use Rattle.rv_isa.specs.Table.{rows, row_for, row_of, each_apart, form_of};
+ghost use Rattle.rv_isa.specs.declared.Op.{Op};
 
 pub use decoding::decode;
+pub use encoding::encode;
+pub use text::{register_name, text_of};
 
 /// An operation: one row of the instruction table. Chapters 2 and 7 of the manual say what each does.
 #[derive(Clone, Copy, Debug, PartialEq, Eq)]
@@ -168,6 +173,11 @@ pub struct Instr {
     /// The immediate, with its sign; a shift's is 0 to 31.
     pub imm: i32,
 }
+
+/// Each operation has a row of the table, and the fixed bits of the row are a word of it.
+pub fn each_operation_has_its_row()
+    ensures { (op : Op) → row_of (row_for op).value ≡ Some (row_for op) }
+{}
 
 /// No word has the fixed fields of two rows: a word is at most one instruction.
 pub fn rows_are_apart()
