@@ -1,5 +1,5 @@
 -- A word is its fixed fields and its operands.
-use Rattle.std.proofs.Common.{◌≡◌, ℕ, ◌+◌, ◌-◌, ◌*◌, ◌/◌, ◌%◌, ◌^◌, ◌<◌, ◌≤◌, bit_and, Bool, true, false, ◌&&◌, cond, eqb, List, [], ◌∷◌, Option, Some, None, map, refl, ap, sym, ◌∙◌, arith}
+use Rattle.std.proofs.Common.{◌≡◌, ℕ, ◌+◌, ◌*◌, ◌/◌, ◌%◌, ◌^◌, ◌<◌, bit_and, Bool, true, false, cond, List, [], ◌∷◌, Option, Some, map, refl, arith}
 use Rattle.std.proofs.lemmas.Int.{ints}
 use Rattle.std.proofs.lemmas.Bool.{eqb-true}
 use Rattle.rv_isa.specs.declared.Op.{Op}
@@ -9,12 +9,12 @@ use Rattle.std.specs.List.{find}
 use Rattle.std.specs.Option.{option_map}
 use Rattle.rv_isa.specs.declared.Form.{Form}
 use Rattle.rv_isa.specs.declared.Form.TheVariants as form
-use Rattle.rv_isa.specs.Table.{Row, rows, row_of, row_for, ops, has_fields, field, signed, form_of, operands, instr_at, decode, HasRegisters, IsOfRow}
+use Rattle.rv_isa.specs.Table.{Row, row_of, row_for, ops, has_fields, field, signed, form_of, operands, instr_at, decode, HasRegisters, IsOfRow}
 use Rattle.rv_isa.specs.Encoding.{word_of, operand_bits, encoded}
 use Rattle.rv_isa.proofs.Bridge.{opcode_kept, funct3_kept, funct7_kept, word_kept}
 
 -- which bits are fixed in the words of a form
-pub mask_of : Form → ℕ
+abbrev pub mask_of : Form → ℕ
 mask_of form.Upper = 0x7f
 mask_of form.Jump = 0x7f
 mask_of form.Branch = 0x707f
@@ -26,21 +26,20 @@ mask_of form.Register = 0xfe00707f
 mask_of form.Whole = 0xffffffff
 
 -- the low bits of a signed number are the number again
-low_12 : (n : ℕ) → n < 2 ^ 12 → word_of (signed 12 n) % 2 ^ 12 ≡ n
+pub low_12 : (n : ℕ) → n < 2 ^ 12 → word_of (signed 12 n) % 2 ^ 12 ≡ n
 low_12 n fits = grind (arith, ints)
 
-low_13 : (n : ℕ) → n < 2 ^ 13 → word_of (signed 13 n) % 2 ^ 13 ≡ n
+pub low_13 : (n : ℕ) → n < 2 ^ 13 → word_of (signed 13 n) % 2 ^ 13 ≡ n
 low_13 n fits = grind (arith, ints)
 
-low_21 : (n : ℕ) → n < 2 ^ 21 → word_of (signed 21 n) % 2 ^ 21 ≡ n
+pub low_21 : (n : ℕ) → n < 2 ^ 21 → word_of (signed 21 n) % 2 ^ 21 ≡ n
 low_21 n fits = grind (arith, ints)
 
-low_32 : (n : ℕ) → n < 2 ^ 32 → word_of (signed 32 n) ≡ n
+pub low_32 : (n : ℕ) → n < 2 ^ 32 → word_of (signed 32 n) ≡ n
 low_32 n fits = grind (arith, ints)
 
 -- a word is what its form fixes, and its operands
 pub whole : (f : Form) (o : Op) (w : ℕ) → w < 2 ^ 32 → bit_and w (mask_of f) + operand_bits f (operands f o w) ≡ w
-unfolding mask_of
 whole form.Upper o w small = rw (opcode_kept w, low_32 (w / 2 ^ 12 * 2 ^ 12) (omega arith)) (omega arith)
 whole form.Jump o w small =
     let n : ℕ = field w 31 1 * 2 ^ 20 + field w 12 8 * 2 ^ 12 + field w 20 1 * 2 ^ 11 + field w 21 10 * 2 in
@@ -65,16 +64,15 @@ whole form.Register o w small = rw (funct7_kept w small) (omega arith)
 whole form.Whole o w small = rw (word_kept w small) (omega arith)
 
 -- the row of an operation has the mask of its form, and is its own
-mask_is : (o : Op) → (row_for o).mask ≡ mask_of (form_of o)
-unfolding mask_of
+pub mask_is : (o : Op) → (row_for o).mask ≡ mask_of (form_of o)
 mask_is op.Lui = refl
 mask_is _ = refl
 
-op_is : (o : Op) → (row_for o).op ≡ o
+pub op_is : (o : Op) → (row_for o).op ≡ o
 op_is op.Lui = refl
 op_is _ = refl
 
-operands_op : (f : Form) (o : Op) (w : ℕ) → (operands f o w).op ≡ o
+pub operands_op : (f : Form) (o : Op) (w : ℕ) → (operands f o w).op ≡ o
 operands_op form.Whole o w = refl
 operands_op _ o w = refl
 

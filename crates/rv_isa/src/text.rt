@@ -1,12 +1,12 @@
 //! The assembler text of an instruction. Chapter 25 of the manual has the registers' names.
 
-use crate::{Form, Instr, Op};
-use std::alloc::{AllocError, Global};
-
 ghost use Rattle.std.specs.Prelude.{◌≡◌, ◌<◌, ◌++◌, OnOk, OnErr, IfOk, string_bytes, codes, false};
 ghost use Rattle.std.specs.Fmt.{digits, signed_decimal};
 ghost use Rattle.rv_isa.specs.Table.{HasRegisters};
 ghost use Rattle.rv_isa.specs.Text.{mnemonic, register_name, text};
+
+use crate::{Form, Instr, Op};
+use std::alloc::{AllocError, Global};
 
 /// The name of a register in the calling convention.
 pub fn register_name(n: u8) -> &'static str
@@ -110,50 +110,40 @@ impl Op {
 
 /// A mnemonic, a register and the upper 20 bits of a word.
 fn with_upper(alloc: Global, name: &str, rd: &str, upper: u32) -> Result<String, AllocError>
-    ensures {
-        IfOk result (λ s. string_bytes s ≡
-            name.now ++ (codes " " ++ (rd.now ++ (codes ", 0x" ++ digits 16 false upper))))
-    }
+    ensures { IfOk result (λ s. string_bytes s ≡
+        name.now ++ (codes " " ++ (rd.now ++ (codes ", 0x" ++ digits 16 false upper)))) }
 {
     format!(in alloc; "{name} {rd}, 0x{upper:x}")
 }
 
 /// A mnemonic, a register and a number.
 fn with_number(alloc: Global, name: &str, rd: &str, n: i32) -> Result<String, AllocError>
-    ensures {
-        IfOk result (λ s. string_bytes s ≡
-            name.now ++ (codes " " ++ (rd.now ++ (codes ", " ++ signed_decimal n))))
-    }
+    ensures { IfOk result (λ s. string_bytes s ≡
+        name.now ++ (codes " " ++ (rd.now ++ (codes ", " ++ signed_decimal n)))) }
 {
     format!(in alloc; "{name} {rd}, {n}")
 }
 
 /// A mnemonic, two registers and a number.
 fn with_two(alloc: Global, name: &str, a: &str, b: &str, n: i32) -> Result<String, AllocError>
-    ensures {
-        IfOk result (λ s. string_bytes s ≡
-            name.now ++ (codes " " ++ (a.now ++ (codes ", " ++ (b.now ++ (codes ", " ++ signed_decimal n))))))
-    }
+    ensures { IfOk result (λ s. string_bytes s ≡
+        name.now ++ (codes " " ++ (a.now ++ (codes ", " ++ (b.now ++ (codes ", " ++ signed_decimal n)))))) }
 {
     format!(in alloc; "{name} {a}, {b}, {n}")
 }
 
 /// A mnemonic, a register, and a base register with an offset.
 fn with_base(alloc: Global, name: &str, a: &str, n: i32, base: &str) -> Result<String, AllocError>
-    ensures {
-        IfOk result (λ s. string_bytes s ≡
-            name.now ++ (codes " " ++ (a.now ++ (codes ", " ++ (signed_decimal n ++ (codes "(" ++ (base.now ++ codes ")")))))))
-    }
+    ensures { IfOk result (λ s. string_bytes s ≡
+        name.now ++ (codes " " ++ (a.now ++ (codes ", " ++ (signed_decimal n ++ (codes "(" ++ (base.now ++ codes ")"))))))) }
 {
     format!(in alloc; "{name} {a}, {n}({base})")
 }
 
 /// A mnemonic and three registers.
 fn with_three(alloc: Global, name: &str, a: &str, b: &str, c: &str) -> Result<String, AllocError>
-    ensures {
-        IfOk result (λ s. string_bytes s ≡
-            name.now ++ (codes " " ++ (a.now ++ (codes ", " ++ (b.now ++ (codes ", " ++ c.now))))))
-    }
+    ensures { IfOk result (λ s. string_bytes s ≡
+        name.now ++ (codes " " ++ (a.now ++ (codes ", " ++ (b.now ++ (codes ", " ++ c.now)))))) }
 {
     format!(in alloc; "{name} {a}, {b}, {c}")
 }
