@@ -1,1 +1,4 @@
 pub mod Bridge
+pub mod Rebuilt
+pub mod Rows
+pub mod Words

@@ -1,2 +1,5 @@
+pub mod Encoding
 pub mod Fields
+pub mod Ranges
 pub mod Table
+pub mod Text

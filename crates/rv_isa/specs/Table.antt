@@ -1,6 +1,6 @@
 -- The instruction table of RV32I and the M extension: which words are instructions, and which ones.
 -- RISC-V Unprivileged ISA manual, document 20191213: chapter 2 (RV32I), chapter 7 (M), chapter 24 (the listings).
-use Rattle.std.specs.Prelude.{ℕ, ◌+◌, ◌-◌, ◌*◌, ◌/◌, ◌%◌, ◌^◌, ◌<◌, ◌≡◌, ◌==◌, ℤ, pos, ◌-ℤ◌, Bool, true, ◌&&◌, not, List, [], ◌∷◌, find, Option, Some, option_map, bit_and, nat_lt, if◌then◌else◌}
+use Rattle.std.specs.Prelude.{ℕ, ◌+◌, ◌-◌, ◌*◌, ◌/◌, ◌%◌, ◌^◌, ◌<◌, ◌≡◌, ◌==◌, ℤ, pos, ◌-ℤ◌, Bool, true, ◌&&◌, not, List, [], ◌∷◌, find, Option, Some, map, option_map, bit_and, nat_lt, if◌then◌else◌}
 use Rattle.std.specs.List.{list_all}
 use Rattle.rv_isa.specs.declared.Op.{Op}
 use Rattle.rv_isa.specs.declared.Op.TheVariants as op
@@ -8,66 +8,85 @@ use Rattle.rv_isa.specs.declared.Form.{Form}
 use Rattle.rv_isa.specs.declared.Form.TheVariants as form
 use Rattle.rv_isa.specs.declared.Instr.{Instr}
 
--- a row: an operation, which bits of its words are fixed, and what they are
+-- a row: an operation, its form, which bits of its words are fixed, and what they are
 pub record Row : Type 0 where
   pub op : Op
+  pub form : Form
   pub mask : ℕ
   pub value : ℕ
 
-abbrev pub row : Op → ℕ → ℕ → Row
-row op mask value = record { op = op; mask = mask; value = value }
+abbrev pub row : Op → Form → ℕ → ℕ → Row
+row op form mask value = record { op = op; form = form; mask = mask; value = value }
 
+-- the row of an operation
+abbrev pub row_for : Op → Row
+row_for op.Lui = row op.Lui form.Upper 0x7f 0x37
+row_for op.Auipc = row op.Auipc form.Upper 0x7f 0x17
+row_for op.Jal = row op.Jal form.Jump 0x7f 0x6f
+row_for op.Jalr = row op.Jalr form.Offset 0x707f 0x67
+row_for op.Beq = row op.Beq form.Branch 0x707f 0x63
+row_for op.Bne = row op.Bne form.Branch 0x707f 0x1063
+row_for op.Blt = row op.Blt form.Branch 0x707f 0x4063
+row_for op.Bge = row op.Bge form.Branch 0x707f 0x5063
+row_for op.Bltu = row op.Bltu form.Branch 0x707f 0x6063
+row_for op.Bgeu = row op.Bgeu form.Branch 0x707f 0x7063
+row_for op.Lb = row op.Lb form.Offset 0x707f 0x3
+row_for op.Lh = row op.Lh form.Offset 0x707f 0x1003
+row_for op.Lw = row op.Lw form.Offset 0x707f 0x2003
+row_for op.Lbu = row op.Lbu form.Offset 0x707f 0x4003
+row_for op.Lhu = row op.Lhu form.Offset 0x707f 0x5003
+row_for op.Sb = row op.Sb form.Store 0x707f 0x23
+row_for op.Sh = row op.Sh form.Store 0x707f 0x1023
+row_for op.Sw = row op.Sw form.Store 0x707f 0x2023
+row_for op.Addi = row op.Addi form.Immediate 0x707f 0x13
+row_for op.Slti = row op.Slti form.Immediate 0x707f 0x2013
+row_for op.Sltiu = row op.Sltiu form.Immediate 0x707f 0x3013
+row_for op.Xori = row op.Xori form.Immediate 0x707f 0x4013
+row_for op.Ori = row op.Ori form.Immediate 0x707f 0x6013
+row_for op.Andi = row op.Andi form.Immediate 0x707f 0x7013
+row_for op.Slli = row op.Slli form.Shift 0xfe00707f 0x1013
+row_for op.Srli = row op.Srli form.Shift 0xfe00707f 0x5013
+row_for op.Srai = row op.Srai form.Shift 0xfe00707f 0x40005013
+row_for op.Add = row op.Add form.Register 0xfe00707f 0x33
+row_for op.Sll = row op.Sll form.Register 0xfe00707f 0x1033
+row_for op.Slt = row op.Slt form.Register 0xfe00707f 0x2033
+row_for op.Sltu = row op.Sltu form.Register 0xfe00707f 0x3033
+row_for op.Xor = row op.Xor form.Register 0xfe00707f 0x4033
+row_for op.Srl = row op.Srl form.Register 0xfe00707f 0x5033
+row_for op.Or = row op.Or form.Register 0xfe00707f 0x6033
+row_for op.And = row op.And form.Register 0xfe00707f 0x7033
+row_for op.Sub = row op.Sub form.Register 0xfe00707f 0x40000033
+row_for op.Sra = row op.Sra form.Register 0xfe00707f 0x40005033
+row_for op.Mul = row op.Mul form.Register 0xfe00707f 0x2000033
+row_for op.Mulh = row op.Mulh form.Register 0xfe00707f 0x2001033
+row_for op.Mulhsu = row op.Mulhsu form.Register 0xfe00707f 0x2002033
+row_for op.Mulhu = row op.Mulhu form.Register 0xfe00707f 0x2003033
+row_for op.Div = row op.Div form.Register 0xfe00707f 0x2004033
+row_for op.Divu = row op.Divu form.Register 0xfe00707f 0x2005033
+row_for op.Rem = row op.Rem form.Register 0xfe00707f 0x2006033
+row_for op.Remu = row op.Remu form.Register 0xfe00707f 0x2007033
+row_for op.Fence = row op.Fence form.Immediate 0x707f 0xf
+row_for op.Ecall = row op.Ecall form.Whole 0xffffffff 0x73
+row_for op.Ebreak = row op.Ebreak form.Whole 0xffffffff 0x100073
+
+-- every operation
+abbrev pub ops : List Op
+ops =
+    op.Lui ∷ op.Auipc ∷ op.Jal ∷ op.Jalr ∷
+    op.Beq ∷ op.Bne ∷ op.Blt ∷ op.Bge ∷ op.Bltu ∷ op.Bgeu ∷
+    op.Lb ∷ op.Lh ∷ op.Lw ∷ op.Lbu ∷ op.Lhu ∷ op.Sb ∷ op.Sh ∷ op.Sw ∷
+    op.Addi ∷ op.Slti ∷ op.Sltiu ∷ op.Xori ∷ op.Ori ∷ op.Andi ∷ op.Slli ∷ op.Srli ∷ op.Srai ∷
+    op.Add ∷ op.Sll ∷ op.Slt ∷ op.Sltu ∷ op.Xor ∷ op.Srl ∷ op.Or ∷ op.And ∷ op.Sub ∷ op.Sra ∷
+    op.Mul ∷ op.Mulh ∷ op.Mulhsu ∷ op.Mulhu ∷ op.Div ∷ op.Divu ∷ op.Rem ∷ op.Remu ∷
+    op.Fence ∷ op.Ecall ∷ op.Ebreak ∷ []
+
+-- the table
 abbrev pub rows : List Row
-rows =
-    row op.Lui 0x7f 0x37 ∷
-    row op.Auipc 0x7f 0x17 ∷
-    row op.Jal 0x7f 0x6f ∷
-    row op.Jalr 0x707f 0x67 ∷
-    row op.Beq 0x707f 0x63 ∷
-    row op.Bne 0x707f 0x1063 ∷
-    row op.Blt 0x707f 0x4063 ∷
-    row op.Bge 0x707f 0x5063 ∷
-    row op.Bltu 0x707f 0x6063 ∷
-    row op.Bgeu 0x707f 0x7063 ∷
-    row op.Lb 0x707f 0x3 ∷
-    row op.Lh 0x707f 0x1003 ∷
-    row op.Lw 0x707f 0x2003 ∷
-    row op.Lbu 0x707f 0x4003 ∷
-    row op.Lhu 0x707f 0x5003 ∷
-    row op.Sb 0x707f 0x23 ∷
-    row op.Sh 0x707f 0x1023 ∷
-    row op.Sw 0x707f 0x2023 ∷
-    row op.Addi 0x707f 0x13 ∷
-    row op.Slti 0x707f 0x2013 ∷
-    row op.Sltiu 0x707f 0x3013 ∷
-    row op.Xori 0x707f 0x4013 ∷
-    row op.Ori 0x707f 0x6013 ∷
-    row op.Andi 0x707f 0x7013 ∷
-    row op.Slli 0xfe00707f 0x1013 ∷
-    row op.Srli 0xfe00707f 0x5013 ∷
-    row op.Srai 0xfe00707f 0x40005013 ∷
-    row op.Add 0xfe00707f 0x33 ∷
-    row op.Sll 0xfe00707f 0x1033 ∷
-    row op.Slt 0xfe00707f 0x2033 ∷
-    row op.Sltu 0xfe00707f 0x3033 ∷
-    row op.Xor 0xfe00707f 0x4033 ∷
-    row op.Srl 0xfe00707f 0x5033 ∷
-    row op.Or 0xfe00707f 0x6033 ∷
-    row op.And 0xfe00707f 0x7033 ∷
-    row op.Sub 0xfe00707f 0x40000033 ∷
-    row op.Sra 0xfe00707f 0x40005033 ∷
-    row op.Mul 0xfe00707f 0x2000033 ∷
-    row op.Mulh 0xfe00707f 0x2001033 ∷
-    row op.Mulhsu 0xfe00707f 0x2002033 ∷
-    row op.Mulhu 0xfe00707f 0x2003033 ∷
-    row op.Div 0xfe00707f 0x2004033 ∷
-    row op.Divu 0xfe00707f 0x2005033 ∷
-    row op.Rem 0xfe00707f 0x2006033 ∷
-    row op.Remu 0xfe00707f 0x2007033 ∷
-    row op.Fence 0x707f 0xf ∷
-    row op.Ecall 0xffffffff 0x73 ∷
-    row op.Ebreak 0xffffffff 0x100073 ∷
-    []
+rows = map row_for ops
+
+-- the form of an operation: which operands it has, and where they stand
+abbrev pub form_of : Op → Form
+form_of o = (row_for o).form
 
 -- whether the word has the row's fixed fields
 abbrev pub has_fields : ℕ → Row → Bool
@@ -76,57 +95,6 @@ has_fields word r = bit_and word r.mask == r.value
 -- the row of a word, if it has one
 unfoldable pub row_of : ℕ → Option Row
 row_of word = find (has_fields word) rows
-
--- the form of an operation: which operands it has, and where they stand
-abbrev pub form_of : Op → Form
-form_of op.Lui = form.Upper
-form_of op.Auipc = form.Upper
-form_of op.Jal = form.Jump
-form_of op.Jalr = form.Offset
-form_of op.Beq = form.Branch
-form_of op.Bne = form.Branch
-form_of op.Blt = form.Branch
-form_of op.Bge = form.Branch
-form_of op.Bltu = form.Branch
-form_of op.Bgeu = form.Branch
-form_of op.Lb = form.Offset
-form_of op.Lh = form.Offset
-form_of op.Lw = form.Offset
-form_of op.Lbu = form.Offset
-form_of op.Lhu = form.Offset
-form_of op.Sb = form.Store
-form_of op.Sh = form.Store
-form_of op.Sw = form.Store
-form_of op.Addi = form.Immediate
-form_of op.Slti = form.Immediate
-form_of op.Sltiu = form.Immediate
-form_of op.Xori = form.Immediate
-form_of op.Ori = form.Immediate
-form_of op.Andi = form.Immediate
-form_of op.Slli = form.Shift
-form_of op.Srli = form.Shift
-form_of op.Srai = form.Shift
-form_of op.Add = form.Register
-form_of op.Sll = form.Register
-form_of op.Slt = form.Register
-form_of op.Sltu = form.Register
-form_of op.Xor = form.Register
-form_of op.Srl = form.Register
-form_of op.Or = form.Register
-form_of op.And = form.Register
-form_of op.Sub = form.Register
-form_of op.Sra = form.Register
-form_of op.Mul = form.Register
-form_of op.Mulh = form.Register
-form_of op.Mulhsu = form.Register
-form_of op.Mulhu = form.Register
-form_of op.Div = form.Register
-form_of op.Divu = form.Register
-form_of op.Rem = form.Register
-form_of op.Remu = form.Register
-form_of op.Fence = form.Immediate
-form_of op.Ecall = form.Whole
-form_of op.Ebreak = form.Whole
 
 -- so many bits of a word, from a place on
 abbrev pub field : ℕ → ℕ → ℕ → ℕ
