@@ -2,6 +2,7 @@
 #![tactic(auto)]
 
 mod actors;
+mod built;
 mod cells;
 mod error;
 mod ending;
@@ -11,6 +12,7 @@ mod turns;
 
 mod world;
 
+pub use built::is_built;
 pub use cells::Cells;
 pub use error::NoTurn;
 pub use ending::outcome;
