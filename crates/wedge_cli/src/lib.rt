@@ -1,0 +1,7 @@
+//! The program: from the words of the command line to what is written.
+#![tactic(auto)]
+
+mod lines;
+mod loading;
+mod refusal;
+mod words;
