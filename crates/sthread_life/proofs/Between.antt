@@ -1,13 +1,18 @@
 -- In a world of a run every actor is between instructions.
 use Rattle.std.proofs.Common.{◌≡◌, ℕ, zero, suc, Bool, true, false, List, [], ◌∷◌, refl, sym, ap, subst, ◌∙◌}
-use Rattle.std.specs.Prelude.{Option, Some, None, find, if◌then◌else◌}
+use Rattle.std.specs.Prelude.{Option, Some, None, find, option_and_then, if◌then◌else◌}
 use Rattle.wedge_base.specs.Names.{same}
-use Rattle.wedge_base.specs.Images.{Image}
-use Rattle.wedge_base.specs.declared.events.Ask.{Ask}
+use Rattle.wedge_base.specs.Images.{Image, fetch}
+use Rattle.wedge_base.specs.declared.events.Want.{Want}
 use Rattle.wedge_base.specs.declared.events.Event.{Event}
 use Rattle.wedge_base.specs.declared.events.Event.TheVariants as event
 use Rattle.wedge_base.specs.declared.events.Turn.{Turn}
-use Rattle.wedge_base.specs.declared.cells.StreamReply.{StreamReply}
+use Rattle.wedge_base.specs.declared.cells.SlotReply.TheVariants as slot_reply
+use Rattle.rv_isa.specs.declared.Instr.{Instr}
+use Rattle.rv_isa.specs.Table.{decode}
+use Rattle.rv_hart.specs.declared.Need.{Need}
+use Rattle.rv_hart.specs.declared.Need.TheVariants as need
+use Rattle.rv_hart.specs.Local.{local}
 use Rattle.wedge_base.specs.declared.cells.StreamReply.TheVariants as stream_reply
 use Rattle.wedge_base.specs.declared.cells.LivesAsk.{LivesAsk}
 use Rattle.wedge_base.specs.declared.cells.LivesAsk.TheVariants as lives_ask
@@ -15,8 +20,8 @@ use Rattle.sthread_life.specs.declared.phase.Phase.{Phase}
 use Rattle.sthread_life.specs.declared.phase.Phase.TheVariants as phase
 use Rattle.sthread_life.specs.Actors.{ActorState, root}
 use Rattle.sthread_life.specs.Local.{rest}
-use Rattle.sthread_life.specs.Taking.{wanted, takes, takes_stream, takes_lives}
-use Rattle.sthread_life.specs.Worlds.{WorldState, opening, actor_named, put_actor, event_of, happened, wanting, coming, turn_with, turn_of, Taken, Runs}
+use Rattle.sthread_life.specs.Taking.{wanted, runs, loads_by, loads_at, takes}
+use Rattle.sthread_life.specs.Worlds.{WorldState, opening, actor_named, put_actor, event_for, happened, wanting, coming, turn_with, turn_of, Taken, Runs}
 use Rattle.sthread_life.specs.Between.{IsBetween}
 
 abbrev pub AllBetween : List ActorState → Type 0
@@ -40,30 +45,50 @@ put_between : (actors : List ActorState) (a : ActorState) → AllBetween actors 
 put_between [] a all h = tt
 put_between (b ∷ bs) a all h = put_or b a bs (put_actor bs a) (same b.name a.name) h all.0 all.1 (put_between bs a all.1 h)
 
+-- a load that has its value leaves the actor running
+loaded_by : (ins : Instr) (n : Need) (a : ActorState) (value : ℕ) → a.phase ≡ phase.Running → (loads_by ins n a value).phase ≡ phase.Running
+loaded_by ins need.Done a value e = e
+loaded_by ins (need.Load address width s) a value e = e
+loaded_by ins (need.Store address width v) a value e = e
+loaded_by ins need.Call a value e = e
+loaded_by ins need.Break a value e = e
+loaded_by ins need.JumpMisaligned a value e = e
+
+pub loaded_runs : (a : ActorState) (ins : Option Instr) (value : ℕ) → a.phase ≡ phase.Running → (loads_at a ins value).phase ≡ phase.Running
+loaded_runs a None value e = e
+loaded_runs a (Some ins) value e = loaded_by ins (local ins a.hart).need a value e
+
+loaded_between : (a : ActorState) (ins : Option Instr) (value : ℕ) → a.phase ≡ phase.Running → IsBetween (loads_at a ins value).phase
+loaded_between a ins value e = subst IsBetween (sym (loaded_runs a ins value e)) tt
+
 -- an event leaves the actor that did it between instructions
-pub takes_between : (a : ActorState) (e : Event) → IsBetween (takes a e).phase
+pub takes_between : (i : Image) (a : ActorState) (e : Event) → IsBetween (takes i a e).phase
 unfolding takes
-takes_between a (event.Fd fd q stream_reply.Appended) = tt
-takes_between a (event.Fd fd q stream_reply.NoSuch) = tt
-takes_between a (event.Fd fd q (stream_reply.Denied wants)) = tt
-takes_between a (event.Fd fd q stream_reply.Bad) = tt
-takes_between a (event.Lives (lives_ask.Release e) r) = tt
+takes_between i a (event.Slot slot q (slot_reply.Loaded value)) = loaded_between (runs a) (option_and_then decode (fetch i a.hart.pc)) value refl
+takes_between i a (event.Slot slot q slot_reply.Stored) = tt
+takes_between i a (event.Slot slot q slot_reply.Unmapped) = tt
+takes_between i a (event.Slot slot q (slot_reply.Denied tag)) = tt
+takes_between i a (event.Fd fd q stream_reply.Appended) = tt
+takes_between i a (event.Fd fd q stream_reply.NoSuch) = tt
+takes_between i a (event.Fd fd q (stream_reply.Denied wants)) = tt
+takes_between i a (event.Fd fd q stream_reply.Bad) = tt
+takes_between i a (event.Lives (lives_ask.Release e) r) = tt
 
 -- what a turn is made of: the actor of the name, what it wants at rest, and the event of that ask
 pub record TurnParts (w : WorldState) (name : List ℕ) (e : Event) (new : WorldState) : Type 0 where
   pub actor : ActorState
   pub named : actor_named w.actors name ≡ Some actor
-  pub ask : Ask
-  pub wants : wanted (rest w.image actor).phase ≡ Some ask
-  pub event_is : e ≡ event_of w.cells ask
-  pub new_is : new ≡ (happened w (rest w.image actor) (event_of w.cells ask)).world
+  pub want : Want
+  pub wants : wanted (rest w.image actor).phase ≡ Some want
+  pub event_is : e ≡ event_for w.cells (rest w.image actor) want
+  pub new_is : new ≡ (happened w (rest w.image actor) (event_for w.cells (rest w.image actor) want)).world
 
-parts_wanting : (w : WorldState) (name : List ℕ) (a : ActorState) (q : Option Ask) (e : Event) (new : WorldState)
+parts_wanting : (w : WorldState) (name : List ℕ) (a : ActorState) (q : Option Want) (e : Event) (new : WorldState)
     → actor_named w.actors name ≡ Some a → wanted (rest w.image a).phase ≡ q → wanting w (rest w.image a) q ≡ Some (record { event = e; world = new }) → TurnParts w name e new
 parts_wanting w name a None e new named wants t = absurd cc
 parts_wanting w name a (Some q) e new named wants t =
-    let is : happened w (rest w.image a) (event_of w.cells q) ≡ record { event = e; world = new } = cc in
-    record { actor = a; named = named; ask = q; wants = wants; event_is = ap (λ (x : Taken). x.event) (sym is); new_is = ap (λ (x : Taken). x.world) (sym is) }
+    let is : happened w (rest w.image a) (event_for w.cells (rest w.image a) q) ≡ record { event = e; world = new } = cc in
+    record { actor = a; named = named; want = q; wants = wants; event_is = ap (λ (x : Taken). x.event) (sym is); new_is = ap (λ (x : Taken). x.world) (sym is) }
 
 parts_named : (w : WorldState) (name : List ℕ) (a : Option ActorState) (e : Event) (new : WorldState)
     → actor_named w.actors name ≡ a → turn_with w a ≡ Some (record { event = e; world = new }) → TurnParts w name e new
@@ -78,7 +103,7 @@ pub turn_between : (w : WorldState) (name : List ℕ) (e : Event) (new : WorldSt
 turn_between w name e new all t =
     let p = turn_parts w name e new t in
     let b = rest w.image p.actor in
-    subst (λ (x : WorldState). AllBetween x.actors) (sym p.new_is) (put_between w.actors (takes b (event_of w.cells p.ask)) all (takes_between b (event_of w.cells p.ask)))
+    subst (λ (x : WorldState). AllBetween x.actors) (sym p.new_is) (put_between w.actors (takes w.image b (event_for w.cells b p.want)) all (takes_between w.image b (event_for w.cells b p.want)))
 
 pub opening_between : (i : Image) → AllBetween (opening i).actors
 unfolding root

@@ -1,28 +1,40 @@
 -- Each request in question in a step of a run is judged by the sheet.
-use Rattle.std.proofs.Common.{◌≡◌, ℕ, zero, suc, Bool, true, false, cond, List, [], ◌∷◌, refl, sym, ap, subst, ◌∙◌}
-use Rattle.std.specs.Prelude.{Option, Some, None, not, ◌&&◌, slice_get, slice_set, if◌then◌else◌}
-use Rattle.wedge_base.specs.Images.{Image}
-use Rattle.wedge_base.specs.Rights.{Sheet, bits_on, append_bit}
-use Rattle.wedge_base.specs.Streams.{Stream, stream_reply, stream_after, live_reply, append_reply}
+use Rattle.std.proofs.Common.{◌≡◌, ℕ, zero, suc, Bool, true, false, List, [], ◌∷◌, length, refl, sym, ap, subst, ◌∙◌}
+use Rattle.std.specs.Prelude.{Option, Some, None, not, ◌&&◌, ◌+◌, slice_get, slice_set, slice_range, nat_lt, option_and_then, if◌then◌else◌}
+use Rattle.wedge_base.specs.Bytes.{number_of}
+use Rattle.wedge_base.specs.Images.{Image, fetch}
+use Rattle.wedge_base.specs.Rights.{Sheet, at_least, right_on, bits_on, append_bit}
+use Rattle.wedge_base.specs.Slots.{Segment, slot_after, stored}
+use Rattle.wedge_base.specs.Streams.{Stream, stream_after, append_reply}
 use Rattle.wedge_base.specs.declared.rights.FdBits.{FdBits}
+use Rattle.wedge_base.specs.declared.rights.Right.{Right}
+use Rattle.wedge_base.specs.declared.rights.Right.TheVariants as right
 use Rattle.wedge_base.specs.declared.rights.StreamKind.{StreamKind}
 use Rattle.wedge_base.specs.declared.rights.StreamKind.TheVariants as kind
-use Rattle.wedge_base.specs.declared.events.Ask.{Ask}
-use Rattle.wedge_base.specs.declared.events.Ask.TheVariants as ask
+use Rattle.wedge_base.specs.declared.events.Want.{Want}
+use Rattle.wedge_base.specs.declared.events.Want.TheVariants as want
 use Rattle.wedge_base.specs.declared.events.Event.{Event}
 use Rattle.wedge_base.specs.declared.events.Event.TheVariants as event
 use Rattle.wedge_base.specs.declared.events.Turn.{Turn}
-use Rattle.wedge_base.specs.declared.cells.StreamAsk.{StreamAsk}
+use Rattle.wedge_base.specs.declared.cells.Live.{Live}
+use Rattle.wedge_base.specs.declared.cells.SlotAsk.{SlotAsk}
+use Rattle.wedge_base.specs.declared.cells.SlotAsk.TheVariants as slot_ask
+use Rattle.wedge_base.specs.declared.cells.SlotReply.{SlotReply}
+use Rattle.wedge_base.specs.declared.cells.SlotReply.TheVariants as slot_reply
 use Rattle.wedge_base.specs.declared.cells.StreamAsk.TheVariants as stream_ask
-use Rattle.wedge_base.specs.declared.cells.StreamReply.{StreamReply}
 use Rattle.wedge_base.specs.declared.cells.StreamReply.TheVariants as reply
+use Rattle.rv_isa.specs.declared.Instr.{Instr}
+use Rattle.rv_isa.specs.Table.{decode}
+use Rattle.rv_hart.specs.declared.Need.{Need}
+use Rattle.rv_hart.specs.declared.Need.TheVariants as need
+use Rattle.rv_hart.specs.Local.{local}
 use Rattle.sthread_life.specs.declared.phase.Phase.{Phase}
 use Rattle.sthread_life.specs.declared.phase.Phase.TheVariants as phase
 use Rattle.sthread_life.specs.Actors.{ActorState}
 use Rattle.sthread_life.specs.Local.{rest, is_running}
-use Rattle.sthread_life.specs.Taking.{wanted, takes}
-use Rattle.sthread_life.specs.Worlds.{WorldState, opening, put_actor, actor_named, event_of, put_stream, happened, turn_of, Runs}
-use Rattle.sthread_life.specs.Allowed.{Request, Appends, allows, denied_by, request_of, stream_request, otherwise, is_source, is_done, IsJudged, StepIsJudged, EachStep}
+use Rattle.sthread_life.specs.Taking.{wanted, runs, loads_by, loads_at, takes}
+use Rattle.sthread_life.specs.Worlds.{Cells, WorldState, opening, put_actor, actor_named, event_for, put_cell, happened, turn_of, Runs}
+use Rattle.sthread_life.specs.Allowed.{Request, Loads, Stores, Appends, allows, denied_by, request_of, slot_request, stream_request, otherwise, is_source, is_done, IsJudged, StepIsJudged, EachStep}
 use Rattle.sthread_life.specs.Between.{IsBetween, HasOwnBits, AsksItsOwn}
 use Rattle.sthread_life.specs.Laws.{RunsAreJudged}
 use Rattle.sthread_life.proofs.Resting.{rests, rest-stays}
@@ -34,12 +46,62 @@ set_same [] n x e = refl
 set_same (y ∷ ys) zero x e = ap (λ z. z ∷ ys) (let f : Some y ≡ Some x = e in cc)
 set_same (y ∷ ys) (suc n) x e = ap (λ zs. y ∷ zs) (set_same ys n x e)
 
--- the reply of a live stream to an append, and what it makes of the streams and of the actor
+-- a load that has its value notes no denial
+loaded_denials : (ins : Instr) (n : Need) (a : ActorState) (value : ℕ) → (loads_by ins n a value).denials ≡ a.denials
+loaded_denials ins need.Done a value = refl
+loaded_denials ins (need.Load address width s) a value = refl
+loaded_denials ins (need.Store address width v) a value = refl
+loaded_denials ins need.Call a value = refl
+loaded_denials ins need.Break a value = refl
+loaded_denials ins need.JumpMisaligned a value = refl
+
+loads_denials : (a : ActorState) (ins : Option Instr) (value : ℕ) → (loads_at a ins value).denials ≡ a.denials
+loads_denials a None value = refl
+loads_denials a (Some ins) value = loaded_denials ins (local ins a.hart).need a value
+
+-- the world after an event on a slot
+abbrev after_slot : WorldState → ActorState → ℕ → Option Segment → SlotAsk → SlotReply → WorldState
+after_slot w b slot g q r = record w { cells = record w.cells { segments = put_cell w.cells.segments slot (slot_after g q r) }; actors = put_actor w.actors (takes w.image b (event.Slot slot q r)) }
+
+-- the reply of a live tag to a load inside its bytes, and what it makes of the world
+load_judged : (w : WorldState) (b : ActorState) (slot offset width value : ℕ) (live : Option Live) (g : Segment) (t : Bool)
+    → slice_get w.cells.segments slot ≡ Some g → at_least (right_on b.sheet g.tag) right.Read ≡ t
+    → IsJudged w b (Loads g.tag) false (event.Slot slot (slot_ask.Load offset width live) (if t then slot_reply.Loaded value else slot_reply.Denied g.tag))
+        (after_slot w b slot (Some g) (slot_ask.Load offset width live) (if t then slot_reply.Loaded value else slot_reply.Denied g.tag))
+unfolding takes
+load_judged w b slot offset width value live g false there held = record {
+  done = sym (ap (λ c. c && true) held);
+  denied = λ n. ap (λ (gs : List Segment). record w { cells = record w.cells { segments = gs }; actors = put_actor w.actors (denied_by b (Loads g.tag)) }) (set_same w.cells.segments slot g there);
+  allowed = λ y. absurd cc;
+}
+load_judged w b slot offset width value live g true there held = record {
+  done = sym (ap (λ c. c && true) held);
+  denied = λ n. absurd cc;
+  allowed = λ y. loads_denials (runs b) (option_and_then decode (fetch w.image b.hart.pc)) value;
+}
+
+store_judged : (w : WorldState) (b : ActorState) (slot offset width value : ℕ) (live : Option Live) (g : Segment) (t : Bool)
+    → slice_get w.cells.segments slot ≡ Some g → at_least (right_on b.sheet g.tag) right.ReadWrite ≡ t
+    → IsJudged w b (Stores g.tag) false (event.Slot slot (slot_ask.Store offset width value live) (if t then slot_reply.Stored else slot_reply.Denied g.tag))
+        (after_slot w b slot (Some g) (slot_ask.Store offset width value live) (if t then slot_reply.Stored else slot_reply.Denied g.tag))
+unfolding takes
+store_judged w b slot offset width value live g false there held = record {
+  done = sym (ap (λ c. c && true) held);
+  denied = λ n. ap (λ (gs : List Segment). record w { cells = record w.cells { segments = gs }; actors = put_actor w.actors (denied_by b (Stores g.tag)) }) (set_same w.cells.segments slot g there);
+  allowed = λ y. absurd cc;
+}
+store_judged w b slot offset width value live g true there held = record {
+  done = sym (ap (λ c. c && true) held);
+  denied = λ n. absurd cc;
+  allowed = λ y. refl;
+}
+
+-- the reply of a live stream to an append, and what it makes of the world
 append_judged : (w : WorldState) (b : ActorState) (fd : ℕ) (bits : FdBits) (bytes : List ℕ) (s : Stream) (t : Bool) (k : StreamKind)
     → slice_get w.cells.streams fd ≡ Some s → (bits_on b.sheet fd).append ≡ t
     → IsJudged w b (Appends fd) (is_source k) (event.Fd fd (stream_ask.Append bits bytes) (if t then append_reply k else reply.Denied append_bit))
-        (record w { cells = record w.cells { streams = put_stream w.cells.streams fd (stream_after (Some s) (stream_ask.Append bits bytes) (if t then append_reply k else reply.Denied append_bit)) };
-                    actors = put_actor w.actors (takes b (event.Fd fd (stream_ask.Append bits bytes) (if t then append_reply k else reply.Denied append_bit))) })
+        (record w { cells = record w.cells { streams = put_cell w.cells.streams fd (stream_after (Some s) (stream_ask.Append bits bytes) (if t then append_reply k else reply.Denied append_bit)) };
+                    actors = put_actor w.actors (takes w.image b (event.Fd fd (stream_ask.Append bits bytes) (if t then append_reply k else reply.Denied append_bit))) })
 unfolding takes
 append_judged w b fd bits bytes s false k live held = record {
   done = sym (ap (λ c. c && not (is_source k)) held);
@@ -57,28 +119,56 @@ append_judged w b fd bits bytes s true kind.Source live held = record {
   allowed = λ y. refl;
 }
 
--- by the ask
+-- what is wanted is judged as a request
+abbrev IsJudgedFor : WorldState → ActorState → Want → Request → Type 0
+IsJudgedFor w b q r = IsJudged w b r (otherwise w.cells q) (event_for w.cells b q) (happened w b (event_for w.cells b q)).world
+
+-- inside the bytes, a request on a tag is of the tag that lives there
+inside : (of_tag : ℕ → Request) (g : Segment) (offset : ℕ) (t : Bool) (r : Request) → nat_lt offset (length g.bytes) ≡ t → (if t then Some (of_tag g.tag) else None) ≡ Some r
+    → (nat_lt offset (length g.bytes) ≡ true) × (of_tag g.tag ≡ r)
+inside of_tag g offset true r p e = (p, cc)
+inside of_tag g offset false r p e = absurd cc
+
+judged_load : (w : WorldState) (b : ActorState) (slot offset width : ℕ) (r : Request) (g : Option Segment) → slice_get w.cells.segments slot ≡ g → slot_request Loads g offset ≡ Some r
+    → IsJudgedFor w b (want.Load slot offset width) r
+judged_load w b slot offset width r None there e = absurd cc
+judged_load w b slot offset width r (Some g) there e =
+    let p = inside Loads g offset _ r refl e in
+    subst (IsJudgedFor w b (want.Load slot offset width)) p.1
+    (rw (there, p.0) (load_judged w b slot offset width (number_of (slice_range g.bytes offset (offset + width))) (Some (record { tag = g.tag; right = right_on b.sheet g.tag })) g _ there refl))
+
+judged_store : (w : WorldState) (b : ActorState) (slot offset width value : ℕ) (r : Request) (g : Option Segment) → slice_get w.cells.segments slot ≡ g → slot_request Stores g offset ≡ Some r
+    → IsJudgedFor w b (want.Store slot offset width value) r
+judged_store w b slot offset width value r None there e = absurd cc
+judged_store w b slot offset width value r (Some g) there e =
+    let p = inside Stores g offset _ r refl e in
+    subst (IsJudgedFor w b (want.Store slot offset width value)) p.1
+    (rw (there, p.0) (store_judged w b slot offset width value (Some (record { tag = g.tag; right = right_on b.sheet g.tag })) g _ there refl))
+
 judged_append : (w : WorldState) (b : ActorState) (fd : ℕ) (bits : FdBits) (bytes : List ℕ) (r : Request) (s : Option Stream)
     → slice_get w.cells.streams fd ≡ s → bits ≡ bits_on b.sheet fd → stream_request fd s (stream_ask.Append bits bytes) ≡ Some r
-    → IsJudged w b r (otherwise w.cells (ask.Fd fd (stream_ask.Append bits bytes))) (event_of w.cells (ask.Fd fd (stream_ask.Append bits bytes))) (happened w b (event_of w.cells (ask.Fd fd (stream_ask.Append bits bytes)))).world
+    → IsJudgedFor w b (want.Fd fd (stream_ask.Append bits bytes)) r
 judged_append w b fd bits bytes r None live own e = absurd cc
 judged_append w b fd bits bytes r (Some s) live own e =
     let is : Appends fd ≡ r = cc in
-    subst (λ x. IsJudged w b x (otherwise w.cells (ask.Fd fd (stream_ask.Append bits bytes))) (event_of w.cells (ask.Fd fd (stream_ask.Append bits bytes))) (happened w b (event_of w.cells (ask.Fd fd (stream_ask.Append bits bytes)))).world) is
+    subst (IsJudgedFor w b (want.Fd fd (stream_ask.Append bits bytes))) is
     (rw live (append_judged w b fd bits bytes s bits.append s.kind live (ap (λ (x : FdBits). x.append) (sym own))))
 
-judged_ask : (w : WorldState) (b : ActorState) (q : Ask) (r : Request) → HasOwnBits b.sheet q → request_of w.cells q ≡ Some r
-    → IsJudged w b r (otherwise w.cells q) (event_of w.cells q) (happened w b (event_of w.cells q)).world
-judged_ask w b (ask.Fd fd (stream_ask.Append bits bytes)) r own e = judged_append w b fd bits bytes r (slice_get w.cells.streams fd) refl own e
-judged_ask w b (ask.Lives q) r own e = absurd cc
+judged_want : (w : WorldState) (b : ActorState) (q : Want) (r : Request) → HasOwnBits b.sheet q → request_of w.cells q ≡ Some r → IsJudgedFor w b q r
+judged_want w b (want.Load slot offset width) r own e = judged_load w b slot offset width r (slice_get w.cells.segments slot) refl e
+judged_want w b (want.Store slot offset width value) r own e = judged_store w b slot offset width value r (slice_get w.cells.segments slot) refl e
+judged_want w b (want.Fd fd (stream_ask.Append bits bytes)) r own e = judged_append w b fd bits bytes r (slice_get w.cells.streams fd) refl own e
+judged_want w b (want.Lives q) r own e = absurd cc
 
 -- what an actor wants it asks with its own rights
-wants_own : (s : Sheet) (p : Phase) (q : Ask) (w : WorldState) (r : Request) → AsksItsOwn s p → wanted p ≡ Some q → request_of w.cells q ≡ Some r → HasOwnBits s q
-wants_own s phase.Running q w r own e f = absurd cc
-wants_own s (phase.Within x) q w r own e f = let is : x ≡ q = cc in subst (HasOwnBits s) is own
-wants_own s (phase.Ending x) (ask.Fd fd y) w r own e f = absurd cc
-wants_own s (phase.Ending x) (ask.Lives y) w r own e f = tt
-wants_own s (phase.Ended x) q w r own e f = absurd cc
+wants_own : (s : Sheet) (p : Phase) (q : Want) (c : Cells) (r : Request) → AsksItsOwn s p → wanted p ≡ Some q → request_of c q ≡ Some r → HasOwnBits s q
+wants_own s phase.Running q c r own e f = absurd cc
+wants_own s (phase.Within x) q c r own e f = let is : x ≡ q = cc in subst (HasOwnBits s) is own
+wants_own s (phase.Ending x) (want.Load slot offset width) c r own e f = tt
+wants_own s (phase.Ending x) (want.Store slot offset width value) c r own e f = tt
+wants_own s (phase.Ending x) (want.Fd fd y) c r own e f = absurd cc
+wants_own s (phase.Ending x) (want.Lives y) c r own e f = tt
+wants_own s (phase.Ended x) q c r own e f = absurd cc
 
 rests_own : (i : Image) (a : ActorState) (t : Bool) → is_running a.phase ≡ t → IsBetween a.phase → AsksItsOwn (rest i a).sheet (rest i a).phase
 rests_own i a true e h = (rests i a e).own
@@ -95,13 +185,15 @@ step_judged w t new all e a q r named wants asked =
     let p = turn_parts w t.actor t.event new e in
     let same_actor : p.actor ≡ a = let f : Some p.actor ≡ Some a = sym p.named ∙ named in cc in
     let wants2 : wanted (rest w.image p.actor).phase ≡ Some q = ap (λ (x : ActorState). wanted (rest w.image x).phase) same_actor ∙ wants in
-    let same_ask : p.ask ≡ q = let f : Some p.ask ≡ Some q = sym p.wants ∙ wants2 in cc in
+    let same_want : p.want ≡ q = let f : Some p.want ≡ Some q = sym p.wants ∙ wants2 in cc in
     let b = rest w.image a in
-    let own = wants_own b.sheet b.phase q w r (rests_own w.image a _ refl (named_between w.actors t.actor a all named)) wants asked in
-    let j = judged_ask w b q r own asked in
-    let event_is : t.event ≡ event_of w.cells q = p.event_is ∙ ap (event_of w.cells) same_ask in
-    let new_is : new ≡ (happened w b (event_of w.cells q)).world = p.new_is ∙ ap (λ (x : ActorState). (happened w (rest w.image x) (event_of w.cells p.ask)).world) same_actor ∙ ap (λ (x : Ask). (happened w b (event_of w.cells x)).world) same_ask in
-    subst (λ x. IsJudged w b r (otherwise w.cells q) x new) (sym event_is) (subst (λ x. IsJudged w b r (otherwise w.cells q) (event_of w.cells q) x) (sym new_is) j)
+    let own = wants_own b.sheet b.phase q w.cells r (rests_own w.image a _ refl (named_between w.actors t.actor a all named)) wants asked in
+    let j = judged_want w b q r own asked in
+    let same_event = ap (λ (x : ActorState). event_for w.cells (rest w.image x) p.want) same_actor ∙ ap (λ (x : Want). event_for w.cells b x) same_want in
+    let event_is : t.event ≡ event_for w.cells b q = p.event_is ∙ same_event in
+    let new_is : new ≡ (happened w b (event_for w.cells b q)).world =
+        p.new_is ∙ ap (λ (x : ActorState). (happened w (rest w.image x) (event_for w.cells (rest w.image x) p.want)).world) same_actor ∙ ap (λ (x : Want). (happened w b (event_for w.cells b x)).world) same_want in
+    subst (λ x. IsJudged w b r (otherwise w.cells q) x new) (sym event_is) (subst (λ x. IsJudged w b r (otherwise w.cells q) (event_for w.cells b q) x) (sym new_is) j)
 
 each_judged : (old : WorldState) (turns : List Turn) (new : WorldState) → AllBetween old.actors → Runs old turns new → EachStep StepIsJudged old turns
 each_judged old [] new all run = tt

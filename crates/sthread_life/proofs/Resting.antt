@@ -3,7 +3,7 @@
 use Rattle.std.proofs.Common.{◌≡◌, ℕ, zero, suc, ◌+◌, ◌-◌, ◌<◌, ◌≤◌, Bool, true, false, cond, refl, sym, ap, subst, ◌∙◌, arith}
 use Rattle.std.specs.Prelude.{Option, Some, None, not, ◌⊎◌, if◌then◌else◌, ◌==◌, nat_lt, nat_le}
 use Rattle.std.proofs.Common.{inl, inr}
-use Rattle.wedge_base.specs.Images.{Image, fetch, in_text, read_text}
+use Rattle.wedge_base.specs.Images.{Image, fetch, in_text, read_text, slot_of}
 use Rattle.wedge_base.specs.Bytes.{number_of, bytes_of}
 use Rattle.wedge_base.specs.Memory.{range_at, read_range, write_at}
 use Rattle.wedge_base.specs.Rights.{Sheet, bits_on}
@@ -13,8 +13,9 @@ use Rattle.wedge_base.specs.declared.rights.End.{End}
 use Rattle.wedge_base.specs.declared.rights.End.TheVariants as end_
 use Rattle.wedge_base.specs.declared.rights.Code.{Code}
 use Rattle.wedge_base.specs.declared.rights.Code.TheVariants as code
-use Rattle.wedge_base.specs.declared.events.Ask.{Ask}
-use Rattle.wedge_base.specs.declared.events.Ask.TheVariants as ask
+use Rattle.wedge_base.specs.declared.address.Place.{Place}
+use Rattle.wedge_base.specs.declared.events.Want.{Want}
+use Rattle.wedge_base.specs.declared.events.Want.TheVariants as want
 use Rattle.wedge_base.specs.declared.cells.StreamAsk.TheVariants as stream_ask
 use Rattle.rv_isa.specs.declared.Instr.{Instr}
 use Rattle.rv_isa.specs.Table.{decode}
@@ -25,7 +26,7 @@ use Rattle.rv_hart.specs.Local.{local}
 use Rattle.sthread_life.specs.declared.phase.Phase.{Phase}
 use Rattle.sthread_life.specs.declared.phase.Phase.TheVariants as phase
 use Rattle.sthread_life.specs.Actors.{ActorState, ends, refuses, wants, spends}
-use Rattle.sthread_life.specs.Private.{loads, stores, load_range, store_range, has_loaded, has_stored, fits_read, buffer}
+use Rattle.sthread_life.specs.Private.{loads, stores, load_window, load_range, store_window, store_range, has_loaded, has_stored, fits_read, buffer}
 use Rattle.sthread_life.specs.Calls.{serves, exit, fd_append, a0, a1, a2, a7}
 use Rattle.sthread_life.specs.Local.{needed, proceeds, executed, fuelled, fetched, step, is_running, has_ended, run_local, rest}
 use Rattle.sthread_life.specs.Between.{AsksItsOwn}
@@ -52,9 +53,13 @@ goes_refused a c = record { name = refl; compartment = refl; sheet = refl; fuel 
 goes_loaded : (ins : Instr) (s : Bool) (a : ActorState) (width value : ℕ) → Goes a (has_loaded ins s a width value)
 goes_loaded ins s a width value = record { name = refl; compartment = refl; sheet = refl; fuel = refl; own = λ h. h; live = λ h. h }
 
+goes_load_window : (a : ActorState) (width : ℕ) (p : Option Place) → Goes a (load_window a width p)
+goes_load_window a width None = goes_end a end_.Unmapped
+goes_load_window a width (Some p) = record { name = refl; compartment = refl; sheet = refl; fuel = refl; own = λ h. tt; live = λ h. refl }
+
 goes_load_range : (ins : Instr) (s : Bool) (a : ActorState) (address width : ℕ) (r : Option MemoryRange) → Goes a (load_range ins s a address width r)
 goes_load_range ins s a address width (Some r) = goes_loaded ins s a width (number_of (read_range r address width))
-goes_load_range ins s a address width None = goes_end a end_.Unmapped
+goes_load_range ins s a address width None = goes_load_window a width (slot_of address)
 
 goes_load : (i : Image) (ins : Instr) (s : Bool) (a : ActorState) (address width : ℕ) → Goes a (loads i ins s a address width)
 goes_load i ins s a address width =
@@ -62,9 +67,13 @@ goes_load i ins s a address width =
     (goes_if a (has_loaded ins s a width (number_of (read_text i address width))) _ (in_text i address width) (goes_loaded ins s a width (number_of (read_text i address width)))
     (goes_load_range ins s a address width (range_at a.memory address width)))
 
+goes_store_window : (a : ActorState) (width value : ℕ) (p : Option Place) → Goes a (store_window a width value p)
+goes_store_window a width value None = goes_end a end_.Unmapped
+goes_store_window a width value (Some p) = record { name = refl; compartment = refl; sheet = refl; fuel = refl; own = λ h. tt; live = λ h. refl }
+
 goes_store_range : (a : ActorState) (address width value : ℕ) (r : Option MemoryRange) → Goes a (store_range a address width value r)
 goes_store_range a address width value (Some r) = record { name = refl; compartment = refl; sheet = refl; fuel = refl; own = λ h. h; live = λ h. h }
-goes_store_range a address width value None = goes_end a end_.Unmapped
+goes_store_range a address width value None = goes_store_window a width value (slot_of address)
 
 goes_store : (i : Image) (a : ActorState) (address width value : ℕ) → Goes a (stores i a address width value)
 goes_store i a address width value =

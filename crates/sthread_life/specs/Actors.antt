@@ -16,7 +16,7 @@ use Rattle.wedge_base.specs.declared.rights.Denial.{Denial}
 use Rattle.wedge_base.specs.declared.rights.Code.{Code}
 use Rattle.wedge_base.specs.declared.rights.Code.TheVariants as code
 use Rattle.wedge_base.specs.declared.rights.End.{End}
-use Rattle.wedge_base.specs.declared.events.Ask.{Ask}
+use Rattle.wedge_base.specs.declared.events.Want.{Want}
 use Rattle.rv_hart.specs.declared.Hart.{Hart}
 use Rattle.rv_hart.specs.Local.{put, answered}
 use Rattle.sthread_life.specs.declared.phase.Phase.{Phase}
@@ -98,8 +98,8 @@ denies a d = refuses (notes a d) code.Denied
 abbrev pub ends : ActorState → End → ActorState
 ends a e = record a { phase = phase.Ending e }
 
-abbrev pub wants : ActorState → Ask → ActorState
-wants a q = record a { phase = phase.Within q }
+abbrev pub wants : ActorState → Want → ActorState
+wants a w = record a { phase = phase.Within w }
 
 -- so many units of fuel taken
 abbrev pub spends : ActorState → ℕ → ActorState

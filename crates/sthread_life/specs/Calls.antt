@@ -5,7 +5,7 @@ use Rattle.wedge_base.specs.Rights.{bits_on}
 use Rattle.wedge_base.specs.Streams.{most_fds}
 use Rattle.wedge_base.specs.declared.rights.Code.TheVariants as code
 use Rattle.wedge_base.specs.declared.rights.End.TheVariants as end_
-use Rattle.wedge_base.specs.declared.events.Ask.TheVariants as ask
+use Rattle.wedge_base.specs.declared.events.Want.TheVariants as want
 use Rattle.wedge_base.specs.declared.cells.StreamAsk.TheVariants as stream_ask
 use Rattle.rv_hart.specs.Local.{reg}
 use Rattle.sthread_life.specs.Actors.{ActorState, refuses, ends, wants}
@@ -34,7 +34,7 @@ fd_append i a =
     if not (fits_read i a (a1 a) (a2 a)) then refuses a code.Bad
     else if nat_lt a.fuel (a2 a) then refuses a code.FuelShort
     else if nat_le most_fds (a0 a) then refuses a code.NoSuch
-    else wants a (ask.Fd (a0 a) (stream_ask.Append (bits_on a.sheet (a0 a)) (buffer i a (a1 a) (a2 a))))
+    else wants a (want.Fd (a0 a) (stream_ask.Append (bits_on a.sheet (a0 a)) (buffer i a (a1 a) (a2 a))))
 
 -- a call by its number; any other number is refused
 unfoldable pub serves : Image → ActorState → ℕ → ActorState

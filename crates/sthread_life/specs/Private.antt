@@ -1,14 +1,16 @@
--- Loads, stores and buffers: the text, and private memory.
+-- Loads, stores and buffers: the text, private memory, and the windows of tags.
 use Rattle.std.specs.Prelude.{ℕ, ◌+◌, ◌%◌, ◌==◌, Bool, not, ◌&&◌, ◌||◌, List, [], Option, Some, None, is_some, nat_le, if◌then◌else◌}
 use Rattle.wedge_base.specs.Bytes.{number_of, bytes_of}
 use Rattle.wedge_base.specs.Memory.{range_at, read_range, write_at}
-use Rattle.wedge_base.specs.Images.{Image, in_text, read_text}
+use Rattle.wedge_base.specs.Images.{Image, in_text, read_text, slot_of}
+use Rattle.wedge_base.specs.declared.address.Place.{Place}
 use Rattle.wedge_base.specs.declared.image.MemoryRange.{MemoryRange}
+use Rattle.wedge_base.specs.declared.events.Want.TheVariants as want
 use Rattle.wedge_base.specs.declared.rights.End.TheVariants as end_
 use Rattle.rv_isa.specs.declared.Instr.{Instr}
 use Rattle.rv_hart.specs.Local.{extended, loaded, stored}
 use Rattle.sthread_life.specs.declared.phase.Phase.TheVariants as phase
-use Rattle.sthread_life.specs.Actors.{ActorState, ends}
+use Rattle.sthread_life.specs.Actors.{ActorState, ends, wants}
 
 -- a load that gave this value
 abbrev pub has_loaded : Instr → Bool → ActorState → ℕ → ℕ → ActorState
@@ -18,24 +20,34 @@ has_loaded ins is_signed a width value = record a { hart = loaded ins a.hart (ex
 abbrev pub has_stored : ActorState → ActorState
 has_stored a = record a { hart = stored a.hart }
 
+-- a load in a window is a shared event
+abbrev pub load_window : ActorState → ℕ → Option Place → ActorState
+load_window a width None = ends a end_.Unmapped
+load_window a width (Some p) = wants a (want.Load p.slot p.offset width)
+
 -- a load of private memory
 abbrev pub load_range : Instr → Bool → ActorState → ℕ → ℕ → Option MemoryRange → ActorState
 load_range ins is_signed a address width (Some r) = has_loaded ins is_signed a width (number_of (read_range r address width))
-load_range ins is_signed a address width None = ends a end_.Unmapped
+load_range ins is_signed a address width None = load_window a width (slot_of address)
 
--- a load: an address that is no multiple of the width, the text, private memory
+-- a load: an address that is no multiple of the width, the text, private memory, a window
 abbrev pub loads : Image → Instr → Bool → ActorState → ℕ → ℕ → ActorState
 loads i ins is_signed a address width =
     if not (address % width == 0) then ends a end_.Misaligned
     else if in_text i address width then has_loaded ins is_signed a width (number_of (read_text i address width))
     else load_range ins is_signed a address width (range_at a.memory address width)
 
+-- a store in a window is a shared event
+abbrev pub store_window : ActorState → ℕ → ℕ → Option Place → ActorState
+store_window a width value None = ends a end_.Unmapped
+store_window a width value (Some p) = wants a (want.Store p.slot p.offset width value)
+
 -- a store into private memory
 abbrev pub store_range : ActorState → ℕ → ℕ → ℕ → Option MemoryRange → ActorState
 store_range a address width value (Some r) = has_stored (record a { memory = write_at a.memory address (bytes_of width value) })
-store_range a address width value None = ends a end_.Unmapped
+store_range a address width value None = store_window a width value (slot_of address)
 
--- a store: an address that is no multiple of the width, the text, private memory
+-- a store: an address that is no multiple of the width, the text, private memory, a window
 abbrev pub stores : Image → ActorState → ℕ → ℕ → ℕ → ActorState
 stores i a address width value =
     if not (address % width == 0) then ends a end_.Misaligned

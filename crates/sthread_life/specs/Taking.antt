@@ -1,26 +1,80 @@
--- The actor's part of a shared event: what it wants, and what the reply makes of it.
-use Rattle.std.specs.Prelude.{ℕ, Option, Some, None}
+-- The actor's part of a shared event: what it wants and asks, and what the reply makes of it.
+use Rattle.std.specs.Prelude.{ℕ, Option, Some, None, option_map, option_and_then}
+use Rattle.wedge_base.specs.Images.{Image, fetch}
+use Rattle.wedge_base.specs.Rights.{right_on}
+use Rattle.wedge_base.specs.Wants.{asked_with}
+use Rattle.wedge_base.specs.declared.rights.Right.{Right}
+use Rattle.wedge_base.specs.declared.rights.Right.TheVariants as right
 use Rattle.wedge_base.specs.declared.rights.Denial.TheVariants as denial
 use Rattle.wedge_base.specs.declared.rights.Code.TheVariants as code
+use Rattle.wedge_base.specs.declared.rights.End.TheVariants as end_
+use Rattle.wedge_base.specs.declared.events.Want.{Want}
+use Rattle.wedge_base.specs.declared.events.Want.TheVariants as want
 use Rattle.wedge_base.specs.declared.events.Ask.{Ask}
-use Rattle.wedge_base.specs.declared.events.Ask.TheVariants as ask
 use Rattle.wedge_base.specs.declared.events.Event.{Event}
 use Rattle.wedge_base.specs.declared.events.Event.TheVariants as event
+use Rattle.wedge_base.specs.declared.cells.Live.{Live}
+use Rattle.wedge_base.specs.declared.cells.SlotAsk.{SlotAsk}
+use Rattle.wedge_base.specs.declared.cells.SlotAsk.TheVariants as slot_ask
+use Rattle.wedge_base.specs.declared.cells.SlotReply.{SlotReply}
+use Rattle.wedge_base.specs.declared.cells.SlotReply.TheVariants as slot_reply
 use Rattle.wedge_base.specs.declared.cells.StreamReply.{StreamReply}
 use Rattle.wedge_base.specs.declared.cells.StreamReply.TheVariants as stream_reply
 use Rattle.wedge_base.specs.declared.cells.LivesAsk.{LivesAsk}
 use Rattle.wedge_base.specs.declared.cells.LivesAsk.TheVariants as lives_ask
+use Rattle.rv_isa.specs.declared.Instr.{Instr}
+use Rattle.rv_isa.specs.Table.{decode}
+use Rattle.rv_hart.specs.declared.Need.{Need}
+use Rattle.rv_hart.specs.declared.Need.TheVariants as need
+use Rattle.rv_hart.specs.Local.{local}
 use Rattle.sthread_life.specs.declared.phase.Phase.{Phase}
 use Rattle.sthread_life.specs.declared.phase.Phase.TheVariants as phase
-use Rattle.sthread_life.specs.Actors.{ActorState, answers, refuses, denies, spends}
+use Rattle.sthread_life.specs.Actors.{ActorState, answers, refuses, notes, denies, ends, spends}
+use Rattle.sthread_life.specs.Private.{has_loaded, has_stored}
 use Rattle.sthread_life.specs.Calls.{a2}
 
 -- what an actor at this wants, if it wants an event
-abbrev pub wanted : Phase → Option Ask
+abbrev pub wanted : Phase → Option Want
 wanted phase.Running = None
-wanted (phase.Within q) = Some q
-wanted (phase.Ending e) = Some (ask.Lives (lives_ask.Release e))
+wanted (phase.Within w) = Some w
+wanted (phase.Ending e) = Some (want.Lives (lives_ask.Release e))
 wanted (phase.Ended e) = None
+
+-- the tag that lives in a slot, with the actor's right on it
+abbrev pub pair : ActorState → Option ℕ → Option Live
+pair a live = option_map (λ tag. record { tag = tag; right = right_on a.sheet tag }) live
+
+-- what an actor asks for what it wants where that tag lives
+abbrev pub asks : ActorState → Option ℕ → Want → Ask
+asks a live w = asked_with w (pair a live)
+
+-- an actor goes on
+abbrev pub runs : ActorState → ActorState
+runs a = record a { phase = phase.Running }
+
+-- a load has its value: the instruction says which register takes it, and with which sign
+abbrev pub loads_by : Instr → Need → ActorState → ℕ → ActorState
+loads_by ins (need.Load address width is_signed) a value = has_loaded ins is_signed a width value
+loads_by ins n a value = a
+
+abbrev pub loads_at : ActorState → Option Instr → ℕ → ActorState
+loads_at a None value = a
+loads_at a (Some ins) value = loads_by ins (local ins a.hart).need a value
+
+-- the right that an access wants
+abbrev pub wanted_right : SlotAsk → Right
+wanted_right (slot_ask.Load offset width live) = right.Read
+wanted_right (slot_ask.Store offset width value live) = right.ReadWrite
+
+-- a load or store that is denied ends its actor
+abbrev pub denied_on : ActorState → ℕ → SlotAsk → ActorState
+denied_on a tag q = ends (notes a (denial.Tag tag (wanted_right q))) end_.Denied
+
+abbrev pub takes_slot : Image → ActorState → SlotAsk → SlotReply → ActorState
+takes_slot i a q (slot_reply.Loaded value) = loads_at (runs a) (option_and_then decode (fetch i a.hart.pc)) value
+takes_slot i a q slot_reply.Stored = has_stored (runs a)
+takes_slot i a q slot_reply.Unmapped = ends a end_.Unmapped
+takes_slot i a q (slot_reply.Denied tag) = denied_on a tag q
 
 -- an append takes a unit of fuel for each byte
 abbrev pub takes_stream : ActorState → ℕ → StreamReply → ActorState
@@ -33,6 +87,7 @@ abbrev pub takes_lives : ActorState → LivesAsk → ActorState
 takes_lives a (lives_ask.Release e) = record a { phase = phase.Ended e }
 
 -- what an event makes of the actor that did it
-unfoldable pub takes : ActorState → Event → ActorState
-takes a (event.Fd fd q r) = takes_stream a fd r
-takes a (event.Lives q r) = takes_lives a q
+unfoldable pub takes : Image → ActorState → Event → ActorState
+takes i a (event.Slot slot q r) = takes_slot i a q r
+takes i a (event.Fd fd q r) = takes_stream a fd r
+takes i a (event.Lives q r) = takes_lives a q

@@ -1,9 +1,12 @@
 -- The world, its turns and its runs.
 use Rattle.std.specs.Prelude.{◌≡◌, ℕ, Bool, true, false, List, [], ◌∷◌, map, find, slice_get, slice_set, Option, Some, None, option_map, if◌then◌else◌}
 use Rattle.wedge_base.specs.Images.{Image}
+use Rattle.wedge_base.specs.Slots.{Segment, slot_reply, slot_after, declared_segments}
 use Rattle.wedge_base.specs.Streams.{Stream, stream_reply, stream_after, declared_stream}
 use Rattle.wedge_base.specs.Names.{same, root_name}
 use Rattle.wedge_base.specs.Lives.{lives_reply, lives_next, lives_opening}
+use Rattle.wedge_base.specs.declared.events.Want.{Want}
+use Rattle.wedge_base.specs.declared.events.Want.TheVariants as want
 use Rattle.wedge_base.specs.declared.events.Ask.{Ask}
 use Rattle.wedge_base.specs.declared.events.Ask.TheVariants as ask
 use Rattle.wedge_base.specs.declared.events.Event.{Event}
@@ -11,10 +14,11 @@ use Rattle.wedge_base.specs.declared.events.Event.TheVariants as event
 use Rattle.wedge_base.specs.declared.events.Turn.{Turn}
 use Rattle.sthread_life.specs.Actors.{ActorState, root}
 use Rattle.sthread_life.specs.Local.{rest, has_ended}
-use Rattle.sthread_life.specs.Taking.{wanted, takes}
+use Rattle.sthread_life.specs.Taking.{wanted, asks, takes}
 
--- every cell: the streams by descriptor, and the count of live sthreads
+-- every cell: the tags by slot, the streams by descriptor, and the count of live sthreads
 pub record Cells : Type 0 where
+  pub segments : List Segment
   pub streams : List Stream
   pub lives : ℕ
 
@@ -26,7 +30,7 @@ pub record WorldState : Type 0 where
 
 -- the cells and the world as a run of the image begins
 abbrev pub opening_cells : Image → Cells
-opening_cells i = record { streams = map declared_stream i.fds; lives = lives_opening }
+opening_cells i = record { segments = declared_segments 0 i.tags; streams = map declared_stream i.fds; lives = lives_opening }
 
 abbrev pub opening : Image → WorldState
 opening i = record { image = i; cells = opening_cells i; actors = root i ∷ [] }
@@ -40,19 +44,31 @@ abbrev pub put_actor : List ActorState → ActorState → List ActorState
 put_actor [] a = []
 put_actor (b ∷ bs) a = if same b.name a.name then a ∷ bs else b ∷ put_actor bs a
 
+-- the tag that lives in the slot of a want
+abbrev pub tag_in : Cells → ℕ → Option ℕ
+tag_in c slot = option_map (λ g. g.tag) (slice_get c.segments slot)
+
+abbrev pub live_at : Cells → Want → Option ℕ
+live_at c (want.Load slot offset width) = tag_in c slot
+live_at c (want.Store slot offset width value) = tag_in c slot
+live_at c (want.Fd fd q) = None
+live_at c (want.Lives q) = None
+
 -- the event that an ask comes to: the cell gives its reply
 abbrev pub event_of : Cells → Ask → Event
+event_of c (ask.Slot slot q) = event.Slot slot q (slot_reply (slice_get c.segments slot) q)
 event_of c (ask.Fd fd q) = event.Fd fd q (stream_reply (slice_get c.streams fd) q)
 event_of c (ask.Lives q) = event.Lives q (lives_reply c.lives q)
 
--- the streams with one of them as it is after a reply
-abbrev pub put_stream : List Stream → ℕ → Option Stream → List Stream
-put_stream streams fd None = streams
-put_stream streams fd (Some s) = slice_set streams fd s
+-- the cells of a kind with one of them as it is after a reply
+abbrev pub put_cell : {X : Type 0} → List X → ℕ → Option X → List X
+put_cell cells n None = cells
+put_cell cells n (Some x) = slice_set cells n x
 
 -- the cell of an event goes on, and every other stays
 abbrev pub cells_after : Cells → Event → Cells
-cells_after c (event.Fd fd q r) = record c { streams = put_stream c.streams fd (stream_after (slice_get c.streams fd) q r) }
+cells_after c (event.Slot slot q r) = record c { segments = put_cell c.segments slot (slot_after (slice_get c.segments slot) q r) }
+cells_after c (event.Fd fd q r) = record c { streams = put_cell c.streams fd (stream_after (slice_get c.streams fd) q r) }
 cells_after c (event.Lives q r) = record c { lives = lives_next c.lives q }
 
 -- a turn's event, and the world after it
@@ -62,11 +78,15 @@ pub record Taken : Type 0 where
 
 -- an event takes place: its cell goes on, and the actor takes the reply
 abbrev pub happened : WorldState → ActorState → Event → Taken
-happened w a e = record { event = e; world = record w { cells = cells_after w.cells e; actors = put_actor w.actors (takes a e) } }
+happened w a e = record { event = e; world = record w { cells = cells_after w.cells e; actors = put_actor w.actors (takes w.image a e) } }
 
-abbrev pub wanting : WorldState → ActorState → Option Ask → Option Taken
+-- the event that an actor comes to with what it wants
+abbrev pub event_for : Cells → ActorState → Want → Event
+event_for c a q = event_of c (asks a (live_at c q) q)
+
+abbrev pub wanting : WorldState → ActorState → Option Want → Option Taken
 wanting w a None = None
-wanting w a (Some q) = Some (happened w a (event_of w.cells q))
+wanting w a (Some q) = Some (happened w a (event_for w.cells a q))
 
 abbrev pub coming : WorldState → ActorState → Option Taken
 coming w a = wanting w a (wanted a.phase)

@@ -1,15 +1,17 @@
 //! Loads and stores.
 
-ghost use Rattle.std.specs.Prelude.{◌≡◌};
+ghost use Rattle.std.specs.Prelude.{◌≡◌, ◌%◌};
+ghost use Rattle.wedge_base.specs.Images.{slot_of};
 ghost use Rattle.rv_isa.specs.Table.{HasRegisters};
 ghost use Rattle.rv_hart.specs.Local as hart;
 ghost use Rattle.sthread_life.specs.Private as private;
 
 use crate::actor::Actor;
+use crate::phase::Phase;
 use image_form::Image;
 use rv_hart::{Need, Reply};
 use rv_isa::Instr;
-use wedge_base::End;
+use wedge_base::{End, Place, Want, slot_of};
 
 impl Actor {
     /// A load that the instruction at hand needs.
@@ -36,8 +38,45 @@ impl Actor {
             return;
         }
         match self.memory.load(address, width) {
-            None => self.end(End::Unmapped),
+            None => self.load_window(address, width),
             Some(value) => self.hart.finish(instr, Reply::Loaded(value)),
+        }
+    }
+
+    /// A load in a window.
+    fn load_window(&mut self, address: u32, width: u8)
+        requires width { hart.IsWidth width }
+        requires aligned { address % width ≡ 0 }
+        ensures { self.new ≡ private.load_window self.old width (slot_of address) }
+    {
+        match slot_of(address) {
+            None => self.end(End::Unmapped),
+            Some(Place { slot, offset }) => {
+                self.phase = Phase::Within(Want::Load {
+                    slot,
+                    offset,
+                    width,
+                });
+            }
+        }
+    }
+
+    /// A store in a window.
+    fn store_window(&mut self, address: u32, width: u8, value: u32)
+        requires width { hart.IsWidth width }
+        requires aligned { address % width ≡ 0 }
+        ensures { self.new ≡ private.store_window self.old width value (slot_of address) }
+    {
+        match slot_of(address) {
+            None => self.end(End::Unmapped),
+            Some(Place { slot, offset }) => {
+                self.phase = Phase::Within(Want::Store {
+                    slot,
+                    offset,
+                    width,
+                    value,
+                });
+            }
         }
     }
 
@@ -57,7 +96,7 @@ impl Actor {
         if self.memory.store(address, width, value) {
             self.hart.advance();
         } else {
-            self.end(End::Unmapped);
+            self.store_window(address, width, value);
         }
     }
 }

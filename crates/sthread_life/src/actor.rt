@@ -5,6 +5,7 @@ ghost use Rattle.rv_hart.specs.Local.{answered};
 ghost use Rattle.sthread_life.specs.declared.phase.Phase.TheVariants as phase;
 ghost use Rattle.sthread_life.specs.Actors as actors;
 ghost use Rattle.sthread_life.specs.Local.{has_ended};
+ghost use Rattle.sthread_life.specs.Taking.{pair, asks};
 
 use crate::memory::Memory;
 use crate::phase::Phase;
@@ -13,7 +14,9 @@ use image_form::Image;
 use rv_hart::Hart;
 use std::alloc::Global;
 use std::marker::Model;
-use wedge_base::{ActorName, Code, Denial, DenialAt, End, Items, NoMemory};
+use wedge_base::{
+    ActorName, Ask, Code, Denial, DenialAt, End, Items, Live, NoMemory, TagNo, Want,
+};
 
 /// The top of the private range, at which the stack begins.
 const STACK_TOP: u32 = 0x2002_0000;
@@ -36,6 +39,7 @@ pub struct Actor {
 
 impl Model for Actor {
     ghost use Rattle.sthread_life.specs.Actors.{ActorState};
+    ghost use Rattle.sthread_life.specs.Between.{PhaseFits};
 
     ghost Value = { ActorState };
 
@@ -49,6 +53,8 @@ impl Model for Actor {
         denials = a.denials;
         phase = a.phase;
     } };
+
+    ghost invariant = { λ a. PhaseFits a.phase };
 }
 
 impl Actor {
@@ -119,6 +125,22 @@ impl Actor {
         ensures { result ≡ has_ended self.now.phase }
     {
         matches!(self.phase, Phase::Ended(_))
+    }
+
+    /// What it asks for what it wants, where this tag lives in the slot.
+    pub fn ask(&self, want: Want, live: Option<TagNo>) -> Ask
+        ensures { result ≡ asks self.now live want }
+    {
+        want.with(self.pair(live))
+    }
+
+    /// The tag that lives in a slot, with its right on it.
+    fn pair(&self, live: Option<TagNo>) -> Option<Live>
+        ensures { result ≡ pair self.now live }
+    {
+        let tag = live?;
+        let right = self.sheet.right_on(tag);
+        Some(Live { tag, right })
     }
 
     /// Answers a service call with a value and a code.

@@ -7,7 +7,7 @@ ghost use Rattle.sthread_life.specs.Private as private;
 use crate::actor::Actor;
 use crate::phase::Phase;
 use image_form::Image;
-use wedge_base::{Ask, Bytes, Code, End, FdNo, NoMemory, StreamAsk};
+use wedge_base::{Bytes, Code, End, FdNo, NoMemory, StreamAsk, Want};
 
 /// The registers of a call's arguments and of its number.
 const A0: u8 = 10;
@@ -62,7 +62,7 @@ impl Actor {
         }
         let bytes = self.buffer(image, pointer, length)?;
         let bits = self.sheet.bits_on(FdNo(fd));
-        self.phase = Phase::Within(Ask::Fd {
+        self.phase = Phase::Within(Want::Fd {
             fd: FdNo(fd),
             ask: StreamAsk::Append { bits, bytes },
         });

@@ -5,20 +5,20 @@ ghost use Rattle.rv_isa.specs.Table.{HasRegisters};
 ghost use Rattle.rv_hart.specs.Local as hart;
 ghost use Rattle.sthread_life.specs.Local as local;
 ghost use Rattle.sthread_life.specs.Taking.{wanted};
-ghost use Rattle.sthread_life.specs.Resting.{ask_in, is_end};
+ghost use Rattle.sthread_life.specs.Resting.{want_in, is_end, NextFits};
 
 use crate::actor::Actor;
 use crate::phase::Phase;
 use image_form::Image;
 use rv_hart::Need;
 use rv_isa::{Instr, decode};
-use wedge_base::{Ask, End, LivesAsk, NoMemory};
+use wedge_base::{End, LivesAsk, NoMemory, Want};
 
 /// What an actor at rest is at.
 #[derive(Debug, Drop)]
 pub enum Next {
     /// It wants this event.
-    Shared(Ask),
+    Shared(Want),
     /// It has ended.
     Ended(End),
 }
@@ -28,9 +28,10 @@ impl Actor {
     /// want of memory the actor has stopped.
     pub fn local(&mut self, image: &Image) -> Result<Next, NoMemory>
         ensures rests { OnOk result (self.new ≡ local.rest image.now self.old) }
-        ensures next { IfOk result (λ n. wanted self.new.phase ≡ ask_in n) }
+        ensures next { IfOk result (λ n. wanted self.new.phase ≡ want_in n) }
         ensures name { OnOk result (self.new.name ≡ self.old.name) }
         ensures ended { IfOk result (λ n. is_end n ≡ local.has_ended self.old.phase) }
+        ensures fits { IfOk result NextFits }
         ensures stays { local.has_ended self.old.phase ≡ true → OnOk result (self.new ≡ self.old) }
     {
         self.run(image)?;
@@ -55,12 +56,13 @@ impl Actor {
     /// What it is at, at rest.
     fn next(&self) -> Result<Next, NoMemory>
         requires { local.is_running self.now.phase ≡ false }
-        ensures wants { IfOk result (λ n. wanted self.now.phase ≡ ask_in n) }
+        ensures wants { IfOk result (λ n. wanted self.now.phase ≡ want_in n) }
         ensures ended { IfOk result (λ n. is_end n ≡ local.has_ended self.now.phase) }
+        ensures fits { IfOk result NextFits }
     {
         match &self.phase {
-            Phase::Within(ask) => Ok(Next::Shared(ask.clone()?)),
-            Phase::Ending(end) => Ok(Next::Shared(Ask::Lives(LivesAsk::Release { end: *end }))),
+            Phase::Within(want) => Ok(Next::Shared(want.clone()?)),
+            Phase::Ending(end) => Ok(Next::Shared(Want::Lives(LivesAsk::Release { end: *end }))),
             Phase::Ended(end) => Ok(Next::Ended(*end)),
             Phase::Running => unreachable!(),
         }

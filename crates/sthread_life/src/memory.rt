@@ -1,6 +1,6 @@
 //! Private memory: ranges of bytes.
 
-ghost use Rattle.std.specs.Prelude.{◌≡◌, ◌+◌, ◌*◌, ◌^◌, ◌<◌, ◌≤◌, ◌⊎◌, ◌∷◌, [], IfOk, IfSome, length, is_some, option_map, false, IsTrue};
+ghost use Rattle.std.specs.Prelude.{◌≡◌, ◌+◌, ◌≤◌, ◌⊎◌, ◌∷◌, [], IfOk, IfSome, length, is_some, option_map, false, IsTrue};
 ghost use Rattle.wedge_base.specs.Bytes.{zeros, number_of, bytes_of};
 ghost use Rattle.wedge_base.specs.Memory.{lies_in, range_at, read_range, write_range, write_at};
 ghost use Rattle.wedge_base.specs.Images.{private_base, private_size};
@@ -60,7 +60,7 @@ impl Memory {
     {
         match range_at(self.ranges.as_slice(), address, u32::from(width)) {
             None => None,
-            Some(range) => Some(number_of(part_of(range, address, u32::from(width)))),
+            Some(range) => Some(number_in(range, address, width)),
         }
     }
 
@@ -85,12 +85,7 @@ impl Memory {
         ensures after { self.new ≡ write_at self.old address (bytes_of width value) }
         ensures unfound { result ≡ false → self.new ≡ self.old }
     {
-        let bytes = value.to_le_bytes();
-        match width {
-            1 => write_in(&mut self.ranges, address, &bytes[..1]),
-            2 => write_in(&mut self.ranges, address, &bytes[..2]),
-            _ => write_in(&mut self.ranges, address, &bytes),
-        }
+        write_in(&mut self.ranges, address, width, value)
     }
 }
 
@@ -137,39 +132,38 @@ fn part_of(range: &MemoryRange, address: u32, size: u32) -> &[u8]
     &range.bytes.as_slice()[place..place + size as usize]
 }
 
-/// The number that bytes spell, the lowest first.
-fn number_of(bytes: &[u8]) -> u32
-    requires { (length bytes.now ≡ 1) ⊎ (length bytes.now ≡ 2) ⊎ (length bytes.now ≡ 4) }
-    ensures { result ≡ number_of bytes.now }
-{
-    match bytes {
-        [a] => u32::from(*a),
-        [a, b] => u32::from(*a) + 256 * u32::from(*b),
-        [a, b, c, d] => u32::from_le_bytes([*a, *b, *c, *d]),
-        _ => 0,
-    }
-}
-
-/// Writes bytes at an address of a range.
-fn write_range(range: &mut MemoryRange, address: u32, bytes: &[u8])
-    requires { IsTrue (lies_in address (length bytes.now) range.old) }
-    ensures { range.new ≡ write_range address bytes.now range.old }
+/// The number of 1, 2 or 4 bytes at an address of a range.
+fn number_in(range: &MemoryRange, address: u32, width: u8) -> u32
+    requires width { (width ≡ 1) ⊎ (width ≡ 2) ⊎ (width ≡ 4) }
+    requires lies { IsTrue (lies_in address width range.now) }
+    ensures { result ≡ number_of (read_range range.now address width) }
 {
     let place = (address - range.base) as usize;
-    range.bytes.write(place, bytes);
+    range.bytes.number_at(place, width)
 }
 
-/// Writes bytes at an address, in the range in which they lie; answers whether they lie in one.
-fn write_in(ranges: &mut [MemoryRange], address: u32, bytes: &[u8]) -> bool
-    requires { length bytes.now < 2 ^ 32 }
-    ensures found { result ≡ is_some (range_at ranges.old address (length bytes.now)) }
-    ensures after { ranges.new ≡ write_at ranges.old address bytes.now }
+/// Writes 1, 2 or 4 low bytes of a number at an address of a range.
+fn write_range(range: &mut MemoryRange, address: u32, width: u8, value: u32)
+    requires width { (width ≡ 1) ⊎ (width ≡ 2) ⊎ (width ≡ 4) }
+    requires lies { IsTrue (lies_in address width range.old) }
+    ensures { range.new ≡ write_range address (bytes_of width value) range.old }
+{
+    let place = (address - range.base) as usize;
+    range.bytes.write_number(place, width, value);
+}
+
+/// Writes 1, 2 or 4 low bytes of a number at an address, in the range in which they lie; answers
+/// whether they lie in one.
+fn write_in(ranges: &mut [MemoryRange], address: u32, width: u8, value: u32) -> bool
+    requires { (width ≡ 1) ⊎ (width ≡ 2) ⊎ (width ≡ 4) }
+    ensures found { result ≡ is_some (range_at ranges.old address width) }
+    ensures after { ranges.new ≡ write_at ranges.old address (bytes_of width value) }
     ensures unfound { result ≡ false → ranges.new ≡ ranges.old }
 {
     for i in 0..ranges.len() {
         let range = &mut ranges[i];
-        if lies_in(range, address, bytes.len() as u32) {
-            write_range(range, address, bytes);
+        if lies_in(range, address, u32::from(width)) {
+            write_range(range, address, width, value);
             return true;
         }
     }

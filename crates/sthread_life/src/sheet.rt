@@ -1,12 +1,12 @@
 //! An actor's sheet: all that it may do.
 
 ghost use Rattle.std.specs.Prelude.{◌≡◌, ◌<◌, ◌^◌, [], length, IfOk};
-ghost use Rattle.wedge_base.specs.Rights.{bits_on};
+ghost use Rattle.wedge_base.specs.Rights.{right_on, bits_on};
 ghost use Rattle.sthread_life.specs.Actors.{root_tags, root_fds};
 
 use std::alloc::Global;
 use std::marker::Model;
-use wedge_base::{FdBits, FdEntry, FdNo, Grant, NoMemory, Slot, TagEntry, TagNo};
+use wedge_base::{FdBits, FdEntry, FdNo, Grant, NoMemory, Right, Slot, TagEntry, TagNo};
 
 /// The grants of an actor, fixed when it begins.
 #[derive(Debug, Drop)]
@@ -36,12 +36,31 @@ impl Sheet {
         })
     }
 
+    /// The right that the sheet gives on a tag.
+    pub fn right_on(&self, tag: TagNo) -> Option<Right>
+        ensures { result ≡ right_on self.now tag }
+    {
+        right_among(self.tags.as_slice(), tag)
+    }
+
     /// The bits that the sheet gives on a descriptor.
     pub fn bits_on(&self, fd: FdNo) -> FdBits
         ensures { result ≡ bits_on self.now fd }
     {
         bits_among(self.fds.as_slice(), fd)
     }
+}
+
+/// The right of the first entry of a tag.
+fn right_among(tags: &[(TagNo, Grant)], tag: TagNo) -> Option<Right>
+    ensures { result ≡ right_on (record { tags = tags.now; fds = [] }) tag }
+{
+    for (number, grant) in tags {
+        if *number == tag {
+            return Some(grant.right);
+        }
+    }
+    None
 }
 
 /// The bits of the first entry of a descriptor, or none.

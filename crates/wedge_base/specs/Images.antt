@@ -1,5 +1,6 @@
 -- The plain record of an image, and the places of the address space.
 use Rattle.std.specs.Prelude.{ℕ, zero, suc, ◌+◌, ◌-◌, ◌*◌, ◌/◌, ◌%◌, ◌^◌, ◌==◌, Bool, ◌&&◌, List, [], ◌∷◌, length, find, slice_get, slice_index, Option, Some, None, option_map, unwrap_or, nat_le, nat_lt, if◌then◌else◌}
+use Rattle.wedge_base.specs.declared.address.Place.{Place}
 use Rattle.wedge_base.specs.declared.image.Procedure.{Procedure}
 use Rattle.wedge_base.specs.declared.image.MemoryRange.{MemoryRange}
 use Rattle.wedge_base.specs.declared.image.TagEntry.{TagEntry}
@@ -46,11 +47,6 @@ private_base = 0x20000000
 
 abbrev pub private_size : ℕ
 private_size = 0x20000
-
--- a slot, and an offset in its window
-pub record Place : Type 0 where
-  pub slot : ℕ
-  pub offset : ℕ
 
 -- how many slots there are, the bytes of a window, and those of a page
 abbrev pub slots : ℕ

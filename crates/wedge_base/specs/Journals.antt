@@ -9,6 +9,7 @@ use Rattle.wedge_base.specs.declared.events.LogEntry.{LogEntry}
 
 -- the cell of an event, if it has one
 abbrev pub cell_of : Event → Option CellName
+cell_of (event.Slot slot q r) = Some (cell.Slot slot)
 cell_of (event.Fd fd q r) = Some (cell.Fd fd)
 cell_of (event.Lives q r) = Some cell.Lives
 

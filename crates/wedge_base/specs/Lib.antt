@@ -4,6 +4,9 @@ pub mod Maps
 pub mod Memory
 pub mod Images
 pub mod Rights
+pub mod Wants
+pub mod Slots
+pub mod Histories
 pub mod Streams
 pub mod Lives
 pub mod Journals

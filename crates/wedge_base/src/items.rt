@@ -1,7 +1,7 @@
 //! Lists as contracts see them.
 
-ghost use Rattle.std.specs.Prelude.{◌≡◌, ◌+◌, ◌≤◌, ◌++◌, ◌∷◌, [], length, IfOk, OnOk, OnErr};
-ghost use Rattle.wedge_base.specs.Bytes.{written};
+ghost use Rattle.std.specs.Prelude.{◌≡◌, ◌+◌, ◌≤◌, ◌⊎◌, ◌++◌, ◌∷◌, [], length, slice_range, IfOk, OnOk, OnErr};
+ghost use Rattle.wedge_base.specs.Bytes.{written, number_of, bytes_of};
 
 use crate::errors::NoMemory;
 use std::alloc::Global;
@@ -74,5 +74,41 @@ impl Items<u8> {
     {
         let part = &mut self.items[place..place + bytes.len()];
         part.copy_from_slice(bytes);
+    }
+
+    /// Writes 1, 2 or 4 low bytes of a number over those from a place on, the lowest first.
+    pub fn write_number(&mut self, place: usize, width: u8, value: u32)
+        requires width { (width ≡ 1) ⊎ (width ≡ 2) ⊎ (width ≡ 4) }
+        requires inside { place + width ≤ length self.old }
+        ensures { self.new ≡ written self.old place (bytes_of width value) }
+    {
+        let bytes = value.to_le_bytes();
+        match width {
+            1 => self.write(place, &bytes[..1]),
+            2 => self.write(place, &bytes[..2]),
+            _ => self.write(place, &bytes),
+        }
+    }
+
+    /// The number that 1, 2 or 4 bytes from a place on spell, the lowest first.
+    pub fn number_at(&self, place: usize, width: u8) -> u32
+        requires width { (width ≡ 1) ⊎ (width ≡ 2) ⊎ (width ≡ 4) }
+        requires inside { place + width ≤ length self.now }
+        ensures { result ≡ number_of (slice_range self.now place (place + width)) }
+    {
+        number_of(&self.items[place..place + usize::from(width)])
+    }
+}
+
+/// The number that bytes spell, the lowest first.
+fn number_of(bytes: &[u8]) -> u32
+    requires { (length bytes.now ≡ 1) ⊎ (length bytes.now ≡ 2) ⊎ (length bytes.now ≡ 4) }
+    ensures { result ≡ number_of bytes.now }
+{
+    match bytes {
+        [a] => u32::from(*a),
+        [a, b] => u32::from(*a) + 256 * u32::from(*b),
+        [a, b, c, d] => u32::from_le_bytes([*a, *b, *c, *d]),
+        _ => 0,
     }
 }

@@ -2,6 +2,7 @@
 //! events, and what a run reports. The definitions in `specs/` say what they mean.
 #![tactic(auto)]
 
+mod address;
 mod cells;
 mod errors;
 mod events;
@@ -12,9 +13,10 @@ mod numbers;
 mod outcome;
 mod rights;
 
-pub use cells::{LivesAsk, LivesReply, StreamAsk, StreamReply};
+pub use address::{Place, address_of, slot_of};
+pub use cells::{Live, LivesAsk, LivesReply, SlotAsk, SlotReply, StreamAsk, StreamReply};
 pub use errors::NoMemory;
-pub use events::{Ask, CellName, Event, Journal, LogEntry, Turn};
+pub use events::{Ask, CellName, Event, Journal, LogEntry, Turn, Want};
 pub use image::{FdEntry, FileEntry, MemoryRange, Procedure, TagEntry};
 pub use items::{Bytes, Items};
 pub use names::{ActorName, PathText};

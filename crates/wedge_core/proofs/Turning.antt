@@ -3,13 +3,13 @@ use Rattle.std.proofs.Common.{◌≡◌, ℕ, zero, suc, ◌<◌, Bool, true, fa
 use Rattle.std.specs.Prelude.{Option, Some, None, IsSomeAnd, slice_get}
 use Rattle.std.proofs.Math.ListN.{set}
 use Rattle.wedge_base.specs.Images.{Image}
-use Rattle.wedge_base.specs.declared.events.Ask.{Ask}
+use Rattle.wedge_base.specs.declared.events.Want.{Want}
 use Rattle.wedge_base.specs.declared.events.Event.{Event}
 use Rattle.wedge_base.specs.declared.events.Turn.{Turn}
 use Rattle.sthread_life.specs.Actors.{ActorState}
 use Rattle.sthread_life.specs.Local.{rest, has_ended}
 use Rattle.sthread_life.specs.Taking.{wanted, takes}
-use Rattle.sthread_life.specs.Worlds.{Cells, WorldState, Taken, opening, actor_named, put_actor, event_of, cells_after, happened, wanting, turn_with, turn_of, Runs}
+use Rattle.sthread_life.specs.Worlds.{Cells, WorldState, Taken, opening, actor_named, put_actor, event_for, cells_after, happened, wanting, turn_with, turn_of, Runs}
 use Rattle.wedge_core.specs.Progress.{IsRun, IsTurn, HasEnded, state_of}
 use Rattle.wedge_core.proofs.Runs.{Runs-push}
 
@@ -18,18 +18,18 @@ get_at [] n x lt is = absurd (omega arith)
 get_at (y ∷ ys) zero x lt is = ap (λ (z : ActorState). Some z) (sym is)
 get_at (y ∷ ys) (suc n) x lt is = get_at ys n x (omega arith) is
 
-pub is_turn : (i : Image) (cells after : Cells) (actors : List ActorState) (place : ℕ) (name : List ℕ) (a new : ActorState) (q : Ask) (e : Event)
-    → actor_named actors name ≡ Some a → wanted (rest i a).phase ≡ Some q → e ≡ event_of cells q → after ≡ cells_after cells e → new ≡ takes (rest i a) e
+pub is_turn : (i : Image) (cells after : Cells) (actors : List ActorState) (place : ℕ) (name : List ℕ) (a new : ActorState) (q : Want) (e : Event)
+    → actor_named actors name ≡ Some a → wanted (rest i a).phase ≡ Some q → e ≡ event_for cells (rest i a) q → after ≡ cells_after cells e → new ≡ takes i (rest i a) e
     → put_actor actors new ≡ set actors place new
     → IsTurn (state_of i cells actors) name e (state_of i after (set actors place new))
 unfolding turn_of
 is_turn i cells after actors place name a new q e named wants event after_is new_is put =
     let w = state_of i cells actors in
     let b = rest i a in
-    let by_event = subst (λ (x : Event). Some (happened w b x) ≡ Some (record { event = e; world = state_of i (cells_after cells e) (put_actor actors (takes b e)) })) event refl in
-    let actors_are : put_actor actors (takes b e) ≡ set actors place new = ap (put_actor actors) (sym new_is) ∙ put in
+    let by_event = subst (λ (x : Event). Some (happened w b x) ≡ Some (record { event = e; world = state_of i (cells_after cells e) (put_actor actors (takes i b e)) })) event refl in
+    let actors_are : put_actor actors (takes i b e) ≡ set actors place new = ap (put_actor actors) (sym new_is) ∙ put in
     ap (turn_with w) named ∙ ap (wanting w b) wants ∙ by_event
-    ∙ ap (λ (c : Cells). Some (record { event = e; world = state_of i c (put_actor actors (takes b e)) })) (sym after_is)
+    ∙ ap (λ (c : Cells). Some (record { event = e; world = state_of i c (put_actor actors (takes i b e)) })) (sym after_is)
     ∙ ap (λ (as_ : List ActorState). Some (record { event = e; world = state_of i after as_ })) actors_are
 
 -- an actor that is there and has not ended is no cause to refuse

@@ -95,6 +95,7 @@ fn cell_of(event: &Event) -> Option<CellName>
     ensures { result ≡ cell_of event.now }
 {
     match event {
+        Event::Slot { slot, .. } => Some(CellName::Slot { slot: *slot }),
         Event::Fd { fd, .. } => Some(CellName::Fd { fd: *fd }),
         Event::Lives { .. } => Some(CellName::Lives),
     }

@@ -1,11 +1,11 @@
 //! One turn of a world.
 
 ghost use Rattle.std.specs.Prelude.{◌≡◌, ◌++◌, ◌∷◌, [], ◌↔◌, ◌⊎◌, false, true, Some, None, IfOk, OnOk, OnErr, IsErrOf};
-ghost use Rattle.wedge_base.specs.declared.events.Ask.{Ask as AnAsk};
+ghost use Rattle.wedge_base.specs.declared.events.Want.{Want as AWant};
 ghost use Rattle.sthread_life.specs.Allowed.{StepIsJudged};
 ghost use Rattle.sthread_life.specs.Local.{rest, has_ended};
 ghost use Rattle.sthread_life.specs.Taking.{wanted, takes};
-ghost use Rattle.sthread_life.specs.Worlds.{actor_named, event_of, cells_after};
+ghost use Rattle.sthread_life.specs.Worlds.{actor_named, event_for, cells_after};
 ghost use Rattle.wedge_core.specs.Progress.{state_of, IsTurn, HasEnded};
 
 use crate::actors::place_of;
@@ -91,16 +91,17 @@ fn turn_over(
 /// The turn of an actor that has not ended.
 fn step(image: &Image, cells: &mut Cells, actor: &mut Actor) -> Result<Event, NoMemory>
     requires { has_ended actor.old.phase ≡ false }
-    ensures asks { IfOk result (λ e. (q : AnAsk) × (wanted (rest image.now actor.old).phase ≡ Some q) × (e ≡ event_of cells.old q)) }
+    ensures asks { IfOk result (λ e. (q : AWant) × (wanted (rest image.now actor.old).phase ≡ Some q) × (e ≡ event_for cells.old (rest image.now actor.old) q)) }
     ensures cells { IfOk result (λ e. cells.new ≡ cells_after cells.old e) }
-    ensures takes { IfOk result (λ e. actor.new ≡ takes (rest image.now actor.old) e) }
+    ensures takes { IfOk result (λ e. actor.new ≡ takes image.now (rest image.now actor.old) e) }
     ensures name { OnOk result (actor.new.name ≡ actor.old.name) }
 {
     match actor.local(image)? {
         Next::Ended(_) => unreachable!(),
-        Next::Shared(ask) => {
-            let event = cells.act(ask)?;
-            actor.take(&event)?;
+        Next::Shared(want) => {
+            let live = cells.live(&want);
+            let event = cells.act(actor.ask(want, live))?;
+            actor.take(image, &event)?;
             Ok(event)
         }
     }
