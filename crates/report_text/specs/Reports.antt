@@ -1,0 +1,98 @@
+-- The report of a run, as text.
+use Rattle.std.specs.Prelude.{ℕ, ◌+◌, ◌/◌, ◌%◌, ◌^◌, ◌==◌, nat_lt, nat_le, Bool, not, ◌&&◌, if◌then◌else◌, List, [], ◌∷◌, ◌++◌, map, codes}
+use Rattle.std.specs.List.{flat_map, join_with_byte}
+use Rattle.std.specs.Fmt.{decimal}
+use Rattle.wedge_base.specs.declared.outcome.Outcome.{Outcome}
+use Rattle.wedge_base.specs.declared.outcome.ActorLine.{ActorLine}
+use Rattle.wedge_base.specs.declared.outcome.DenialAt.{DenialAt}
+use Rattle.wedge_base.specs.declared.outcome.StreamLine.{StreamLine}
+use Rattle.wedge_base.specs.declared.rights.Denial.{Denial}
+use Rattle.wedge_base.specs.declared.rights.Denial.TheVariants as denial
+use Rattle.wedge_base.specs.declared.rights.End.{End}
+use Rattle.wedge_base.specs.declared.rights.End.TheVariants as end
+use Rattle.wedge_base.specs.declared.rights.FdBits.{FdBits}
+use Rattle.wedge_base.specs.declared.rights.Right.{Right}
+use Rattle.wedge_base.specs.declared.rights.Right.TheVariants as right
+
+-- a hexadecimal digit: `0` to `9` begin at 48, `a` to `f` at 97
+unfoldable pub hex_digit : ℕ → ℕ
+hex_digit d = if nat_lt d 10 then 48 + d else 87 + d
+
+-- an address in eight hexadecimal digits
+abbrev pub address_text : ℕ → List ℕ
+address_text n = map (λ place. hex_digit (n / 16 ^ place % 16)) (7 ∷ 6 ∷ 5 ∷ 4 ∷ 3 ∷ 2 ∷ 1 ∷ 0 ∷ [])
+
+-- where something happened
+unfoldable pub pc_text : ℕ → List ℕ
+pc_text pc = codes " pc " ++ address_text pc
+
+-- the parts of a name in decimal, with a dot between each two
+abbrev pub dot : ℕ
+dot = 46
+
+unfoldable pub name_text : List ℕ → List ℕ
+name_text name = join_with_byte dot (map decimal name)
+
+-- how an actor ended
+unfoldable pub end_text : End → List ℕ
+end_text (end.Exited value) = codes "exited " ++ decimal value
+end_text end.Denied = codes "denied"
+end_text end.Misaligned = codes "misaligned"
+end_text end.JumpMisaligned = codes "jump-misaligned"
+end_text end.BadInstruction = codes "bad-instruction"
+end_text end.FetchFault = codes "fetch-fault"
+end_text end.TextStore = codes "text-store"
+end_text end.Unmapped = codes "unmapped"
+end_text end.Break = codes "break"
+end_text end.FuelOut = codes "fuel-out"
+
+unfoldable pub right_text : Right → List ℕ
+right_text right.Cow = codes "Cow"
+right_text right.Read = codes "Read"
+right_text right.ReadWrite = codes "ReadWrite"
+
+-- the bits of a descriptor; where none is set, nothing
+unfoldable pub bits_text : FdBits → List ℕ
+bits_text bits =
+    if bits.read
+    then (if bits.append then codes "read+append" else codes "read")
+    else (if bits.append then codes "append" else [])
+
+-- what a denied request wanted
+unfoldable pub denial_text : Denial → List ℕ
+denial_text (denial.Tag tag wants) = codes "tag " ++ decimal tag ++ codes " wants " ++ right_text wants
+denial_text (denial.Fd fd wants) = codes "fd " ++ decimal fd ++ codes " wants " ++ bits_text wants
+
+-- a byte in quotes: `"` is 34 and `\` is 92, which with all that is not printable are written as `\` and
+-- two hexadecimal digits
+abbrev pub is_plain : ℕ → Bool
+is_plain b = nat_le 32 b && nat_le b 126 && not (b == 34) && not (b == 92)
+
+unfoldable pub escaped : ℕ → List ℕ
+escaped b = if is_plain b then b ∷ [] else 92 ∷ hex_digit (b / 16) ∷ hex_digit (b % 16) ∷ []
+
+unfoldable pub quoted : List ℕ → List ℕ
+quoted bytes = 34 ∷ flat_map escaped bytes ++ 34 ∷ []
+
+-- each line ends with LF
+abbrev pub line_end : List ℕ
+line_end = 10 ∷ []
+
+unfoldable pub denial_line : List ℕ → DenialAt → List ℕ
+denial_line name d = codes "denied " ++ name_text name ++ pc_text d.pc ++ codes " " ++ denial_text d.denial ++ line_end
+
+unfoldable pub actor_line : ActorLine → List ℕ
+actor_line a =
+    codes "actor " ++ name_text a.name ++ codes " " ++ a.compartment ++ codes " " ++ end_text a.end
+    ++ pc_text a.pc ++ codes " fuel " ++ decimal a.fuel ++ line_end
+
+-- an actor's line, and one for each of its denials
+unfoldable pub actor_lines : ActorLine → List ℕ
+actor_lines a = actor_line a ++ flat_map (denial_line a.name) a.denials
+
+unfoldable pub stream_line : StreamLine → List ℕ
+stream_line s = codes "stream " ++ decimal s.number ++ codes " " ++ s.label ++ codes " " ++ quoted s.bytes ++ line_end
+
+-- the actors in their order, and then the streams
+unfoldable pub report_of : Outcome → List ℕ
+report_of o = flat_map actor_lines o.actors ++ flat_map stream_line o.streams
