@@ -1,6 +1,7 @@
 -- The local step of a hart: what an instruction makes of its registers and pc, or the one thing that it needs first.
 -- RISC-V Unprivileged ISA manual, document 20191213, chapters 2 and 7.
-use Rattle.std.specs.Prelude.{ℕ, ◌≡◌, ◌⊎◌, ◌+◌, ◌-◌, ◌*◌, ◌/◌, ◌%◌, ◌^◌, ◌==◌, Bool, true, false, not, List, Option, Some, None, pos, ◌+ℤ◌, ◌-ℤ◌, int_lt, nat_lt, bit_and, bit_or, bit_xor, slice_index, slice_set, if◌then◌else◌}
+use Rattle.std.specs.Prelude.{ℕ, ◌≡◌, ◌⊎◌, ◌+◌, ◌*◌, ◌/◌, ◌%◌, ◌^◌, ◌==◌, Bool, true, false, not, List, Option, Some, None, pos, ◌+ℤ◌, int_lt, nat_lt, bit_and, bit_or, bit_xor, slice_index, slice_set, if◌then◌else◌}
+use Rattle.rv_isa.specs.Numbers.{signed}
 use Rattle.rv_isa.specs.declared.Op.{Op}
 use Rattle.rv_isa.specs.declared.Op.TheVariants as op
 use Rattle.rv_isa.specs.declared.Instr.{Instr}
@@ -152,7 +153,7 @@ HasWidth n = Unit {0}
 
 -- a loaded value of so many bytes, with its sign or without
 abbrev pub extended : ℕ → Bool → ℕ → ℕ
-extended width is_signed value = if is_signed then alu.as_word (if nat_lt value (2 ^ (8 * width - 1)) then pos value else pos value -ℤ pos (2 ^ (8 * width))) else value
+extended width is_signed value = if is_signed then alu.as_word (signed (8 * width) value) else value
 
 -- the value that a load of these bytes gives
 abbrev pub loaded_value : Op → ℕ → ℕ
