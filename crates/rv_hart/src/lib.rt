@@ -8,7 +8,7 @@ mod tests;
 
 ghost use Rattle.std.specs.Prelude.{◌≡◌, ◌≢◌, ◌<◌, ◌*◌, ◌^◌, replicate, IsTrue, nat_lt, pos, ◌-ℤ◌, if◌then◌else◌};
 ghost use Rattle.rv_isa.specs.Table.{HasRegisters};
-ghost use Rattle.rv_hart.specs.Local.{reg, put, local, sets, passes, goes, branches, computes, finished, is_reply_to, loaded_value, HasWidth};
+ghost use Rattle.rv_hart.specs.Local.{reg, put, local, sets, passes, goes, branches, computes, loaded, stored, answered_with, finished, is_reply_to, loaded_value, HasWidth};
 ghost use Rattle.rv_hart.specs.Alu.{as_word};
 
 use alu::{div, divu, mulh, mulhsu, mulhu, offset, rem, remu, slt, sltu, sra};
@@ -83,21 +83,28 @@ impl Hart {
         }
     }
 
+    /// Goes on to the next instruction.
+    fn advance(&mut self)
+        ensures { self.new ≡ stored self.old }
+    {
+        self.pc = self.pc.wrapping_add(4);
+    }
+
     /// The step of an instruction that sets a register.
     fn set(&mut self, instr: Instr, value: u32) -> Need
         requires { HasRegisters instr }
         ensures { record { hart = self.new; need = result } ≡ sets instr self.old value }
     {
         self.put(instr.rd, value);
-        self.pc = self.pc.wrapping_add(4);
+        self.advance();
         Need::Done
     }
 
-    /// The step that goes on to the next instruction.
+    /// The step that only goes on to the next instruction.
     fn pass(&mut self) -> Need
         ensures { record { hart = self.new; need = result } ≡ passes self.old }
     {
-        self.pc = self.pc.wrapping_add(4);
+        self.advance();
         Need::Done
     }
 
@@ -130,8 +137,8 @@ impl Hart {
         }
     }
 
-    /// Begins the step of an instruction, and makes it where nothing is needed for it. Where
-    /// something is needed, nothing is changed, and `finish` makes the step.
+    /// Begins the step of an instruction, by chapters 2 and 7 of the manual, and makes it where nothing
+    /// is needed for it. Where something is needed, nothing is changed, and `finish` makes the step.
     #[tactic(auto, unfolding(crate::specs::Local::local))]
     pub fn begin(&mut self, instr: Instr) -> Need
         requires { HasRegisters instr }
@@ -151,14 +158,14 @@ impl Hart {
             Op::Bge => self.branch(instr, a.cast_signed() >= b.cast_signed()),
             Op::Bltu => self.branch(instr, a < b),
             Op::Bgeu => self.branch(instr, a >= b),
-            Op::Lb => load(address, 1, true),
-            Op::Lh => load(address, 2, true),
-            Op::Lw => load(address, 4, false),
-            Op::Lbu => load(address, 1, false),
-            Op::Lhu => load(address, 2, false),
-            Op::Sb => store(address, 1, b),
-            Op::Sh => store(address, 2, b),
-            Op::Sw => store(address, 4, b),
+            Op::Lb => wants_load(address, 1, true),
+            Op::Lh => wants_load(address, 2, true),
+            Op::Lw => wants_load(address, 4, false),
+            Op::Lbu => wants_load(address, 1, false),
+            Op::Lhu => wants_load(address, 2, false),
+            Op::Sb => wants_store(address, 1, b),
+            Op::Sh => wants_store(address, 2, b),
+            Op::Sw => wants_store(address, 4, b),
             Op::Fence => self.pass(),
             Op::Ecall => Need::Call,
             Op::Ebreak => Need::Break,
@@ -219,22 +226,36 @@ impl Hart {
         ensures { self.new ≡ finished instr self.old (local instr self.old).need reply }
     {
         match reply {
-            Reply::Loaded(value) => self.put(instr.rd, loaded_value(instr.op, value)),
-            Reply::Stored => {}
-            Reply::Answered { a0, a1, a2 } => {
-                self.put(10, a0);
-                self.put(11, a1);
-                if let Some(a2) = a2 {
-                    self.put(12, a2);
-                }
-            }
+            Reply::Loaded(value) => self.load(instr, value),
+            Reply::Stored => self.advance(),
+            Reply::Answered { a0, a1, a2 } => self.answer(a0, a1, a2),
         }
-        self.pc = self.pc.wrapping_add(4);
+    }
+
+    /// A load is done.
+    fn load(&mut self, instr: Instr, value: u32)
+        requires { HasRegisters instr }
+        ensures { self.new ≡ loaded instr self.old (loaded_value instr.op value) }
+    {
+        self.put(instr.rd, loaded_value(instr.op, value));
+        self.advance();
+    }
+
+    /// A call is answered.
+    fn answer(&mut self, a0: u32, a1: u32, a2: Option<u32>)
+        ensures { self.new ≡ answered_with self.old a0 a1 a2 }
+    {
+        self.put(10, a0);
+        self.put(11, a1);
+        if let Some(a2) = a2 {
+            self.put(12, a2);
+        }
+        self.advance();
     }
 }
 
 /// The need of a load.
-fn load(address: u32, width: u8, signed: bool) -> Need
+fn wants_load(address: u32, width: u8, signed: bool) -> Need
     ensures { result ≡ Need.Load address width signed }
 {
     Need::Load {
@@ -245,7 +266,7 @@ fn load(address: u32, width: u8, signed: bool) -> Need
 }
 
 /// The need of a store.
-fn store(address: u32, width: u8, value: u32) -> Need
+fn wants_store(address: u32, width: u8, value: u32) -> Need
     ensures { result ≡ Need.Store address width value }
 {
     Need::Store {
