@@ -1,14 +1,14 @@
 -- What the operations give of two words: whole numbers modulo 2^32. Sections 2.4, 7.1 and 7.2 of the manual.
-use Rattle.std.specs.Prelude.{ℕ, ◌+◌, ◌-◌, ◌*◌, ◌/◌, ◌%◌, ◌^◌, ◌==◌, Bool, ℤ, pos, negsuc, ◌-ℤ◌, ◌*ℤ◌, nat_lt, int_lt, int_div, int_rem, if◌then◌else◌}
+use Rattle.std.specs.Prelude.{ℕ, ◌+◌, ◌-◌, ◌*◌, ◌/◌, ◌%◌, ◌^◌, ◌==◌, Bool, ℤ, pos, negsuc, ◌*ℤ◌, nat_lt, int_lt, int_div, int_rem, if◌then◌else◌}
+use Rattle.rv_isa.specs.Numbers.{signed, word_of}
 
 -- a word as a signed number
 abbrev pub as_signed : ℕ → ℤ
-as_signed n = if nat_lt n (2 ^ 31) then pos n else pos n -ℤ pos (2 ^ 32)
+as_signed n = signed 32 n
 
 -- the word of a signed number, modulo 2^32
 abbrev pub as_word : ℤ → ℕ
-as_word (pos n) = n % 2 ^ 32
-as_word (negsuc n) = 2 ^ 32 - 1 - n % 2 ^ 32
+as_word z = word_of z
 
 abbrev pub one_if : Bool → ℕ
 one_if b = if b then 1 else 0

@@ -1,6 +1,7 @@
 -- The local step of a hart: what an instruction makes of its registers and pc, or the one thing that it needs first.
 -- RISC-V Unprivileged ISA manual, document 20191213, chapters 2 and 7.
-use Rattle.std.specs.Prelude.{◌≡◌, ◌⊎◌, ℕ, ◌+◌, ◌-◌, ◌*◌, ◌/◌, ◌%◌, ◌^◌, ◌==◌, Bool, true, false, not, List, Option, Some, None, pos, ◌+ℤ◌, ◌-ℤ◌, int_lt, nat_lt, bit_and, bit_or, bit_xor, slice_index, slice_set, if◌then◌else◌}
+use Rattle.std.specs.Prelude.{ℕ, ◌≡◌, ◌⊎◌, ◌+◌, ◌*◌, ◌/◌, ◌%◌, ◌^◌, ◌==◌, Bool, true, false, not, List, Option, Some, None, pos, ◌+ℤ◌, int_lt, nat_lt, bit_and, bit_or, bit_xor, slice_index, slice_set, if◌then◌else◌}
+use Rattle.rv_isa.specs.Numbers.{signed}
 use Rattle.rv_isa.specs.declared.Op.{Op}
 use Rattle.rv_isa.specs.declared.Op.TheVariants as op
 use Rattle.rv_isa.specs.declared.Instr.{Instr}
@@ -35,6 +36,10 @@ next_pc pc = (pc + 4) % 2 ^ 32
 abbrev pub sets : Instr → HartState → ℕ → Began
 sets i h value = record { hart = record { pc = next_pc h.pc; regs = put h.regs i.rd value }; need = need.Done }
 
+-- the next instruction comes, and no register is set
+abbrev pub passes : HartState → Began
+passes h = record { hart = record h { pc = next_pc h.pc }; need = need.Done }
+
 -- nothing is changed yet
 abbrev pub asks : HartState → Need → Began
 asks h n = record { hart = h; need = n }
@@ -50,7 +55,7 @@ abbrev pub turns : HartState → ℕ → Began
 turns h target = if target % 4 == 0 then record { hart = record h { pc = target }; need = need.Done } else asks h need.JumpMisaligned
 
 abbrev pub branches : Instr → HartState → Bool → Began
-branches i h taken = if taken then turns h (alu.as_word (pos h.pc +ℤ i.imm)) else record { hart = record h { pc = next_pc h.pc }; need = need.Done }
+branches i h taken = if taken then turns h (alu.as_word (pos h.pc +ℤ i.imm)) else passes h
 
 -- the operands
 abbrev pub a : Instr → HartState → ℕ
@@ -112,14 +117,43 @@ local i h = elim i.op [
   | op.Divu ↦ sets i h (alu.divu (a i h) (b i h))
   | op.Rem ↦ sets i h (alu.rem (a i h) (b i h))
   | op.Remu ↦ sets i h (alu.remu (a i h) (b i h))
-  | op.Fence ↦ record { hart = record h { pc = next_pc h.pc }; need = need.Done }
+  | op.Fence ↦ passes h
   | op.Ecall ↦ asks h need.Call
   | op.Ebreak ↦ asks h need.Break
 ]
 
+-- whether an operation only computes a value, for its destination
+abbrev pub computes : Op → Bool
+computes op.Jal = false
+computes op.Jalr = false
+computes op.Beq = false
+computes op.Bne = false
+computes op.Blt = false
+computes op.Bge = false
+computes op.Bltu = false
+computes op.Bgeu = false
+computes op.Lb = false
+computes op.Lh = false
+computes op.Lw = false
+computes op.Lbu = false
+computes op.Lhu = false
+computes op.Sb = false
+computes op.Sh = false
+computes op.Sw = false
+computes op.Fence = false
+computes op.Ecall = false
+computes op.Ebreak = false
+computes o = true
+
+-- what is loaded or stored has 1, 2 or 4 bytes
+abbrev pub HasWidth : Need → Type 0
+HasWidth (need.Load address width is_signed) = (width ≡ 1) ⊎ (width ≡ 2) ⊎ (width ≡ 4)
+HasWidth (need.Store address width value) = (width ≡ 1) ⊎ (width ≡ 2) ⊎ (width ≡ 4)
+HasWidth n = Unit {0}
+
 -- a loaded value of so many bytes, with its sign or without
 abbrev pub extended : ℕ → Bool → ℕ → ℕ
-extended width is_signed value = if is_signed then alu.as_word (if nat_lt value (2 ^ (8 * width - 1)) then pos value else pos value -ℤ pos (2 ^ (8 * width))) else value
+extended width is_signed value = if is_signed then alu.as_word (signed (8 * width) value) else value
 
 -- the value that a load of these bytes gives
 abbrev pub loaded_value : Op → ℕ → ℕ
@@ -158,12 +192,3 @@ finished i h (need.Load address width is_signed) (reply.Loaded value) = loaded i
 finished i h (need.Store address width value) reply.Stored = stored h
 finished i h need.Call (reply.Answered value code more) = answered_with h value code more
 finished i h n r = h
-
--- a load or a store is of 1, 2 or 4 bytes
-abbrev pub IsWidth : ℕ → Type 0
-IsWidth width = (width ≡ 1) ⊎ (width ≡ 2) ⊎ (width ≡ 4)
-
-abbrev pub HasWidth : Need → Type 0
-HasWidth (need.Load address width is_signed) = IsWidth width
-HasWidth (need.Store address width value) = IsWidth width
-HasWidth n = Unit {0}

@@ -10,18 +10,21 @@ pub fn offset(base: u32, by: i32) -> u32
     base.wrapping_add(by.cast_unsigned())
 }
 
+/// 1 where the first word is less than the second, both signed; else 0.
 pub fn slt(a: u32, b: u32) -> u32
     ensures { result ≡ alu.slt a b }
 {
     u32::from(a.cast_signed() < b.cast_signed())
 }
 
+/// 1 where the first word is less than the second; else 0.
 pub fn sltu(a: u32, b: u32) -> u32
     ensures { result ≡ alu.sltu a b }
 {
     u32::from(a < b)
 }
 
+/// A shift right that fills with the sign, by the low five bits of the second word.
 pub fn sra(a: u32, b: u32) -> u32
     ensures { result ≡ alu.sra a b }
 {
@@ -35,24 +38,28 @@ fn high_word(product: i64) -> u32
     (product.cast_unsigned() >> 32) as u32
 }
 
+/// The high word of the product of two signed words.
 pub fn mulh(a: u32, b: u32) -> u32
     ensures { result ≡ alu.mulh a b }
 {
     high_word(i64::from(a.cast_signed()) * i64::from(b.cast_signed()))
 }
 
+/// The high word of the product of a signed word and an unsigned one.
 pub fn mulhsu(a: u32, b: u32) -> u32
     ensures { result ≡ alu.mulhsu a b }
 {
     high_word(i64::from(a.cast_signed()) * i64::from(b))
 }
 
+/// The high word of the product of two words.
 pub fn mulhu(a: u32, b: u32) -> u32
     ensures { result ≡ alu.mulhu a b }
 {
     (u64::from(a) * u64::from(b) >> 32) as u32
 }
 
+/// The quotient of signed words, towards zero; by zero, all bits are one.
 pub fn div(a: u32, b: u32) -> u32
     ensures { result ≡ alu.div a b }
 {
@@ -64,12 +71,14 @@ pub fn div(a: u32, b: u32) -> u32
         .cast_unsigned()
 }
 
+/// The quotient of two words; by zero, all bits are one.
 pub fn divu(a: u32, b: u32) -> u32
     ensures { result ≡ alu.divu a b }
 {
     if b == 0 { u32::MAX } else { a / b }
 }
 
+/// The remainder of signed words, with the sign of the first; by zero, it is the first.
 pub fn rem(a: u32, b: u32) -> u32
     ensures { result ≡ alu.rem a b }
 {
@@ -81,6 +90,7 @@ pub fn rem(a: u32, b: u32) -> u32
         .cast_unsigned()
 }
 
+/// The remainder of two words; by zero, it is the first.
 pub fn remu(a: u32, b: u32) -> u32
     ensures { result ≡ alu.remu a b }
 {

@@ -4,10 +4,12 @@
 
 mod alu;
 mod going_on;
+#[cfg(test)]
+mod tests;
 
 ghost use Rattle.std.specs.Prelude.{◌≡◌, ◌≢◌, ◌<◌, ◌*◌, ◌^◌, replicate, IsTrue, nat_lt, pos, ◌-ℤ◌, if◌then◌else◌};
 ghost use Rattle.rv_isa.specs.Table.{HasRegisters};
-ghost use Rattle.rv_hart.specs.Local.{reg, put, local, sets, goes, branches, finished, is_reply_to, loaded_value, HasWidth};
+ghost use Rattle.rv_hart.specs.Local.{reg, put, local, sets, passes, goes, branches, computes, loaded, stored, answered_with, finished, is_reply_to, loaded_value, HasWidth};
 ghost use Rattle.rv_hart.specs.Alu.{as_word};
 
 use alu::{div, divu, mulh, mulhsu, mulhu, offset, rem, remu, slt, sltu, sra};
@@ -82,13 +84,28 @@ impl Hart {
         }
     }
 
+    /// Goes on to the next instruction.
+    fn advance(&mut self)
+        ensures { self.new ≡ stored self.old }
+    {
+        self.pc = self.pc.wrapping_add(4);
+    }
+
     /// The step of an instruction that sets a register.
     fn set(&mut self, instr: Instr, value: u32) -> Need
         requires { HasRegisters instr }
         ensures { record { hart = self.new; need = result } ≡ sets instr self.old value }
     {
         self.put(instr.rd, value);
-        self.pc = self.pc.wrapping_add(4);
+        self.advance();
+        Need::Done
+    }
+
+    /// The step that only goes on to the next instruction.
+    fn pass(&mut self) -> Need
+        ensures { record { hart = self.new; need = result } ≡ passes self.old }
+    {
+        self.advance();
         Need::Done
     }
 
@@ -110,33 +127,30 @@ impl Hart {
         ensures { record { hart = self.new; need = result } ≡ branches instr self.old taken }
     {
         if !taken {
-            self.pc = self.pc.wrapping_add(4);
-            return Need::Done;
+            return self.pass();
         }
         let target = offset(self.pc, instr.imm);
-        if target % 4 != 0 {
-            return Need::JumpMisaligned;
+        if target % 4 == 0 {
+            self.pc = target;
+            Need::Done
+        } else {
+            Need::JumpMisaligned
         }
-        self.pc = target;
-        Need::Done
     }
 
-    /// Begins the step of an instruction, and makes it where nothing is needed for it. Where
-    /// something is, nothing is changed.
+    /// Begins the step of an instruction, by chapters 2 and 7 of the manual, and makes it where nothing
+    /// is needed for it. Where something is needed, nothing is changed, and `finish` makes the step.
     #[tactic(auto, unfolding(crate::specs::Local::local))]
     pub fn begin(&mut self, instr: Instr) -> Need
         requires { HasRegisters instr }
-        ensures is { record { hart = self.new; need = result } ≡ local instr self.old }
-        ensures asked { result ≢ Need.Done → self.new ≡ self.old }
+        ensures step { record { hart = self.new; need = result } ≡ local instr self.old }
+        ensures kept { result ≢ Need.Done → self.new ≡ self.old }
         ensures width { HasWidth result }
     {
         let a = self.reg(instr.rs1);
         let b = self.reg(instr.rs2);
-        let imm = instr.imm.cast_unsigned();
         let address = offset(a, instr.imm);
         match instr.op {
-            Op::Lui => self.set(instr, imm),
-            Op::Auipc => self.set(instr, self.pc.wrapping_add(imm)),
             Op::Jal => self.jump(instr, offset(self.pc, instr.imm)),
             Op::Jalr => self.jump(instr, address & !1),
             Op::Beq => self.branch(instr, a == b),
@@ -145,79 +159,62 @@ impl Hart {
             Op::Bge => self.branch(instr, a.cast_signed() >= b.cast_signed()),
             Op::Bltu => self.branch(instr, a < b),
             Op::Bgeu => self.branch(instr, a >= b),
-            Op::Lb => Need::Load {
-                address,
-                width: 1,
-                signed: true,
-            },
-            Op::Lh => Need::Load {
-                address,
-                width: 2,
-                signed: true,
-            },
-            Op::Lw => Need::Load {
-                address,
-                width: 4,
-                signed: false,
-            },
-            Op::Lbu => Need::Load {
-                address,
-                width: 1,
-                signed: false,
-            },
-            Op::Lhu => Need::Load {
-                address,
-                width: 2,
-                signed: false,
-            },
-            Op::Sb => Need::Store {
-                address,
-                width: 1,
-                value: b,
-            },
-            Op::Sh => Need::Store {
-                address,
-                width: 2,
-                value: b,
-            },
-            Op::Sw => Need::Store {
-                address,
-                width: 4,
-                value: b,
-            },
-            Op::Addi => self.set(instr, a.wrapping_add(imm)),
-            Op::Slti => self.set(instr, slt(a, imm)),
-            Op::Sltiu => self.set(instr, sltu(a, imm)),
-            Op::Xori => self.set(instr, a ^ imm),
-            Op::Ori => self.set(instr, a | imm),
-            Op::Andi => self.set(instr, a & imm),
-            Op::Slli => self.set(instr, a.wrapping_shl(imm)),
-            Op::Srli => self.set(instr, a.wrapping_shr(imm)),
-            Op::Srai => self.set(instr, sra(a, imm)),
-            Op::Add => self.set(instr, a.wrapping_add(b)),
-            Op::Sll => self.set(instr, a.wrapping_shl(b)),
-            Op::Slt => self.set(instr, slt(a, b)),
-            Op::Sltu => self.set(instr, sltu(a, b)),
-            Op::Xor => self.set(instr, a ^ b),
-            Op::Srl => self.set(instr, a.wrapping_shr(b)),
-            Op::Or => self.set(instr, a | b),
-            Op::And => self.set(instr, a & b),
-            Op::Sub => self.set(instr, a.wrapping_sub(b)),
-            Op::Sra => self.set(instr, sra(a, b)),
-            Op::Mul => self.set(instr, a.wrapping_mul(b)),
-            Op::Mulh => self.set(instr, mulh(a, b)),
-            Op::Mulhsu => self.set(instr, mulhsu(a, b)),
-            Op::Mulhu => self.set(instr, mulhu(a, b)),
-            Op::Div => self.set(instr, div(a, b)),
-            Op::Divu => self.set(instr, divu(a, b)),
-            Op::Rem => self.set(instr, rem(a, b)),
-            Op::Remu => self.set(instr, remu(a, b)),
-            Op::Fence => {
-                self.pc = self.pc.wrapping_add(4);
-                Need::Done
-            }
+            Op::Lb => wants_load(address, 1, true),
+            Op::Lh => wants_load(address, 2, true),
+            Op::Lw => wants_load(address, 4, false),
+            Op::Lbu => wants_load(address, 1, false),
+            Op::Lhu => wants_load(address, 2, false),
+            Op::Sb => wants_store(address, 1, b),
+            Op::Sh => wants_store(address, 2, b),
+            Op::Sw => wants_store(address, 4, b),
+            Op::Fence => self.pass(),
             Op::Ecall => Need::Call,
             Op::Ebreak => Need::Break,
+            _ => self.set(instr, self.value(instr)),
+        }
+    }
+
+    /// The value to which an operation that only computes sets its destination.
+    #[tactic(auto, unfolding(crate::specs::Local::local))]
+    fn value(&self, instr: Instr) -> u32
+        requires registers { HasRegisters instr }
+        requires computes { IsTrue (computes instr.op) }
+        ensures { local instr self.now ≡ sets instr self.now result }
+    {
+        let a = self.reg(instr.rs1);
+        let b = self.reg(instr.rs2);
+        let imm = instr.imm.cast_unsigned();
+        match instr.op {
+            Op::Lui => imm,
+            Op::Auipc => self.pc.wrapping_add(imm),
+            Op::Addi => a.wrapping_add(imm),
+            Op::Slti => slt(a, imm),
+            Op::Sltiu => sltu(a, imm),
+            Op::Xori => a ^ imm,
+            Op::Ori => a | imm,
+            Op::Andi => a & imm,
+            Op::Slli => a.wrapping_shl(imm),
+            Op::Srli => a.wrapping_shr(imm),
+            Op::Srai => sra(a, imm),
+            Op::Add => a.wrapping_add(b),
+            Op::Sll => a.wrapping_shl(b),
+            Op::Slt => slt(a, b),
+            Op::Sltu => sltu(a, b),
+            Op::Xor => a ^ b,
+            Op::Srl => a.wrapping_shr(b),
+            Op::Or => a | b,
+            Op::And => a & b,
+            Op::Sub => a.wrapping_sub(b),
+            Op::Sra => sra(a, b),
+            Op::Mul => a.wrapping_mul(b),
+            Op::Mulh => mulh(a, b),
+            Op::Mulhsu => mulhsu(a, b),
+            Op::Mulhu => mulhu(a, b),
+            Op::Div => div(a, b),
+            Op::Divu => divu(a, b),
+            Op::Rem => rem(a, b),
+            Op::Remu => remu(a, b),
+            _ => unreachable!(),
         }
     }
 
@@ -230,17 +227,53 @@ impl Hart {
         ensures { self.new ≡ finished instr self.old (local instr self.old).need reply }
     {
         match reply {
-            Reply::Loaded(value) => self.put(instr.rd, loaded_value(instr.op, value)),
-            Reply::Stored => {}
-            Reply::Answered { a0, a1, a2 } => {
-                self.put(10, a0);
-                self.put(11, a1);
-                if let Some(a2) = a2 {
-                    self.put(12, a2);
-                }
-            }
+            Reply::Loaded(value) => self.load(instr, value),
+            Reply::Stored => self.advance(),
+            Reply::Answered { a0, a1, a2 } => self.answer(a0, a1, a2),
         }
-        self.pc = self.pc.wrapping_add(4);
+    }
+
+    /// A load is done.
+    fn load(&mut self, instr: Instr, value: u32)
+        requires { HasRegisters instr }
+        ensures { self.new ≡ loaded instr self.old (loaded_value instr.op value) }
+    {
+        self.put(instr.rd, loaded_value(instr.op, value));
+        self.advance();
+    }
+
+    /// A call is answered.
+    fn answer(&mut self, a0: u32, a1: u32, a2: Option<u32>)
+        ensures { self.new ≡ answered_with self.old a0 a1 a2 }
+    {
+        self.put(10, a0);
+        self.put(11, a1);
+        if let Some(a2) = a2 {
+            self.put(12, a2);
+        }
+        self.advance();
+    }
+}
+
+/// The need of a load.
+fn wants_load(address: u32, width: u8, signed: bool) -> Need
+    ensures { result ≡ Need.Load address width signed }
+{
+    Need::Load {
+        address,
+        width,
+        signed,
+    }
+}
+
+/// The need of a store.
+fn wants_store(address: u32, width: u8, value: u32) -> Need
+    ensures { result ≡ Need.Store address width value }
+{
+    Need::Store {
+        address,
+        width,
+        value,
     }
 }
 

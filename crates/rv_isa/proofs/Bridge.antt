@@ -5,7 +5,8 @@ use Rattle.std.specs.Option.{option_map}
 use Rattle.std.proofs.lemmas.Nat.{and_mask, and_block}
 use Rattle.std.proofs.lemmas.Bool.{and_parts, eqb-true}
 use Rattle.std.proofs.lemmas.Bool.Decides.{nat_tests}
-use Rattle.rv_isa.specs.Table.{Row, rows, row_of, has_fields, field, form_of, operands, instr_at, decode}
+use Rattle.rv_isa.specs.Numbers.{field}
+use Rattle.rv_isa.specs.Table.{Row, rows, row_of, has_fields, form_of, operands, instr_at, decode}
 use Rattle.rv_isa.specs.Fields.{fits, op_at}
 use Rattle.rv_isa.specs.declared.Op.{Op}
 

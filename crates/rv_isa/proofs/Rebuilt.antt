@@ -1,12 +1,13 @@
 -- Operands in range are those of a word.
 use Rattle.std.proofs.Common.{◌≡◌, ℕ, ◌+◌, ◌-◌, ◌*◌, ◌/◌, ◌%◌, ◌^◌, ◌<◌, bit_and, refl, sym, ◌∙◌, arith, ℤ, pos, negsuc, ◌≤ℤ◌}
 use Rattle.std.proofs.lemmas.Int.{ints}
+use Rattle.rv_isa.specs.Numbers.{field, signed, word_of}
 use Rattle.rv_isa.specs.declared.Op.{Op}
 use Rattle.rv_isa.specs.declared.Form.{Form}
 use Rattle.rv_isa.specs.declared.Form.TheVariants as form
 use Rattle.rv_isa.specs.declared.Instr.{Instr}
-use Rattle.rv_isa.specs.Table.{field, signed, instr, operands}
-use Rattle.rv_isa.specs.Encoding.{word_of, operand_bits}
+use Rattle.rv_isa.specs.Table.{instr, operands}
+use Rattle.rv_isa.specs.Encoding.{operand_bits}
 use Rattle.rv_isa.specs.Ranges.{ranges, IsWithin}
 use Rattle.rv_isa.proofs.Bridge.{opcode_kept, funct3_kept, funct7_kept, word_kept}
 use Rattle.rv_isa.proofs.Words.{mask_of, low_13, low_21, low_32}

@@ -2,6 +2,7 @@
 use Rattle.std.proofs.Common.{◌≡◌, ℕ, ◌+◌, ◌*◌, ◌/◌, ◌%◌, ◌^◌, ◌<◌, bit_and, Bool, true, false, cond, List, [], ◌∷◌, Option, Some, map, refl, arith}
 use Rattle.std.proofs.lemmas.Int.{ints}
 use Rattle.std.proofs.lemmas.Bool.{eqb-true}
+use Rattle.rv_isa.specs.Numbers.{field, signed, word_of}
 use Rattle.rv_isa.specs.declared.Op.{Op}
 use Rattle.rv_isa.specs.declared.Op.TheVariants as op
 use Rattle.rv_isa.specs.declared.Instr.{Instr}
@@ -9,8 +10,8 @@ use Rattle.std.specs.List.{find}
 use Rattle.std.specs.Option.{option_map}
 use Rattle.rv_isa.specs.declared.Form.{Form}
 use Rattle.rv_isa.specs.declared.Form.TheVariants as form
-use Rattle.rv_isa.specs.Table.{Row, row_of, row_for, ops, has_fields, field, signed, form_of, operands, instr_at, decode, HasRegisters, IsOfRow}
-use Rattle.rv_isa.specs.Encoding.{word_of, operand_bits, encoded}
+use Rattle.rv_isa.specs.Table.{Row, row_of, row_for, ops, has_fields, form_of, operands, instr_at, decode, HasRegisters, IsOfRow}
+use Rattle.rv_isa.specs.Encoding.{operand_bits, encoded}
 use Rattle.rv_isa.proofs.Bridge.{opcode_kept, funct3_kept, funct7_kept, word_kept}
 
 -- which bits are fixed in the words of a form

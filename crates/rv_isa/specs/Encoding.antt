@@ -1,14 +1,10 @@
 -- The word of an instruction: its fixed fields and its operands. Sections 2.2 and 2.3 of the manual.
-use Rattle.std.specs.Prelude.{ℕ, ◌+◌, ◌-◌, ◌*◌, ◌%◌, ◌^◌, ℤ, pos, negsuc}
+use Rattle.std.specs.Prelude.{ℕ, ◌+◌, ◌*◌, ◌^◌}
 use Rattle.rv_isa.specs.declared.Form.{Form}
 use Rattle.rv_isa.specs.declared.Form.TheVariants as form
 use Rattle.rv_isa.specs.declared.Instr.{Instr}
-use Rattle.rv_isa.specs.Table.{field, row_for, form_of}
-
--- the word of a signed number, modulo 2^32
-abbrev pub word_of : ℤ → ℕ
-word_of (pos n) = n % 2 ^ 32
-word_of (negsuc n) = 2 ^ 32 - 1 - n % 2 ^ 32
+use Rattle.rv_isa.specs.Numbers.{field, word_of}
+use Rattle.rv_isa.specs.Table.{row_for, form_of}
 
 -- so many bits of the immediate, from a place on
 abbrev pub imm_field : Instr → ℕ → ℕ → ℕ

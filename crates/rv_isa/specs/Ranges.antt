@@ -1,10 +1,10 @@
 -- Which operands an instruction of a form may have. Sections 2.2 and 2.3 of the manual.
 use Rattle.std.specs.Prelude.{ℕ, ◌-◌, ◌%◌, ◌^◌, ◌<◌, ◌≡◌, ℤ, pos, negsuc, ◌≤ℤ◌}
+use Rattle.rv_isa.specs.Numbers.{word_of}
 use Rattle.rv_isa.specs.declared.Form.{Form}
 use Rattle.rv_isa.specs.declared.Form.TheVariants as form
 use Rattle.rv_isa.specs.declared.Instr.{Instr}
 use Rattle.rv_isa.specs.Table.{form_of}
-use Rattle.rv_isa.specs.Encoding.{word_of}
 
 -- registers below a limit, where 1 leaves register 0 alone, and an immediate from one number to another in steps
 pub record Ranges : Type 0 where

@@ -1,7 +1,8 @@
 -- The instruction table of RV32I and the M extension: which words are instructions, and which ones.
 -- RISC-V Unprivileged ISA manual, document 20191213: chapter 2 (RV32I), chapter 7 (M), chapter 24 (the listings).
-use Rattle.std.specs.Prelude.{ℕ, ◌+◌, ◌-◌, ◌*◌, ◌/◌, ◌%◌, ◌^◌, ◌<◌, ◌≡◌, ◌==◌, ℤ, pos, ◌-ℤ◌, Bool, true, ◌&&◌, not, List, [], ◌∷◌, find, Option, Some, map, option_map, bit_and, nat_lt, if◌then◌else◌}
+use Rattle.std.specs.Prelude.{ℕ, ◌+◌, ◌*◌, ◌/◌, ◌^◌, ◌<◌, ◌≡◌, ◌==◌, ℤ, pos, Bool, true, ◌&&◌, not, List, [], ◌∷◌, find, Option, Some, map, option_map, bit_and}
 use Rattle.std.specs.List.{list_all}
+use Rattle.rv_isa.specs.Numbers.{field, signed}
 use Rattle.rv_isa.specs.declared.Op.{Op}
 use Rattle.rv_isa.specs.declared.Op.TheVariants as op
 use Rattle.rv_isa.specs.declared.Form.{Form}
@@ -95,14 +96,6 @@ has_fields word r = bit_and word r.mask == r.value
 -- the row of a word, if it has one
 unfoldable pub row_of : ℕ → Option Row
 row_of word = find (has_fields word) rows
-
--- so many bits of a word, from a place on
-abbrev pub field : ℕ → ℕ → ℕ → ℕ
-field word low width = word / 2 ^ low % 2 ^ width
-
--- the number as a signed one of so many bits
-abbrev pub signed : ℕ → ℕ → ℤ
-signed width n = if nat_lt n (2 ^ (width - 1)) then pos n else pos n -ℤ pos (2 ^ width)
 
 -- the immediates, as section 2.3 of the manual puts them together
 abbrev pub upper_imm : ℕ → ℤ

@@ -1,13 +1,13 @@
 -- The assembler text of an instruction. Chapter 25 of the manual has the registers' names.
 use Rattle.std.specs.Prelude.{ℕ, ◌/◌, ◌^◌, List, [], ◌∷◌, ◌++◌, codes, false, slice_index_or}
 use Rattle.std.specs.Fmt.{digits, signed_decimal}
+use Rattle.rv_isa.specs.Numbers.{word_of}
 use Rattle.rv_isa.specs.declared.Op.{Op}
 use Rattle.rv_isa.specs.declared.Op.TheVariants as op
 use Rattle.rv_isa.specs.declared.Form.{Form}
 use Rattle.rv_isa.specs.declared.Form.TheVariants as form
 use Rattle.rv_isa.specs.declared.Instr.{Instr}
 use Rattle.rv_isa.specs.Table.{form_of}
-use Rattle.rv_isa.specs.Encoding.{word_of}
 
 abbrev pub register_names : List (List ℕ)
 register_names =

@@ -185,7 +185,8 @@ fn operands(op: Op, word: u32) -> Instr
     }
 }
 
-/// The instruction that a word is, or `None` where no row of the table fits it.
+/// The instruction that a word is, or `None` exactly where no row of the table fits it. The listings
+/// of chapter 24 of the manual.
 pub fn decode(word: u32) -> Option<Instr>
     ensures is { result ≡ decode word }
     ensures of_row { IfSome result IsOfRow }

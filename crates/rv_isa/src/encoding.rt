@@ -95,7 +95,7 @@ fn operand_bits(instr: Instr) -> u32
     }
 }
 
-/// The one word that an instruction of the table has.
+/// The one word that an instruction of the table has. Sections 2.2 and 2.3 of the manual.
 pub fn encode(instr: Instr) -> u32
     requires { IsOfRow instr }
     ensures is { decode result ≡ Some instr }

@@ -1,7 +1,8 @@
 //! The fields of a word, and the immediates that are put together of them. Section 2.3 of the manual.
 
 ghost use Rattle.std.specs.Prelude.{◌≡◌, ◌*◌, ◌^◌, ◌<◌, ◌≤◌, pos, ◌-ℤ◌, nat_lt, if◌then◌else◌};
-ghost use Rattle.rv_isa.specs.Table.{field, upper_imm, jump_imm, branch_imm, immediate, store_imm};
+ghost use Rattle.rv_isa.specs.Numbers.{field};
+ghost use Rattle.rv_isa.specs.Table.{upper_imm, jump_imm, branch_imm, immediate, store_imm};
 
 /// So many bits of a word, from a place on.
 pub fn field(word: u32, low: u32, width: u32) -> u32

@@ -121,7 +121,7 @@ pub enum Op {
 }
 
 impl Op {
-    /// Which operands the operation has, where they stand in its words, and how its text is written.
+    /// Which operands the operation has. Section 2.2 of the manual.
     pub fn form(self) -> Form
         ensures { result ≡ form_of self }
     {
@@ -142,6 +142,7 @@ impl Op {
 }
 
 /// Which operands an operation has, where they stand in its words, and how its text is written.
+/// Sections 2.2 and 2.3 of the manual; its I-type is the forms `Offset`, `Immediate` and `Shift`.
 #[derive(Clone, Copy, Debug, PartialEq, Eq)]
 pub enum Form {
     /// A destination and the upper 20 bits of a word.

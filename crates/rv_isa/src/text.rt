@@ -8,7 +8,7 @@ ghost use Rattle.rv_isa.specs.Text.{mnemonic, register_name, text};
 use crate::{Form, Instr, Op};
 use std::alloc::{AllocError, Global};
 
-/// The name of a register in the calling convention.
+/// The name of a register in the calling convention. Chapter 25 of the manual.
 pub fn register_name(n: u8) -> &'static str
     requires { n < 32 }
     ensures { result.now ≡ register_name n }
@@ -51,7 +51,7 @@ pub fn register_name(n: u8) -> &'static str
 }
 
 impl Op {
-    /// The word that the operation's text begins with.
+    /// The word that the operation's text begins with. Chapter 24 of the manual.
     pub fn mnemonic(self) -> &'static str
         ensures { result.now ≡ mnemonic self }
     {
@@ -164,14 +164,16 @@ fn text_in(alloc: Global, instr: Instr) -> Result<String, AllocError>
         Form::Branch => with_two(alloc, name, rs1, rs2, imm),
         Form::Offset => with_base(alloc, name, rd, imm, rs1),
         Form::Store => with_base(alloc, name, rs2, imm, rs1),
-        Form::Immediate | Form::Shift => with_two(alloc, name, rd, rs1, imm),
+        Form::Immediate => with_two(alloc, name, rd, rs1, imm),
+        Form::Shift => with_two(alloc, name, rd, rs1, imm),
         Form::Register => with_three(alloc, name, rd, rs1, rs2),
         Form::Whole => String::from_str(alloc, name),
     }
 }
 
-/// Appends the assembler text of an instruction. The error is `std`'s own: this crate stands on no
-/// other, and want of memory is the only fault; `out` is then as it was.
+/// Appends the assembler text of an instruction: its mnemonic of chapter 24 of the manual, and its
+/// operands. The error is `std`'s own, since this crate stands on no other: no memory was left, and
+/// `out` is as it was.
 pub fn text_of(instr: Instr, out: &mut String) -> Result<(), AllocError>
     requires { HasRegisters instr }
     ensures ok { OnOk result (string_bytes out.new ≡ string_bytes out.old ++ text instr) }

@@ -12,6 +12,8 @@ mod names;
 mod numbers;
 mod outcome;
 mod rights;
+#[cfg(test)]
+mod tests;
 
 pub use address::{Place, address_of, slot_of};
 pub use cells::{Live, LivesAsk, LivesReply, SlotAsk, SlotReply, StreamAsk, StreamReply};

@@ -1,0 +1,237 @@
+//! Results worked out by hand from chapters 2 and 7 of the manual.
+
+ghost use Rattle.std.specs.Prelude.{◌<◌};
+ghost use Rattle.rv_isa.specs.Table.{HasRegisters};
+
+use crate::{Hart, Need, Reply};
+use rv_isa::{Instr, Op};
+
+fn instr(op: Op, rd: u8, rs1: u8, rs2: u8, imm: i32) -> Instr
+    requires rd { rd < 32 }
+    requires rs1 { rs1 < 32 }
+    requires rs2 { rs2 < 32 }
+    ensures { HasRegisters result }
+{
+    Instr {
+        op,
+        rd,
+        rs1,
+        rs2,
+        imm,
+    }
+}
+
+/// Begins a step and, where the reply is of the kind that is needed, finishes it.
+fn step(hart: &mut Hart, instr: Instr, reply: Reply) -> Need
+    requires { HasRegisters instr }
+{
+    let need = hart.begin(instr);
+    match (need, reply) {
+        (Need::Load { .. }, Reply::Loaded(_)) => hart.finish(instr, reply),
+        (Need::Store { .. }, Reply::Stored) => hart.finish(instr, reply),
+        (Need::Call, Reply::Answered { .. }) => hart.finish(instr, reply),
+        _ => {}
+    }
+    need
+}
+
+/// What an operation gives of two registers.
+fn of_two(op: Op, a: u32, b: u32) -> u32 {
+    let mut hart = Hart::new(0x1000);
+    hart.put(5, a);
+    hart.put(6, b);
+    let _need = hart.begin(instr(op, 7, 5, 6, 0));
+    hart.reg(7)
+}
+
+#[test]
+fn results_of_two_registers(rt: HostRuntime) {
+    for (op, a, b, want) in [
+        (Op::Add, 0xffff_ffff, 1, 0),
+        (Op::Sub, 0, 1, 0xffff_ffff),
+        (Op::Sll, 1, 33, 2),
+        (Op::Slt, 0xffff_ffff, 0, 1),
+        (Op::Sltu, 0xffff_ffff, 0, 0),
+        (Op::Xor, 0xff00, 0x0ff0, 0xf0f0),
+        (Op::Srl, 0x8000_0000, 31, 1),
+        (Op::Sra, 0x8000_0000, 31, 0xffff_ffff),
+        (Op::Or, 0xff00, 0x0ff0, 0xfff0),
+        (Op::And, 0xff00, 0x0ff0, 0x0f00),
+        (Op::Mul, 0xffff_ffff, 7, 0xffff_fff9),
+        (Op::Mulh, 0x8000_0000, 0x8000_0000, 0x4000_0000),
+        (Op::Mulhsu, 0xffff_ffff, 0xffff_ffff, 0xffff_ffff),
+        (Op::Mulhu, 0xffff_ffff, 0xffff_ffff, 0xffff_fffe),
+        (Op::Div, 7, 0, 0xffff_ffff),
+        (Op::Div, 0x8000_0000, 0xffff_ffff, 0x8000_0000),
+        (Op::Div, 0xffff_fff9, 2, 0xffff_fffd),
+        (Op::Divu, 7, 0, 0xffff_ffff),
+        (Op::Divu, 0xffff_fff9, 2, 0x7fff_fffc),
+        (Op::Rem, 7, 0, 7),
+        (Op::Rem, 0x8000_0000, 0xffff_ffff, 0),
+        (Op::Rem, 0xffff_fff9, 2, 0xffff_ffff),
+        (Op::Remu, 7, 0, 7),
+        (Op::Remu, 0xffff_ffff, 10, 5),
+    ] {
+        assert_eq!(rt; of_two(op, a, b), want, "{op:?} of {a:x} and {b:x}");
+    }
+}
+
+#[test]
+fn results_of_an_immediate(rt: HostRuntime) {
+    for (op, a, imm, want) in [
+        (Op::Addi, 5, -6, 0xffff_ffff),
+        (Op::Slti, 0xffff_fffe, -1, 1),
+        (Op::Sltiu, 5, -1, 1),
+        (Op::Xori, 0x0f0f, -1, 0xffff_f0f0),
+        (Op::Ori, 0xf000_0000, 0x55, 0xf000_0055),
+        (Op::Andi, 0x1234_5678, -16, 0x1234_5670),
+        (Op::Slli, 3, 31, 0x8000_0000),
+        (Op::Srli, 0x8000_0000, 4, 0x0800_0000),
+        (Op::Srai, 0x8000_0000, 4, 0xf800_0000),
+        (Op::Lui, 0, -4096, 0xffff_f000),
+        (Op::Auipc, 0, -4096, 0),
+        (Op::Fence, 0, 255, 9),
+    ] {
+        let mut hart = Hart::new(0x1000);
+        hart.put(5, a);
+        hart.put(7, 9);
+        assert_eq!(rt; hart.begin(instr(op, 7, 5, 0, imm)), Need::Done);
+        assert_eq!(rt; hart.reg(7), want, "{op:?} of {a:x} and {imm}");
+        assert_eq!(rt; hart.pc, 0x1004);
+    }
+}
+
+#[test]
+fn branches_by_their_condition(rt: HostRuntime) {
+    for (op, a, b, taken) in [
+        (Op::Beq, 7, 7, true),
+        (Op::Beq, 7, 8, false),
+        (Op::Bne, 7, 8, true),
+        (Op::Bne, 7, 7, false),
+        (Op::Blt, 0xffff_ffff, 0, true),
+        (Op::Blt, 0, 0xffff_ffff, false),
+        (Op::Bge, 0, 0xffff_ffff, true),
+        (Op::Bge, 0xffff_ffff, 0, false),
+        (Op::Bltu, 0, 0xffff_ffff, true),
+        (Op::Bltu, 7, 7, false),
+        (Op::Bgeu, 7, 7, true),
+        (Op::Bgeu, 0, 0xffff_ffff, false),
+    ] {
+        let mut hart = Hart::new(0x1000);
+        hart.put(5, a);
+        hart.put(6, b);
+        assert_eq!(rt; hart.begin(instr(op, 0, 5, 6, -8)), Need::Done);
+        assert_eq!(rt; hart.pc, if taken { 0xff8 } else { 0x1004 }, "{op:?}");
+    }
+}
+
+#[test]
+fn jumps_and_their_links(rt: HostRuntime) {
+    let mut hart = Hart::new(0x1000);
+    assert_eq!(rt; hart.begin(instr(Op::Jal, 1, 0, 0, -0x1004)), Need::Done);
+    assert_eq!(rt; hart.pc, 0xffff_fffc);
+    assert_eq!(rt; hart.reg(1), 0x1004);
+
+    // Bit 0 of the target is cleared, and the target is taken before the link is written.
+    hart.put(5, 0x2004);
+    assert_eq!(rt; hart.begin(instr(Op::Jalr, 5, 5, 0, 1)), Need::Done);
+    assert_eq!(rt; hart.pc, 0x2004);
+    assert_eq!(rt; hart.reg(5), 0);
+
+    // A target that is no multiple of 4 writes no register.
+    let before = hart;
+    assert_eq!(rt;
+        hart.begin(instr(Op::Jal, 1, 0, 0, 6)),
+        Need::JumpMisaligned
+    );
+    assert_eq!(rt;
+        hart.begin(instr(Op::Jalr, 1, 0, 0, 2)),
+        Need::JumpMisaligned
+    );
+    assert_eq!(rt;
+        hart.begin(instr(Op::Beq, 0, 0, 0, 2)),
+        Need::JumpMisaligned
+    );
+    assert_eq!(rt; hart.begin(instr(Op::Bne, 0, 0, 0, 2)), Need::Done);
+    assert_eq!(rt; hart.regs, before.regs);
+    assert_eq!(rt; hart.pc, before.pc + 4);
+}
+
+#[test]
+fn loads_by_their_width_and_sign(rt: HostRuntime) {
+    for (op, width, signed, value, want) in [
+        (Op::Lb, 1, true, 0x80, 0xffff_ff80),
+        (Op::Lb, 1, true, 0x7f, 0x7f),
+        (Op::Lbu, 1, false, 0x80, 0x80),
+        (Op::Lh, 2, true, 0x8000, 0xffff_8000),
+        (Op::Lh, 2, true, 0x7fff, 0x7fff),
+        (Op::Lhu, 2, false, 0x8000, 0x8000),
+        (Op::Lw, 4, false, 0x8000_0000, 0x8000_0000),
+    ] {
+        let mut hart = Hart::new(0x1000);
+        hart.put(5, 3);
+        let need = step(&mut hart, instr(op, 7, 5, 0, -4), Reply::Loaded(value));
+        let address = 0xffff_ffff;
+        assert_eq!(rt;
+            need,
+            Need::Load {
+                address,
+                width,
+                signed
+            }
+        );
+        assert_eq!(rt; hart.reg(7), want, "{op:?}");
+        assert_eq!(rt; hart.pc, 0x1004);
+    }
+}
+
+#[test]
+fn stores_and_calls(rt: HostRuntime) {
+    for (op, width) in [(Op::Sb, 1), (Op::Sh, 2), (Op::Sw, 4)] {
+        let mut hart = Hart::new(0xffff_fffc);
+        hart.put(5, 0x2000);
+        hart.put(6, 0x1234_5678);
+        let need = step(&mut hart, instr(op, 0, 5, 6, 8), Reply::Stored);
+        let address = 0x2008;
+        let value = 0x1234_5678;
+        assert_eq!(rt;
+            need,
+            Need::Store {
+                address,
+                width,
+                value
+            }
+        );
+        assert_eq!(rt; hart.pc, 0);
+    }
+    let call = instr(Op::Ecall, 0, 0, 0, 0);
+    let mut hart = Hart::new(0x1000);
+    hart.put(12, 7);
+    let short = Reply::Answered {
+        a0: 1,
+        a1: 2,
+        a2: None,
+    };
+    assert_eq!(rt; step(&mut hart, call, short), Need::Call);
+    assert_eq!(rt; (hart.reg(10), hart.reg(11), hart.reg(12)), (1, 2, 7));
+    let long = Reply::Answered {
+        a0: 3,
+        a1: 4,
+        a2: Some(5),
+    };
+    assert_eq!(rt; step(&mut hart, call, long), Need::Call);
+    assert_eq!(rt; (hart.reg(10), hart.reg(11), hart.reg(12)), (3, 4, 5));
+    assert_eq!(rt; hart.pc, 0x1008);
+    let stop = instr(Op::Ebreak, 0, 0, 0, 0);
+    assert_eq!(rt; step(&mut hart, stop, Reply::Stored), Need::Break);
+    assert_eq!(rt; hart.pc, 0x1008);
+}
+
+#[test]
+fn register_0_reads_0(rt: HostRuntime) {
+    let mut hart = Hart::new(0x1000);
+    hart.put(0, 5);
+    assert_eq!(rt; hart.begin(instr(Op::Addi, 0, 0, 0, 5)), Need::Done);
+    assert_eq!(rt; hart.reg(0), 0);
+    assert_eq!(rt; of_two(Op::Add, 0, 0), 0);
+}
