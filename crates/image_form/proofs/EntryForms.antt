@@ -60,7 +60,7 @@ procedure_form base count total inside front =
              (good.0.0, (good.1.0.0, record { named = good.0.1.0; aligned = a.0; above = a.1; below = a.2 }))))
         (λ p rule.
             let is = rule.1.1 in
-            ((rule.0, (is.named, name_short p.name is.named)),
+            ((rule.0, (is.named, omega (arith, name_short p.name is.named))),
              ((rule.1.0, (address_back base count p.address is.aligned is.above is.below, omega (arith, is.below, inside))), refl)))
 
 pub procedures_form : (base count total : ℕ) → base + 4 * count ≤ high_end → IsForm (procedures_at base count total) (table procedure) (AreProcedures base count)

@@ -85,7 +85,7 @@ pub number_form : (total : ℕ) → IsForm (number_at total) number (λ n. n < 2
 unfolding number_at
 number_form total = wide_form w32 (2 ^ 32) wide32 total
 
-short_form : (total : ℕ) → IsForm (short_at total) (to_le_bytes w16) (λ n. n < 2 ^ 16)
+pub short_form : (total : ℕ) → IsForm (short_at total) (to_le_bytes w16) (λ n. n < 2 ^ 16)
 unfolding short_at
 short_form total = wide_form w16 (2 ^ 16) wide16 total
 

@@ -93,15 +93,15 @@ coded_form of code most total few again small back =
         (λ x good. (append-nil (number (code x)), tt))
         (λ x u. ((leb_back (code x) most (small x), omega (arith, small x, few)), back x))
 
-right_form : (total : ℕ) → IsForm (right_at total) (λ r. number (right_code r)) (λ r. Unit {0})
+pub right_form : (total : ℕ) → IsForm (right_at total) (λ r. number (right_code r)) (λ r. Unit {0})
 unfolding right_at
 right_form total = coded_form right_of right_code 3 total (omega arith) right_again right_small right_back
 
-kind_form : (total : ℕ) → IsForm (kind_at total) (λ k. number (kind_code k)) (λ k. Unit {0})
+pub kind_form : (total : ℕ) → IsForm (kind_at total) (λ k. number (kind_code k)) (λ k. Unit {0})
 unfolding kind_at
 kind_form total = coded_form kind_of kind_code 1 total (omega arith) kind_again kind_small kind_back
 
-bits_form : (total : ℕ) → IsForm (bits_at total) (λ b. number (bits_code b)) (λ b. Unit {0})
+pub bits_form : (total : ℕ) → IsForm (bits_at total) (λ b. number (bits_code b)) (λ b. Unit {0})
 unfolding bits_at
 bits_form total = coded_form bits_of bits_code 3 total (omega arith) bits_again bits_small bits_back
 
@@ -135,7 +135,7 @@ tag_form total front =
             (refl, (good.0.0, record { named = good.0.1.0; some_page = pages.0; not_too_many_pages = pages.1; content_fits = leb_there _ _ good.1.1.1.0.0 })))
         (λ t rule.
             let is = rule.1 in
-            ((rule.0, (is.named, name_short t.name is.named)),
+            ((rule.0, (is.named, omega (arith, name_short t.name is.named))),
              ((page_count_back t.pages is.some_page is.not_too_many_pages, omega (arith, is.not_too_many_pages)),
               (tt, ((leb_back _ _ is.content_fits, omega (arith, is.content_fits, is.not_too_many_pages)), refl)))))
 
@@ -155,7 +155,7 @@ fd_form total front =
         (λ f good. (refl, (good.0.0, record { named = good.0.1.0; content_suits = good.1.1.1.0.0; length_fits = good.1.1.1.0.1 })))
         (λ f rule.
             let is = rule.1 in
-            ((rule.0, (is.named, name_short f.name is.named)), (tt, (tt, ((is.content_suits, is.length_fits), refl)))))
+            ((rule.0, (is.named, omega (arith, name_short f.name is.named))), (tt, (tt, ((is.content_suits, is.length_fits), refl)))))
 
 file_form : (total : ℕ) (front : List FileEntry) → IsForm (file_at total front) file (λ f. IsAfter (λ x. x.path) front f × IsFile f)
 unfolding file_at
@@ -177,7 +177,7 @@ file_form total front =
             (refl, (good.0.0, record { canonical = good.0.1.0; owner_fits = good.1.0; mode_fits = mode; content_suits = good.1.1.1.1.0.0; length_fits = good.1.1.1.1.0.1 })))
         (λ f rule.
             let is = rule.1 in
-            ((rule.0, (is.canonical, path_short f.path is.canonical)),
+            ((rule.0, (is.canonical, omega (arith, path_short f.path is.canonical))),
              (is.owner_fits, ((leb_back f.mode 15 (omega (arith, is.mode_fits)), omega (arith, is.mode_fits)), (tt, ((is.content_suits, is.length_fits), refl))))))
 
 -- ---- tables
@@ -232,7 +232,7 @@ header_form total =
         (λ fuel good. (refl, leb_there fuel most_fuel good.1.1.0))
         (λ fuel small. ((refl, omega arith), ((refl, omega arith), (leb_back fuel most_fuel small, omega (arith, small)))))
 
-entry_small : (base count : ℕ) (ps : List Procedure) (n : ℕ) → AllByRecursion (IsProcedure base count) ps → begins_at ps n ≡ true → n < base + 4 * count
+pub entry_small : (base count : ℕ) (ps : List Procedure) (n : ℕ) → AllByRecursion (IsProcedure base count) ps → begins_at ps n ≡ true → n < base + 4 * count
 entry_small base count [] n each h = absurd cc
 entry_small base count (p ∷ ps) n each h =
     elim (either (eqb p.address n) (begins_at ps n) h) [
@@ -303,7 +303,7 @@ image_form total =
               (record { some = text.some_word; inside = text.end_high; fit = text.words_fit },
                (rule.procedures,
                 ((rule.entry_is_procedure, omega (arith, entry, text.end_high)),
-                 (rule.ranges, (rule.tags, (rule.fds, (rule.files, (rule.user_fits, ((rule.root_canonical, root_short i.root rule.root_canonical), refl))))))))))))
+                 (rule.ranges, (rule.tags, (rule.fds, (rule.files, (rule.user_fits, ((rule.root_canonical, omega (arith, root_short i.root rule.root_canonical)), refl))))))))))))
 
 -- ---- all of the bytes
 

@@ -8,3 +8,4 @@ pub mod TableForms
 pub mod Scans
 pub mod EntryForms
 pub mod ImageForm
+pub mod Unique

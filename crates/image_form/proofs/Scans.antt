@@ -91,14 +91,14 @@ leb_back m n h = grind (arith, nat_tests)
 
 -- ---- texts are short
 
-pub name_short : (t : List ℕ) → is_name t ≡ true → length t < 2 ^ 16
+pub name_short : (t : List ℕ) → is_name t ≡ true → length t < 65535
 unfolding is_name
 name_short [] h = absurd cc
 name_short (c ∷ cs) h =
     let rules = both (leb (length cs) 63 && starts_name c) (list_all continues_name cs) h in
     omega (arith, leb-true (length cs) 63 (both (leb (length cs) 63) (starts_name c) rules.0).0)
 
-pub path_short : (t : List ℕ) → is_path t ≡ true → length t < 2 ^ 16
+pub path_short : (t : List ℕ) → is_path t ≡ true → length t < 65535
 unfolding is_path
 path_short [] h = absurd cc
 path_short (c ∷ cs) h =
@@ -110,7 +110,7 @@ path_short (c ∷ cs) h =
     let b = both (slash && short) printed a.0 in
     omega (arith, leb-true (length cs) 254 (both slash short b.0).1)
 
-pub root_short : (t : List ℕ) → is_root t ≡ true → length t < 2 ^ 16
+pub root_short : (t : List ℕ) → is_root t ≡ true → length t < 65535
 unfolding is_root
 root_short [] h = absurd cc
 root_short (c ∷ []) h = omega arith
