@@ -9,3 +9,4 @@ pub mod Scans
 pub mod EntryForms
 pub mod ImageForm
 pub mod Unique
+pub mod Puts

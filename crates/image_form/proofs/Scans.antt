@@ -16,19 +16,19 @@ use Rattle.image_form.proofs.TableForms.{Each, IsScan, both}
 pub names_scan : {X : Type 0} (key : X → List ℕ) → IsScan (last_of key []) (λ b x. is_below b (key x)) (λ b xs. ascend_from b (map key xs))
 names_scan key = record {
   none = λ b. refl;
-  more = λ front x xs. ap (λ b. is_below (last_of key [] front) (key x) && ascend_from b (map key xs)) (sym (last_of-push key [] front x))
+  more = λ front x xs. ap (λ b. is_below (last_of key [] front) (key x) && ascend_from b (map key xs)) (sym (last_of-push key [] front x));
 }
 
 pub addresses_scan : IsScan addresses (λ ns p. not (is_among ns p.address)) (λ ns ps. differ_from ns (addresses ps))
 addresses_scan = record {
   none = λ ns. refl;
-  more = λ front p ps. ap (λ ns. not (is_among (addresses front) p.address) && differ_from ns (addresses ps)) (sym (map-append (λ x. x.address) front (p ∷ [])))
+  more = λ front p ps. ap (λ ns. not (is_among (addresses front) p.address) && differ_from ns (addresses ps)) (sym (map-append (λ x. x.address) front (p ∷ [])));
 }
 
 pub ranges_scan : (base count : ℕ) → IsScan (last_of end_of 0) (λ e r. leb e r.base && is_off_text base count r.base (length r.bytes)) (lie_apart base count)
 ranges_scan base count = record {
   none = λ e. refl;
-  more = λ front r rs. ap (λ e. (leb (last_of end_of 0 front) r.base && is_off_text base count r.base (length r.bytes)) && lie_apart base count e rs) (sym (last_of-push end_of 0 front r))
+  more = λ front r rs. ap (λ e. (leb (last_of end_of 0 front) r.base && is_off_text base count r.base (length r.bytes)) && lie_apart base count e rs) (sym (last_of-push end_of 0 front r));
 }
 
 -- ---- sums

@@ -13,6 +13,7 @@ mod ranges;
 mod reading;
 mod tags;
 mod text;
+mod writing;
 
 pub use fault::{Fault, ImageError, Why};
 pub use image::{Image, Pristine};
