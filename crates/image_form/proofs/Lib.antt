@@ -10,3 +10,4 @@ pub mod EntryForms
 pub mod ImageForm
 pub mod Unique
 pub mod Puts
+pub mod Written

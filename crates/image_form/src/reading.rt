@@ -30,7 +30,7 @@ pub(crate) const MAGIC: u32 = 0x47444557;
 pub(crate) const VERSION: u32 = 1;
 
 /// The most bytes of an image's file.
-const MOST_BYTES: usize = 16777216;
+pub(crate) const MOST_BYTES: usize = 16777216;
 
 /// What tells that this is an image.
 #[tactic(auto, unfolding(crate::specs::Reading::checked_at))]

@@ -94,7 +94,7 @@ fn put_ranges(out: &mut Vec<u8>, ranges: &[MemoryRange]) -> Result<(), NoMemory>
     Ok(())
 }
 
-fn right_code(right: Option<Right>) -> u32
+pub(crate) fn right_code(right: Option<Right>) -> u32
     ensures { result ≡ spelled.right_code right }
 {
     match right {
@@ -127,7 +127,7 @@ fn put_tags(out: &mut Vec<u8>, tags: &[TagEntry]) -> Result<(), NoMemory>
     Ok(())
 }
 
-fn kind_code(kind: StreamKind) -> u32
+pub(crate) fn kind_code(kind: StreamKind) -> u32
     ensures { result ≡ spelled.kind_code kind }
 {
     match kind {
@@ -136,7 +136,7 @@ fn kind_code(kind: StreamKind) -> u32
     }
 }
 
-fn bits_code(bits: FdBits) -> u32
+pub(crate) fn bits_code(bits: FdBits) -> u32
     ensures { result ≡ spelled.bits_code bits }
 {
     let read = if bits.read { 1 } else { 0 };
@@ -210,4 +210,15 @@ pub(crate) fn spelling(alloc: Global, parts: LentParts<'_>) -> Result<Vec<u8>, N
     put_number(&mut out, parts.user)?;
     put_string(&mut out, parts.root)?;
     Ok(out)
+}
+
+/// The bytes of an image's file: its one spelling.
+pub fn write_image(alloc: Global, image: &Image) -> Result<Vec<u8>, NoMemory>
+    ensures found { IfOk result (λ v. Spells image.now v.items) }
+    // They are read again as this image.
+    ensures again { IfOk result (λ v. reading v.items ≡ Ok image.now) }
+    // They spell no other image.
+    ensures alone { (i : images.Image) → IfOk result (λ v. Spells i v.items → i ≡ image.now) }
+{
+    spelling(alloc, image.lend())
 }
