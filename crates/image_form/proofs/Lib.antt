@@ -11,3 +11,4 @@ pub mod ImageForm
 pub mod Unique
 pub mod Puts
 pub mod Written
+pub mod Measures

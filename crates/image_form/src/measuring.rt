@@ -89,3 +89,63 @@ fn after_file(room: usize, f: &FileEntry) -> Option<usize>
     let room = after_number(room, kind_code(f.kind))?;
     after_content(room, f.content.as_slice())
 }
+
+fn after_procedures(room: usize, procedures: &[Procedure]) -> Option<usize>
+    requires { room ≤ 16777216 }
+    ensures leaves { Leaves room (spelled.table spelled.procedure procedures.now) result }
+    ensures fits { OnSome result (fitting.TableFits fitting.ProcedureFits procedures.now) }
+{
+    let mut room = room.checked_sub(4)?;
+    for procedure in procedures {
+        room = after_procedure(room, procedure)?;
+    }
+    Some(room)
+}
+
+fn after_ranges(room: usize, ranges: &[MemoryRange]) -> Option<usize>
+    requires { room ≤ 16777216 }
+    ensures leaves { Leaves room (spelled.table spelled.range ranges.now) result }
+    ensures fits { OnSome result (fitting.TableFits fitting.RangeFits ranges.now) }
+{
+    let mut room = room.checked_sub(4)?;
+    for range in ranges {
+        room = after_range(room, range)?;
+    }
+    Some(room)
+}
+
+fn after_tags(room: usize, tags: &[TagEntry]) -> Option<usize>
+    requires { room ≤ 16777216 }
+    ensures leaves { Leaves room (spelled.table spelled.tag tags.now) result }
+    ensures fits { OnSome result (fitting.TableFits fitting.TagFits tags.now) }
+{
+    let mut room = room.checked_sub(4)?;
+    for tag in tags {
+        room = after_tag(room, tag)?;
+    }
+    Some(room)
+}
+
+fn after_fds(room: usize, fds: &[FdEntry]) -> Option<usize>
+    requires { room ≤ 16777216 }
+    ensures leaves { Leaves room (spelled.table spelled.fd fds.now) result }
+    ensures fits { OnSome result (fitting.TableFits fitting.FdFits fds.now) }
+{
+    let mut room = room.checked_sub(4)?;
+    for fd in fds {
+        room = after_fd(room, fd)?;
+    }
+    Some(room)
+}
+
+fn after_files(room: usize, files: &[FileEntry]) -> Option<usize>
+    requires { room ≤ 16777216 }
+    ensures leaves { Leaves room (spelled.table spelled.file files.now) result }
+    ensures fits { OnSome result (fitting.TableFits fitting.FileFits files.now) }
+{
+    let mut room = room.checked_sub(4)?;
+    for file in files {
+        room = after_file(room, file)?;
+    }
+    Some(room)
+}
