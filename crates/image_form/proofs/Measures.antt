@@ -1,7 +1,7 @@
 -- How many bytes a table takes.
-use Rattle.std.proofs.Common.{◌≡◌, ℕ, suc, ◌+◌, ◌<◌, ◌≤◌, List, [], ◌∷◌, ◌++◌, length, get_or, take, drop, refl, sym, ap, subst, ◌∙◌, length-append, add-one, drop-cons, arith}
-use Rattle.std.specs.List.{flat_map, AllByRecursion}
-use Rattle.std.proofs.lemmas.List.{take_more, drop_all, take_all}
+use Rattle.std.proofs.Common.{◌≡◌, ℕ, suc, ◌+◌, ◌*◌, ◌^◌, ◌<◌, ◌≤◌, List, [], ◌∷◌, ◌++◌, length, get_or, take, drop, refl, sym, ap, subst, ◌∙◌, length-append, add-one, drop-cons, arith}
+use Rattle.std.specs.List.{flat_map, concat, AllByRecursion}
+use Rattle.std.proofs.lemmas.List.{append-nil, take_more, drop_all, take_all}
 use Rattle.std.proofs.lemmas.List.Concat.{flat_map-cons}
 use Rattle.wedge_base.specs.declared.image.Procedure.{Procedure}
 use Rattle.wedge_base.specs.declared.image.MemoryRange.{MemoryRange}
@@ -9,7 +9,7 @@ use Rattle.wedge_base.specs.declared.image.TagEntry.{TagEntry}
 use Rattle.wedge_base.specs.declared.image.FdEntry.{FdEntry}
 use Rattle.wedge_base.specs.declared.image.FileEntry.{FileEntry}
 use Rattle.std.specs.Prelude.{Option, Some, None}
-use Rattle.image_form.specs.Fitting.{Leaves, TableFits}
+use Rattle.image_form.specs.Fitting.{Leaves, TableFits, WordFits}
 use Rattle.image_form.specs.Spelling.{number, string, content, table, procedure, range, tag, fd, file, right_code, kind_code, bits_code}
 
 pub number_long : (n : ℕ) → length (number n) ≡ 4
@@ -37,7 +37,7 @@ each_next Fits xs k x lt is each fit = rw (take_more xs k x lt, ← is) (AllByRe
 
 -- ---- a table, as a loop measures it
 
-none_left : (xs : List ℕ) (r : Option ℕ) (room : ℕ) → r ≡ None → room < length xs → Leaves room xs r
+pub none_left : (xs : List ℕ) (r : Option ℕ) (room : ℕ) → r ≡ None → room < length xs → Leaves room xs r
 none_left xs r room none short = rw none short
 
 module _ {X : Type 0} (spell : X → List ℕ) (Fits : X → Type 0) (xs : List X) where
@@ -86,3 +86,31 @@ fd_some f = simp length-append (omega (arith, string_long f.name))
 
 pub file_some : (f : FileEntry) → 1 ≤ length (file f)
 file_some f = simp length-append (omega (arith, string_long f.path))
+
+-- ---- words
+
+pub words_long : (ws : List ℕ) → length (flat_map number ws) ≡ 4 * length ws
+words_long [] = refl
+words_long (w ∷ ws) = omega (arith, ap length (flat_map-cons number w ws), length-append (number w) (flat_map number ws), number_long w, words_long ws)
+
+pub words_fit : (ws : List ℕ) → ((i : ℕ) → get_or ws i 0 < 2 ^ 32) → AllByRecursion WordFits ws
+words_fit [] h = tt
+words_fit (w ∷ ws) h = (record { small = h 0 }, words_fit ws (λ i. h (suc i)))
+
+pub words_table : (ws : List ℕ) → length (table number ws) ≡ 4 + 4 * length ws
+words_table ws = omega (arith, length-append (number (length ws)) (flat_map number ws), number_long (length ws), words_long ws)
+
+-- ---- parts one after the other
+
+-- the part that doesn't fit
+pub leaves_stop : (room : ℕ) (part : List ℕ) (parts : List (List ℕ)) (r : Option ℕ) → r ≡ None → Leaves room part None → Leaves room (concat (part ∷ parts)) r
+leaves_stop room part parts r none short = none_left (concat (part ∷ parts)) r room none (simp length-append (omega (arith, short)))
+
+-- a part that fits, and what follows it
+pub leaves_more : (room left : ℕ) (part : List ℕ) (parts : List (List ℕ)) (r : Option ℕ) → Leaves room part (Some left) → Leaves left (concat parts) r → Leaves room (concat (part ∷ parts)) r
+leaves_more room left part parts None fits others = simp length-append (omega (arith, fits, others))
+leaves_more room left part parts (Some l) fits others = simp length-append (omega (arith, fits, others))
+
+-- the last part
+pub leaves_last : (room : ℕ) (part : List ℕ) (r : Option ℕ) → Leaves room part r → Leaves room (concat (part ∷ [])) r
+leaves_last room part r h = rw append-nil h

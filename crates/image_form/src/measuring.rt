@@ -8,7 +8,7 @@ ghost use Rattle.image_form.specs.Fitting.{Leaves};
 ghost use Rattle.image_form.specs.View.{lent_image};
 
 use crate::parts::LentParts;
-use crate::reading::MOST_BYTES;
+use crate::reading::{MAGIC, MOST_BYTES, VERSION};
 use crate::writing::{bits_code, kind_code, right_code};
 use wedge_base::{FdEntry, FileEntry, MemoryRange, Procedure, TagEntry};
 
@@ -148,4 +148,45 @@ fn after_files(room: usize, files: &[FileEntry]) -> Option<usize>
         room = after_file(room, file)?;
     }
     Some(room)
+}
+
+fn after_words(room: usize, words: &[u32]) -> Option<usize>
+    requires { room ≤ 16777216 }
+    ensures leaves { Leaves room (spelled.table spelled.number words.now) result }
+    ensures fits { OnSome result (fitting.TableFits fitting.WordFits words.now) }
+{
+    let room = room.checked_sub(4)?;
+    if room / 4 < words.len() {
+        return None;
+    }
+    Some(room - 4 * words.len())
+}
+
+#[tactic(auto, unfolding(crate::specs::Spelling::spelling))]
+fn after_parts(room: usize, parts: LentParts<'_>) -> Option<usize>
+    requires { room ≤ 16777216 }
+    ensures leaves { Leaves room (spelled.spelling (lent_image parts.entry)) result }
+    ensures fits { OnSome result (fitting.PartsFit (lent_image parts.entry)) }
+{
+    let room = after_number(room, MAGIC)?;
+    let room = after_number(room, VERSION)?;
+    let room = after_number(room, parts.fuel)?;
+    let room = after_number(room, parts.base)?;
+    let room = after_words(room, parts.words)?;
+    let room = after_procedures(room, parts.procedures)?;
+    let room = after_number(room, parts.entry)?;
+    let room = after_ranges(room, parts.ranges)?;
+    let room = after_tags(room, parts.tags)?;
+    let room = after_fds(room, parts.fds)?;
+    let room = after_files(room, parts.files)?;
+    let room = after_number(room, parts.user)?;
+    after_string(room, parts.root)
+}
+
+/// Whether the bytes that spell the parts are no more than an image's file may have.
+pub(crate) fn is_small(parts: LentParts<'_>) -> bool
+    ensures is { IsTrue result ↔ (length (spelled.spelling (lent_image parts.entry)) ≤ spelled.most_bytes) }
+    ensures fits { IsTrue result → fitting.PartsFit (lent_image parts.entry) }
+{
+    after_parts(MOST_BYTES, parts).is_some()
 }
