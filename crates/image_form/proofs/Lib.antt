@@ -12,3 +12,4 @@ pub mod Unique
 pub mod Puts
 pub mod Written
 pub mod Measures
+pub mod Finished

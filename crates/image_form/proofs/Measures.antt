@@ -63,7 +63,7 @@ module _ {X : Type 0} (spell : X → List ℕ) (Fits : X → Type 0) (xs : List 
   pub all_fit : ((x : X) → 1 ≤ length (spell x)) → (total room k : ℕ) → Left total room k → length xs ≤ k → total ≤ 16777216 → AllByRecursion Fits (take k xs) → TableFits Fits xs
   all_fit some total room k left le small each = record {
     count = omega (arith, left, at_end k le, no_more_than spell some xs);
-    each = subst (AllByRecursion Fits) (take_all k xs le) each
+    each = subst (AllByRecursion Fits) (take_all k xs le) each;
   }
 
 -- ---- each entry takes some bytes

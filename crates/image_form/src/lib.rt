@@ -5,6 +5,7 @@ mod fault;
 mod fds;
 mod fields;
 mod files;
+mod finishing;
 mod forms;
 mod image;
 mod measuring;
@@ -17,6 +18,7 @@ mod text;
 mod writing;
 
 pub use fault::{Fault, ImageError, Why};
+pub use finishing::finish_image;
 pub use image::{Image, Pristine};
 pub use parts::ImageParts;
 pub use reading::read_image;

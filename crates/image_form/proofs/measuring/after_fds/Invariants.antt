@@ -9,5 +9,5 @@ abbrev pub invariant-loop-fd : goal.invariant-loop-fd
 invariant-loop-fd l = record {
   small : l.room ≤ l.fn.room;
   left : Left fd FdFits l.fds l.fn.room l.room l.fd-index;
-  each : AllByRecursion FdFits (take l.fd-index l.fds)
+  each : AllByRecursion FdFits (take l.fd-index l.fds);
 }

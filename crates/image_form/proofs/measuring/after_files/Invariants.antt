@@ -9,5 +9,5 @@ abbrev pub invariant-loop-file : goal.invariant-loop-file
 invariant-loop-file l = record {
   small : l.room ≤ l.fn.room;
   left : Left file FileFits l.files l.fn.room l.room l.file-index;
-  each : AllByRecursion FileFits (take l.file-index l.files)
+  each : AllByRecursion FileFits (take l.file-index l.files);
 }

@@ -8,5 +8,5 @@ use Rattle.image_form.proofs.measuring.after_procedures.Given as goal
 abbrev pub invariant-loop-procedure : goal.invariant-loop-procedure
 invariant-loop-procedure l = record {
   left : Left procedure ProcedureFits l.procedures l.fn.room l.room l.procedure-index;
-  each : AllByRecursion ProcedureFits (take l.procedure-index l.procedures)
+  each : AllByRecursion ProcedureFits (take l.procedure-index l.procedures);
 }

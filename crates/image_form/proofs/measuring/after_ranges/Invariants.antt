@@ -9,5 +9,5 @@ abbrev pub invariant-loop-range : goal.invariant-loop-range
 invariant-loop-range l = record {
   small : l.room ≤ l.fn.room;
   left : Left range RangeFits l.ranges l.fn.room l.room l.range-index;
-  each : AllByRecursion RangeFits (take l.range-index l.ranges)
+  each : AllByRecursion RangeFits (take l.range-index l.ranges);
 }

@@ -9,5 +9,5 @@ abbrev pub invariant-loop-tag : goal.invariant-loop-tag
 invariant-loop-tag l = record {
   small : l.room ≤ l.fn.room;
   left : Left tag TagFits l.tags l.fn.room l.room l.tag-index;
-  each : AllByRecursion TagFits (take l.tag-index l.tags)
+  each : AllByRecursion TagFits (take l.tag-index l.tags);
 }
