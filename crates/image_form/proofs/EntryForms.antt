@@ -25,13 +25,13 @@ pub words_form : (base total : ℕ) → IsForm (words_at base total) (table numb
 unfolding words_at
 words_form base total =
     reworded (table number) (AreWords base)
-        (seq _ _ _ (λ ws. length ws) (checked_form (is_word_count base) Range total)
-            (λ n good. list_form (λ _. number_at total) number (λ _ w. w < 2 ^ 32) (λ _. number_form total) n)
-            (λ n ws good r. r.0))
-        (λ ws good.
-            let count = word_count_there base (length ws) good.0.0 in
-            (refl, record { some = count.0; inside = count.1; fit = plain_there (λ w. w < 2 ^ 32) [] ws good.1.1 }))
-        (λ ws rule. ((word_count_back base (length ws) rule.some rule.inside, omega (arith, rule.inside)), (refl, plain_back (λ w. w < 2 ^ 32) [] ws rule.fit)))
+    (seq _ _ _ (λ ws. length ws) (checked_form (is_word_count base) Range total)
+    (λ n good. list_form (λ _. number_at total) number (λ _ w. w < 2 ^ 32) (λ _. number_form total) n)
+    (λ n ws good r. r.0))
+    (λ ws good.
+    let count = word_count_there base (length ws) good.0.0 in
+    (refl, record { some = count.0; inside = count.1; fit = plain_there (λ w. w < 2 ^ 32) [] ws good.1.1 }))
+    (λ ws rule. ((word_count_back base (length ws) rule.some rule.inside, omega (arith, rule.inside)), (refl, plain_back (λ w. w < 2 ^ 32) [] ws rule.fit)))
 
 -- ---- procedures
 
@@ -49,39 +49,43 @@ procedure_form : (base count total : ℕ) → base + 4 * count ≤ high_end → 
 unfolding procedure_at
 procedure_form base count total inside front =
     reworded procedure (IsNext base count front)
-        (seq _ _ _ (λ p. p.name) (key_form is_name (last_of (λ x. x.name) [] front) total)
-            (λ name g. seq _ _ _ (λ p. p.address) (address_form base count front total)
-                (λ address h. ended (record { name = name; address = address }))
-                (λ address p h e. ap (λ x. x.address) e))
-            (λ name p g r. ap (λ x. x.name) r.1))
-        (λ p good.
-            let a = address_there base count p.address good.1.0.1.0 in
-            (ap (λ x. string p.name ++ x) (append-nil (number p.address)),
-             (good.0.0, (good.1.0.0, record { named = good.0.1.0; aligned = a.0; above = a.1; below = a.2 }))))
-        (λ p rule.
-            let is = rule.1.1 in
-            ((rule.0, (is.named, name_short p.name is.named)),
-             ((rule.1.0, (address_back base count p.address is.aligned is.above is.below, omega (arith, is.below, inside))), refl)))
+    (seq _ _ _ (λ p. p.name) (key_form is_name (last_of (λ x. x.name) [] front) total)
+    (λ name g. seq _ _ _ (λ p. p.address) (address_form base count front total)
+    (λ address h. ended (record { name = name; address = address }))
+    (λ address p h e. ap (λ x. x.address) e))
+    (λ name p g r. ap (λ x. x.name) r.1))
+    (λ p good.
+    let a = address_there base count p.address good.1.0.1.0 in (
+      ap (λ x. string p.name ++ x) (append-nil (number p.address)),
+      (good.0.0, (good.1.0.0, record { named = good.0.1.0; aligned = a.0; above = a.1; below = a.2 })),
+    ))
+    (λ p rule.
+    let is = rule.1.1 in (
+      (rule.0, (is.named, omega (arith, name_short p.name is.named))),
+      ((rule.1.0, (address_back base count p.address is.aligned is.above is.below, omega (arith, is.below, inside))), refl),
+    ))
 
 pub procedures_form : (base count total : ℕ) → base + 4 * count ≤ high_end → IsForm (procedures_at base count total) (table procedure) (AreProcedures base count)
 unfolding procedures_at
 procedures_form base count total inside =
     let names = names_scan (λ (p : Procedure). p.name) in
     reworded (table procedure) (AreProcedures base count)
-        (tested (λ ps. begins_at ps base) Range total (table_form (procedure_at base count total) procedure (IsNext base count) (procedure_form base count total inside) most_procedures total (omega arith)))
-        (λ ps good.
-            let named = scan_there names (λ f p. IsNew f p × IsProcedure base count p) [] ps good.1.1 in
-            let placed = scan_there addresses_scan (λ f p. IsProcedure base count p) [] ps named.1 in
-            (refl, record {
-              not_too_many = good.1.0;
-              each = plain_there (IsProcedure base count) [] ps placed.1;
-              names_ascend = named.0;
-              addresses_differ = placed.0;
-              one_at_base = good.0
-            }))
-        (λ ps rule.
-            let placed = scan_back addresses_scan (λ f p. IsProcedure base count p) [] ps rule.addresses_differ (plain_back (IsProcedure base count) [] ps rule.each) in
-            (rule.one_at_base, (rule.not_too_many, scan_back names (λ f p. IsNew f p × IsProcedure base count p) [] ps rule.names_ascend placed)))
+    (tested (λ ps. begins_at ps base) Range total (table_form (procedure_at base count total) procedure (IsNext base count) (procedure_form base count total inside) most_procedures total (omega arith)))
+    (λ ps good.
+    let named = scan_there names (λ f p. IsNew f p × IsProcedure base count p) [] ps good.1.1 in
+    let placed = scan_there addresses_scan (λ f p. IsProcedure base count p) [] ps named.1 in (
+      refl,
+      record {
+        not_too_many = good.1.0;
+        each = plain_there (IsProcedure base count) [] ps placed.1;
+        names_ascend = named.0;
+        addresses_differ = placed.0;
+        one_at_base = good.0;
+      },
+    ))
+    (λ ps rule.
+    let placed = scan_back addresses_scan (λ f p. IsProcedure base count p) [] ps rule.addresses_differ (plain_back (IsProcedure base count) [] ps rule.each) in
+    (rule.one_at_base, (rule.not_too_many, scan_back names (λ f p. IsNew f p × IsProcedure base count p) [] ps rule.names_ascend placed)))
 
 -- ---- data ranges
 
@@ -99,44 +103,48 @@ unfolding range_length_at
 length_form base front total = tested (λ n. leb (sum_by size_of front + n) most_range_bytes) Limit total (checked_form (is_range_length base) Range total)
 
 range_form : (base count total : ℕ) (front : List MemoryRange) → IsForm (range_at base count total front) range (IsNextRange base count front)
-unfolding range_at
+unfolding range_at content
 range_form base count total front =
     reworded range (IsNextRange base count front)
-        (placed (λ at bytes.
-            checked_at is_base Range total bytes >>= λ start rest.
-            range_length_at start front total rest >>= λ n rest.
-            demand (leb (last_of end_of 0 front) start && is_off_text base count start n) at Overlap (
-                bytes_at total n rest >>= λ content rest.
-                Ok (record { base = start; bytes = content }, rest))) total (λ at.
-        seq _ _ _ (λ r. r.base) (checked_form is_base Range total)
-            (λ start g. seq _ _ _ (λ r. length r.bytes) (length_form start front total)
-                (λ n h. demanded (leb (last_of end_of 0 front) start && is_off_text base count start n) at Overlap (λ _.
-                    seq _ _ _ (λ r. r.bytes) (bytes_form total n)
-                        (λ content long. ended (record { base = start; bytes = content }))
-                        (λ content r long e. ap (λ x. x.bytes) e)))
-                (λ n r h g. g.1.0))
-            (λ start r g h. ap (λ x. x.base) h.1.1.1)))
-        (λ r good.
-            let b = base_there r.base good.0.0 in
-            let n = range_length_there r.base (length r.bytes) good.1.0.1.0 in
-            (ap (λ x. number r.base ++ (number (length r.bytes) ++ x)) (append-nil r.bytes),
-             (good.1.1.0, (good.1.0.0, record { base_aligned = b.0; base_low = b.1; length_aligned = n.0; some_byte = n.1; end_high = n.2 }))))
-        (λ r rule.
-            let is = rule.1.1 in
-            ((base_back r.base is.base_aligned is.base_low (omega (arith, is.some_byte, is.end_high)), omega (arith, is.end_high)),
-             ((rule.1.0, (range_length_back r.base (length r.bytes) is.length_aligned is.some_byte is.end_high, omega (arith, is.end_high))),
-              (rule.0, (refl, refl)))))
+    (placed (λ at bytes.
+    checked_at is_base Range total bytes >>= λ start rest.
+    range_length_at start front total rest >>= λ n rest.
+    demand (leb (last_of end_of 0 front) start && is_off_text base count start n) at Overlap (
+    bytes_at total n rest >>= λ content rest.
+    Ok (record { base = start; bytes = content }, rest))) total (λ at.
+    seq _ _ _ (λ r. r.base) (checked_form is_base Range total)
+    (λ start g. seq _ _ _ (λ r. length r.bytes) (length_form start front total)
+    (λ n h. demanded (leb (last_of end_of 0 front) start && is_off_text base count start n) at Overlap (λ _.
+    seq _ _ _ (λ r. r.bytes) (bytes_form total n)
+    (λ content long. ended (record { base = start; bytes = content }))
+    (λ content r long e. ap (λ x. x.bytes) e)))
+    (λ n r h g. g.1.0))
+    (λ start r g h. ap (λ x. x.base) h.1.1.1)))
+    (λ r good.
+    let b = base_there r.base good.0.0 in
+    let n = range_length_there r.base (length r.bytes) good.1.0.1.0 in (
+      ap (λ x. number r.base ++ (number (length r.bytes) ++ x)) (append-nil r.bytes),
+      (good.1.1.0, (good.1.0.0, record { base_aligned = b.0; base_low = b.1; length_aligned = n.0; some_byte = n.1; end_high = n.2 })),
+    ))
+    (λ r rule.
+    let is = rule.1.1 in (
+      (base_back r.base is.base_aligned is.base_low (omega (arith, is.some_byte, is.end_high)), omega (arith, is.end_high)),
+      (
+        (rule.1.0, (range_length_back r.base (length r.bytes) is.length_aligned is.some_byte is.end_high, omega (arith, is.end_high))),
+        (rule.0, (refl, refl)),
+      ),
+    ))
 
 pub ranges_form : (base count total : ℕ) → IsForm (ranges_at base count total) (table range) (AreRanges base count)
 unfolding ranges_at
 ranges_form base count total =
     let apart = ranges_scan base count in
     reworded (table range) (AreRanges base count)
-        (table_form (range_at base count total) range (IsNextRange base count) (range_form base count total) most_ranges total (omega arith))
-        (λ rs good.
-            let a = scan_there apart (λ f r. IsWithin f r × IsRange r) [] rs good.1 in
-            let s = sum_there (λ f r. IsRange r) [] rs a.1 (omega arith) in
-            (refl, record { not_too_many = good.0; each = plain_there IsRange [] rs s.1; bytes_in_all = omega (arith, s.0); apart = a.0 }))
-        (λ rs rule.
-            let s = sum_back (λ f r. IsRange r) [] rs (omega (arith, rule.bytes_in_all)) (plain_back IsRange [] rs rule.each) in
-            (rule.not_too_many, scan_back apart (λ f r. IsWithin f r × IsRange r) [] rs rule.apart s))
+    (table_form (range_at base count total) range (IsNextRange base count) (range_form base count total) most_ranges total (omega arith))
+    (λ rs good.
+    let a = scan_there apart (λ f r. IsWithin f r × IsRange r) [] rs good.1 in
+    let s = sum_there (λ f r. IsRange r) [] rs a.1 (omega arith) in
+    (refl, record { not_too_many = good.0; each = plain_there IsRange [] rs s.1; bytes_in_all = omega (arith, s.0); apart = a.0 }))
+    (λ rs rule.
+    let s = sum_back (λ f r. IsRange r) [] rs (omega (arith, rule.bytes_in_all)) (plain_back IsRange [] rs rule.each) in
+    (rule.not_too_many, scan_back apart (λ f r. IsWithin f r × IsRange r) [] rs rule.apart s))

@@ -29,10 +29,11 @@ taken_again total n t rest long =
 pub bytes_form : (total n : ℕ) → IsForm (bytes_at total n) (λ t. t) (λ t. length t ≡ n)
 bytes_form total n = record {
   takes = λ bytes t rest fits e.
-    let k = taken total n bytes t rest fits e in
-    (record { parts = sym (take-append-drop n bytes) ∙ ap (λ x. x ++ drop n bytes) k.1 ∙ ap (λ x. t ++ x) k.2; rest_fits = subst IsBytes k.2 (IsBytes-drop n bytes fits) },
-     omega (arith, length-take n bytes, ap length k.1, k.0));
-  again = λ t rest long. taken_again total n t rest long
+      let k = taken total n bytes t rest fits e in (
+        record { parts = sym (take-append-drop n bytes) ∙ ap (λ x. x ++ drop n bytes) k.1 ∙ ap (λ x. t ++ x) k.2; rest_fits = subst IsBytes k.2 (IsBytes-drop n bytes fits) },
+        omega (arith, length-take n bytes, ap length k.1, k.0),
+      );
+  again = λ t rest long. taken_again total n t rest long;
 }
 
 -- ---- numbers
@@ -76,16 +77,17 @@ wide_form w limit wide total = record { takes = took; again = repeated }
         let rest-is : b.0.1 ≡ rest = ap (λ (q : ℕ × List ℕ). q.1) p in
         let spelled : b.0.0 ≡ to_le_bytes w n = sym (wide.back b.0.0 t.1 front_fits) ∙ ap (to_le_bytes w) n-is in
         (subst (λ x. Takes bytes x rest) spelled (subst (λ r. Takes bytes b.0.0 r) rest-is t.0), rw (← n-is) (wide.below b.0.0 front_fits))
+
     repeated : (n : ℕ) (rest : List ℕ) → n < limit → (bytes_at total (byte_len w) (to_le_bytes w n ++ rest) >>= decoded w) ≡ Ok (n, rest)
     repeated n rest lt =
         ap (λ r. r >>= decoded w) (taken_again total (byte_len w) (to_le_bytes w n) rest (wide.len n))
         ∙ ap (λ m. Ok (m, rest)) (wide.again n lt)
 
 pub number_form : (total : ℕ) → IsForm (number_at total) number (λ n. n < 2 ^ 32)
-unfolding number_at
+unfolding number_at number
 number_form total = wide_form w32 (2 ^ 32) wide32 total
 
-short_form : (total : ℕ) → IsForm (short_at total) (to_le_bytes w16) (λ n. n < 2 ^ 16)
+pub short_form : (total : ℕ) → IsForm (short_at total) (to_le_bytes w16) (λ n. n < 2 ^ 16)
 unfolding short_at
 short_form total = wide_form w16 (2 ^ 16) wide16 total
 
@@ -97,12 +99,12 @@ checked_form test why total = tested test why total (number_form total)
 -- ---- texts
 
 string_form : (total : ℕ) → IsForm (string_at total) string (λ t. length t < 2 ^ 16)
-unfolding string_at
+unfolding string_at string
 string_form total =
     reworded string (λ t. length t < 2 ^ 16)
-        (seq _ _ _ (λ t. length t) (short_form total) (λ n small. bytes_form total n) (λ n t small long. long))
-        (λ t good. let short : length t ≡ min (length t) 65535 = omega (arith, good.0) in (ap (λ n. to_le_bytes w16 n ++ t) short, good.0))
-        (λ t small. (small, refl))
+    (seq _ _ _ (λ t. length t) (short_form total) (λ n small. bytes_form total n) (λ n t small long. long))
+    (λ t good. let short : length t ≡ min (length t) 65535 = omega (arith, good.0) in (ap (λ n. to_le_bytes w16 n ++ t) short, good.0))
+    (λ t small. (small, refl))
 
 pub formed_form : (form : List ℕ → Bool) (total : ℕ) → IsForm (formed_at form total) string (λ t. (form t ≡ true) × (length t < 2 ^ 16))
 unfolding formed_at
@@ -114,9 +116,9 @@ key_form form before total = tested (is_below before) Order total (formed_form f
 
 -- bytes after a length that passes a test
 pub content_form : (test : ℕ → Bool) (total : ℕ) → IsForm (content_at test total) content (λ t. (test (length t) ≡ true) × (length t < 2 ^ 32))
-unfolding content_at
+unfolding content_at content
 content_form test total =
     reworded content (λ t. (test (length t) ≡ true) × (length t < 2 ^ 32))
-        (seq _ _ _ (λ t. length t) (checked_form test Range total) (λ n good. bytes_form total n) (λ n t good long. long))
-        (λ t good. (refl, good.0))
-        (λ t rule. (rule, refl))
+    (seq _ _ _ (λ t. length t) (checked_form test Range total) (λ n good. bytes_form total n) (λ n t good long. long))
+    (λ t good. (refl, good.0))
+    (λ t rule. (rule, refl))

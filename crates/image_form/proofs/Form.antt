@@ -61,6 +61,7 @@ module _ {X Y : Type 0} where
           let t = first.takes bytes b.0.0 b.0.1 fits b.1 in
           let u = (second b.0.0 t.1).takes b.0.1 y rest t.0.rest_fits b.2 in
           subst (λ x. Takes bytes (spell x ++ others y) rest × (Good x × Rest x y)) (sym (known b.0.0 y t.1 u.1)) (Takes-then bytes (spell b.0.0) b.0.1 (others y) rest t.0 u.0, (t.1, u.1))
+
       repeated : (y : Y) (rest : List ℕ) → Good (field y) × Rest (field y) y → (read ((spell (field y) ++ others y) ++ rest) >>= next) ≡ Ok (y, rest)
       repeated y rest g =
           ap (λ b. read b >>= next) (append_assoc (spell (field y)) (others y) rest)
@@ -72,10 +73,10 @@ module _ {Y : Type 0} where
   pub ended : (y : Y) → IsForm (λ rest. Ok (y, rest)) (λ _. []) (λ x. x ≡ y)
   ended y = record {
     takes = λ bytes x rest fits e.
-      let p = ok_is (y, bytes) (x, rest) e in
-      let same : bytes ≡ rest = ap (λ (q : Y × List ℕ). q.1) p in
-      (record { parts = same; rest_fits = subst IsBytes same fits }, sym (ap (λ (q : Y × List ℕ). q.0) p));
-    again = λ x rest same. ap (λ z. Ok (z, rest)) (sym same)
+        let p = ok_is (y, bytes) (x, rest) e in
+        let same : bytes ≡ rest = ap (λ (q : Y × List ℕ). q.1) p in
+        (record { parts = same; rest_fits = subst IsBytes same fits }, sym (ap (λ (q : Y × List ℕ). q.0) p));
+    again = λ x rest same. ap (λ z. Ok (z, rest)) (sym same);
   }
 
   -- a test that hangs on nothing that is still to be read
@@ -83,10 +84,10 @@ module _ {Y : Type 0} where
       → (test ≡ true → IsForm next spell Good) → IsForm (λ rest. demand test at why (next rest)) spell (λ y. (test ≡ true) × Good y)
   demanded {next} {spell} {Good} test at why form = record {
     takes = λ bytes y rest fits e.
-      let d = demand_ok test at why (next bytes) (y, rest) e in
-      let t = (form d.0).takes bytes y rest fits d.1 in
-      (t.0, (d.0, t.1));
-    again = λ y rest g. rw g.0 ((form g.0).again y rest g.1)
+        let d = demand_ok test at why (next bytes) (y, rest) e in
+        let t = (form d.0).takes bytes y rest fits d.1 in
+        (t.0, (d.0, t.1));
+    again = λ y rest g. rw g.0 ((form g.0).again y rest g.1);
   }
 
   -- a reader that names the place at which it begins
@@ -94,7 +95,7 @@ module _ {Y : Type 0} where
       → ((at : ℕ) → IsForm (read at) spell Good) → IsForm (λ bytes. read (place total bytes) bytes) spell Good
   placed {spell} read total form = record {
     takes = λ bytes y rest fits e. (form (place total bytes)).takes bytes y rest fits e;
-    again = λ y rest g. (form (place total (spell y ++ rest))).again y rest g
+    again = λ y rest g. (form (place total (spell y ++ rest))).again y rest g;
   }
 
   -- the same form in other words
@@ -102,12 +103,12 @@ module _ {Y : Type 0} where
       → IsForm read spell Good → ((y : Y) → Good y → (spell y ≡ words y) × Rule y) → ((y : Y) → Rule y → Good y) → IsForm read words Rule
   reworded {read} {spell} {Good} words Rule form there back = record {
     takes = λ bytes y rest fits e.
-      let t = form.takes bytes y rest fits e in
-      let r = there y t.1 in
-      (subst (λ w. Takes bytes w rest) r.0 t.0, r.1);
+        let t = form.takes bytes y rest fits e in
+        let r = there y t.1 in
+        (subst (λ w. Takes bytes w rest) r.0 t.0, r.1);
     again = λ y rest rule.
-      let good = back y rule in
-      ap (λ w. read (w ++ rest)) (sym (there y good).0) ∙ form.again y rest good
+        let good = back y rule in
+        ap (λ w. read (w ++ rest)) (sym (there y good).0) ∙ form.again y rest good;
   }
 
   -- what is read also passes a test, which names the place at which it begins
@@ -116,8 +117,8 @@ module _ {Y : Type 0} where
   tested {read} {spell} {Good} test why total form =
       placed (λ at bytes. read bytes >>= λ x rest. demand (test x) at why (Ok (x, rest))) total (λ at.
       reworded spell (λ x. (test x ≡ true) × Good x)
-          (seq _ (λ _. []) (λ x y. (test x ≡ true) × (y ≡ x)) (λ y. y) form
-              (λ x good. demanded (test x) at why (λ _. ended x))
-              (λ x y good r. r.1))
-          (λ x good. (append-nil (spell x), (good.1.0, good.0)))
-          (λ x rule. (rule.1, (rule.0, refl))))
+      (seq _ (λ _. []) (λ x y. (test x ≡ true) × (y ≡ x)) (λ y. y) form
+      (λ x good. demanded (test x) at why (λ _. ended x))
+      (λ x y good r. r.1))
+      (λ x good. (append-nil (spell x), (good.1.0, good.0)))
+      (λ x rule. (rule.1, (rule.0, refl))))

@@ -1,5 +1,5 @@
 -- The forms of tags, descriptors and files, and of a whole image.
-use Rattle.std.proofs.Common.{◌≡◌, ◌⊎◌, inl, inr, ℕ, zero, suc, ◌+◌, ◌*◌, ◌%◌, ◌^◌, ◌<◌, ◌≤◌, Bool, true, false, ◌&&◌, cond, eqb, leb, List, [], ◌∷◌, ◌++◌, length, map, Option, Some, None, Result, Ok, Err, refl, sym, ap, subst, ◌∙◌, arith}
+use Rattle.std.proofs.Common.{◌≡◌, ◌⊎◌, inl, inr, ℕ, zero, suc, ◌+◌, ◌*◌, ◌%◌, ◌^◌, ◌<◌, ◌≤◌, Bool, true, false, ◌&&◌, cond, eqb, leb, List, [], ◌∷◌, ◌++◌, length, map, Option, Some, None, Result, Ok, Err, refl, sym, ap, subst, ◌∙◌, append_assoc, arith}
 use Rattle.std.specs.Prelude.{IfOk}
 use Rattle.std.specs.List.{flat_map, AllByRecursion}
 use Rattle.std.proofs.lemmas.Bool.{eqb-true}
@@ -89,19 +89,19 @@ coded_form : {X : Type 0} (of : ℕ → X) (code : X → ℕ) (most total : ℕ)
     → IsForm (λ bytes. checked_at (λ n. leb n most) Range total bytes >>= λ n rest. Ok (of n, rest)) (λ x. number (code x)) (λ x. Unit {0})
 coded_form of code most total few again small back =
     reworded (λ x. number (code x)) (λ x. Unit {0})
-        (seq _ _ _ code (checked_form (λ n. leb n most) Range total) (λ n good. ended (of n)) (λ n x good e. ap code e ∙ again n (leb_there n most good.0)))
-        (λ x good. (append-nil (number (code x)), tt))
-        (λ x u. ((leb_back (code x) most (small x), omega (arith, small x, few)), back x))
+    (seq _ _ _ code (checked_form (λ n. leb n most) Range total) (λ n good. ended (of n)) (λ n x good e. ap code e ∙ again n (leb_there n most good.0)))
+    (λ x good. (append-nil (number (code x)), tt))
+    (λ x u. ((leb_back (code x) most (small x), omega (arith, small x, few)), back x))
 
-right_form : (total : ℕ) → IsForm (right_at total) (λ r. number (right_code r)) (λ r. Unit {0})
+pub right_form : (total : ℕ) → IsForm (right_at total) (λ r. number (right_code r)) (λ r. Unit {0})
 unfolding right_at
 right_form total = coded_form right_of right_code 3 total (omega arith) right_again right_small right_back
 
-kind_form : (total : ℕ) → IsForm (kind_at total) (λ k. number (kind_code k)) (λ k. Unit {0})
+pub kind_form : (total : ℕ) → IsForm (kind_at total) (λ k. number (kind_code k)) (λ k. Unit {0})
 unfolding kind_at
 kind_form total = coded_form kind_of kind_code 1 total (omega arith) kind_again kind_small kind_back
 
-bits_form : (total : ℕ) → IsForm (bits_at total) (λ b. number (bits_code b)) (λ b. Unit {0})
+pub bits_form : (total : ℕ) → IsForm (bits_at total) (λ b. number (bits_code b)) (λ b. Unit {0})
 unfolding bits_at
 bits_form total = coded_form bits_of bits_code 3 total (omega arith) bits_again bits_small bits_back
 
@@ -121,64 +121,68 @@ tag_form : (total : ℕ) (front : List TagEntry) → IsForm (tag_at total front)
 unfolding tag_at
 tag_form total front =
     reworded tag (λ t. IsAfter (λ x. x.name) front t × IsTag t)
-        (seq _ _ _ (λ t. t.name) (key_form is_name (last_of (λ x. x.name) [] front) total)
-            (λ name g. seq _ _ _ (λ t. t.pages) (checked_form is_page_count Range total)
-                (λ pages h. seq _ _ _ (λ t. t.right) (right_form total)
-                    (λ right u. seq _ _ _ (λ t. t.content) (content_form (λ n. leb n (pages * page)) total)
-                        (λ content k. ended (record { name = name; pages = pages; right = right; content = content }))
-                        (λ content t k e. ap (λ x. x.content) e))
-                    (λ right t u e. ap (λ x. x.right) e.1))
-                (λ pages t h e. ap (λ x. x.pages) e.1.1))
-            (λ name t g e. ap (λ x. x.name) e.1.1.1))
-        (λ t good.
-            let pages = page_count_there t.pages good.1.0.0 in
-            (refl, (good.0.0, record { named = good.0.1.0; some_page = pages.0; not_too_many_pages = pages.1; content_fits = leb_there _ _ good.1.1.1.0.0 })))
-        (λ t rule.
-            let is = rule.1 in
-            ((rule.0, (is.named, name_short t.name is.named)),
-             ((page_count_back t.pages is.some_page is.not_too_many_pages, omega (arith, is.not_too_many_pages)),
-              (tt, ((leb_back _ _ is.content_fits, omega (arith, is.content_fits, is.not_too_many_pages)), refl)))))
+    (seq _ _ _ (λ t. t.name) (key_form is_name (last_of (λ x. x.name) [] front) total)
+    (λ name g. seq _ _ _ (λ t. t.pages) (checked_form is_page_count Range total)
+    (λ pages h. seq _ _ _ (λ t. t.right) (right_form total)
+    (λ right u. seq _ _ _ (λ t. t.content) (content_form (λ n. leb n (pages * page)) total)
+    (λ content k. ended (record { name = name; pages = pages; right = right; content = content }))
+    (λ content t k e. ap (λ x. x.content) e))
+    (λ right t u e. ap (λ x. x.right) e.1))
+    (λ pages t h e. ap (λ x. x.pages) e.1.1))
+    (λ name t g e. ap (λ x. x.name) e.1.1.1))
+    (λ t good.
+    let pages = page_count_there t.pages good.1.0.0 in
+    (refl, (good.0.0, record { named = good.0.1.0; some_page = pages.0; not_too_many_pages = pages.1; content_fits = leb_there _ _ good.1.1.1.0.0 })))
+    (λ t rule.
+    let is = rule.1 in (
+      (rule.0, (is.named, omega (arith, name_short t.name is.named))),
+      (
+        (page_count_back t.pages is.some_page is.not_too_many_pages, omega (arith, is.not_too_many_pages)),
+        (tt, ((leb_back _ _ is.content_fits, omega (arith, is.content_fits, is.not_too_many_pages)), refl)),
+      ),
+    ))
 
 fd_form : (total : ℕ) (front : List FdEntry) → IsForm (fd_at total front) fd (λ f. IsAfter (λ x. x.name) front f × IsFd f)
 unfolding fd_at
 fd_form total front =
     reworded fd (λ f. IsAfter (λ x. x.name) front f × IsFd f)
-        (seq _ _ _ (λ f. f.name) (key_form is_name (last_of (λ x. x.name) [] front) total)
-            (λ name g. seq _ _ _ (λ f. f.kind) (kind_form total)
-                (λ kind h. seq _ _ _ (λ f. f.bits) (bits_form total)
-                    (λ bits u. seq _ _ _ (λ f. f.content) (content_form (may_hold kind) total)
-                        (λ content k. ended (record { name = name; kind = kind; bits = bits; content = content }))
-                        (λ content f k e. ap (λ x. x.content) e))
-                    (λ bits f u e. ap (λ x. x.bits) e.1))
-                (λ kind f h e. ap (λ x. x.kind) e.1.1))
-            (λ name f g e. ap (λ x. x.name) e.1.1.1))
-        (λ f good. (refl, (good.0.0, record { named = good.0.1.0; content_suits = good.1.1.1.0.0; length_fits = good.1.1.1.0.1 })))
-        (λ f rule.
-            let is = rule.1 in
-            ((rule.0, (is.named, name_short f.name is.named)), (tt, (tt, ((is.content_suits, is.length_fits), refl)))))
+    (seq _ _ _ (λ f. f.name) (key_form is_name (last_of (λ x. x.name) [] front) total)
+    (λ name g. seq _ _ _ (λ f. f.kind) (kind_form total)
+    (λ kind h. seq _ _ _ (λ f. f.bits) (bits_form total)
+    (λ bits u. seq _ _ _ (λ f. f.content) (content_form (may_hold kind) total)
+    (λ content k. ended (record { name = name; kind = kind; bits = bits; content = content }))
+    (λ content f k e. ap (λ x. x.content) e))
+    (λ bits f u e. ap (λ x. x.bits) e.1))
+    (λ kind f h e. ap (λ x. x.kind) e.1.1))
+    (λ name f g e. ap (λ x. x.name) e.1.1.1))
+    (λ f good. (refl, (good.0.0, record { named = good.0.1.0; content_suits = good.1.1.1.0.0; length_fits = good.1.1.1.0.1 })))
+    (λ f rule.
+    let is = rule.1 in
+    ((rule.0, (is.named, omega (arith, name_short f.name is.named))), (tt, (tt, ((is.content_suits, is.length_fits), refl)))))
 
 file_form : (total : ℕ) (front : List FileEntry) → IsForm (file_at total front) file (λ f. IsAfter (λ x. x.path) front f × IsFile f)
 unfolding file_at
 file_form total front =
     reworded file (λ f. IsAfter (λ x. x.path) front f × IsFile f)
-        (seq _ _ _ (λ f. f.path) (key_form is_path (last_of (λ x. x.path) [] front) total)
-            (λ path g. seq _ _ _ (λ f. f.owner) (number_form total)
-                (λ owner s. seq _ _ _ (λ f. f.mode) (checked_form (λ n. leb n 15) Range total)
-                    (λ mode m. seq _ _ _ (λ f. f.kind) (kind_form total)
-                        (λ kind h. seq _ _ _ (λ f. f.content) (content_form (may_hold kind) total)
-                            (λ content k. ended (record { path = path; owner = owner; mode = mode; kind = kind; content = content }))
-                            (λ content f k e. ap (λ x. x.content) e))
-                        (λ kind f h e. ap (λ x. x.kind) e.1))
-                    (λ mode f m e. ap (λ x. x.mode) e.1.1))
-                (λ owner f s e. ap (λ x. x.owner) e.1.1.1))
-            (λ path f g e. ap (λ x. x.path) e.1.1.1.1))
-        (λ f good.
-            let mode : f.mode < 16 = omega (arith, leb_there f.mode 15 good.1.1.0.0) in
-            (refl, (good.0.0, record { canonical = good.0.1.0; owner_fits = good.1.0; mode_fits = mode; content_suits = good.1.1.1.1.0.0; length_fits = good.1.1.1.1.0.1 })))
-        (λ f rule.
-            let is = rule.1 in
-            ((rule.0, (is.canonical, path_short f.path is.canonical)),
-             (is.owner_fits, ((leb_back f.mode 15 (omega (arith, is.mode_fits)), omega (arith, is.mode_fits)), (tt, ((is.content_suits, is.length_fits), refl))))))
+    (seq _ _ _ (λ f. f.path) (key_form is_path (last_of (λ x. x.path) [] front) total)
+    (λ path g. seq _ _ _ (λ f. f.owner) (number_form total)
+    (λ owner s. seq _ _ _ (λ f. f.mode) (checked_form (λ n. leb n 15) Range total)
+    (λ mode m. seq _ _ _ (λ f. f.kind) (kind_form total)
+    (λ kind h. seq _ _ _ (λ f. f.content) (content_form (may_hold kind) total)
+    (λ content k. ended (record { path = path; owner = owner; mode = mode; kind = kind; content = content }))
+    (λ content f k e. ap (λ x. x.content) e))
+    (λ kind f h e. ap (λ x. x.kind) e.1))
+    (λ mode f m e. ap (λ x. x.mode) e.1.1))
+    (λ owner f s e. ap (λ x. x.owner) e.1.1.1))
+    (λ path f g e. ap (λ x. x.path) e.1.1.1.1))
+    (λ f good.
+    let mode : f.mode < 16 = omega (arith, leb_there f.mode 15 good.1.1.0.0) in
+    (refl, (good.0.0, record { canonical = good.0.1.0; owner_fits = good.1.0; mode_fits = mode; content_suits = good.1.1.1.1.0.0; length_fits = good.1.1.1.1.0.1 })))
+    (λ f rule.
+    let is = rule.1 in (
+      (rule.0, (is.canonical, omega (arith, path_short f.path is.canonical))),
+      (is.owner_fits, ((leb_back f.mode 15 (omega (arith, is.mode_fits)), omega (arith, is.mode_fits)), (tt, ((is.content_suits, is.length_fits), refl)))),
+    ))
 
 -- ---- tables
 
@@ -188,32 +192,32 @@ keyed_form : {X : Type 0} (key : X → List ℕ) (entry : List X → List ℕ �
     → IsForm (table_at most entry total) (table spell) (λ xs. (length xs ≤ most) × (AllByRecursion Rule xs × (ascend (map key xs) ≡ true)))
 keyed_form key entry spell Rule most total few form =
     reworded (table spell) (λ xs. (length xs ≤ most) × (AllByRecursion Rule xs × (ascend (map key xs) ≡ true)))
-        (table_form entry spell (λ front x. IsAfter key front x × Rule x) form most total few)
-        (λ xs good.
-            let a = scan_there (names_scan key) (λ f x. Rule x) [] xs good.1 in
-            (refl, (good.0, (plain_there Rule [] xs a.1, a.0))))
-        (λ xs rule. (rule.0, scan_back (names_scan key) (λ f x. Rule x) [] xs rule.1.1 (plain_back Rule [] xs rule.1.0)))
+    (table_form entry spell (λ front x. IsAfter key front x × Rule x) form most total few)
+    (λ xs good.
+    let a = scan_there (names_scan key) (λ f x. Rule x) [] xs good.1 in
+    (refl, (good.0, (plain_there Rule [] xs a.1, a.0))))
+    (λ xs rule. (rule.0, scan_back (names_scan key) (λ f x. Rule x) [] xs rule.1.1 (plain_back Rule [] xs rule.1.0)))
 
 tags_form : (total : ℕ) → IsForm (tags_at total) (table tag) AreTags
 unfolding tags_at
 tags_form total =
     reworded (table tag) AreTags (keyed_form (λ (t : TagEntry). t.name) (tag_at total) tag IsTag most_tags total (omega arith) (tag_form total))
-        (λ ts g. (refl, record { not_too_many = g.0; each = g.1.0; names_ascend = g.1.1 }))
-        (λ ts r. (r.not_too_many, (r.each, r.names_ascend)))
+    (λ ts g. (refl, record { not_too_many = g.0; each = g.1.0; names_ascend = g.1.1 }))
+    (λ ts r. (r.not_too_many, (r.each, r.names_ascend)))
 
 fds_form : (total : ℕ) → IsForm (fds_at total) (table fd) AreFds
 unfolding fds_at
 fds_form total =
     reworded (table fd) AreFds (keyed_form (λ (f : FdEntry). f.name) (fd_at total) fd IsFd most_fds total (omega arith) (fd_form total))
-        (λ fs g. (refl, record { not_too_many = g.0; each = g.1.0; names_ascend = g.1.1 }))
-        (λ fs r. (r.not_too_many, (r.each, r.names_ascend)))
+    (λ fs g. (refl, record { not_too_many = g.0; each = g.1.0; names_ascend = g.1.1 }))
+    (λ fs r. (r.not_too_many, (r.each, r.names_ascend)))
 
 files_form : (total : ℕ) → IsForm (files_at total) (table file) AreFiles
 unfolding files_at
 files_form total =
     reworded (table file) AreFiles (keyed_form (λ (f : FileEntry). f.path) (file_at total) file IsFile most_files total (omega arith) (file_form total))
-        (λ fs g. (refl, record { not_too_many = g.0; each = g.1.0; paths_ascend = g.1.1 }))
-        (λ fs r. (r.not_too_many, (r.each, r.paths_ascend)))
+    (λ fs g. (refl, record { not_too_many = g.0; each = g.1.0; paths_ascend = g.1.1 }))
+    (λ fs r. (r.not_too_many, (r.each, r.paths_ascend)))
 
 -- ---- the whole
 
@@ -224,15 +228,15 @@ header_form : (total : ℕ) → IsForm (header_at total) header (λ fuel. fuel �
 unfolding header_at
 header_form total =
     reworded header (λ fuel. fuel ≤ most_fuel)
-        (seq _ _ _ (λ _. magic) (checked_form (λ n. eqb n magic) Magic total)
-            (λ m g. seq _ _ _ (λ _. version) (checked_form (λ n. eqb n version) Version total)
-                (λ v h. checked_form (λ n. leb n most_fuel) Limit total)
-                (λ v fuel h k. sym (eqb-true v version h.0)))
-            (λ m fuel g h. sym (eqb-true m magic g.0)))
-        (λ fuel good. (refl, leb_there fuel most_fuel good.1.1.0))
-        (λ fuel small. ((refl, omega arith), ((refl, omega arith), (leb_back fuel most_fuel small, omega (arith, small)))))
+    (seq _ _ _ (λ _. magic) (checked_form (λ n. eqb n magic) Magic total)
+    (λ m g. seq _ _ _ (λ _. version) (checked_form (λ n. eqb n version) Version total)
+    (λ v h. checked_form (λ n. leb n most_fuel) Limit total)
+    (λ v fuel h k. sym (eqb-true v version h.0)))
+    (λ m fuel g h. sym (eqb-true m magic g.0)))
+    (λ fuel good. (refl, leb_there fuel most_fuel good.1.1.0))
+    (λ fuel small. ((refl, omega arith), ((refl, omega arith), (leb_back fuel most_fuel small, omega (arith, small)))))
 
-entry_small : (base count : ℕ) (ps : List Procedure) (n : ℕ) → AllByRecursion (IsProcedure base count) ps → begins_at ps n ≡ true → n < base + 4 * count
+pub entry_small : (base count : ℕ) (ps : List Procedure) (n : ℕ) → AllByRecursion (IsProcedure base count) ps → begins_at ps n ≡ true → n < base + 4 * count
 entry_small base count [] n each h = absurd cc
 entry_small base count (p ∷ ps) n each h =
     elim (either (eqb p.address n) (begins_at ps n) h) [
@@ -253,57 +257,71 @@ pub record MeetsRules (i : Image) : Type 0 where
   pub user_fits : i.user < 2 ^ 32
   pub root_canonical : is_root i.root ≡ true
 
+after_header : (fuel : ℕ) (rest : List ℕ) → header fuel ++ rest ≡ number magic ++ (number version ++ (number fuel ++ rest))
+after_header fuel rest = append_assoc (number magic) (number version ++ number fuel) rest ∙ ap (λ x. number magic ++ x) (append_assoc (number version) (number fuel) rest)
+
 pub image_form : (total : ℕ) → IsForm (image_at total) spelling MeetsRules
 unfolding image_at spelling
 image_form total =
     reworded spelling MeetsRules
-        (seq _ _ _ (λ i. i.fuel) (header_form total) (λ fuel g0.
-            seq _ _ _ (λ i. i.base) (checked_form is_base Range total) (λ base g1.
-                seq _ _ _ (λ i. i.words) (words_form base total) (λ words g2.
-                    seq _ _ _ (λ i. i.procedures) (procedures_form base (length words) total g2.inside) (λ procedures g3.
-                        seq _ _ _ (λ i. i.entry) (checked_form (begins_at procedures) Range total) (λ entry g4.
-                            seq _ _ _ (λ i. i.ranges) (ranges_form base (length words) total) (λ ranges g5.
-                                seq _ _ _ (λ i. i.tags) (tags_form total) (λ tags g6.
-                                    seq _ _ _ (λ i. i.fds) (fds_form total) (λ fds g7.
-                                        seq _ _ _ (λ i. i.files) (files_form total) (λ files g8.
-                                            seq _ _ _ (λ i. i.user) (number_form total) (λ user g9.
-                                                seq _ _ _ (λ i. i.root) (formed_form is_root total) (λ root g10.
-                                                    ended (record { fuel = fuel; base = base; words = words; procedures = procedures; entry = entry; ranges = ranges; tags = tags; fds = fds; files = files; user = user; root = root }))
-                                                (λ root i g e. ap (λ x. x.root) e))
-                                            (λ user i g e. ap (λ x. x.user) e.1))
-                                        (λ files i g e. ap (λ x. x.files) e.1.1))
-                                    (λ fds i g e. ap (λ x. x.fds) e.1.1.1))
-                                (λ tags i g e. ap (λ x. x.tags) e.1.1.1.1))
-                            (λ ranges i g e. ap (λ x. x.ranges) e.1.1.1.1.1))
-                        (λ entry i g e. ap (λ x. x.entry) e.1.1.1.1.1.1))
-                    (λ procedures i g e. ap (λ x. x.procedures) e.1.1.1.1.1.1.1))
-                (λ words i g e. ap (λ x. x.words) e.1.1.1.1.1.1.1.1))
-            (λ base i g e. ap (λ x. x.base) e.1.1.1.1.1.1.1.1.1))
-        (λ fuel i g e. ap (λ x. x.fuel) e.1.1.1.1.1.1.1.1.1.1))
-        (λ i good.
-            let base = base_there i.base good.1.0.0 in
-            let words = good.1.1.0 in
-            (refl, record {
-              fuel_small = good.0;
-              text = record { base_aligned = base.0; base_low = base.1; base_high = base.2; some_word = words.some; end_high = words.inside; words_fit = words.fit };
-              procedures = good.1.1.1.0;
-              entry_is_procedure = good.1.1.1.1.0.0;
-              ranges = good.1.1.1.1.1.0;
-              tags = good.1.1.1.1.1.1.0;
-              fds = good.1.1.1.1.1.1.1.0;
-              files = good.1.1.1.1.1.1.1.1.0;
-              user_fits = good.1.1.1.1.1.1.1.1.1.0;
-              root_canonical = good.1.1.1.1.1.1.1.1.1.1.0.0
-            }))
-        (λ i rule.
-            let text = rule.text in
-            let entry = entry_small i.base (length i.words) i.procedures i.entry rule.procedures.each rule.entry_is_procedure in
-            (rule.fuel_small,
-             ((base_back i.base text.base_aligned text.base_low text.base_high, omega (arith, text.base_high)),
-              (record { some = text.some_word; inside = text.end_high; fit = text.words_fit },
-               (rule.procedures,
-                ((rule.entry_is_procedure, omega (arith, entry, text.end_high)),
-                 (rule.ranges, (rule.tags, (rule.fds, (rule.files, (rule.user_fits, ((rule.root_canonical, root_short i.root rule.root_canonical), refl))))))))))))
+    (seq _ _ _ (λ i. i.fuel) (header_form total) (λ fuel g0.
+    seq _ _ _ (λ i. i.base) (checked_form is_base Range total) (λ base g1.
+    seq _ _ _ (λ i. i.words) (words_form base total) (λ words g2.
+    seq _ _ _ (λ i. i.procedures) (procedures_form base (length words) total g2.inside) (λ procedures g3.
+    seq _ _ _ (λ i. i.entry) (checked_form (begins_at procedures) Range total) (λ entry g4.
+    seq _ _ _ (λ i. i.ranges) (ranges_form base (length words) total) (λ ranges g5.
+    seq _ _ _ (λ i. i.tags) (tags_form total) (λ tags g6.
+    seq _ _ _ (λ i. i.fds) (fds_form total) (λ fds g7.
+    seq _ _ _ (λ i. i.files) (files_form total) (λ files g8.
+    seq _ _ _ (λ i. i.user) (number_form total) (λ user g9.
+    seq _ _ _ (λ i. i.root) (formed_form is_root total) (λ root g10.
+    ended (record { fuel = fuel; base = base; words = words; procedures = procedures; entry = entry; ranges = ranges; tags = tags; fds = fds; files = files; user = user; root = root }))
+    (λ root i g e. ap (λ x. x.root) e))
+    (λ user i g e. ap (λ x. x.user) e.1))
+    (λ files i g e. ap (λ x. x.files) e.1.1))
+    (λ fds i g e. ap (λ x. x.fds) e.1.1.1))
+    (λ tags i g e. ap (λ x. x.tags) e.1.1.1.1))
+    (λ ranges i g e. ap (λ x. x.ranges) e.1.1.1.1.1))
+    (λ entry i g e. ap (λ x. x.entry) e.1.1.1.1.1.1))
+    (λ procedures i g e. ap (λ x. x.procedures) e.1.1.1.1.1.1.1))
+    (λ words i g e. ap (λ x. x.words) e.1.1.1.1.1.1.1.1))
+    (λ base i g e. ap (λ x. x.base) e.1.1.1.1.1.1.1.1.1))
+    (λ fuel i g e. ap (λ x. x.fuel) e.1.1.1.1.1.1.1.1.1.1))
+    (λ i good.
+    let base = base_there i.base good.1.0.0 in
+    let words = good.1.1.0 in (
+      after_header i.fuel _,
+      record {
+        fuel_small = good.0;
+        text = record { base_aligned = base.0; base_low = base.1; base_high = base.2; some_word = words.some; end_high = words.inside; words_fit = words.fit };
+        procedures = good.1.1.1.0;
+        entry_is_procedure = good.1.1.1.1.0.0;
+        ranges = good.1.1.1.1.1.0;
+        tags = good.1.1.1.1.1.1.0;
+        fds = good.1.1.1.1.1.1.1.0;
+        files = good.1.1.1.1.1.1.1.1.0;
+        user_fits = good.1.1.1.1.1.1.1.1.1.0;
+        root_canonical = good.1.1.1.1.1.1.1.1.1.1.0.0;
+      },
+    ))
+    (λ i rule.
+    let text = rule.text in
+    let entry = entry_small i.base (length i.words) i.procedures i.entry rule.procedures.each rule.entry_is_procedure in (
+      rule.fuel_small,
+      (
+        (base_back i.base text.base_aligned text.base_low text.base_high, omega (arith, text.base_high)),
+        (
+          record { some = text.some_word; inside = text.end_high; fit = text.words_fit },
+          (
+            rule.procedures,
+            (
+              (rule.entry_is_procedure, omega (arith, entry, text.end_high)),
+              (rule.ranges, (rule.tags, (rule.fds, (rule.files, (rule.user_fits, ((rule.root_canonical, omega (arith, root_short i.root rule.root_canonical)), refl)))))),
+            ),
+          ),
+        ),
+      ),
+    ))
 
 -- ---- all of the bytes
 
@@ -322,7 +340,7 @@ is_image i rule small = record {
   files = rule.files;
   user_fits = rule.user_fits;
   root_canonical = rule.root_canonical;
-  small = small
+  small = small;
 }
 
 meets : (i : Image) → IsImage i → MeetsRules i
@@ -336,7 +354,7 @@ meets i is = record {
   fds = is.fds;
   files = is.files;
   user_fits = is.user_fits;
-  root_canonical = is.root_canonical
+  root_canonical = is.root_canonical;
 }
 
 -- what is read is an image, and the bytes are its spelling
@@ -356,7 +374,7 @@ is_found bytes i fits e =
 -- the spelling of an image is read as that image
 pub is_read : (i : Image) → IsImage i → reading (spelling i) ≡ Ok i
 unfolding reading
-is_read i is = 
+is_read i is =
     let total = length (spelling i) in
     let whole : image_at total (spelling i) ≡ Ok (i, []) = ap (image_at total) (sym (append-nil (spelling i))) ∙ (image_form total).again i [] (meets i is) in
     rw (leb_back total most_bytes is.small, whole) refl

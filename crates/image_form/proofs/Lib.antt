@@ -8,3 +8,8 @@ pub mod TableForms
 pub mod Scans
 pub mod EntryForms
 pub mod ImageForm
+pub mod Unique
+pub mod Puts
+pub mod Written
+pub mod Measures
+pub mod Finished

@@ -16,19 +16,19 @@ use Rattle.image_form.proofs.TableForms.{Each, IsScan, both}
 pub names_scan : {X : Type 0} (key : X → List ℕ) → IsScan (last_of key []) (λ b x. is_below b (key x)) (λ b xs. ascend_from b (map key xs))
 names_scan key = record {
   none = λ b. refl;
-  more = λ front x xs. ap (λ b. is_below (last_of key [] front) (key x) && ascend_from b (map key xs)) (sym (last_of-push key [] front x))
+  more = λ front x xs. ap (λ b. is_below (last_of key [] front) (key x) && ascend_from b (map key xs)) (sym (last_of-push key [] front x));
 }
 
 pub addresses_scan : IsScan addresses (λ ns p. not (is_among ns p.address)) (λ ns ps. differ_from ns (addresses ps))
 addresses_scan = record {
   none = λ ns. refl;
-  more = λ front p ps. ap (λ ns. not (is_among (addresses front) p.address) && differ_from ns (addresses ps)) (sym (map-append (λ x. x.address) front (p ∷ [])))
+  more = λ front p ps. ap (λ ns. not (is_among (addresses front) p.address) && differ_from ns (addresses ps)) (sym (map-append (λ x. x.address) front (p ∷ [])));
 }
 
 pub ranges_scan : (base count : ℕ) → IsScan (last_of end_of 0) (λ e r. leb e r.base && is_off_text base count r.base (length r.bytes)) (lie_apart base count)
 ranges_scan base count = record {
   none = λ e. refl;
-  more = λ front r rs. ap (λ e. (leb (last_of end_of 0 front) r.base && is_off_text base count r.base (length r.bytes)) && lie_apart base count e rs) (sym (last_of-push end_of 0 front r))
+  more = λ front r rs. ap (λ e. (leb (last_of end_of 0 front) r.base && is_off_text base count r.base (length r.bytes)) && lie_apart base count e rs) (sym (last_of-push end_of 0 front r));
 }
 
 -- ---- sums
@@ -91,14 +91,14 @@ leb_back m n h = grind (arith, nat_tests)
 
 -- ---- texts are short
 
-pub name_short : (t : List ℕ) → is_name t ≡ true → length t < 2 ^ 16
+pub name_short : (t : List ℕ) → is_name t ≡ true → length t < 65535
 unfolding is_name
 name_short [] h = absurd cc
 name_short (c ∷ cs) h =
     let rules = both (leb (length cs) 63 && starts_name c) (list_all continues_name cs) h in
     omega (arith, leb-true (length cs) 63 (both (leb (length cs) 63) (starts_name c) rules.0).0)
 
-pub path_short : (t : List ℕ) → is_path t ≡ true → length t < 2 ^ 16
+pub path_short : (t : List ℕ) → is_path t ≡ true → length t < 65535
 unfolding is_path
 path_short [] h = absurd cc
 path_short (c ∷ cs) h =
@@ -110,7 +110,7 @@ path_short (c ∷ cs) h =
     let b = both (slash && short) printed a.0 in
     omega (arith, leb-true (length cs) 254 (both slash short b.0).1)
 
-pub root_short : (t : List ℕ) → is_root t ≡ true → length t < 2 ^ 16
+pub root_short : (t : List ℕ) → is_root t ≡ true → length t < 65535
 unfolding is_root
 root_short [] h = absurd cc
 root_short (c ∷ []) h = omega arith

@@ -51,7 +51,7 @@ module _ {X : Type 0} where
     entries_form : (n : ℕ) (front : List X) → IsForm (entries_at entry n front) (flat_map spell) (λ xs. (length xs ≡ n) × Each Good front xs)
     entries_form n front = record {
       takes = λ bytes xs rest fits e. let t = taken n front bytes xs rest fits e in (t.0, (t.1, t.2));
-      again = λ xs rest good. ap (λ m. entries_at entry m front (flat_map spell xs ++ rest)) (sym good.0) ∙ repeated xs front rest good.1
+      again = λ xs rest good. ap (λ m. entries_at entry m front (flat_map spell xs ++ rest)) (sym good.0) ∙ repeated xs front rest good.1;
     }
 
     -- entries after their count
@@ -59,9 +59,9 @@ module _ {X : Type 0} where
     unfolding table_at
     table_form most total small =
         reworded (table spell) (λ xs. (length xs ≤ most) × Each Good [] xs)
-            (seq _ _ _ (λ xs. length xs) (checked_form (λ n. leb n most) Limit total) (λ n good. entries_form n []) (λ n xs good r. r.0))
-            (λ xs good. (refl, (leb-true (length xs) most good.0.0, good.1.1)))
-            (λ xs rule. let few : leb (length xs) most ≡ true = grind (arith, nat_tests, rule.0) in ((few, omega (arith, rule.0, small)), (refl, rule.1)))
+        (seq _ _ _ (λ xs. length xs) (checked_form (λ n. leb n most) Limit total) (λ n good. entries_form n []) (λ n xs good r. r.0))
+        (λ xs good. (refl, (leb-true (length xs) most good.0.0, good.1.1)))
+        (λ xs rule. let few : leb (length xs) most ≡ true = grind (arith, nat_tests, rule.0) in ((few, omega (arith, rule.0, small)), (refl, rule.1)))
 
     -- entries of a number that is known
     pub list_form : (n : ℕ) → IsForm (entries_at entry n []) (flat_map spell) (λ xs. (length xs ≡ n) × Each Good [] xs)

@@ -4,3 +4,4 @@ pub mod Rules
 pub mod Address
 pub mod View
 pub mod Reading
+pub mod Fitting

@@ -26,16 +26,16 @@ abbrev pub version : ℕ
 version = 1
 
 -- four bytes
-abbrev pub number : ℕ → List ℕ
+unfoldable pub number : ℕ → List ℕ
 number n = to_le_bytes w32 n
 
 -- The bytes of a text after their length in two bytes. A text of more than 65,535 bytes, which no
 -- rule allows, is told as one of 65,535.
-abbrev pub string : List ℕ → List ℕ
+unfoldable pub string : List ℕ → List ℕ
 string text = to_le_bytes w16 (min (length text) 65535) ++ text
 
 -- bytes after their length in four bytes
-abbrev pub content : List ℕ → List ℕ
+unfoldable pub content : List ℕ → List ℕ
 content bytes = number (length bytes) ++ bytes
 
 -- entries after their count

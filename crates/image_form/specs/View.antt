@@ -2,6 +2,7 @@
 use Rattle.wedge_base.specs.Images.{Image}
 use Rattle.image_form.specs.declared.image.Image.TheInside.{Inside}
 use Rattle.image_form.specs.declared.parts.ImageParts.{ImageParts}
+use Rattle.image_form.specs.declared.parts.LentParts.{LentParts}
 
 abbrev pub plain : Inside → Image
 plain i = record {
@@ -32,4 +33,20 @@ image_of p = record {
   files = p.files;
   user = p.user;
   root = p.root;
+}
+
+-- the same, where the parts are lent
+abbrev pub lent_image : LentParts → Image
+lent_image p = record {
+  fuel = p.fuel;
+  base = p.base;
+  words = p.words.now;
+  procedures = p.procedures.now;
+  entry = p.entry;
+  ranges = p.ranges.now;
+  tags = p.tags.now;
+  fds = p.fds.now;
+  files = p.files.now;
+  user = p.user;
+  root = p.root.now;
 }

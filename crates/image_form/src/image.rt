@@ -7,7 +7,7 @@ ghost use Rattle.wedge_base.specs.Images as images;
 ghost use Rattle.image_form.specs.Rules as rules;
 ghost use Rattle.image_form.specs.Address.{greatest_from};
 
-use crate::parts::ImageParts;
+use crate::parts::{ImageParts, LentParts};
 use std::alloc::Global;
 use std::marker::Model;
 use wedge_base::{
@@ -53,7 +53,7 @@ impl Model for Image {
 impl Image {
     ghost use Rattle.image_form.specs.Rules.{IsImage, addresses};
     ghost use Rattle.image_form.specs.Address.{proc_at, proc_of};
-    ghost use Rattle.image_form.specs.View.{image_of};
+    ghost use Rattle.image_form.specs.View.{image_of, lent_image};
 
     /// The image whose parts are given.
     pub(crate) fn from_parts(parts: ImageParts) -> Image
@@ -74,6 +74,26 @@ impl Image {
             files: parts.files,
             user: parts.user,
             root: parts.root,
+        }
+    }
+
+    /// Lends the parts.
+    pub(crate) fn lend(&self) -> LentParts<'_>
+        ensures is { lent_image result ≡ self.now }
+        ensures valid { IsImage self.now }
+    {
+        LentParts {
+            fuel: self.fuel,
+            base: self.pristine.base,
+            words: self.pristine.words.as_slice(),
+            procedures: self.procedures.as_slice(),
+            entry: self.entry,
+            ranges: self.pristine.ranges.as_slice(),
+            tags: self.tags.as_slice(),
+            fds: self.fds.as_slice(),
+            files: self.files.as_slice(),
+            user: self.user,
+            root: self.root.as_slice(),
         }
     }
 

@@ -22,3 +22,43 @@ pub struct ImageParts {
     /// The root's directory.
     pub root: PathText,
 }
+
+/// The parts of an image, lent.
+#[derive(Clone, Copy)]
+pub(crate) struct LentParts<'a> {
+    pub fuel: u32,
+    pub base: u32,
+    pub words: &'a [u32],
+    pub procedures: &'a [Procedure],
+    pub entry: u32,
+    pub ranges: &'a [MemoryRange],
+    pub tags: &'a [TagEntry],
+    pub fds: &'a [FdEntry],
+    pub files: &'a [FileEntry],
+    pub user: u32,
+    pub root: &'a [u8],
+}
+
+impl ImageParts {
+    ghost use Rattle.std.specs.Prelude.{◌≡◌};
+    ghost use Rattle.image_form.specs.View.{image_of, lent_image};
+
+    /// Lends the parts.
+    pub(crate) fn lend(&self) -> LentParts<'_>
+        ensures { lent_image result ≡ image_of self.now }
+    {
+        LentParts {
+            fuel: self.fuel,
+            base: self.base,
+            words: self.words.as_slice(),
+            procedures: self.procedures.as_slice(),
+            entry: self.entry,
+            ranges: self.ranges.as_slice(),
+            tags: self.tags.as_slice(),
+            fds: self.fds.as_slice(),
+            files: self.files.as_slice(),
+            user: self.user,
+            root: self.root.as_slice(),
+        }
+    }
+}

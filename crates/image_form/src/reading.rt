@@ -30,7 +30,7 @@ pub(crate) const MAGIC: u32 = 0x47444557;
 pub(crate) const VERSION: u32 = 1;
 
 /// The most bytes of an image's file.
-const MOST_BYTES: usize = 16777216;
+pub(crate) const MOST_BYTES: usize = 16777216;
 
 /// What tells that this is an image.
 #[tactic(auto, unfolding(crate::specs::Reading::checked_at))]
@@ -122,7 +122,7 @@ fn all_parts(alloc: Global, bytes: &[u8]) -> Result<ImageParts, ImageError>
 }
 
 /// The same, and that the bytes are a spelling exactly where they are read.
-fn image_parts(alloc: Global, bytes: &[u8]) -> Result<ImageParts, ImageError>
+pub(crate) fn image_parts(alloc: Global, bytes: &[u8]) -> Result<ImageParts, ImageError>
     ensures exact { Gives image_of result (reading.reading bytes.now) }
     ensures found { IfOk result (λ p. Spells (image_of p) bytes.now) }
     ensures only { (i : images.Image) → Spells i bytes.now → Gives image_of result (Ok i) }
