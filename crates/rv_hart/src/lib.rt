@@ -3,7 +3,6 @@
 #![tactic(auto)]
 
 mod alu;
-mod going_on;
 #[cfg(test)]
 mod tests;
 
@@ -85,7 +84,7 @@ impl Hart {
     }
 
     /// Goes on to the next instruction.
-    fn advance(&mut self)
+    pub fn advance(&mut self)
         ensures { self.new ≡ stored self.old }
     {
         self.pc = self.pc.wrapping_add(4);
@@ -243,7 +242,7 @@ impl Hart {
     }
 
     /// A call is answered.
-    fn answer(&mut self, a0: u32, a1: u32, a2: Option<u32>)
+    pub fn answer(&mut self, a0: u32, a1: u32, a2: Option<u32>)
         ensures { self.new ≡ answered_with self.old a0 a1 a2 }
     {
         self.put(10, a0);

@@ -24,7 +24,7 @@ impl Actor {
         width: u8,
     )
         requires registers { HasRegisters instr }
-        requires width { hart.IsWidth width }
+        requires width { private.IsWidth width }
         requires needed { (hart.local instr self.old.hart).need ≡ Need.Load address width signed }
         ensures { self.new ≡ private.loads image.now instr signed self.old address width }
     {
@@ -45,7 +45,7 @@ impl Actor {
 
     /// A load in a window.
     fn load_window(&mut self, address: u32, width: u8)
-        requires width { hart.IsWidth width }
+        requires width { private.IsWidth width }
         requires aligned { address % width ≡ 0 }
         ensures { self.new ≡ private.load_window self.old width (slot_of address) }
     {
@@ -63,7 +63,7 @@ impl Actor {
 
     /// A store in a window.
     fn store_window(&mut self, address: u32, width: u8, value: u32)
-        requires width { hart.IsWidth width }
+        requires width { private.IsWidth width }
         requires aligned { address % width ≡ 0 }
         ensures { self.new ≡ private.store_window self.old width value (slot_of address) }
     {
@@ -82,7 +82,7 @@ impl Actor {
 
     /// A store that the instruction at hand needs.
     pub(crate) fn store(&mut self, image: &Image, address: u32, width: u8, value: u32)
-        requires { hart.IsWidth width }
+        requires { private.IsWidth width }
         ensures { self.new ≡ private.stores image.now self.old address width value }
     {
         if address % u32::from(width) != 0 {

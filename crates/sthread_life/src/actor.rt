@@ -147,7 +147,7 @@ impl Actor {
     pub(crate) fn answer(&mut self, value: u32, code: u32)
         ensures { self.new ≡ record self.old { hart = answered self.old.hart value code; phase = phase.Running } }
     {
-        self.hart.answer(value, code);
+        self.hart.answer(value, code, None);
         self.phase = Phase::Running;
     }
 
