@@ -1,4 +1,6 @@
 pub mod Words
 pub mod Lines
 pub mod Loading
+pub mod Ended
+pub mod Causes
 pub mod Refusals

@@ -4,4 +4,8 @@
 mod lines;
 mod loading;
 mod refusal;
+mod top;
 mod words;
+
+pub use refusal::Refusal;
+pub use top::{Ended, wedge};

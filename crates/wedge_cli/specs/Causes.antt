@@ -1,0 +1,25 @@
+-- When each status comes.
+use Rattle.std.specs.Prelude.{◌≡◌, ℕ, ◌<◌, ◌⊎◌, List, Option, Some, None}
+use Rattle.wedge_cli.specs.declared.refusal.Refusal.{Refusal}
+use Rattle.wedge_cli.specs.declared.top.Ended.{Ended}
+use Rattle.wedge_cli.specs.declared.refusal.Refusal.TheVariants as refusal
+use Rattle.wedge_cli.specs.Lines.{line, refusal_text, status_of}
+use Rattle.wedge_cli.specs.Loading.{IsRefused}
+use Rattle.wedge_cli.specs.Ended.{Device, Takes, Rises}
+
+-- a refusal, or want of memory for its line: err takes the line, or its count of faults rises
+abbrev pub Said : ℕ → List ℕ → Ended → Device → Device → Type 0
+Said status text ended before after = (Takes text before after × (ended.status ≡ status)) ⊎ (Rises before after × (ended.status ≡ 5))
+
+abbrev pub SaysRefusal : List ℕ → Refusal → Ended → Device → Device → Type 0
+SaysRefusal name r ended before after =
+    Said (status_of r) (line (refusal_text name r)) ended before after
+    ⊎ Said (status_of refusal.NoMemory) (line (refusal_text name refusal.NoMemory)) ended before after
+
+-- the file of a name is not run: out is left alone, and err takes the line of the refusal
+pub record IsRefusal (name : List ℕ) (content : Option (List ℕ)) (reads_before reads_after : ℕ) (ended : Ended) (out_before out_after err_before err_after : Device) : Type 0 where
+  pub journal : ended.journal ≡ None
+  pub why : Refusal
+  pub cause : IsRefused content reads_before reads_after why
+  pub out : out_after ≡ out_before
+  pub err : SaysRefusal name why ended err_before err_after

@@ -1,0 +1,157 @@
+//! The top call.
+
+ghost use Rattle.std.specs.Prelude.{◌≡◌, ◌≤◌, ◌<◌, ◌↔◌, ◌⊎◌, ℕ, List, Some, None, Err, IfOk, IfErr};
+ghost use Rattle.wedge_cli.specs.Words as asking;
+ghost use Rattle.wedge_cli.specs.Lines as lines;
+ghost use Rattle.wedge_cli.specs.Loading.{IsRefused};
+ghost use Rattle.wedge_cli.specs.Ended.{IsRunOf, device, Takes, IsRun, IsUsage, IsRunFor};
+ghost use Rattle.wedge_cli.specs.Causes.{SaysRefusal, IsRefusal};
+
+use crate::lines::{no_memory_line, refusal_line, usage_line, write_fault_line};
+use crate::loading::load;
+use crate::refusal::Refusal;
+use crate::words::asked;
+use host_io::{Files, Pace, Sink, write_whole};
+use report_text::report;
+use std::alloc::Global;
+use std::sync::Wait;
+use std::thread::Threads;
+use wedge_base::Journal;
+use wedge_core::serial;
+
+/// The status of words that are no command.
+const USAGE: u8 = 2;
+
+/// The status of want of memory.
+const NO_MEMORY: u8 = 6;
+
+/// What the program ends with.
+#[derive(Debug, Drop)]
+pub struct Ended {
+    /// The exit status.
+    pub status: u8,
+    /// The journal of the run, where there was one and its report was written, or its writing failed.
+    pub journal: Option<Journal>,
+}
+
+/// A run whose report is ready to be written.
+#[derive(Debug, Drop)]
+pub(crate) struct Ready {
+    journal: Journal,
+    text: Vec<u8>,
+}
+
+/// Does what the words ask: `run NAME` runs the image in the file of that name and writes its report on `out`.
+///
+/// The status is 0 where the report was written; 2 where the words are no command; 3 where the file's bytes
+/// spell no image, or one of a kind that the machine does not run yet; 4 where a read failed; 5 where a write
+/// failed; 6 where no memory was left. Whatever isn't a run leaves `out` alone and says one line on `err`.
+/// A write of the report that fails leaves a first part of it on `out`.
+pub fn wedge<R: Threads + Wait + Sync, F: Files, O: Sink, E: Sink, P: Pace + Sync>(
+    _rt: &R,
+    alloc: Global,
+    words: &[String],
+    files: &mut F,
+    out: &mut O,
+    err: &mut E,
+    _pace: &P,
+) -> Ended
+    ensures usage { asking.asked (asking.texts words.now) ≡ None → IsUsage result
+        (device (O.written out.old) (O.faults out.old)) (device (O.written out.new) (O.faults out.new))
+        (device (E.written err.old) (E.faults err.old)) (device (E.written err.new) (E.faults err.new)) }
+    ensures image { (name : List ℕ) → asking.asked (asking.texts words.now) ≡ Some name →
+        IsRefusal name (F.content files.old name) (F.faults files.old name) (F.faults files.new name) result
+            (device (O.written out.old) (O.faults out.old)) (device (O.written out.new) (O.faults out.new))
+            (device (E.written err.old) (E.faults err.old)) (device (E.written err.new) (E.faults err.new))
+        ⊎ IsRunFor (F.content files.old name) result
+            (device (O.written out.old) (O.faults out.old)) (device (O.written out.new) (O.faults out.new))
+            (device (E.written err.old) (E.faults err.old)) (device (E.written err.new) (E.faults err.new)) }
+    ensures content { (other : List ℕ) → F.content files.new other ≡ F.content files.old other }
+    ensures rises { (other : List ℕ) → F.faults files.old other ≤ F.faults files.new other }
+{
+    match asked(words) {
+        None => say(err, USAGE, usage_line()),
+        Some(name) => match prepare(alloc, files, name) {
+            Ok(ready) => finish(out, err, ready),
+            Err(refusal) => refuse(alloc, err, name, refusal),
+        },
+    }
+}
+
+/// Runs the image of a file, up to the text of its report.
+fn prepare<F: Files>(alloc: Global, files: &mut F, name: &str) -> Result<Ready, Refusal>
+    ensures ready { IfOk result (λ r. IsRunOf (F.content files.old name.now) r.journal r.text.items) }
+    ensures refused { IfErr result (IsRefused (F.content files.old name.now) (F.faults files.old name.now) (F.faults files.new name.now)) }
+    ensures content { (other : List ℕ) → F.content files.new other ≡ F.content files.old other }
+    ensures rises { (other : List ℕ) → F.faults files.old other ≤ F.faults files.new other }
+{
+    let image = load(alloc, files, name)?;
+    let (journal, outcome) = serial(alloc, &image)?;
+    let text = report(alloc, &outcome)?;
+    Ok(Ready { journal, text })
+}
+
+/// Says a line on the error stream, and ends with a status; with 5 where the line could not be written.
+fn say<E: Sink>(err: &mut E, status: u8, line: &[u8]) -> Ended
+    ensures journal { result.journal ≡ None }
+    ensures cases { (Takes line.now (device (E.written err.old) (E.faults err.old)) (device (E.written err.new) (E.faults err.new)) × (result.status ≡ status))
+        ⊎ ((E.faults err.old < E.faults err.new) × (result.status ≡ 5)) }
+{
+    match write_whole(err, line) {
+        Ok(()) => Ended {
+            status,
+            journal: None,
+        },
+        Err(_) => {
+            let _ = write_whole(err, write_fault_line());
+            Ended {
+                status: 5,
+                journal: None,
+            }
+        }
+    }
+}
+
+/// Says why the file of a name is not run.
+fn refuse<E: Sink>(alloc: Global, err: &mut E, name: &str, refusal: Refusal) -> Ended
+    ensures journal { result.journal ≡ None }
+    ensures cases { SaysRefusal name.now refusal result (device (E.written err.old) (E.faults err.old)) (device (E.written err.new) (E.faults err.new)) }
+{
+    match refusal_line(alloc, name, refusal) {
+        Ok(line) => say(err, status_of(refusal), line.as_bytes()),
+        Err(_) => say(err, NO_MEMORY, no_memory_line()),
+    }
+}
+
+/// Writes the report of a run.
+fn finish<O: Sink, E: Sink>(out: &mut O, err: &mut E, ready: Ready) -> Ended
+    ensures { IsRun ready.journal ready.text.items result
+        (device (O.written out.old) (O.faults out.old)) (device (O.written out.new) (O.faults out.new))
+        (device (E.written err.old) (E.faults err.old)) (device (E.written err.new) (E.faults err.new)) }
+{
+    let Ready { journal, text } = ready;
+    match write_whole(out, text.as_slice()) {
+        Ok(()) => Ended {
+            status: 0,
+            journal: Some(journal),
+        },
+        Err(_) => {
+            let _ = write_whole(err, write_fault_line());
+            Ended {
+                status: 5,
+                journal: Some(journal),
+            }
+        }
+    }
+}
+
+/// The status of a refusal.
+fn status_of(refusal: Refusal) -> u8
+    ensures { result ≡ lines.status_of refusal }
+{
+    match refusal {
+        Refusal::NoMemory => NO_MEMORY,
+        Refusal::Read => 4,
+        Refusal::Image(_) | Refusal::Unbuilt => 3,
+    }
+}
