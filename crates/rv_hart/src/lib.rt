@@ -19,30 +19,33 @@ use rv_isa::{Instr, Op};
 pub enum Need {
     /// Nothing: the step is made.
     Done,
-    /// The value of so many bytes at an address.
+    /// The bytes at an address, least byte first; the address may be no multiple of the width.
     Load {
         address: u32,
+        /// 1, 2 or 4 bytes.
         width: u8,
+        /// Whether the highest bit of a byte or a halfword is its sign.
         signed: bool,
     },
-    /// That the low bytes of a value be stored at an address.
+    /// That the low bytes of a value be stored at an address, least byte first.
     Store {
         address: u32,
+        /// 1, 2 or 4 bytes.
         width: u8,
         value: u32,
     },
-    /// A call of the environment.
+    /// A call of the environment: ECALL.
     Call,
-    /// A debugger.
+    /// A debugger: EBREAK.
     Break,
-    /// A target that is a multiple of 4: the one of this jump or taken branch is none.
+    /// A target that is a multiple of 4: that of this jump or taken branch is none.
     JumpMisaligned,
 }
 
 /// What a hart is told of what it needed.
 #[derive(Clone, Copy, Debug, PartialEq, Eq)]
 pub enum Reply {
-    /// The loaded bytes, as a number.
+    /// The loaded bytes, as a number without sign.
     Loaded(u32),
     /// The value is stored.
     Stored,
@@ -53,7 +56,9 @@ pub enum Reply {
 /// A hart: its pc and its registers. Register 0 reads 0, whatever stands there.
 #[derive(Clone, Copy, Debug, PartialEq, Eq)]
 pub struct Hart {
+    /// The address of the instruction.
     pub pc: u32,
+    /// Registers x0 to x31.
     pub regs: [u32; 32],
 }
 

@@ -109,9 +109,6 @@ encoded_is w i small h =
     let d : IsWord w i = IsWord-decode w i h in
     rw d.is (encoded_at d.op w small d.fixed)
 
-field_5 : (w low : ℕ) → field w low 5 < 32
-field_5 w low = omega arith
-
 operands_registers : (f : Form) (o : Op) (w : ℕ) → HasRegisters (operands f o w)
 operands_registers form.Upper o w = record { rd = omega arith; rs1 = omega arith; rs2 = omega arith }
 operands_registers form.Jump o w = record { rd = omega arith; rs1 = omega arith; rs2 = omega arith }

@@ -10,7 +10,7 @@ mod tests;
 mod text;
 
 ghost use Rattle.std.specs.Prelude.{◌≡◌, ◌↔◌, true, Some};
-ghost use Rattle.rv_isa.specs.Table.{rows, row_for, row_of, each_apart, form_of, IsOfRow};
+ghost use Rattle.rv_isa.specs.Table.{rows, row_for, row_of, each_apart, form_of, IsOfRow, HasRegisters};
 ghost use Rattle.rv_isa.specs.Ranges.{IsInRange};
 ghost use Rattle.rv_isa.specs.declared.Op.{Op};
 ghost use Rattle.rv_isa.specs.declared.Instr.{Instr};
@@ -185,8 +185,10 @@ pub fn each_operation_has_its_row()
 {}
 
 /// An instruction is one of the table exactly where each of its operands is in the range of its form.
+/// Its registers are then among the 32.
 pub fn instructions_are_those_in_range()
-    ensures { (i : Instr) → IsOfRow i ↔ IsInRange i }
+    ensures range { (i : Instr) → IsOfRow i ↔ IsInRange i }
+    ensures registers { (i : Instr) → IsOfRow i → HasRegisters i }
 {}
 
 /// No word has the fixed fields of two rows: a word is at most one instruction.
