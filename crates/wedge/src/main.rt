@@ -1,0 +1,41 @@
+//! wedge: runs a program that is split into compartments, each with the rights that it was given alone.
+#![tactic(auto)]
+
+use host_io::{NoPace, RealErr, RealFiles, RealOut};
+use std::env;
+use std::io;
+use std::process::ExitCode;
+use wedge_cli::wedge;
+
+/// The exit status of want of memory.
+const NO_MEMORY: u8 = 6;
+
+/// Does what the words ask, with the files and the streams of the process.
+fn main(rt: HostRuntime) -> ExitCode {
+    let words = match words(&rt) {
+        Ok(words) => words,
+        Err(_) => return ExitCode::from(NO_MEMORY),
+    };
+    let mut files = RealFiles::new(&rt, rt.alloc());
+    let mut out = RealOut::new(rt.stdout());
+    let mut err = RealErr::new(rt.stderr());
+    let ended = wedge(
+        &rt,
+        rt.alloc(),
+        words.as_slice(),
+        &mut files,
+        &mut out,
+        &mut err,
+        &NoPace,
+    );
+    ExitCode::from(ended.status)
+}
+
+/// The words of the command line after the program's name.
+fn words(rt: &HostRuntime) -> io::Result<Vec<String>> {
+    let mut words = Vec::new(rt.alloc());
+    for word in env::args(rt)?.skip(1) {
+        words.push(word)?;
+    }
+    Ok(words)
+}
