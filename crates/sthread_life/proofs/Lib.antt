@@ -2,3 +2,4 @@ pub mod WritingRanges
 pub mod Resting
 pub mod Between
 pub mod Judging
+pub mod Writing

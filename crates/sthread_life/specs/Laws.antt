@@ -3,8 +3,18 @@ use Rattle.std.specs.Prelude.{ℕ, List, Option}
 use Rattle.wedge_base.specs.Images.{Image}
 use Rattle.wedge_base.specs.declared.events.Turn.{Turn}
 use Rattle.sthread_life.specs.Worlds.{WorldState, opening, Runs}
+use Rattle.sthread_life.specs.Written.{BytesFollow, StepWritesOwn}
 use Rattle.sthread_life.specs.Allowed.{StepIsJudged, EachStep}
 
 -- in each step of each run, each request that is in question takes place exactly where the sheet allows it
 abbrev pub RunsAreJudged : Type 0
 RunsAreJudged = (i : Image) (turns : List Turn) (new : WorldState) → Runs (opening i) turns new → EachStep StepIsJudged (opening i) turns
+
+-- after each run the bytes in each slot are those that the image declares, with the stores of the run
+-- written over them in order; and in each step of it whoever changes the bytes of a tag may store to it
+pub record IsWrittenByOwners (i : Image) (turns : List Turn) (new : WorldState) : Type 0 where
+  pub follow : BytesFollow (opening i).cells turns new.cells
+  pub writers : EachStep StepWritesOwn (opening i) turns
+
+abbrev pub RunsWriteTheirOwn : Type 0
+RunsWriteTheirOwn = (i : Image) (turns : List Turn) (new : WorldState) → Runs (opening i) turns new → IsWrittenByOwners i turns new

@@ -9,3 +9,4 @@ pub mod Outcomes
 pub mod Between
 pub mod Laws
 pub mod Resting
+pub mod Written

@@ -4,6 +4,8 @@
 mod lines;
 mod loading;
 mod refusal;
+#[cfg(test)]
+mod tests;
 mod top;
 mod words;
 

@@ -61,11 +61,11 @@ pub fn wedge<R: Threads + Wait + Sync, F: Files, O: Sink, E: Sink, P: Pace + Syn
         (device (E.written err.old) (E.faults err.old)) (device (E.written err.new) (E.faults err.new)) }
     ensures image { (name : List ℕ) → asking.asked (asking.texts words.now) ≡ Some name →
         IsRefusal name (F.content files.old name) (F.faults files.old name) (F.faults files.new name) result
-            (device (O.written out.old) (O.faults out.old)) (device (O.written out.new) (O.faults out.new))
-            (device (E.written err.old) (E.faults err.old)) (device (E.written err.new) (E.faults err.new))
+        (device (O.written out.old) (O.faults out.old)) (device (O.written out.new) (O.faults out.new))
+        (device (E.written err.old) (E.faults err.old)) (device (E.written err.new) (E.faults err.new))
         ⊎ IsRunFor (F.content files.old name) result
-            (device (O.written out.old) (O.faults out.old)) (device (O.written out.new) (O.faults out.new))
-            (device (E.written err.old) (E.faults err.old)) (device (E.written err.new) (E.faults err.new)) }
+        (device (O.written out.old) (O.faults out.old)) (device (O.written out.new) (O.faults out.new))
+        (device (E.written err.old) (E.faults err.old)) (device (E.written err.new) (E.faults err.new)) }
     ensures content { (other : List ℕ) → F.content files.new other ≡ F.content files.old other }
     ensures rises { (other : List ℕ) → F.faults files.old other ≤ F.faults files.new other }
 {

@@ -10,6 +10,7 @@ use Rattle.wedge_base.specs.Images.{Image}
 use Rattle.sthread_life.specs.Worlds.{WorldState, opening, is_whole, Runs}
 use Rattle.sthread_life.specs.Outcomes.{outcome_of}
 use Rattle.sthread_life.proofs.Judging.{runs_judged}
+use Rattle.sthread_life.proofs.Writing.{runs_write_their_own}
 use Rattle.wedge_core.specs.Serial.{IsWholeRun, IsNumbered}
 
 abbrev pub entry : ℕ → Turn → LogEntry
@@ -42,4 +43,4 @@ pub whole_run : (i : Image) (w : WorldState) (ts : List Turn) (entries : List Lo
 whole_run i w ts entries outcome image run whole is ends =
     let told : turns_of entries ≡ ts = ap turns_of is ∙ turns_of-numbered 1 ts in
     let here : Runs (opening i) (turns_of entries) w = subst (λ (us : List Turn). Runs (opening i) us w) (sym told) (subst (λ (j : Image). Runs (opening j) ts w) image run) in
-    record { last = w; run = here; whole = whole; ends = ends; judged = runs_judged i (turns_of entries) w here }
+    record { last = w; run = here; whole = whole; ends = ends; judged = runs_judged i (turns_of entries) w here; written = runs_write_their_own i (turns_of entries) w here }

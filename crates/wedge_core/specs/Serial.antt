@@ -8,16 +8,19 @@ use Rattle.wedge_base.specs.declared.outcome.Outcome.{Outcome}
 use Rattle.sthread_life.specs.Actors.{ActorState}
 use Rattle.sthread_life.specs.Local.{has_ended}
 use Rattle.sthread_life.specs.Allowed.{StepIsJudged, EachStep}
+use Rattle.sthread_life.specs.Laws.{IsWrittenByOwners}
 use Rattle.sthread_life.specs.Worlds.{WorldState, opening, actor_named, Runs, is_whole}
 use Rattle.sthread_life.specs.Outcomes.{outcome_of}
 
--- entries tell a whole run of the image, each step of it judged by the sheet, with this outcome
+-- entries tell a whole run of the image with this outcome: each step of it is judged by the sheet, and
+-- the bytes of each tag come from those who may store to it alone
 pub record IsWholeRun (i : Image) (entries : List LogEntry) (outcome : Outcome) : Type 0 where
   pub last : WorldState
   pub run : Runs (opening i) (turns_of entries) last
   pub whole : is_whole last ≡ true
   pub ends : outcome ≡ outcome_of last
   pub judged : EachStep StepIsJudged (opening i) (turns_of entries)
+  pub written : IsWrittenByOwners i (turns_of entries) last
 
 -- stamps are the places of the entries, from 1
 abbrev pub IsNumbered : List LogEntry → Type 0
