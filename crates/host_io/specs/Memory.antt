@@ -18,7 +18,7 @@ pub record MemoryFiles : Type 0 where
 abbrev pub bytes_named : List MemFile → List ℕ → Option (List ℕ)
 bytes_named files name = option_map (λ f. f.bytes.items) (find (λ f. bytes_eq (string_bytes f.name) name) files)
 
--- the last number of a call
+-- calls are numbered up to 2^64 - 1; none after that is to fail
 abbrev pub last_call : ℕ
 last_call = 2 ^ 64 - 1
 

@@ -16,7 +16,8 @@ pub trait Files {
     ghost faults: { Self → List ℕ → ℕ };
 
     /// Reads bytes of a file from a place on, counted in bytes from 0, to the front of a buffer, and
-    /// answers how many came. None in a buffer that has room means that the file ends there.
+    /// answers how many came. None in a buffer that has room means that the file ends there. `Failed`: the
+    /// file could not be read.
     fn read(&mut self, name: &str, at: u64, buf: &mut [u8]) -> Result<usize, Failed>
         ensures within { IfOk result (λ n. n ≤ length buf.new) }
 

@@ -10,16 +10,27 @@ use std::fs::File;
 use std::io::{self, Read, Seek, SeekFrom};
 use std::rt;
 
-/// A file that was opened: its name, and the place at which its next byte will be read.
+/// A file that was opened: its name, unless there was no memory for that, and the place of the byte that
+/// will be read next.
 #[derive(Drop)]
 struct Opened<F> {
-    name: String,
+    name: Option<String>,
     file: F,
     at: u64,
 }
 
+impl<F> Opened<F> {
+    /// Whether it goes on there.
+    fn is_at(&self, name: &str, at: u64) -> bool {
+        match &self.name {
+            Some(known) => known.as_str() == name && self.at == at,
+            None => false,
+        }
+    }
+}
+
 /// The files of the system. They tell no bytes: what a file holds is for the system to say. Whatever it
-/// answers in place of bytes is a failure, a name that it cannot open too.
+/// answers in place of bytes is a failure, and so is a name that it cannot open.
 #[derive(Drop)]
 pub struct RealFiles<'a, R: rt::Files> {
     rt: &'a R,
@@ -48,7 +59,7 @@ impl<'a, R: rt::Files> RealFiles<'a, R> {
             file.seek(SeekFrom::Start(at))?;
         }
         Ok(Opened {
-            name: String::from_str(self.alloc, name)?,
+            name: String::from_str(self.alloc, name).ok(),
             file,
             at,
         })
@@ -60,7 +71,7 @@ impl<'a, R: rt::Files> RealFiles<'a, R> {
         ensures faults { self.new.faults ≡ self.old.faults }
     {
         let mut opened = match self.last.take() {
-            Some(last) if last.name.as_str() == name && last.at == at => last,
+            Some(last) if last.is_at(name, at) => last,
             _ => self.open_at(name, at)?,
         };
         let count = opened.file.read(buf)?;

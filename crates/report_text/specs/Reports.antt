@@ -63,16 +63,23 @@ unfoldable pub denial_text : Denial → List ℕ
 denial_text (denial.Tag tag wants) = codes "tag " ++ decimal tag ++ codes " wants " ++ right_text wants
 denial_text (denial.Fd fd wants) = codes "fd " ++ decimal fd ++ codes " wants " ++ bits_text wants
 
--- a byte in quotes: `"` is 34 and `\` is 92, which with all that is not printable are written as `\` and
--- two hexadecimal digits
-abbrev pub is_plain : ℕ → Bool
-is_plain b = nat_le 32 b && nat_le b 126 && not (b == 34) && not (b == 92)
+-- `"` and `\`
+abbrev pub quote : ℕ
+quote = 34
 
+abbrev pub backslash : ℕ
+backslash = 92
+
+-- whether a byte stands in quotes as it is: from a blank to `~`, but neither of these two
+abbrev pub is_plain : ℕ → Bool
+is_plain b = nat_le 0x20 b && nat_le b 0x7e && not (b == quote) && not (b == backslash)
+
+-- every other byte is a backslash and two hexadecimal digits
 unfoldable pub escaped : ℕ → List ℕ
-escaped b = if is_plain b then b ∷ [] else 92 ∷ hex_digit (b / 16) ∷ hex_digit (b % 16) ∷ []
+escaped b = if is_plain b then b ∷ [] else backslash ∷ hex_digit (b / 16) ∷ hex_digit (b % 16) ∷ []
 
 unfoldable pub quoted : List ℕ → List ℕ
-quoted bytes = 34 ∷ flat_map escaped bytes ++ 34 ∷ []
+quoted bytes = quote ∷ flat_map escaped bytes ++ quote ∷ []
 
 -- each line ends with LF
 abbrev pub line_end : List ℕ
