@@ -23,3 +23,6 @@ pub use image::{Image, Pristine};
 pub use parts::ImageParts;
 pub use reading::read_image;
 pub use writing::write_image;
+
+#[cfg(test)]
+mod tests;

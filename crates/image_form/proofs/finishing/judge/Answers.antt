@@ -10,9 +10,9 @@ pub returns-then-not-is_small-clause-exact : goal.returns-then-not-is_small-clau
 returns-then-not-is_small-clause-exact c =
     let spelled = spelling (image_of c.args.parts.now) in
     too_long spelled (λ small.
-        let told : length (spelling (lent_image c.lend.result)) ≤ most_bytes = subst (λ p. length (spelling p) ≤ most_bytes) (sym c.lend.ensures) small in
-        let yes : c.is_small.result ≡ true = c.is_small.ensures.is.1 told in
-        cc c.if-not-is_small.true)
+    let told : length (spelling (lent_image c.lend.result)) ≤ most_bytes = subst (λ p. length (spelling p) ≤ most_bytes) (sym c.lend.ensures) small in
+    let yes : c.is_small.result ≡ true = c.is_small.ensures.is.1 told in
+    cc c.if-not-is_small.true)
 
 pub returns-clause-valid : goal.returns-clause-valid
 returns-clause-valid c =
