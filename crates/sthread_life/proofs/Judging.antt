@@ -67,7 +67,7 @@ after_slot w b slot g q r = record w { cells = record w.cells { segments = put_c
 load_judged : (w : WorldState) (b : ActorState) (slot offset width value : ℕ) (live : Option Live) (g : Segment) (t : Bool)
     → slice_get w.cells.segments slot ≡ Some g → at_least (right_on b.sheet g.tag) right.Read ≡ t
     → IsJudged w b (Loads g.tag) false (event.Slot slot (slot_ask.Load offset width live) (if t then slot_reply.Loaded value else slot_reply.Denied g.tag))
-        (after_slot w b slot (Some g) (slot_ask.Load offset width live) (if t then slot_reply.Loaded value else slot_reply.Denied g.tag))
+    (after_slot w b slot (Some g) (slot_ask.Load offset width live) (if t then slot_reply.Loaded value else slot_reply.Denied g.tag))
 unfolding takes
 load_judged w b slot offset width value live g false there held = record {
   done = sym (ap (λ c. c && true) held);
@@ -83,7 +83,7 @@ load_judged w b slot offset width value live g true there held = record {
 store_judged : (w : WorldState) (b : ActorState) (slot offset width value : ℕ) (live : Option Live) (g : Segment) (t : Bool)
     → slice_get w.cells.segments slot ≡ Some g → at_least (right_on b.sheet g.tag) right.ReadWrite ≡ t
     → IsJudged w b (Stores g.tag) false (event.Slot slot (slot_ask.Store offset width value live) (if t then slot_reply.Stored else slot_reply.Denied g.tag))
-        (after_slot w b slot (Some g) (slot_ask.Store offset width value live) (if t then slot_reply.Stored else slot_reply.Denied g.tag))
+    (after_slot w b slot (Some g) (slot_ask.Store offset width value live) (if t then slot_reply.Stored else slot_reply.Denied g.tag))
 unfolding takes
 store_judged w b slot offset width value live g false there held = record {
   done = sym (ap (λ c. c && true) held);
@@ -100,8 +100,10 @@ store_judged w b slot offset width value live g true there held = record {
 append_judged : (w : WorldState) (b : ActorState) (fd : ℕ) (bits : FdBits) (bytes : List ℕ) (s : Stream) (t : Bool) (k : StreamKind)
     → slice_get w.cells.streams fd ≡ Some s → (bits_on b.sheet fd).append ≡ t
     → IsJudged w b (Appends fd) (is_source k) (event.Fd fd (stream_ask.Append bits bytes) (if t then append_reply k else reply.Denied append_bit))
-        (record w { cells = record w.cells { streams = put_cell w.cells.streams fd (stream_after (Some s) (stream_ask.Append bits bytes) (if t then append_reply k else reply.Denied append_bit)) };
-                    actors = put_actor w.actors (takes w.image b (event.Fd fd (stream_ask.Append bits bytes) (if t then append_reply k else reply.Denied append_bit))) })
+    (record w {
+      cells = record w.cells { streams = put_cell w.cells.streams fd (stream_after (Some s) (stream_ask.Append bits bytes) (if t then append_reply k else reply.Denied append_bit)) };
+      actors = put_actor w.actors (takes w.image b (event.Fd fd (stream_ask.Append bits bytes) (if t then append_reply k else reply.Denied append_bit)));
+    })
 unfolding takes
 append_judged w b fd bits bytes s false k live held = record {
   done = sym (ap (λ c. c && not (is_source k)) held);
@@ -192,7 +194,7 @@ step_judged w t new all e a q r named wants asked =
     let same_event = ap (λ (x : ActorState). event_for w.cells (rest w.image x) p.want) same_actor ∙ ap (λ (x : Want). event_for w.cells b x) same_want in
     let event_is : t.event ≡ event_for w.cells b q = p.event_is ∙ same_event in
     let new_is : new ≡ (happened w b (event_for w.cells b q)).world =
-        p.new_is ∙ ap (λ (x : ActorState). (happened w (rest w.image x) (event_for w.cells (rest w.image x) p.want)).world) same_actor ∙ ap (λ (x : Want). (happened w b (event_for w.cells b x)).world) same_want in
+    p.new_is ∙ ap (λ (x : ActorState). (happened w (rest w.image x) (event_for w.cells (rest w.image x) p.want)).world) same_actor ∙ ap (λ (x : Want). (happened w b (event_for w.cells b x)).world) same_want in
     subst (λ x. IsJudged w b r (otherwise w.cells q) x new) (sym event_is) (subst (λ x. IsJudged w b r (otherwise w.cells q) (event_for w.cells b q) x) (sym new_is) j)
 
 each_judged : (old : WorldState) (turns : List Turn) (new : WorldState) → AllBetween old.actors → Runs old turns new → EachStep StepIsJudged old turns

@@ -2,7 +2,6 @@
 use Rattle.std.proofs.Common.{◌≡◌, ◌⊎◌, inl, inr, ℕ, zero, suc, ◌==◌, Bool, true, false, List, [], ◌∷◌, length, refl, sym, ap, subst, ◌∙◌}
 use Rattle.std.proofs.lemmas.Bool.{eqb-true, eq-eqb}
 use Rattle.std.specs.Prelude.{Option, Some, None, option_map, not, slice_get, slice_set, slice_range, nat_lt, ◌+◌, if◌then◌else◌}
-
 use Rattle.wedge_base.specs.Images.{Image}
 use Rattle.wedge_base.specs.Rights.{at_least, right_on}
 use Rattle.wedge_base.specs.Slots.{Segment, judged, slot_reply, slot_after, stored}
@@ -136,7 +135,7 @@ either_way false bytes = refl
 -- a store that is judged by the pair of the tag and the actor's right on it
 store_own : (b : ActorState) (g : Segment) (offset width value : ℕ) (live : Option Live) (within held : Bool) → at_least (right_on b.sheet g.tag) right.ReadWrite ≡ held
     → (bytes_by g.bytes (slot_ask.Store offset width value live) (if not within then slot_reply.Unmapped else if held then slot_reply.Stored else slot_reply.Denied g.tag) ≡ g.bytes)
-      ⊎ (allows b (Stores g.tag) ≡ true)
+    ⊎ (allows b (Stores g.tag) ≡ true)
 store_own b g offset width value live false held e = inl refl
 store_own b g offset width value live true false e = inl refl
 store_own b g offset width value live true true e = inr e

@@ -14,9 +14,7 @@ use image_form::Image;
 use rv_hart::Hart;
 use std::alloc::Global;
 use std::marker::Model;
-use wedge_base::{
-    ActorName, Ask, Code, Denial, DenialAt, End, Items, Live, NoMemory, TagNo, Want,
-};
+use wedge_base::{ActorName, Ask, Code, Denial, DenialAt, End, Items, Live, NoMemory, TagNo, Want};
 
 /// The top of the private range, at which the stack begins.
 const STACK_TOP: u32 = 0x2002_0000;
@@ -44,14 +42,14 @@ impl Model for Actor {
     ghost Value = { ActorState };
 
     ghost view = { λ a. record {
-        name = a.name;
-        compartment = a.compartment;
-        sheet = a.sheet;
-        hart = a.hart;
-        memory = a.memory;
-        fuel = a.fuel;
-        denials = a.denials;
-        phase = a.phase;
+      name = a.name;
+      compartment = a.compartment;
+      sheet = a.sheet;
+      hart = a.hart;
+      memory = a.memory;
+      fuel = a.fuel;
+      denials = a.denials;
+      phase = a.phase;
     } };
 
     ghost invariant = { λ a. PhaseFits a.phase };

@@ -11,12 +11,16 @@ use wedge_base::{Bytes, Code, End, FdNo, NoMemory, StreamAsk, Want};
 
 /// The registers of a call's arguments and of its number.
 const A0: u8 = 10;
+
 const A1: u8 = 11;
+
 const A2: u8 = 12;
+
 const A7: u8 = 17;
 
 /// The numbers of the calls.
 const EXIT: u32 = 0;
+
 const FD_APPEND: u32 = 16;
 
 /// The most bytes of a buffer.

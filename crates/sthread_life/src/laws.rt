@@ -7,12 +7,10 @@ ghost use Rattle.sthread_life.specs.Laws.{RunsAreJudged, RunsWriteTheirOwn};
 /// changes nothing else.
 pub fn runs_are_judged()
     ensures { RunsAreJudged }
-{
-}
+{}
 
 /// In every run the bytes of each tag are those that the image declares, with the stores of the run
 /// written over them in order; and each store was made by an actor whose sheet has ReadWrite on the tag.
 pub fn runs_write_their_own()
     ensures { RunsWriteTheirOwn }
-{
-}
+{}

@@ -70,10 +70,7 @@ impl Memory {
     {
         match range_at(self.ranges.as_slice(), address, size) {
             None => Ok(None),
-            Some(range) => Ok(Some(Bytes::from_slice(
-                alloc,
-                part_of(range, address, size),
-            )?)),
+            Some(range) => Ok(Some(Bytes::from_slice(alloc, part_of(range, address, size))?)),
         }
     }
 

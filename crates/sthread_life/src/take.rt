@@ -36,12 +36,7 @@ impl Actor {
     }
 
     /// What a slot's reply makes of it.
-    fn take_slot(
-        &mut self,
-        image: &Image,
-        ask: SlotAsk,
-        reply: SlotReply,
-    ) -> Result<(), NoMemory>
+    fn take_slot(&mut self, image: &Image, ask: SlotAsk, reply: SlotReply) -> Result<(), NoMemory>
         ensures { OnOk result (self.new ≡ taking.takes_slot image.now self.old ask reply) }
     {
         match reply {

@@ -2,9 +2,8 @@
 #![tactic(auto)]
 
 use host_io::{NoPace, RealErr, RealFiles, RealOut};
-use std::env;
-use std::io;
 use std::process::ExitCode;
+use std::{env, io};
 use wedge_cli::wedge;
 
 /// The exit status of want of memory.

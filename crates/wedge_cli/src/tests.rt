@@ -198,7 +198,7 @@ fn what_is_no_run_says_why(rt: HostRuntime) -> Result<(), Fail> {
             138,
             0,
             3,
-            "wedge: image refused at 136: truncated\n",
+            "wedge: image refused at 138: truncated\n",
         ),
         (
             &["run", "a"],

@@ -29,11 +29,7 @@ pub fn outcome(alloc: Global, world: &World<'_>) -> Result<Outcome, NoMemory>
 }
 
 /// The lines of the actors that have ended, in the order of names.
-fn actor_lines(
-    alloc: Global,
-    image: &Image,
-    actors: &[Actor],
-) -> Result<Vec<ActorLine>, NoMemory>
+fn actor_lines(alloc: Global, image: &Image, actors: &[Actor]) -> Result<Vec<ActorLine>, NoMemory>
     ensures { IfOk result (λ v. v.items ≡ outcomes.lines_of image.now actors.now) }
 {
     let mut lines = Vec::new(alloc);

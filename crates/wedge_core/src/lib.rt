@@ -4,22 +4,20 @@
 mod actors;
 mod built;
 mod cells;
-mod error;
 mod ending;
+mod error;
 mod segment;
 mod serially;
 mod stream;
 mod turns;
-
 mod world;
 
 pub use built::is_built;
 pub use cells::Cells;
-pub use error::NoTurn;
 pub use ending::outcome;
+pub use error::NoTurn;
 pub use segment::Segment;
 pub use serially::serial;
 pub use stream::Stream;
 pub use turns::{Taken, turn};
-
 pub use world::{World, open_world};

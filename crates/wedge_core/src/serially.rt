@@ -13,7 +13,9 @@ use crate::turns::turn;
 use crate::world::{World, open_world};
 use image_form::Image;
 use std::alloc::Global;
-use wedge_base::{ActorName, CellName, Event, Items, Journal, LogEntry, NoMemory, Outcome, Stamp, Turn};
+use wedge_base::{
+    ActorName, CellName, Event, Items, Journal, LogEntry, NoMemory, Outcome, Stamp, Turn,
+};
 
 /// A whole run of an image, on the calling thread: its journal and its outcome. The stamps of the
 /// journal are the places of its entries, from 1.

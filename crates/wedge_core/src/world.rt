@@ -29,15 +29,15 @@ impl<'a> Model for World<'a> {
     ghost Value = { Progress };
 
     ghost view = { λ w. record {
-        state = record { image = w.image.now; cells = w.cells; actors = w.actors.items };
-        turns = w.turns.items;
-        stopped = w.stopped;
+      state = record { image = w.image.now; cells = w.cells; actors = w.actors.items };
+      turns = w.turns.items;
+      stopped = w.stopped;
     } };
 
     ghost invariant = { λ w. IsRun (record {
-        state = record { image = w.image.now; cells = w.cells; actors = w.actors.items };
-        turns = w.turns.items;
-        stopped = w.stopped;
+      state = record { image = w.image.now; cells = w.cells; actors = w.actors.items };
+      turns = w.turns.items;
+      stopped = w.stopped;
     }) };
 }
 

@@ -22,7 +22,7 @@ returns-clause-run c =
     let whole : is_whole c.loop-world.world.state ≡ true = search rules in
     let entries = c.in_ok-journal.ensures in
     whole_run c.args.image.now c.loop-world.world.state c.into_turns.result.items c.in_ok-journal.journal.entries c.in_ok-outcome.outcome
-        c.loop-world.invariant.image (c.into_turns.ensures.run c.loop-world.invariant.going) whole entries c.in_ok-outcome.ensures
+    c.loop-world.invariant.image (c.into_turns.ensures.run c.loop-world.invariant.going) whole entries c.in_ok-outcome.ensures
 
 pub returns-clause-stamps : goal.returns-clause-stamps
 returns-clause-stamps c = is_numbered c.into_turns.result.items c.in_ok-journal.journal.entries c.in_ok-journal.ensures

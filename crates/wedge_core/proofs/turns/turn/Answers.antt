@@ -10,7 +10,7 @@ pub invariant_of-world : goal.invariant_of-world
 invariant_of-world c =
     let w = c.world.inside in
     run_goes_on w.image.now w.cells c.turn_over.new.cells w.actors.items c.turn_over.new.actors.items w.turns.items c.turn_over.new.turns.items c.args.name.now c.in-Ok.event w.stopped
-        c.world.invariant c.if-world.false c.in-Ok.ensures.took c.in-Ok.ensures.noted
+    c.world.invariant c.if-world.false c.in-Ok.ensures.took c.in-Ok.ensures.noted
 
 pub returns-in-Ok-clause-judged : goal.returns-in-Ok-clause-judged
 returns-in-Ok-clause-judged c =

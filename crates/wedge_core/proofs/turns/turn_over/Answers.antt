@@ -13,7 +13,7 @@ returns-clause-took c =
     let f = found c in
     let step = c.in_ok-event.ensures in
     is_turn c.args.image.now c.args.cells.now c.step.new.cells c.args.actors.now.items c.in-Some.place c.args.name.now c.index_mut-actor.result.now c.step.new.actor step.asks.0 c.in_ok-event.event
-        f.named step.asks.1 step.asks.2 step.cells step.takes (f.put c.step.new.actor step.name)
+    f.named step.asks.1 step.asks.2 step.cells step.takes (f.put c.step.new.actor step.name)
 
 pub returns-clause-unknown : goal.returns-clause-unknown
 returns-clause-unknown c = (λ h. cc, λ e. not_unknown c.args.actors.now.items c.args.name.now c.index_mut-actor.result.now (found c).named e)
