@@ -1,5 +1,5 @@
 -- A file of too many bytes is no image.
-use Rattle.std.proofs.Common.{◌≡◌, ℕ, ◌<◌, ◌≤◌, false, List, length, refl}
+use Rattle.std.proofs.Common.{◌≡◌, ℕ, ◌<◌, false, List, length, refl}
 use Rattle.std.specs.Prelude.{Err, nat_le}
 use Rattle.std.proofs.lemmas.Bool.{lt-leb}
 use Rattle.image_form.specs.declared.fault.Why.TheVariants.{Limit}

@@ -1,10 +1,10 @@
 -- When each status comes.
-use Rattle.std.specs.Prelude.{◌≡◌, ℕ, ◌<◌, ◌⊎◌, List, Option, Some, None}
+use Rattle.std.specs.Prelude.{◌≡◌, ℕ, ◌⊎◌, List, Option, None, Err}
 use Rattle.wedge_cli.specs.declared.refusal.Refusal.{Refusal}
 use Rattle.wedge_cli.specs.declared.top.Ended.{Ended}
 use Rattle.wedge_cli.specs.declared.refusal.Refusal.TheVariants as refusal
 use Rattle.wedge_cli.specs.Lines.{line, refusal_text, status_of}
-use Rattle.wedge_cli.specs.Loading.{IsRefused}
+use Rattle.wedge_cli.specs.Loading.{IsRefused, accepted}
 use Rattle.wedge_cli.specs.Ended.{Device, Takes, Rises}
 
 -- a refusal, or want of memory for its line: err takes the line, or its count of faults rises
@@ -23,3 +23,7 @@ pub record IsRefusal (name : List ℕ) (content : Option (List ℕ)) (reads_befo
   pub cause : IsRefused content reads_before reads_after why
   pub out : out_after ≡ out_before
   pub err : SaysRefusal name why ended err_before err_after
+
+-- no image of a kind that the machine runs
+abbrev pub IsUnfit : List ℕ → Type 0
+IsUnfit bytes = (why : Refusal) × (accepted bytes ≡ Err why)

@@ -1,15 +1,14 @@
 -- What the program ends with.
-use Rattle.std.specs.Prelude.{◌≡◌, ℕ, ◌<◌, ◌≤◌, ◌⊎◌, List, [], ◌∷◌, ◌++◌, take, Option, Some, None}
+use Rattle.std.specs.Prelude.{◌≡◌, ℕ, ◌<◌, ◌≤◌, ◌⊎◌, List, take, Option, Some, None}
 use Rattle.wedge_base.specs.Images.{Image}
 use Rattle.wedge_base.specs.declared.events.Journal.{Journal}
 use Rattle.wedge_base.specs.declared.outcome.Outcome.{Outcome}
-use Rattle.host_io.specs.Told.{WhereTold, grown_by}
+use Rattle.host_io.specs.Told.{grown_by}
 use Rattle.wedge_core.specs.Serial.{IsWholeRun, IsNumbered}
 use Rattle.report_text.specs.Reports.{report_of}
-use Rattle.wedge_cli.specs.declared.refusal.Refusal.{Refusal}
 use Rattle.wedge_cli.specs.declared.top.Ended.{Ended}
-use Rattle.wedge_cli.specs.Lines.{line, usage_line, refusal_text, status_of}
-use Rattle.wedge_cli.specs.Loading.{IsLoaded, IsRefused}
+use Rattle.wedge_cli.specs.Lines.{usage_line}
+use Rattle.wedge_cli.specs.Loading.{IsLoaded}
 
 -- The journal tells a whole run of the image that the file's bytes spell, each step of it judged by the
 -- sheet, and the text is that run's report.

@@ -1,5 +1,5 @@
 -- From the bytes of a file to the image that is run.
-use Rattle.std.specs.Prelude.{◌≡◌, ℕ, ◌<◌, true, List, Option, Result, Ok, Err, if◌then◌else◌}
+use Rattle.std.specs.Prelude.{◌≡◌, ℕ, ◌<◌, List, Option, Result, Ok, Err, if◌then◌else◌}
 use Rattle.wedge_base.specs.Images.{Image}
 use Rattle.host_io.specs.Told.{WhereTold}
 use Rattle.image_form.specs.declared.fault.Fault.{Fault}

@@ -5,7 +5,8 @@ ghost use Rattle.wedge_cli.specs.Words as asking;
 ghost use Rattle.wedge_cli.specs.Lines as lines;
 ghost use Rattle.wedge_cli.specs.Loading.{IsRefused};
 ghost use Rattle.wedge_cli.specs.Ended.{IsRunOf, device, Takes, IsRun, IsUsage, IsRunFor};
-ghost use Rattle.wedge_cli.specs.Causes.{SaysRefusal, IsRefusal};
+ghost use Rattle.wedge_cli.specs.Causes.{SaysRefusal, IsRefusal, IsUnfit};
+ghost use Rattle.host_io.specs.Told.{WhereTold};
 
 use crate::lines::{no_memory_line, refusal_line, usage_line, write_fault_line};
 use crate::loading::load;
@@ -55,6 +56,37 @@ pub fn wedge<R: Threads + Wait + Sync, F: Files, O: Sink, E: Sink, P: Pace + Syn
     out: &mut O,
     err: &mut E,
     _pace: &P,
+) -> Ended
+    // what is done
+    ensures usage { asking.asked (asking.texts words.now) ≡ None → IsUsage result
+        (device (O.written out.old) (O.faults out.old)) (device (O.written out.new) (O.faults out.new))
+        (device (E.written err.old) (E.faults err.old)) (device (E.written err.new) (E.faults err.new)) }
+    ensures image { (name : List ℕ) → asking.asked (asking.texts words.now) ≡ Some name →
+        IsRefusal name (F.content files.old name) (F.faults files.old name) (F.faults files.new name) result
+        (device (O.written out.old) (O.faults out.old)) (device (O.written out.new) (O.faults out.new))
+        (device (E.written err.old) (E.faults err.old)) (device (E.written err.new) (E.faults err.new))
+        ⊎ IsRunFor (F.content files.old name) result
+        (device (O.written out.old) (O.faults out.old)) (device (O.written out.new) (O.faults out.new))
+        (device (E.written err.old) (E.faults err.old)) (device (E.written err.new) (E.faults err.new)) }
+    ensures content { (other : List ℕ) → F.content files.new other ≡ F.content files.old other }
+    ensures rises { (other : List ℕ) → F.faults files.old other ≤ F.faults files.new other }
+
+    // why each status comes
+    ensures usage_only { result.status ≡ 2 → asking.asked (asking.texts words.now) ≡ None }
+    ensures image_only { (name : List ℕ) → asking.asked (asking.texts words.now) ≡ Some name → result.status ≡ 3 → WhereTold (F.content files.old name) IsUnfit }
+    ensures read_only { (name : List ℕ) → asking.asked (asking.texts words.now) ≡ Some name → result.status ≡ 4 → F.faults files.old name < F.faults files.new name }
+    ensures write_only { result.status ≡ 5 → (O.faults out.old < O.faults out.new) ⊎ (E.faults err.old < E.faults err.new) }
+{
+    does(alloc, words, files, out, err)
+}
+
+/// Does what the words ask.
+fn does<F: Files, O: Sink, E: Sink>(
+    alloc: Global,
+    words: &[String],
+    files: &mut F,
+    out: &mut O,
+    err: &mut E,
 ) -> Ended
     ensures usage { asking.asked (asking.texts words.now) ≡ None → IsUsage result
         (device (O.written out.old) (O.faults out.old)) (device (O.written out.new) (O.faults out.new))

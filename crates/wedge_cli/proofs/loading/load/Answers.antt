@@ -1,4 +1,4 @@
-use Rattle.std.proofs.Common.{◌≡◌, ap}
+use Rattle.std.proofs.Common.{ap}
 use Rattle.std.specs.Prelude.{Err}
 use Rattle.wedge_cli.proofs.TooLong.{accepted-long}
 use Rattle.wedge_cli.proofs.loading.load.Goals as goal
