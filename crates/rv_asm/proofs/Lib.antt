@@ -1,0 +1,4 @@
+pub mod Commas
+pub mod Trims
+pub mod Digits
+pub mod Places

@@ -1,0 +1,26 @@
+-- What the code's types stand for.
+use Rattle.rv_asm.specs.Numbers as number
+use Rattle.rv_asm.specs.Statements as statement
+use Rattle.rv_asm.specs.declared.numbers.Number.{Number}
+use Rattle.rv_asm.specs.declared.numbers.Number.TheVariants as number_code
+use Rattle.rv_asm.specs.declared.templates.Template.{Template}
+use Rattle.rv_asm.specs.declared.statements.Statement.{Statement}
+use Rattle.rv_asm.specs.declared.statements.Statement.TheVariants as code
+
+abbrev pub number_view : Number → number.Number
+number_view (number_code.Literal z) = number.Literal z
+number_view (number_code.Named name) = number.Named name.now
+
+abbrev pub template_view : Template → statement.Template
+template_view t = statement.template t.op t.rd t.rs1 t.rs2 (number_view t.imm)
+
+abbrev pub statement_view : Statement → statement.Statement
+statement_view code.Blank = statement.Blank
+statement_view (code.Label name sound) = statement.Label name.now sound
+statement_view (code.Procedure name sound) = statement.Procedure name.now sound
+statement_view (code.Word n) = statement.Word (number_view n)
+statement_view (code.Instruction t) = statement.Instruction (template_view t)
+statement_view (code.LoadNumber rd n) = statement.LoadNumber rd (number_view n)
+statement_view (code.LoadAddress rd name) = statement.LoadAddress rd name.now
+statement_view (code.Service n) = statement.Service n
+statement_view (code.Faulty why words) = statement.Faulty why words
