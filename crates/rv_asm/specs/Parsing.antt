@@ -1,5 +1,5 @@
 -- From a line to its statement.
-use Rattle.std.specs.Prelude.{ℕ, ◌-◌, ◌==◌, pos, Bool, ◌&&◌, List, [], ◌∷◌, length, find, Option, Some, None, option_map, codes, slice_index, take, if◌then◌else◌}
+use Rattle.std.specs.Prelude.{ℕ, ◌-◌, ◌==◌, pos, Bool, true, false, ◌&&◌, List, [], ◌∷◌, length, find, Option, Some, None, option_map, codes, slice_index, take, if◌then◌else◌}
 use Rattle.std.specs.Str.{bytes_eq}
 use Rattle.std.specs.Map.{lookup}
 use Rattle.rv_isa.specs.declared.Op.{Op}
@@ -72,28 +72,41 @@ with_form form.Shift o text = two_registers_number text >>= λ p. Some (template
 with_form form.Register o text = three_registers text >>= λ p. Some (template o p.0 p.1 p.2 zero)
 with_form form.Whole o text = bare (template o 0 0 0 zero) text
 
--- `fence` alone orders everything
+abbrev pub is_fence : Op → Bool
+is_fence op.Fence = true
+is_fence _ = false
+
+-- an instruction of the table; `fence` alone orders everything
 unfoldable pub machine : Op → List ℕ → Option Template
-machine op.Fence [] = Some (template op.Fence 0 0 0 (number.Literal (pos 255)))
-machine o text = with_form (form_of o) o text
+machine o text =
+    if is_fence o && length text == 0
+    then Some (template o 0 0 0 (number.Literal (pos 255)))
+    else with_form (form_of o) o text
+
+-- the instruction that a shorthand is another word for
+unfoldable pub synonym : Shorthand → List ℕ → Option Template
+synonym short.Move text = two_registers text >>= λ p. Some (template op.Addi p.0 p.1 0 zero)
+synonym short.Jump text = one_number text >>= λ n. Some (template op.Jal 0 0 0 n)
+synonym short.Call text = one_number text >>= λ n. Some (template op.Jal 1 0 0 n)
+synonym short.Return text = bare (template op.Jalr 0 1 0 zero) text
+synonym short.BranchZero text = register_number text >>= λ p. Some (template op.Beq 0 p.0 0 p.1)
+synonym short.BranchNotZero text = register_number text >>= λ p. Some (template op.Bne 0 p.0 0 p.1)
+synonym short.Nothing text = bare (template op.Addi 0 0 0 zero) text
+synonym _ text = None
 
 -- what a shorthand means
 unfoldable pub shorthand : Shorthand → List ℕ → Option Statement
-shorthand short.Word text = option_map statement.Word (one_number text)
+shorthand short.Word text = one_number text >>= λ n. Some (statement.Word n)
 shorthand short.Procedure text = one (operands text) >>= λ name. Some (statement.Procedure name (is_name name))
 shorthand short.LoadNumber text = register_number text >>= λ p. Some (statement.LoadNumber p.0 p.1)
 shorthand short.LoadAddress text = register_label text >>= λ p. Some (statement.LoadAddress p.0 p.1)
-shorthand short.Move text = two_registers text >>= λ p. Some (statement.Instruction (template op.Addi p.0 p.1 0 zero))
-shorthand short.Jump text = one_number text >>= λ n. Some (statement.Instruction (template op.Jal 0 0 0 n))
-shorthand short.Call text = one_number text >>= λ n. Some (statement.Instruction (template op.Jal 1 0 0 n))
-shorthand short.Return text = bare (statement.Instruction (template op.Jalr 0 1 0 zero)) text
-shorthand short.BranchZero text = register_number text >>= λ p. Some (statement.Instruction (template op.Beq 0 p.0 0 p.1))
-shorthand short.BranchNotZero text = register_number text >>= λ p. Some (statement.Instruction (template op.Bne 0 p.0 0 p.1))
-shorthand short.Nothing text = bare (statement.Instruction (template op.Addi 0 0 0 zero)) text
-shorthand short.Service text = one (operands text) >>= λ name. option_map statement.Service (service_named name)
+shorthand short.Service text =
+    one (operands text) >>= λ name.
+    service_named name >>= λ service. Some (statement.Service service)
+shorthand s text = synonym s text >>= λ t. Some (statement.Instruction t)
 
 abbrev pub with_head : Head → List ℕ → Option Statement
-with_head (head.Machine o) text = option_map statement.Instruction (machine o text)
+with_head (head.Machine o) text = machine o text >>= λ t. Some (statement.Instruction t)
 with_head (head.Short s) text = shorthand s text
 
 -- how many words a line has whose operands are at fault

@@ -7,6 +7,7 @@ mod literals;
 mod mnemonics;
 mod numbers;
 mod operands;
+mod parsing;
 mod registers;
 mod services;
 mod statements;

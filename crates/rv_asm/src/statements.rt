@@ -3,7 +3,7 @@
 use crate::fault::Why;
 use crate::numbers::Number;
 use crate::services::Service;
-use crate::templates::Template;
+use crate::templates::{Register, Template};
 
 /// What a line says.
 #[derive(Clone, Copy, Debug)]
@@ -19,9 +19,9 @@ pub(crate) enum Statement<'a> {
     /// An instruction.
     Instruction(Template<'a>),
     /// A register gets a number.
-    LoadNumber { rd: u8, number: Number<'a> },
+    LoadNumber { rd: Register, number: Number<'a> },
     /// A register gets the address of a label.
-    LoadAddress { rd: u8, label: &'a [u8] },
+    LoadAddress { rd: Register, label: &'a [u8] },
     /// A service call.
     Service(Service),
     /// The line is at fault, and counts so many words.

@@ -20,3 +20,10 @@ pub(crate) struct Template<'a> {
     ghost rs1_fits: { rs1 < (ranges (form_of op)).rs1 },
     ghost rs2_fits: { rs2 < (ranges (form_of op)).rs2 },
 }
+
+/// A register.
+#[derive(Clone, Copy, Debug)]
+pub(crate) struct Register {
+    pub number: u8,
+    ghost fits: { number < 32 },
+}
