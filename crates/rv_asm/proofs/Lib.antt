@@ -2,3 +2,4 @@ pub mod Commas
 pub mod Trims
 pub mod Digits
 pub mod Places
+pub mod Equating

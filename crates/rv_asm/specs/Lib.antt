@@ -4,4 +4,5 @@ pub mod Operands
 pub mod Services
 pub mod Statements
 pub mod Parsing
+pub mod Assembly
 pub mod Views

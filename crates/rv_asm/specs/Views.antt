@@ -1,9 +1,15 @@
 -- What the code's types stand for.
+use Rattle.std.specs.Prelude.{ℕ, List, Option}
+use Rattle.std.specs.HashMap.{get_by}
+use Rattle.std.specs.Str.{bytes_eq}
 use Rattle.rv_asm.specs.Numbers as number
 use Rattle.rv_asm.specs.Statements as statement
 use Rattle.rv_asm.specs.declared.numbers.Number.{Number}
 use Rattle.rv_asm.specs.declared.numbers.Number.TheVariants as number_code
 use Rattle.rv_asm.specs.declared.templates.Template.{Template}
+use Rattle.rv_asm.specs.declared.labels.Equates.{Equates}
+use Rattle.rv_asm.specs.declared.labels.Labels.{Labels}
+use Rattle.rv_asm.specs.declared.labels.Label.{Label}
 use Rattle.rv_asm.specs.declared.statements.Statement.{Statement}
 use Rattle.rv_asm.specs.declared.statements.Statement.TheVariants as code
 
@@ -24,3 +30,10 @@ statement_view (code.LoadNumber rd n) = statement.LoadNumber rd.number (number_v
 statement_view (code.LoadAddress rd name) = statement.LoadAddress rd.number name.now
 statement_view (code.Service n) = statement.Service n
 statement_view (code.Faulty why words) = statement.Faulty why words
+
+-- a map of names as a function of them
+abbrev pub equates_view : Equates → List ℕ → Option ℕ
+equates_view e name = get_by (λ k. bytes_eq name k.now) e.map
+
+abbrev pub labels_view : Labels → List ℕ → Option Label
+labels_view l name = get_by (λ k. bytes_eq name k.now) l.map
