@@ -3,3 +3,4 @@ pub mod Trims
 pub mod Digits
 pub mod Places
 pub mod Equating
+pub mod Allowed

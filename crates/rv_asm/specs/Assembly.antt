@@ -1,5 +1,5 @@
 -- What a text means: its words and its procedures, or the first line that is at fault.
-use Rattle.std.specs.Prelude.{ℕ, ◌+◌, ◌-◌, ◌*◌, ◌/◌, ◌%◌, ◌^◌, ◌==◌, ℤ, pos, negsuc, Bool, true, false, ◌&&◌, ◌||◌, List, [], ◌∷◌, ◌++◌, length, map, Option, Some, None, option_map, is_some, Result, Ok, Err, nat_lt, int_le, if◌then◌else◌}
+use Rattle.std.specs.Prelude.{◌≡◌, ℕ, ◌+◌, ◌-◌, ◌*◌, ◌/◌, ◌%◌, ◌^◌, ◌==◌, ℤ, pos, negsuc, Bool, true, false, ◌&&◌, ◌||◌, List, [], ◌∷◌, ◌++◌, length, map, Option, Some, None, option_map, is_some, Result, Ok, Err, nat_lt, int_le, if◌then◌else◌}
 use Rattle.std.specs.Int.{w32, cast_signed}
 use Rattle.std.specs.Str.{bytes_eq}
 use Rattle.rv_isa.specs.declared.Op.TheVariants as op
@@ -159,15 +159,24 @@ service_words n = add_word 17 0 (pos n) ∷ encoded (instr op.Ecall 0 0 0 (pos 0
 abbrev pub label_line : Bool → Bool → Result (List ℕ) Why
 label_line taken sound = if taken then Err why.Twice else (if sound then Ok [] else Err why.Operand)
 
+abbrev pub word : Equates → Number → Result (List ℕ) Why
+word es n = integer es n >>= λ z. demand (is_word z) (word_of z ∷ [])
+
+abbrev pub number_loaded : Equates → ℕ → Number → Result (List ℕ) Why
+number_loaded es rd n = integer es n >>= λ z. demand (is_word z) (load_number rd z)
+
+abbrev pub address_loaded : Labels → ℕ → List ℕ → Result (List ℕ) Why
+address_loaded ls rd name = address_of ls name >>= λ a. Ok (load_two rd a)
+
 -- the words of a statement on a line, at an address
 unfoldable pub words : Equates → Labels → ℕ → ℕ → Statement → Result (List ℕ) Why
 words es ls line at statement.Blank = Ok []
 words es ls line at (statement.Label name sound) = label_line (is_taken es ls line name) sound
 words es ls line at (statement.Procedure name sound) = label_line (is_taken es ls line name) sound
-words es ls line at (statement.Word n) = integer es n >>= λ z. demand (is_word z) (word_of z ∷ [])
+words es ls line at (statement.Word n) = word es n
 words es ls line at (statement.Instruction t) = instruction es ls at t
-words es ls line at (statement.LoadNumber rd n) = integer es n >>= λ z. demand (is_word z) (load_number rd z)
-words es ls line at (statement.LoadAddress rd name) = address_of ls name >>= λ a. Ok (load_two rd a)
+words es ls line at (statement.LoadNumber rd n) = number_loaded es rd n
+words es ls line at (statement.LoadAddress rd name) = address_loaded ls rd name
 words es ls line at (statement.Service s) = Ok (service_words (service_number s))
 words es ls line at (statement.Faulty w n) = Err w
 
@@ -239,3 +248,10 @@ assembled text base names =
     let es = equates_of names in
     let ls = labels_from es no_labels 1 base statements in
     assembled_from es ls nothing 1 base statements
+
+-- ---- answers
+
+-- an answer of the code, seen by a view, is the one that is meant
+abbrev pub Gives : {X Y E : Type 0} → (X → Y) → Result X E → Result Y E → Type 0
+Gives view (Ok x) meant = Ok (view x) ≡ meant
+Gives view (Err e) meant = Err e ≡ meant

@@ -1,5 +1,5 @@
 -- What the code's types stand for.
-use Rattle.std.specs.Prelude.{ℕ, List, Option}
+use Rattle.std.specs.Prelude.{ℕ, List, [], ◌∷◌, Option}
 use Rattle.std.specs.HashMap.{get_by}
 use Rattle.std.specs.Str.{bytes_eq}
 use Rattle.rv_asm.specs.Numbers as number
@@ -7,6 +7,8 @@ use Rattle.rv_asm.specs.Statements as statement
 use Rattle.rv_asm.specs.declared.numbers.Number.{Number}
 use Rattle.rv_asm.specs.declared.numbers.Number.TheVariants as number_code
 use Rattle.rv_asm.specs.declared.templates.Template.{Template}
+use Rattle.rv_asm.specs.declared.emission.Code.{Code}
+use Rattle.rv_asm.specs.declared.emission.Code.TheVariants.{Empty, One, Two}
 use Rattle.rv_asm.specs.declared.labels.Equates.{Equates}
 use Rattle.rv_asm.specs.declared.labels.Labels.{Labels}
 use Rattle.rv_asm.specs.declared.labels.Label.{Label}
@@ -37,3 +39,8 @@ equates_view e name = get_by (λ k. bytes_eq name k.now) e.map
 
 abbrev pub labels_view : Labels → List ℕ → Option Label
 labels_view l name = get_by (λ k. bytes_eq name k.now) l.map
+
+abbrev pub code_view : Code → List ℕ
+code_view Empty = []
+code_view (One a) = a ∷ []
+code_view (Two a b) = a ∷ b ∷ []

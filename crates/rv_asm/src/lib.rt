@@ -2,6 +2,7 @@
 #![tactic(auto)]
 
 mod assembled;
+mod emission;
 mod encoding;
 mod fault;
 mod labels;

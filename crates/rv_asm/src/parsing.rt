@@ -239,7 +239,7 @@ fn shorthand(shorthand: Shorthand, text: &[u8]) -> Option<Statement<'_>>
 }
 
 /// How many words a line has whose operands are at fault.
-fn words_at_fault(head: Head) -> u32
+fn words_at_fault(head: Head) -> u8
     ensures { result ≡ parsing.words_at_fault head }
 {
     match head {

@@ -1,6 +1,6 @@
 //! Which numbers an instruction may have.
 
-ghost use Rattle.std.specs.Prelude.{◌≡◌, ◌==◌, ◌%◌, ◌≤◌, ◌≤ℤ◌, ◌^◌, ◌&&◌, pos, negsuc, int_le, IfOk};
+ghost use Rattle.std.specs.Prelude.{◌≡◌, ◌==◌, ◌-◌, ◌%◌, ◌≤◌, ◌≤ℤ◌, ◌^◌, ◌&&◌, pos, negsuc, int_le, IfOk};
 ghost use Rattle.rv_isa.specs.Encoding.{word_of};
 ghost use Rattle.rv_isa.specs.Ranges.{ranges};
 ghost use Rattle.rv_asm.specs.Assembly as assembly;
@@ -47,19 +47,36 @@ fn range(form: Form) -> (i64, i64, u32)
     }
 }
 
+/// Whether a number may be written for a form.
+fn is_allowed(form: Form, z: i64) -> bool
+    ensures { result ≡ assembly.is_allowed (assembly.allowed form) z }
+{
+    let (low, high, step) = range(form);
+    is_within(low, high, z) && word_of(z) % step == 0
+}
+
+/// A number that fits 32 bits with a sign.
+fn narrow(z: i64) -> i32
+    requires low { negsuc (2 ^ 31 - 1) ≤ℤ z }
+    requires high { z ≤ℤ pos (2 ^ 31 - 1) }
+    ensures { result ≡ z }
+{
+    z as i32
+}
+
 /// The number of an instruction, by its form.
+#[tactic(auto, using(crate::proofs::Allowed::placed_plain, crate::proofs::Allowed::plain_low, crate::proofs::Allowed::plain_high, crate::proofs::Allowed::plain_step, crate::proofs::Allowed::least, crate::proofs::Allowed::greatest))]
 pub(crate) fn immediate(form: Form, z: i64) -> Result<i32, Why>
     ensures is { result ≡ assembly.immediate form z }
     ensures low { IfOk result (λ imm. (ranges form).low ≤ℤ imm) }
     ensures high { IfOk result (λ imm. imm ≤ℤ (ranges form).high) }
     ensures step { IfOk result (λ imm. word_of imm % (ranges form).step ≡ 0) }
 {
-    let (low, high, step) = range(form);
-    if !is_within(low, high, z) || word_of(z) % step != 0 {
+    if !is_allowed(form, z) {
         return Err(Why::Range);
     }
     match form {
         Form::Upper => Ok((word_of(z) << 12).cast_signed()),
-        _ => Ok(z as i32),
+        _ => Ok(narrow(z)),
     }
 }

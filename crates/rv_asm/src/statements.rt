@@ -25,5 +25,5 @@ pub(crate) enum Statement<'a> {
     /// A service call.
     Service(Service),
     /// The line is at fault, and counts so many words.
-    Faulty { why: Why, words: u32 },
+    Faulty { why: Why, words: u8 },
 }
