@@ -4,3 +4,4 @@ pub mod Digits
 pub mod Places
 pub mod Equating
 pub mod Allowed
+pub mod Passes

@@ -20,6 +20,8 @@ use Rattle.rv_asm.specs.declared.assembled.Equate.{Equate}
 use Rattle.rv_asm.specs.declared.assembled.Assembled.{Assembled}
 use Rattle.rv_asm.specs.declared.labels.Label.{Label}
 use Rattle.rv_asm.specs.declared.fault.Fault.{Fault}
+use Rattle.rv_asm.specs.declared.fault.AsmError.{AsmError}
+use Rattle.rv_asm.specs.declared.fault.AsmError.TheVariants as error
 use Rattle.rv_asm.specs.declared.fault.Why.{Why}
 use Rattle.rv_asm.specs.declared.fault.Why.TheVariants as why
 
@@ -255,3 +257,9 @@ assembled text base names =
 abbrev pub Gives : {X Y E : Type 0} → (X → Y) → Result X E → Result Y E → Type 0
 Gives view (Ok x) meant = Ok (view x) ≡ meant
 Gives view (Err e) meant = Err e ≡ meant
+
+-- what `assemble` answers is what is meant, unless memory ran out
+abbrev pub IsAnswer : Result Assembled AsmError → Result Assembled Fault → Type 0
+IsAnswer (Ok a) meant = Ok a ≡ meant
+IsAnswer (Err error.NoMemory) meant = Unit {0}
+IsAnswer (Err (error.Fault f)) meant = Err f ≡ meant

@@ -11,7 +11,7 @@ use wedge_base::NoMemory;
 
 /// Where a label stands.
 #[derive(Clone, Copy, Debug, PartialEq, Eq)]
-pub struct Label {
+pub(crate) struct Label {
     /// The number of its line.
     pub line: usize,
     pub address: u32,

@@ -2,6 +2,7 @@
 #![tactic(auto)]
 
 mod assembled;
+mod assembly;
 mod emission;
 mod encoding;
 mod fault;
@@ -18,5 +19,6 @@ mod services;
 mod statements;
 mod templates;
 
+pub use assembly::assemble;
 pub use assembled::{Assembled, Equate};
 pub use fault::{AsmError, Fault, Why};
