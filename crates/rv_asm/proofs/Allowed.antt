@@ -1,5 +1,5 @@
 -- The numbers of the forms whose number is written as it is.
-use Rattle.std.proofs.Common.{◌≡◌, ◌≢◌, ◌-◌, ◌^◌, ◌%◌, Bool, true, ◌&&◌, ℤ, pos, negsuc, ◌≤ℤ◌, int_le, refl, ap, ◌∙◌, sym, arith}
+use Rattle.std.proofs.Common.{◌≡◌, ◌≢◌, ◌-◌, ◌^◌, ◌%◌, true, ℤ, pos, negsuc, ◌≤ℤ◌, int_le, refl, arith}
 use Rattle.std.proofs.lemmas.Bool.{and_parts, eqb-true}
 use Rattle.std.proofs.lemmas.Int.{ints}
 use Rattle.rv_isa.specs.declared.Form.{Form}

@@ -124,7 +124,11 @@ fn label_line(taken: bool, sound: bool) -> Result<Code, Why>
     if taken {
         return Err(Why::Twice);
     }
-    if sound { Ok(Code::Empty) } else { Err(Why::Operand) }
+    if sound {
+        Ok(Code::Empty)
+    } else {
+        Err(Why::Operand)
+    }
 }
 
 /// A word.
@@ -195,13 +199,7 @@ fn number_size(equates: &Equates<'_>, number: Number<'_>) -> u32
     ensures small { result ≤ 255 }
 {
     match integer(equates, number) {
-        Ok(z) => {
-            if is_small(z) {
-                1
-            } else {
-                2
-            }
-        }
+        Ok(z) => { if is_small(z) { 1 } else { 2 } }
         Err(_) => 1,
     }
 }

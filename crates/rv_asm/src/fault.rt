@@ -32,6 +32,7 @@ pub enum AsmError {
     NoMemory,
     Fault(Fault),
 }
+
 impl From<NoMemory> for AsmError {
     ghost use Rattle.std.specs.Prelude.{◌≡◌};
     ghost use Rattle.rv_asm.specs.declared.fault.AsmError.TheVariants.{NoMemory};

@@ -18,7 +18,9 @@ mod registers;
 mod services;
 mod statements;
 mod templates;
+#[cfg(test)]
+mod tests;
 
-pub use assembly::assemble;
 pub use assembled::{Assembled, Equate};
+pub use assembly::assemble;
 pub use fault::{AsmError, Fault, Why};

@@ -1,5 +1,5 @@
-use Rattle.std.proofs.Common.{◌≡◌, ◌+◌, drop, map, ap, sym, ◌∙◌, arith}
-use Rattle.rv_asm.specs.Assembly.{assembled_from, nothing, procedures, grown}
+use Rattle.std.proofs.Common.{◌+◌, drop, map, ap, sym, ◌∙◌, arith}
+use Rattle.rv_asm.specs.Assembly.{assembled_from, procedures, grown}
 use Rattle.rv_asm.specs.Views.{statement_view, equates_view, labels_view, code_view}
 use Rattle.rv_asm.proofs.Passes.{assembled_step, assembled_fault, assembled_end}
 use Rattle.rv_asm.proofs.assembly.emitted.Goals as goal
@@ -20,11 +20,11 @@ loop-statement-preserved c =
     record {
       counted = omega (arith, l.invariant.counted);
       so_far =
-        ap (λ ws. assembled_from es ls (record { words = ws; procedures = c.push_procedure.new.procedures }) (l.line + 1 + 1) c.after-at.result rest) c.in_ok-push_code-in-Ok.ensures
-        ∙ ap (λ ps. assembled_from es ls (record { words = done.words; procedures = ps }) (l.line + 1 + 1) c.after-at.result rest) c.in_ok-push_procedure.ensures
-        ∙ ap (λ n. assembled_from es ls done (l.line + 1 + 1) n rest) c.after-at.ensures
-        ∙ sym (assembled_step statement_view es c.args.statements.now ls l.front (l.line + 1) l.at l.statement-index c.statement-item.result (code_view c.in-Ok.code) c.loop-statement-test.true c.statement-item.is c.in-Ok.ensures)
-        ∙ l.invariant.so_far;
+          ap (λ ws. assembled_from es ls (record { words = ws; procedures = c.push_procedure.new.procedures }) (l.line + 1 + 1) c.after-at.result rest) c.in_ok-push_code-in-Ok.ensures
+          ∙ ap (λ ps. assembled_from es ls (record { words = done.words; procedures = ps }) (l.line + 1 + 1) c.after-at.result rest) c.in_ok-push_procedure.ensures
+          ∙ ap (λ n. assembled_from es ls done (l.line + 1 + 1) n rest) c.after-at.ensures
+          ∙ sym (assembled_step statement_view es c.args.statements.now ls l.front (l.line + 1) l.at l.statement-index c.statement-item.result (code_view c.in-Ok.code) c.loop-statement-test.true c.statement-item.is c.in-Ok.ensures)
+          ∙ l.invariant.so_far;
     }
 
 pub returns : goal.returns

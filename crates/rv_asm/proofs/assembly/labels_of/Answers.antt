@@ -1,5 +1,5 @@
-use Rattle.std.proofs.Common.{◌≡◌, ◌+◌, drop, map, ap, sym, ◌∙◌, arith}
-use Rattle.rv_asm.specs.Assembly.{Labels, labels_from, no_labels, given, name_given}
+use Rattle.std.proofs.Common.{◌+◌, drop, map, ap, sym, ◌∙◌, arith}
+use Rattle.rv_asm.specs.Assembly.{Labels, labels_from, given, name_given}
 use Rattle.rv_asm.specs.Views.{statement_view, equates_view, labels_view}
 use Rattle.rv_asm.proofs.Passes.{labels_step, labels_end}
 use Rattle.rv_asm.proofs.assembly.labels_of.Goals as goal
@@ -13,10 +13,10 @@ loop-statement-preserved c =
     record {
       counted = omega (arith, l.invariant.counted);
       so_far =
-        ap (λ (ls : Labels). labels_from es ls (l.line + 1 + 1) c.after-at.result rest) c.in_ok-note.ensures
-        ∙ ap (λ n. labels_from es known (l.line + 1 + 1) n rest) c.after-at.ensures
-        ∙ sym (labels_step statement_view es c.args.statements.now (labels_view l.labels) (l.line + 1) l.at l.statement-index c.statement-item.result c.loop-statement-test.true c.statement-item.is)
-        ∙ l.invariant.so_far;
+          ap (λ (ls : Labels). labels_from es ls (l.line + 1 + 1) c.after-at.result rest) c.in_ok-note.ensures
+          ∙ ap (λ n. labels_from es known (l.line + 1 + 1) n rest) c.after-at.ensures
+          ∙ sym (labels_step statement_view es c.args.statements.now (labels_view l.labels) (l.line + 1) l.at l.statement-index c.statement-item.result c.loop-statement-test.true c.statement-item.is)
+          ∙ l.invariant.so_far;
     }
 
 pub returns : goal.returns

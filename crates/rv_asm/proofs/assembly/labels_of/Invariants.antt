@@ -1,4 +1,4 @@
-use Rattle.std.proofs.Common.{◌≡◌, ℕ, ◌+◌, drop, map}
+use Rattle.std.proofs.Common.{◌≡◌, ◌+◌, drop, map}
 use Rattle.rv_asm.specs.Assembly.{labels_from, no_labels}
 use Rattle.rv_asm.specs.Views.{statement_view, equates_view, labels_view}
 use Rattle.rv_asm.proofs.assembly.labels_of.Given as goal

@@ -1,4 +1,4 @@
-use Rattle.std.proofs.Common.{◌≡◌, ap, sym, ◌∙◌, [], below_more, false, arith}
+use Rattle.std.proofs.Common.{◌≡◌, ap, sym, ◌∙◌, [], below_more, false}
 use Rattle.std.specs.Str.{bytes_eq}
 use Rattle.rv_isa.specs.Text.{register_names, register_name}
 use Rattle.rv_asm.proofs.Places.{position_there, position_nowhere}
