@@ -4,7 +4,7 @@ use Rattle.std.proofs.lemmas.Bool.{and_parts, eqb-true}
 use Rattle.std.proofs.lemmas.Int.{ints}
 use Rattle.rv_isa.specs.declared.Form.{Form}
 use Rattle.rv_isa.specs.declared.Form.TheVariants as form
-use Rattle.rv_isa.specs.Encoding.{word_of}
+use Rattle.rv_isa.specs.Numbers.{word_of}
 use Rattle.rv_isa.specs.Ranges.{Ranges, ranges}
 use Rattle.rv_asm.specs.Assembly.{is_within, allowed, is_allowed, placed}
 

@@ -6,7 +6,8 @@ use Rattle.rv_isa.specs.declared.Op.TheVariants as op
 use Rattle.rv_isa.specs.declared.Form.{Form}
 use Rattle.rv_isa.specs.declared.Form.TheVariants as form
 use Rattle.rv_isa.specs.Table.{form_of, instr}
-use Rattle.rv_isa.specs.Encoding.{word_of, encoded}
+use Rattle.rv_isa.specs.Numbers.{word_of}
+use Rattle.rv_isa.specs.Encoding.{encoded}
 use Rattle.rv_isa.specs.Ranges.{Ranges, ranges, to}
 use Rattle.wedge_base.specs.declared.image.Procedure.{Procedure}
 use Rattle.rv_asm.specs.Lexing.{lines}

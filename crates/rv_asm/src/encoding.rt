@@ -1,7 +1,8 @@
 //! Words of instructions.
 
 ghost use Rattle.std.specs.Prelude.{◌≡◌, ◌+◌, ◌-◌, ◌%◌, ◌^◌, ◌<◌, ◌≤ℤ◌, [], ◌∷◌, pos, negsuc};
-ghost use Rattle.rv_isa.specs.Encoding.{encoded, word_of};
+ghost use Rattle.rv_isa.specs.Encoding.{encoded};
+ghost use Rattle.rv_isa.specs.Numbers.{word_of};
 ghost use Rattle.rv_isa.specs.Ranges.{IsInRange};
 ghost use Rattle.rv_isa.specs.Table.{instr};
 ghost use Rattle.rv_isa.specs.declared.Op.TheVariants as op;

@@ -1,7 +1,7 @@
 //! Which numbers an instruction may have.
 
 ghost use Rattle.std.specs.Prelude.{◌≡◌, ◌==◌, ◌-◌, ◌%◌, ◌≤◌, ◌≤ℤ◌, ◌^◌, ◌&&◌, pos, negsuc, int_le, IfOk};
-ghost use Rattle.rv_isa.specs.Encoding.{word_of};
+ghost use Rattle.rv_isa.specs.Numbers.{word_of};
 ghost use Rattle.rv_isa.specs.Ranges.{ranges};
 ghost use Rattle.rv_asm.specs.Assembly as assembly;
 
