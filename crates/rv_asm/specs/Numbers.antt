@@ -1,0 +1,56 @@
+-- Integers and names, as they are written.
+use Rattle.std.specs.Prelude.{ℕ, ◌^◌, ◌==◌, min, ℤ, pos, Bool, false, ◌||◌, ◌&&◌, List, [], ◌∷◌, length, Option, Some, None, option_map, nat_lt, nat_le, ◌-ℤ◌, if◌then◌else◌}
+use Rattle.std.specs.List.{list_all}
+use Rattle.std.specs.Char.{digit_value}
+use Rattle.std.specs.Str.Parse.{digits_value}
+
+-- a letter or `_`
+abbrev pub starts_name : ℕ → Bool
+starts_name c = (nat_le 65 c && nat_le c 90) || (nat_le 97 c && nat_le c 122) || c == 95
+
+-- a letter, `_`, a digit or `.`
+abbrev pub continues_name : ℕ → Bool
+continues_name c = starts_name c || (nat_le 48 c && nat_le c 57) || c == 46
+
+-- a name has 1 to 64 bytes
+abbrev pub is_name : List ℕ → Bool
+is_name [] = false
+is_name (c ∷ cs) = nat_le (length cs) 63 && starts_name c && list_all continues_name cs
+
+-- Numbers from here on count as this one: all of them are past every range.
+abbrev pub past_all : ℕ
+past_all = 2 ^ 33
+
+abbrev pub is_digit : ℕ → ℕ → Bool
+is_digit radix c = nat_lt (digit_value c) radix
+
+-- the number that digits of a radix spell
+unfoldable pub natural : ℕ → List ℕ → Option ℕ
+natural radix [] = None
+natural radix (d ∷ ds) =
+    if list_all (is_digit radix) (d ∷ ds) then Some (min (digits_value radix (d ∷ ds)) past_all) else None
+
+-- decimal digits, the first of several not 0
+unfoldable pub decimal : List ℕ → Option ℕ
+decimal [] = None
+decimal (d ∷ []) = natural 10 (d ∷ [])
+decimal (d ∷ e ∷ ds) = if d == 48 then None else natural 10 (d ∷ e ∷ ds)
+
+-- decimal digits, or hexadecimal ones of either case after `0x`
+unfoldable pub magnitude : List ℕ → Option ℕ
+magnitude [] = None
+magnitude (c ∷ []) = decimal (c ∷ [])
+magnitude (c ∷ d ∷ ds) = if c == 48 && d == 120 then natural 16 ds else decimal (c ∷ d ∷ ds)
+
+-- an integer, which may have a `-`
+unfoldable pub literal : List ℕ → Option ℤ
+literal [] = None
+literal (c ∷ cs) = if c == 45 then option_map (λ n. pos 0 -ℤ pos n) (magnitude cs) else option_map pos (magnitude (c ∷ cs))
+
+-- what stands where an integer is wanted: a literal, or a name that says one
+pub data Number : Type 0 where
+  Literal : ℤ → Number
+  Named : List ℕ → Number
+
+unfoldable pub number : List ℕ → Option Number
+number text = if is_name text then Some (Named text) else option_map Literal (literal text)

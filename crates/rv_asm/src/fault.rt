@@ -1,0 +1,67 @@
+//! Why a text is refused.
+
+use std::alloc::{AllocError, AllocFailed};
+use wedge_base::NoMemory;
+
+/// What is wrong with a line of a text.
+#[derive(Clone, Copy, Debug, PartialEq, Eq)]
+pub enum Why {
+    /// The first word of the line is not known.
+    Mnemonic,
+    /// The operands have not the number, the shape or the registers that the first word asks for.
+    Operand,
+    /// An integer, or the distance of a label, is out of range.
+    Range,
+    /// A name stands for nothing: no label has it, or no equate.
+    Label,
+    /// A label's name was taken before, by a label or by an equate.
+    Twice,
+}
+
+/// The first line that is at fault, and what is wrong with it.
+#[derive(Clone, Copy, Debug, PartialEq, Eq)]
+pub struct Fault {
+    /// The number of the line, from 1.
+    pub line: usize,
+    pub why: Why,
+}
+
+/// Why there are no words.
+#[derive(Debug, Drop)]
+pub enum AsmError {
+    NoMemory,
+    Fault(Fault),
+}
+
+impl From<NoMemory> for AsmError {
+    ghost use Rattle.std.specs.Prelude.{◌≡◌};
+    ghost use Rattle.rv_asm.specs.declared.fault.AsmError.TheVariants.{NoMemory};
+
+    ghost from_gives = { λ _ e. e ≡ NoMemory };
+
+    fn from(_e: wedge_base::NoMemory) -> AsmError {
+        AsmError::NoMemory
+    }
+}
+
+impl From<AllocError> for AsmError {
+    ghost use Rattle.std.specs.Prelude.{◌≡◌};
+    ghost use Rattle.rv_asm.specs.declared.fault.AsmError.TheVariants.{NoMemory};
+
+    ghost from_gives = { λ _ e. e ≡ NoMemory };
+
+    fn from(_e: AllocError) -> AsmError {
+        AsmError::NoMemory
+    }
+}
+
+impl<T: Drop> From<AllocFailed<T>> for AsmError {
+    ghost use Rattle.std.specs.Prelude.{◌≡◌};
+    ghost use Rattle.rv_asm.specs.declared.fault.AsmError.TheVariants.{NoMemory};
+
+    ghost from_gives = { λ _ e. e ≡ NoMemory };
+
+    fn from(_e: AllocFailed<T>) -> AsmError {
+        AsmError::NoMemory
+    }
+}

@@ -1,0 +1,26 @@
+//! The assembler: from a text to the words and procedures of an image, or the first line at fault.
+#![tactic(auto)]
+
+mod assembled;
+mod assembly;
+mod emission;
+mod encoding;
+mod fault;
+mod labels;
+mod lexing;
+mod literals;
+mod mnemonics;
+mod numbers;
+mod operands;
+mod parsing;
+mod ranges;
+mod registers;
+mod services;
+mod statements;
+mod templates;
+#[cfg(test)]
+mod tests;
+
+pub use assembled::{Assembled, Equate};
+pub use assembly::assemble;
+pub use fault::{AsmError, Fault, Why};

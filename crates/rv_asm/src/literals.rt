@@ -1,0 +1,146 @@
+//! Integers and names, as they are written.
+
+ghost use Rattle.std.specs.Prelude.{◌≡◌, ◌≤◌, min, option_map, IfSome};
+ghost use Rattle.std.specs.List.{list_all};
+ghost use Rattle.std.specs.Char.{digit_value};
+ghost use Rattle.std.specs.Str.Parse.{digits_value};
+ghost use Rattle.rv_asm.specs.Numbers as numbers;
+ghost use Rattle.rv_asm.specs.Views.{number_view};
+
+use crate::numbers::Number;
+
+fn starts_name(c: u8) -> bool
+    ensures { result ≡ numbers.starts_name c }
+{
+    c.is_ascii_alphabetic() || c == b'_'
+}
+
+fn continues_name(c: u8) -> bool
+    ensures { result ≡ numbers.continues_name c }
+{
+    starts_name(c) || c.is_ascii_digit() || c == b'.'
+}
+
+fn all_continue_name(text: &[u8]) -> bool
+    ensures { result ≡ list_all numbers.continues_name text.now }
+{
+    text.iter().all(|c| continues_name(*c))
+}
+
+/// Whether a text is a name.
+pub(crate) fn is_name(text: &[u8]) -> bool
+    ensures { result ≡ numbers.is_name text.now }
+{
+    match text {
+        [] => false,
+        [first, others @ ..] => {
+            others.len() <= 63 && starts_name(*first) && all_continue_name(others)
+        }
+    }
+}
+
+/// Numbers from here on count as this one: all of them are past every range.
+const PAST_ALL: u64 = 0x2_0000_0000;
+
+fn all_digits(radix: u32, text: &[u8]) -> bool
+    requires low { 2 ≤ radix }
+    requires high { radix ≤ 16 }
+    ensures { result ≡ list_all (numbers.is_digit radix) text.now }
+{
+    text.iter().all(|c| char::from(*c).is_digit(radix))
+}
+
+/// The value of a digit or a letter, and 36 for any other byte.
+fn digit_value(c: u8) -> u64
+    ensures is { result ≡ digit_value c }
+    ensures small { result ≤ 36 }
+{
+    match c {
+        b'0'..=b'9' => u64::from(c - b'0'),
+        b'A'..=b'Z' => u64::from(c - b'A') + 10,
+        b'a'..=b'z' => u64::from(c - b'a') + 10,
+        _ => 36,
+    }
+}
+
+/// The number that digits spell.
+fn spelled(radix: u64, text: &[u8]) -> u64
+    requires low { 2 ≤ radix }
+    requires high { radix ≤ 16 }
+    ensures { result ≡ min (digits_value radix text.now) numbers.past_all }
+{
+    let mut value = 0;
+    for c in text {
+        value = (value * radix + digit_value(*c)).min(PAST_ALL);
+    }
+    value
+}
+
+/// The number that digits of a radix spell.
+#[tactic(auto, unfolding(crate::specs::Numbers::natural))]
+fn natural(radix: u32, text: &[u8]) -> Option<u64>
+    requires low { 2 ≤ radix }
+    requires high { radix ≤ 16 }
+    ensures is { result ≡ numbers.natural radix text.now }
+    ensures small { IfSome result (λ n. n ≤ numbers.past_all) }
+{
+    if text.is_empty() || !all_digits(radix, text) {
+        return None;
+    }
+    Some(spelled(u64::from(radix), text))
+}
+
+/// Decimal digits, the first of several not 0.
+#[tactic(auto, unfolding(crate::specs::Numbers::decimal))]
+pub(crate) fn decimal(text: &[u8]) -> Option<u64>
+    ensures is { result ≡ numbers.decimal text.now }
+    ensures small { IfSome result (λ n. n ≤ numbers.past_all) }
+{
+    match text {
+        [] | [b'0', _, ..] => None,
+        _ => natural(10, text),
+    }
+}
+
+/// Decimal digits, or hexadecimal ones after `0x`.
+#[tactic(auto, unfolding(crate::specs::Numbers::magnitude))]
+fn magnitude(text: &[u8]) -> Option<u64>
+    ensures is { result ≡ numbers.magnitude text.now }
+    ensures small { IfSome result (λ n. n ≤ numbers.past_all) }
+{
+    match text {
+        [] => None,
+        [b'0', b'x', digits @ ..] => natural(16, digits),
+        _ => decimal(text),
+    }
+}
+
+/// An integer, which may have a `-`.
+#[tactic(auto, unfolding(crate::specs::Numbers::literal))]
+fn literal(text: &[u8]) -> Option<i64>
+    ensures { result ≡ numbers.literal text.now }
+{
+    match text {
+        [] => None,
+        [b'-', digits @ ..] => {
+            let n = magnitude(digits)?;
+            Some(0 - n as i64)
+        }
+        _ => {
+            let n = magnitude(text)?;
+            Some(n as i64)
+        }
+    }
+}
+
+/// What stands where an integer is wanted.
+#[tactic(auto, unfolding(crate::specs::Numbers::number))]
+pub(crate) fn number(text: &[u8]) -> Option<Number<'_>>
+    ensures { option_map number_view result ≡ numbers.number text.now }
+{
+    if is_name(text) {
+        return Some(Number::Named(text));
+    }
+    let n = literal(text)?;
+    Some(Number::Literal(n))
+}
