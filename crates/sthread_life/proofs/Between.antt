@@ -1,6 +1,6 @@
 -- In a world of a run every actor is between instructions.
-use Rattle.std.proofs.Common.{◌≡◌, ℕ, zero, suc, Bool, true, false, List, [], ◌∷◌, refl, sym, ap, subst, ◌∙◌}
-use Rattle.std.specs.Prelude.{Option, Some, None, find, option_and_then, if◌then◌else◌}
+use Rattle.std.proofs.Common.{◌≡◌, ℕ, Bool, true, false, List, [], ◌∷◌, refl, sym, ap, subst}
+use Rattle.std.specs.Prelude.{Option, Some, None, option_and_then, if◌then◌else◌}
 use Rattle.wedge_base.specs.Names.{same}
 use Rattle.wedge_base.specs.Images.{Image, fetch}
 use Rattle.wedge_base.specs.declared.events.Want.{Want}
@@ -14,14 +14,12 @@ use Rattle.rv_hart.specs.declared.Need.{Need}
 use Rattle.rv_hart.specs.declared.Need.TheVariants as need
 use Rattle.rv_hart.specs.Local.{local}
 use Rattle.wedge_base.specs.declared.cells.StreamReply.TheVariants as stream_reply
-use Rattle.wedge_base.specs.declared.cells.LivesAsk.{LivesAsk}
 use Rattle.wedge_base.specs.declared.cells.LivesAsk.TheVariants as lives_ask
-use Rattle.sthread_life.specs.declared.phase.Phase.{Phase}
 use Rattle.sthread_life.specs.declared.phase.Phase.TheVariants as phase
 use Rattle.sthread_life.specs.Actors.{ActorState, root}
 use Rattle.sthread_life.specs.Local.{rest}
 use Rattle.sthread_life.specs.Taking.{wanted, runs, loads_by, loads_at, takes}
-use Rattle.sthread_life.specs.Worlds.{WorldState, opening, actor_named, put_actor, event_for, happened, wanting, coming, turn_with, turn_of, Taken, Runs}
+use Rattle.sthread_life.specs.Worlds.{WorldState, opening, actor_named, put_actor, event_for, happened, wanting, turn_with, turn_of, Taken, Runs}
 use Rattle.sthread_life.specs.Between.{IsBetween}
 
 abbrev pub AllBetween : List ActorState → Type 0

@@ -4,16 +4,14 @@ use Rattle.std.specs.Prelude.{Option, Some, None, not, ◌&&◌, ◌+◌, slice_
 use Rattle.wedge_base.specs.Bytes.{number_of}
 use Rattle.wedge_base.specs.Images.{Image, fetch}
 use Rattle.wedge_base.specs.Rights.{Sheet, at_least, right_on, bits_on, append_bit}
-use Rattle.wedge_base.specs.Slots.{Segment, slot_after, stored}
+use Rattle.wedge_base.specs.Slots.{Segment, slot_after}
 use Rattle.wedge_base.specs.Streams.{Stream, stream_after, append_reply}
 use Rattle.wedge_base.specs.declared.rights.FdBits.{FdBits}
-use Rattle.wedge_base.specs.declared.rights.Right.{Right}
 use Rattle.wedge_base.specs.declared.rights.Right.TheVariants as right
 use Rattle.wedge_base.specs.declared.rights.StreamKind.{StreamKind}
 use Rattle.wedge_base.specs.declared.rights.StreamKind.TheVariants as kind
 use Rattle.wedge_base.specs.declared.events.Want.{Want}
 use Rattle.wedge_base.specs.declared.events.Want.TheVariants as want
-use Rattle.wedge_base.specs.declared.events.Event.{Event}
 use Rattle.wedge_base.specs.declared.events.Event.TheVariants as event
 use Rattle.wedge_base.specs.declared.events.Turn.{Turn}
 use Rattle.wedge_base.specs.declared.cells.Live.{Live}
@@ -33,8 +31,8 @@ use Rattle.sthread_life.specs.declared.phase.Phase.TheVariants as phase
 use Rattle.sthread_life.specs.Actors.{ActorState}
 use Rattle.sthread_life.specs.Local.{rest, is_running}
 use Rattle.sthread_life.specs.Taking.{wanted, runs, loads_by, loads_at, takes}
-use Rattle.sthread_life.specs.Worlds.{Cells, WorldState, opening, put_actor, actor_named, event_for, put_cell, happened, turn_of, Runs}
-use Rattle.sthread_life.specs.Allowed.{Request, Loads, Stores, Appends, allows, denied_by, request_of, slot_request, stream_request, otherwise, is_source, is_done, IsJudged, StepIsJudged, EachStep}
+use Rattle.sthread_life.specs.Worlds.{Cells, WorldState, opening, put_actor, event_for, put_cell, happened, turn_of, Runs}
+use Rattle.sthread_life.specs.Allowed.{Request, Loads, Stores, Appends, denied_by, request_of, slot_request, stream_request, otherwise, is_source, IsJudged, StepIsJudged, EachStep}
 use Rattle.sthread_life.specs.Between.{IsBetween, HasOwnBits, AsksItsOwn}
 use Rattle.sthread_life.specs.Laws.{RunsAreJudged}
 use Rattle.sthread_life.proofs.Resting.{rests, rest-stays}

@@ -1,12 +1,12 @@
 -- An actor at rest: it asks with its own rights, it keeps its name and sheet, it has paid for what it
 -- asks, and it does not run.
-use Rattle.std.proofs.Common.{◌≡◌, ℕ, zero, suc, ◌+◌, ◌-◌, ◌<◌, ◌≤◌, Bool, true, false, cond, refl, sym, ap, subst, ◌∙◌, arith}
+use Rattle.std.proofs.Common.{◌≡◌, ℕ, zero, suc, ◌+◌, ◌<◌, ◌≤◌, Bool, true, false, refl, sym, ap, subst, ◌∙◌, arith}
 use Rattle.std.specs.Prelude.{Option, Some, None, not, ◌⊎◌, if◌then◌else◌, ◌==◌, nat_lt, nat_le}
 use Rattle.std.proofs.Common.{inl, inr}
 use Rattle.wedge_base.specs.Images.{Image, fetch, in_text, read_text, slot_of}
-use Rattle.wedge_base.specs.Bytes.{number_of, bytes_of}
-use Rattle.wedge_base.specs.Memory.{range_at, read_range, write_at}
-use Rattle.wedge_base.specs.Rights.{Sheet, bits_on}
+use Rattle.wedge_base.specs.Bytes.{number_of}
+use Rattle.wedge_base.specs.Memory.{range_at, read_range}
+use Rattle.wedge_base.specs.Rights.{Sheet}
 use Rattle.wedge_base.specs.Streams.{most_fds}
 use Rattle.wedge_base.specs.declared.image.MemoryRange.{MemoryRange}
 use Rattle.wedge_base.specs.declared.rights.End.{End}
@@ -14,9 +14,6 @@ use Rattle.wedge_base.specs.declared.rights.End.TheVariants as end_
 use Rattle.wedge_base.specs.declared.rights.Code.{Code}
 use Rattle.wedge_base.specs.declared.rights.Code.TheVariants as code
 use Rattle.wedge_base.specs.declared.address.Place.{Place}
-use Rattle.wedge_base.specs.declared.events.Want.{Want}
-use Rattle.wedge_base.specs.declared.events.Want.TheVariants as want
-use Rattle.wedge_base.specs.declared.cells.StreamAsk.TheVariants as stream_ask
 use Rattle.rv_isa.specs.declared.Instr.{Instr}
 use Rattle.rv_isa.specs.Table.{decode}
 use Rattle.rv_hart.specs.declared.Need.{Need}
@@ -25,10 +22,10 @@ use Rattle.rv_hart.specs.declared.Hart.{Hart}
 use Rattle.rv_hart.specs.Local.{local}
 use Rattle.sthread_life.specs.declared.phase.Phase.{Phase}
 use Rattle.sthread_life.specs.declared.phase.Phase.TheVariants as phase
-use Rattle.sthread_life.specs.Actors.{ActorState, ends, refuses, wants, spends}
-use Rattle.sthread_life.specs.Private.{loads, stores, load_window, load_range, store_window, store_range, has_loaded, has_stored, fits_read, buffer}
+use Rattle.sthread_life.specs.Actors.{ActorState, ends, refuses, spends}
+use Rattle.sthread_life.specs.Private.{loads, stores, load_window, load_range, store_window, store_range, has_loaded, fits_read}
 use Rattle.sthread_life.specs.Calls.{serves, exit, fd_append, a0, a1, a2, a7}
-use Rattle.sthread_life.specs.Local.{needed, proceeds, executed, fuelled, fetched, step, is_running, has_ended, run_local, rest}
+use Rattle.sthread_life.specs.Local.{needed, executed, fuelled, fetched, step, is_running, has_ended, run_local, rest}
 use Rattle.sthread_life.specs.Between.{AsksItsOwn}
 
 -- what the work of an instruction keeps, and how it leaves the actor

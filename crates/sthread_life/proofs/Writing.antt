@@ -1,10 +1,10 @@
 -- Bytes by the history of a run, and who wrote them.
 use Rattle.std.proofs.Common.{◌≡◌, ◌⊎◌, inl, inr, ℕ, zero, suc, ◌==◌, Bool, true, false, List, [], ◌∷◌, length, refl, sym, ap, subst, ◌∙◌}
 use Rattle.std.proofs.lemmas.Bool.{eqb-true, eq-eqb}
-use Rattle.std.specs.Prelude.{Option, Some, None, option_map, not, slice_get, slice_set, slice_range, nat_lt, ◌+◌, if◌then◌else◌}
+use Rattle.std.specs.Prelude.{Option, Some, None, option_map, not, slice_get, slice_set, nat_lt, if◌then◌else◌}
 use Rattle.wedge_base.specs.Images.{Image}
 use Rattle.wedge_base.specs.Rights.{at_least, right_on}
-use Rattle.wedge_base.specs.Slots.{Segment, judged, slot_reply, slot_after, stored}
+use Rattle.wedge_base.specs.Slots.{Segment, slot_after, stored}
 use Rattle.wedge_base.specs.Histories.{bytes_by, bytes_after_event, bytes_after}
 use Rattle.wedge_base.specs.declared.rights.Right.TheVariants as right
 use Rattle.wedge_base.specs.declared.events.Want.{Want}
@@ -19,9 +19,9 @@ use Rattle.wedge_base.specs.declared.cells.SlotReply.{SlotReply}
 use Rattle.wedge_base.specs.declared.cells.SlotReply.TheVariants as slot_reply
 use Rattle.sthread_life.specs.Actors.{ActorState}
 use Rattle.sthread_life.specs.Local.{rest, is_running}
-use Rattle.sthread_life.specs.Worlds.{Cells, WorldState, opening, cells_after, event_for, put_cell, happened, turn_of, Runs}
+use Rattle.sthread_life.specs.Worlds.{Cells, WorldState, opening, cells_after, event_for, put_cell, turn_of, Runs}
 use Rattle.sthread_life.specs.Allowed.{allows, Stores, EachStep}
-use Rattle.sthread_life.specs.Written.{bytes_in, BytesFollow, MayStore, StepWritesOwn}
+use Rattle.sthread_life.specs.Written.{bytes_in, BytesFollow, StepWritesOwn}
 use Rattle.sthread_life.specs.Laws.{RunsWriteTheirOwn}
 use Rattle.sthread_life.proofs.Resting.{rests, rest-stays}
 use Rattle.sthread_life.proofs.Between.{turn_parts}

@@ -1,5 +1,5 @@
 -- Actors: their records, what the root begins as, and how an answer, a refusal or an end changes one.
-use Rattle.std.specs.Prelude.{ℕ, suc, ◌+◌, ◌-◌, List, [], ◌∷◌, ◌++◌, replicate, Option, Some, None}
+use Rattle.std.specs.Prelude.{ℕ, ◌+◌, ◌-◌, List, [], ◌∷◌, ◌++◌, replicate, Option, Some, None}
 use Rattle.wedge_base.specs.Bytes.{zeros}
 use Rattle.wedge_base.specs.Names.{root_name}
 use Rattle.wedge_base.specs.Maps.{Map}

@@ -4,7 +4,6 @@ use Rattle.wedge_base.specs.Slots.{IsAligned}
 use Rattle.wedge_base.specs.Rights.{Sheet, bits_on}
 use Rattle.wedge_base.specs.declared.events.Want.{Want}
 use Rattle.wedge_base.specs.declared.events.Want.TheVariants as want
-use Rattle.wedge_base.specs.declared.cells.StreamAsk.{StreamAsk}
 use Rattle.wedge_base.specs.declared.cells.StreamAsk.TheVariants as stream_ask
 use Rattle.sthread_life.specs.declared.phase.Phase.{Phase}
 use Rattle.sthread_life.specs.declared.phase.Phase.TheVariants as phase

@@ -1,5 +1,5 @@
 -- Loads, stores and buffers: the text, private memory, and the windows of tags.
-use Rattle.std.specs.Prelude.{◌≡◌, ◌⊎◌, ℕ, ◌+◌, ◌%◌, ◌==◌, Bool, not, ◌&&◌, ◌||◌, List, [], Option, Some, None, is_some, nat_le, if◌then◌else◌}
+use Rattle.std.specs.Prelude.{◌≡◌, ◌⊎◌, ℕ, ◌%◌, ◌==◌, Bool, not, ◌&&◌, ◌||◌, List, [], Option, Some, None, is_some, nat_le, if◌then◌else◌}
 use Rattle.wedge_base.specs.Bytes.{number_of, bytes_of}
 use Rattle.wedge_base.specs.Memory.{range_at, read_range, write_at}
 use Rattle.wedge_base.specs.Images.{Image, in_text, read_text, slot_of}
@@ -9,7 +9,6 @@ use Rattle.wedge_base.specs.declared.events.Want.TheVariants as want
 use Rattle.wedge_base.specs.declared.rights.End.TheVariants as end_
 use Rattle.rv_isa.specs.declared.Instr.{Instr}
 use Rattle.rv_hart.specs.Local.{extended, loaded, stored}
-use Rattle.sthread_life.specs.declared.phase.Phase.TheVariants as phase
 use Rattle.sthread_life.specs.Actors.{ActorState, ends, wants}
 
 -- an access is of 1, 2 or 4 bytes

@@ -1,5 +1,5 @@
 -- The world, its turns and its runs.
-use Rattle.std.specs.Prelude.{◌≡◌, ℕ, Bool, true, false, List, [], ◌∷◌, map, find, slice_get, slice_set, Option, Some, None, option_map, if◌then◌else◌}
+use Rattle.std.specs.Prelude.{◌≡◌, ℕ, Bool, false, List, [], ◌∷◌, map, find, slice_get, slice_set, Option, Some, None, option_map, if◌then◌else◌}
 use Rattle.wedge_base.specs.Images.{Image}
 use Rattle.wedge_base.specs.Slots.{Segment, slot_reply, slot_after, declared_segments}
 use Rattle.wedge_base.specs.Streams.{Stream, stream_reply, stream_after, declared_stream}

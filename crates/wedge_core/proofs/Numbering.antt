@@ -1,6 +1,6 @@
 -- Entries by their places.
 use Rattle.std.proofs.Common.{◌≡◌, ℕ, ◌+◌, List, [], ◌∷◌, ◌++◌, length, refl, sym, ap, subst, ◌∙◌, true, append_assoc, arith}
-use Rattle.std.specs.Prelude.{map, reverse}
+use Rattle.std.specs.Prelude.{reverse}
 use Rattle.std.proofs.lemmas.List.{reverse-append}
 use Rattle.wedge_base.specs.Journals.{cell_of, turns_of, numbered}
 use Rattle.wedge_base.specs.declared.events.Turn.{Turn}

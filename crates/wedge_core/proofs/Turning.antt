@@ -9,7 +9,7 @@ use Rattle.wedge_base.specs.declared.events.Turn.{Turn}
 use Rattle.sthread_life.specs.Actors.{ActorState}
 use Rattle.sthread_life.specs.Local.{rest, has_ended}
 use Rattle.sthread_life.specs.Taking.{wanted, takes}
-use Rattle.sthread_life.specs.Worlds.{Cells, WorldState, Taken, opening, actor_named, put_actor, event_for, cells_after, happened, wanting, turn_with, turn_of, Runs}
+use Rattle.sthread_life.specs.Worlds.{Cells, opening, actor_named, put_actor, event_for, cells_after, happened, wanting, turn_with, turn_of, Runs}
 use Rattle.wedge_core.specs.Progress.{IsRun, IsTurn, HasEnded, state_of}
 use Rattle.wedge_core.proofs.Runs.{Runs-push}
 

@@ -1,5 +1,5 @@
 -- Each turn of the root takes work away, and leaves the root there.
-use Rattle.std.proofs.Common.{◌≡◌, ℕ, zero, suc, ◌+◌, ◌-◌, ◌<◌, ◌≤◌, Bool, true, false, List, [], ◌∷◌, refl, sym, ap, subst, ◌∙◌, arith}
+use Rattle.std.proofs.Common.{◌≡◌, ℕ, ◌+◌, ◌<◌, ◌≤◌, Bool, true, false, List, [], ◌∷◌, refl, sym, ap, subst, ◌∙◌, arith}
 use Rattle.std.specs.Prelude.{Option, Some, None, is_some, option_and_then, ◌==◌, ◌&&◌, if◌then◌else◌}
 use Rattle.std.proofs.lemmas.Bool.{eqb-true, eq-eqb}
 use Rattle.wedge_base.specs.Names.{same, root_name}
@@ -26,7 +26,7 @@ use Rattle.sthread_life.specs.Between.{IsBetween}
 use Rattle.sthread_life.proofs.Resting.{HasPaid, rests, rest-name, rest-stays}
 use Rattle.sthread_life.proofs.Between.{AllBetween, named_between, run_between, turn_parts}
 use Rattle.wedge_core.specs.Progress.{Progress, IsRun, IsTurn}
-use Rattle.wedge_core.specs.Serial.{HasRoot, work, work_in, root_work}
+use Rattle.wedge_core.specs.Serial.{HasRoot, work, root_work}
 
 -- ---- names
 

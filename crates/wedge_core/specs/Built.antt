@@ -3,8 +3,6 @@ use Rattle.std.specs.Prelude.{ℕ, ◌==◌, Bool, true, false, ◌&&◌, List, 
 use Rattle.std.specs.List.{list_all}
 use Rattle.std.specs.Cmp.Lexicographic.{pointwise}
 use Rattle.wedge_base.specs.Images.{Image}
-use Rattle.wedge_base.specs.declared.image.TagEntry.{TagEntry}
-use Rattle.wedge_base.specs.declared.image.FdEntry.{FdEntry}
 use Rattle.wedge_base.specs.declared.rights.Right.{Right}
 use Rattle.wedge_base.specs.declared.rights.Right.TheVariants as right
 use Rattle.wedge_base.specs.declared.rights.StreamKind.{StreamKind}

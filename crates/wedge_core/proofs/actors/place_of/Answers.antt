@@ -1,4 +1,4 @@
-use Rattle.std.proofs.Common.{◌≡◌, ◌∙◌, true, ap, sym, subst, rules}
+use Rattle.std.proofs.Common.{◌≡◌, ◌∙◌, true, ap, sym, rules}
 use Rattle.wedge_base.specs.Names.{same}
 use Rattle.wedge_core.proofs.Places.{named_at, put_at}
 use Rattle.wedge_core.proofs.actors.place_of.Goals as goal

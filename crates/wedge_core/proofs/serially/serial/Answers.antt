@@ -1,11 +1,9 @@
-use Rattle.std.proofs.Common.{◌≡◌, ◌∙◌, true, ap, sym, subst, rules}
-use Rattle.wedge_base.specs.Images.{Image}
-use Rattle.wedge_base.specs.Journals.{turns_of, numbered}
-use Rattle.sthread_life.specs.Worlds.{WorldState, opening, is_whole, Runs}
+use Rattle.std.proofs.Common.{◌≡◌, true, ap, sym, subst, rules}
+use Rattle.sthread_life.specs.Worlds.{is_whole}
 use Rattle.wedge_core.specs.Progress.{Progress}
-use Rattle.wedge_core.specs.Serial.{HasRoot, IsWholeRun, IsNumbered}
+use Rattle.wedge_core.specs.Serial.{HasRoot}
 use Rattle.wedge_core.proofs.Working.{opening_root}
-use Rattle.wedge_core.proofs.Numbering.{turns_of-numbered, whole_run, is_numbered}
+use Rattle.wedge_core.proofs.Numbering.{whole_run, is_numbered}
 use Rattle.wedge_core.proofs.serially.serial.Goals as goal
 
 pub loop-world-init : goal.loop-world-init

@@ -1,5 +1,4 @@
 use Rattle.std.proofs.Common.{◌≡◌, false}
-use Rattle.wedge_base.specs.Names.{root_name}
 use Rattle.wedge_core.specs.Serial.{HasRoot, root_work}
 use Rattle.wedge_core.proofs.serially.serial.Given as goal
 

@@ -1,4 +1,4 @@
-use Rattle.std.proofs.Common.{◌≡◌, subst}
+use Rattle.std.proofs.Common.{subst}
 use Rattle.wedge_core.specs.Progress.{IsRun}
 use Rattle.wedge_core.proofs.Working.{turn_worked}
 use Rattle.wedge_core.proofs.serially.take_turn.Goals as goal

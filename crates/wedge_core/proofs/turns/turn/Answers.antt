@@ -1,6 +1,6 @@
-use Rattle.std.proofs.Common.{◌≡◌, ap, sym, subst}
+use Rattle.std.proofs.Common.{sym, subst}
 use Rattle.sthread_life.specs.Allowed.{StepIsJudged}
-use Rattle.sthread_life.specs.Worlds.{WorldState, opening, Runs}
+use Rattle.sthread_life.specs.Worlds.{opening, Runs}
 use Rattle.sthread_life.proofs.Judging.{turn_judged}
 use Rattle.wedge_core.specs.Progress.{Progress, state_of}
 use Rattle.wedge_core.proofs.Turning.{run_goes_on}

@@ -1,5 +1,4 @@
 use Rattle.std.proofs.Common.{◌≡◌, ◌∙◌, ap, rules}
-use Rattle.std.specs.Prelude.{OnOk, IfOk}
 use Rattle.sthread_life.specs.Local.{has_ended}
 use Rattle.sthread_life.proofs.Resting.{rest-name, rest-ended, ended-stays}
 use Rattle.sthread_life.proofs.actor.Actor.local.Goals as goal
