@@ -8,4 +8,5 @@ mod tests;
 mod text;
 mod words;
 
+pub use numbers::write_address;
 pub use text::report;

@@ -2,7 +2,7 @@
 
 ghost use Rattle.std.specs.Prelude.{◌≡◌, ◌<◌, ◌/◌, ◌%◌, ◌^◌, ◌++◌, OnOk};
 ghost use Rattle.std.specs.Fmt.{decimal};
-ghost use Rattle.report_text.specs.Reports.{hex_digit, pc_text, name_text, escaped, quoted};
+ghost use Rattle.report_text.specs.Reports.{hex_digit, address_text, pc_text, name_text, escaped, quoted};
 
 use std::string::ToString;
 use wedge_base::NoMemory;
@@ -29,23 +29,30 @@ fn hex_digit(number: u32) -> u8
     }
 }
 
-/// Adds where something happened: an address in eight hexadecimal digits.
+/// Adds an address in eight hexadecimal digits.
+pub fn write_address(out: &mut Vec<u8>, address: u32) -> Result<(), NoMemory>
+    ensures { OnOk result (out.new.items ≡ out.old.items ++ address_text address) }
+{
+    out.extend_from_slice(&[
+        hex_digit(address >> 28),
+        hex_digit(address >> 24),
+        hex_digit(address >> 20),
+        hex_digit(address >> 16),
+        hex_digit(address >> 12),
+        hex_digit(address >> 8),
+        hex_digit(address >> 4),
+        hex_digit(address),
+    ])?;
+    Ok(())
+}
+
+/// Adds where something happened.
 #[tactic(auto, unfolding(crate::specs::Reports::pc_text))]
 pub fn write_pc(out: &mut Vec<u8>, pc: u32) -> Result<(), NoMemory>
     ensures { OnOk result (out.new.items ≡ out.old.items ++ pc_text pc) }
 {
     out.extend_from_slice(b" pc ")?;
-    out.extend_from_slice(&[
-        hex_digit(pc >> 28),
-        hex_digit(pc >> 24),
-        hex_digit(pc >> 20),
-        hex_digit(pc >> 16),
-        hex_digit(pc >> 12),
-        hex_digit(pc >> 8),
-        hex_digit(pc >> 4),
-        hex_digit(pc),
-    ])?;
-    Ok(())
+    write_address(out, pc)
 }
 
 /// Adds the parts of a name, with a dot between each two.

@@ -1,5 +1,6 @@
 -- When each status comes.
 use Rattle.std.specs.Prelude.{◌≡◌, ℕ, ◌⊎◌, List, Option, None, Err}
+use Rattle.wedge_cli.specs.declared.words.Command.{Command}
 use Rattle.wedge_cli.specs.declared.refusal.Refusal.{Refusal}
 use Rattle.wedge_cli.specs.declared.top.Ended.{Ended}
 use Rattle.wedge_cli.specs.declared.refusal.Refusal.TheVariants as refusal
@@ -16,14 +17,14 @@ SaysRefusal name r ended before after =
     Said (status_of r) (line (refusal_text name r)) ended before after
     ⊎ Said (status_of refusal.NoMemory) (line (refusal_text name refusal.NoMemory)) ended before after
 
--- the file of a name is not run: out is left alone, and err takes the line of the refusal
-pub record IsRefusal (name : List ℕ) (content : Option (List ℕ)) (reads_before reads_after : ℕ) (ended : Ended) (out_before out_after err_before err_after : Device) : Type 0 where
+-- what is asked of the file of a name is not done: out is left alone, and err takes the line of the refusal
+pub record IsRefusal (c : Command) (name : List ℕ) (content : Option (List ℕ)) (reads_before reads_after : ℕ) (ended : Ended) (out_before out_after err_before err_after : Device) : Type 0 where
   pub journal : ended.journal ≡ None
   pub why : Refusal
-  pub cause : IsRefused content reads_before reads_after why
+  pub cause : IsRefused c content reads_before reads_after why
   pub out : out_after ≡ out_before
   pub err : SaysRefusal name why ended err_before err_after
 
--- no image of a kind that the machine runs
-abbrev pub IsUnfit : List ℕ → Type 0
-IsUnfit bytes = (why : Refusal) × (accepted bytes ≡ Err why)
+-- no image that is fit for the command
+abbrev pub IsUnfit : Command → List ℕ → Type 0
+IsUnfit c bytes = (why : Refusal) × (accepted c bytes ≡ Err why)

@@ -6,19 +6,32 @@ use Rattle.wedge_base.specs.declared.outcome.Outcome.{Outcome}
 use Rattle.host_io.specs.Told.{grown_by}
 use Rattle.wedge_core.specs.Serial.{IsWholeRun, IsNumbered}
 use Rattle.report_text.specs.Reports.{report_of}
+use Rattle.wedge_cli.specs.declared.words.Command.{Command}
+use Rattle.wedge_cli.specs.declared.words.Command.TheVariants.{Run, Show}
 use Rattle.wedge_cli.specs.declared.top.Ended.{Ended}
 use Rattle.wedge_cli.specs.Lines.{usage_line}
+use Rattle.wedge_cli.specs.Listing.{listing}
 use Rattle.wedge_cli.specs.Loading.{IsLoaded}
 
--- The journal tells a whole run of the image that the file's bytes spell, each step of it judged by the
--- sheet, and the text is that run's report.
-pub record IsRunOf (content : Option (List ℕ)) (journal : Journal) (text : List ℕ) : Type 0 where
-  pub image : Image
-  pub loaded : IsLoaded content image
+-- The journal tells a whole run of the image, each step of it judged by the sheet, and the text is that
+-- run's report.
+pub record IsReportOf (i : Image) (journal : Journal) (text : List ℕ) : Type 0 where
   pub outcome : Outcome
-  pub run : IsWholeRun image journal.entries outcome
+  pub run : IsWholeRun i journal.entries outcome
   pub stamps : IsNumbered journal.entries
   pub report : text ≡ report_of outcome
+
+-- the text that a command asks of an image, and the journal that comes with a report
+abbrev pub IsTextFor : Command → Image → Option Journal → List ℕ → Type 0
+IsTextFor Run i None text = ⊥
+IsTextFor Run i (Some journal) text = IsReportOf i journal text
+IsTextFor Show i journal text = (journal ≡ None) × (text ≡ listing i)
+
+-- the same of the image that the file's bytes spell
+pub record IsTextOf (c : Command) (content : Option (List ℕ)) (journal : Option Journal) (text : List ℕ) : Type 0 where
+  pub image : Image
+  pub loaded : IsLoaded c content image
+  pub text_for : IsTextFor c image journal text
 
 -- a sink before and after: the bytes that it has taken, where they are told, and its count of faults
 pub record Device : Type 0 where
@@ -43,16 +56,15 @@ pub record IsUsage (ended : Ended) (out_before out_after err_before err_after : 
   pub out : out_after ≡ out_before
   pub err : (Takes usage_line err_before err_after × (ended.status ≡ 2)) ⊎ (Rises err_before err_after × (ended.status ≡ 5))
 
--- a run: out takes its report and err is left alone; where out does not, it has a part of the report, and
--- the status is 5
-pub record IsRun (journal : Journal) (text : List ℕ) (ended : Ended) (out_before out_after err_before err_after : Device) : Type 0 where
-  pub journal_is : ended.journal ≡ Some journal
+-- a text: out takes it and err is left alone; where out does not, it has a part of it, and the status is 5
+pub record IsWritten (journal : Option Journal) (text : List ℕ) (ended : Ended) (out_before out_after err_before err_after : Device) : Type 0 where
+  pub journal_is : ended.journal ≡ journal
   pub out : (Takes text out_before out_after × (err_after ≡ err_before) × (ended.status ≡ 0))
       ⊎ (Rises out_before out_after × ((n : ℕ) × (out_after.written ≡ grown_by out_before.written (take n text))) × (err_before.faults ≤ err_after.faults) × (ended.status ≡ 5))
 
--- a run of the image that the file's bytes spell
-pub record IsRunFor (content : Option (List ℕ)) (ended : Ended) (out_before out_after err_before err_after : Device) : Type 0 where
-  pub journal : Journal
+-- what a command asks of the image that the file's bytes spell is written
+pub record IsDone (c : Command) (content : Option (List ℕ)) (ended : Ended) (out_before out_after err_before err_after : Device) : Type 0 where
+  pub journal : Option Journal
   pub text : List ℕ
-  pub run_of : IsRunOf content journal text
-  pub written : IsRun journal text ended out_before out_after err_before err_after
+  pub text_of : IsTextOf c content journal text
+  pub written : IsWritten journal text ended out_before out_after err_before err_after

@@ -4,3 +4,4 @@ pub mod Loading
 pub mod Ended
 pub mod Causes
 pub mod Refusals
+pub mod Listing

@@ -4,10 +4,13 @@
 mod lines;
 mod loading;
 mod refusal;
+mod show;
 #[cfg(test)]
 mod tests;
 mod top;
 mod words;
 
 pub use refusal::Refusal;
+pub use show::listing;
 pub use top::{Ended, wedge};
+pub use words::Command;

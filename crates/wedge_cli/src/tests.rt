@@ -190,9 +190,48 @@ fn a_run_prints_its_report(rt: HostRuntime) -> Result<(), Fail> {
 }
 
 #[test]
+fn a_listing_names_procedures_and_words(rt: HostRuntime) -> Result<(), Fail> {
+    let alloc = rt.alloc();
+    let words = [0x000072b7, 0xfe512e23, 0xffffffff, 0x00000073];
+    let cases: [(&[u32], u8, &str); 2] = [
+        (
+            &words,
+            3,
+            "main:\n00010000 000072b7 lui t0, 0x7\n00010004 fe512e23 sw t0, -4(sp)\n00010008 ffffffff .word 0xffffffff\n0001000c 00000073 ecall\n",
+        ),
+        (
+            &[0xffffffff],
+            1,
+            "main:\n00010000 ffffffff .word 0xffffffff\n",
+        ),
+    ];
+    for (words, right, listing) in cases {
+        let run = Run {
+            words: &["show", "a"],
+            bytes: image_of(alloc, 100, words, right, 2)?,
+            read_fails: 0,
+            out_room: 1000,
+            write_fails: 0,
+        };
+        leaves(
+            &rt,
+            alloc,
+            run,
+            Left {
+                status: 0,
+                out: listing,
+                err: "",
+                turns: None,
+            },
+        )?;
+    }
+    Ok(())
+}
+
+#[test]
 fn what_is_no_run_says_why(rt: HostRuntime) -> Result<(), Fail> {
     let alloc = rt.alloc();
-    let cases: [(&[&str], usize, u64, u8, &str); 12] = [
+    let cases: [(&[&str], usize, u64, u8, &str); 13] = [
         (
             &["run", "a"],
             138,
@@ -216,6 +255,13 @@ fn what_is_no_run_says_why(rt: HostRuntime) -> Result<(), Fail> {
         ),
         (&["run", "a"], 139, 1, 4, "wedge: read fault: a\n"),
         (&["run", "b"], 139, 0, 4, "wedge: read fault: b\n"),
+        (
+            &["show", "a"],
+            138,
+            0,
+            3,
+            "wedge: image refused at 138: truncated\n",
+        ),
         (&["run", "--x"], 139, 0, 2, "wedge: usage\n"),
         (&["run", ""], 139, 0, 2, "wedge: usage\n"),
         (&["run"], 139, 0, 2, "wedge: usage\n"),

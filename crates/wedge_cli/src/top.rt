@@ -4,20 +4,23 @@ ghost use Rattle.std.specs.Prelude.{◌≡◌, ◌≤◌, ◌<◌, ◌↔◌, �
 ghost use Rattle.wedge_cli.specs.Words as asking;
 ghost use Rattle.wedge_cli.specs.Lines as lines;
 ghost use Rattle.wedge_cli.specs.Loading.{IsRefused};
-ghost use Rattle.wedge_cli.specs.Ended.{IsRunOf, device, Takes, IsRun, IsUsage, IsRunFor};
+ghost use Rattle.wedge_cli.specs.Ended.{IsTextFor, IsTextOf, device, Takes, IsWritten, IsUsage, IsDone};
+ghost use Rattle.wedge_cli.specs.declared.words.Command.{Command as ACommand};
 ghost use Rattle.wedge_cli.specs.Causes.{SaysRefusal, IsRefusal, IsUnfit};
 ghost use Rattle.host_io.specs.Told.{WhereTold};
 
 use crate::lines::{no_memory_line, refusal_line, usage_line, write_fault_line};
 use crate::loading::load;
 use crate::refusal::Refusal;
-use crate::words::asked;
+use crate::show::listing;
+use crate::words::{Command, asked};
 use host_io::{Files, Pace, Sink, write_whole};
+use image_form::Image;
 use report_text::report;
 use std::alloc::Global;
 use std::sync::Wait;
 use std::thread::Threads;
-use wedge_base::Journal;
+use wedge_base::{Journal, NoMemory};
 use wedge_core::serial;
 
 /// The status of words that are no command.
@@ -35,19 +38,20 @@ pub struct Ended {
     pub journal: Option<Journal>,
 }
 
-/// A run whose report is ready to be written.
+/// A text that is ready to be written, and the journal of the run that it reports.
 #[derive(Debug, Drop)]
 pub(crate) struct Ready {
-    journal: Journal,
+    journal: Option<Journal>,
     text: Vec<u8>,
 }
 
-/// Does what the words ask: `run NAME` runs the image in the file of that name and writes its report on `out`.
+/// Does what the words ask of the image in the file of a name: `run NAME` runs it and writes its report on
+/// `out`, `show NAME` writes the listing of its text.
 ///
-/// The status is 0 where the report was written; 2 where the words are no command; 3 where the file's bytes
-/// spell no image, or one of a kind that the machine does not run yet; 4 where a read failed; 5 where a write
-/// failed; 6 where no memory was left. Whatever isn't a run leaves `out` alone and says one line on `err`.
-/// A write of the report that fails leaves a first part of it on `out`.
+/// The status is 0 where that was written; 2 where the words are no command; 3 where the file's bytes
+/// spell no image, or one to be run of a kind that the machine does not run yet; 4 where a read failed; 5 where a write
+/// failed; 6 where no memory was left. A refusal leaves `out` alone and says one line on `err`. A write
+/// that fails leaves a first part of the text on `out`.
 pub fn wedge<R: Threads + Wait + Sync, F: Files, O: Sink, E: Sink, P: Pace + Sync>(
     _rt: &R,
     alloc: Global,
@@ -61,11 +65,11 @@ pub fn wedge<R: Threads + Wait + Sync, F: Files, O: Sink, E: Sink, P: Pace + Syn
     ensures usage { asking.asked (asking.texts words.now) ≡ None → IsUsage result
         (device (O.written out.old) (O.faults out.old)) (device (O.written out.new) (O.faults out.new))
         (device (E.written err.old) (E.faults err.old)) (device (E.written err.new) (E.faults err.new)) }
-    ensures image { (name : List ℕ) → asking.asked (asking.texts words.now) ≡ Some name →
-        IsRefusal name (F.content files.old name) (F.faults files.old name) (F.faults files.new name) result
+    ensures image { (c : ACommand) (name : List ℕ) → asking.asked (asking.texts words.now) ≡ Some (c, name) →
+        IsRefusal c name (F.content files.old name) (F.faults files.old name) (F.faults files.new name) result
         (device (O.written out.old) (O.faults out.old)) (device (O.written out.new) (O.faults out.new))
         (device (E.written err.old) (E.faults err.old)) (device (E.written err.new) (E.faults err.new))
-        ⊎ IsRunFor (F.content files.old name) result
+        ⊎ IsDone c (F.content files.old name) result
         (device (O.written out.old) (O.faults out.old)) (device (O.written out.new) (O.faults out.new))
         (device (E.written err.old) (E.faults err.old)) (device (E.written err.new) (E.faults err.new)) }
     ensures content { (other : List ℕ) → F.content files.new other ≡ F.content files.old other }
@@ -73,8 +77,8 @@ pub fn wedge<R: Threads + Wait + Sync, F: Files, O: Sink, E: Sink, P: Pace + Syn
 
     // why each status comes
     ensures usage_only { result.status ≡ 2 → asking.asked (asking.texts words.now) ≡ None }
-    ensures image_only { (name : List ℕ) → asking.asked (asking.texts words.now) ≡ Some name → result.status ≡ 3 → WhereTold (F.content files.old name) IsUnfit }
-    ensures read_only { (name : List ℕ) → asking.asked (asking.texts words.now) ≡ Some name → result.status ≡ 4 → F.faults files.old name < F.faults files.new name }
+    ensures image_only { (c : ACommand) (name : List ℕ) → asking.asked (asking.texts words.now) ≡ Some (c, name) → result.status ≡ 3 → WhereTold (F.content files.old name) (IsUnfit c) }
+    ensures read_only { (c : ACommand) (name : List ℕ) → asking.asked (asking.texts words.now) ≡ Some (c, name) → result.status ≡ 4 → F.faults files.old name < F.faults files.new name }
     ensures write_only { result.status ≡ 5 → (O.faults out.old < O.faults out.new) ⊎ (E.faults err.old < E.faults err.new) }
 {
     does(alloc, words, files, out, err)
@@ -91,11 +95,11 @@ fn does<F: Files, O: Sink, E: Sink>(
     ensures usage { asking.asked (asking.texts words.now) ≡ None → IsUsage result
         (device (O.written out.old) (O.faults out.old)) (device (O.written out.new) (O.faults out.new))
         (device (E.written err.old) (E.faults err.old)) (device (E.written err.new) (E.faults err.new)) }
-    ensures image { (name : List ℕ) → asking.asked (asking.texts words.now) ≡ Some name →
-        IsRefusal name (F.content files.old name) (F.faults files.old name) (F.faults files.new name) result
+    ensures image { (c : ACommand) (name : List ℕ) → asking.asked (asking.texts words.now) ≡ Some (c, name) →
+        IsRefusal c name (F.content files.old name) (F.faults files.old name) (F.faults files.new name) result
         (device (O.written out.old) (O.faults out.old)) (device (O.written out.new) (O.faults out.new))
         (device (E.written err.old) (E.faults err.old)) (device (E.written err.new) (E.faults err.new))
-        ⊎ IsRunFor (F.content files.old name) result
+        ⊎ IsDone c (F.content files.old name) result
         (device (O.written out.old) (O.faults out.old)) (device (O.written out.new) (O.faults out.new))
         (device (E.written err.old) (E.faults err.old)) (device (E.written err.new) (E.faults err.new)) }
     ensures content { (other : List ℕ) → F.content files.new other ≡ F.content files.old other }
@@ -103,24 +107,51 @@ fn does<F: Files, O: Sink, E: Sink>(
 {
     match asked(words) {
         None => say(err, USAGE, usage_line()),
-        Some(name) => match prepare(alloc, files, name) {
+        Some((command, name)) => match prepare(alloc, command, files, name) {
             Ok(ready) => finish(out, err, ready),
             Err(refusal) => refuse(alloc, err, name, refusal),
         },
     }
 }
 
-/// Runs the image of a file, up to the text of its report.
-fn prepare<F: Files>(alloc: Global, files: &mut F, name: &str) -> Result<Ready, Refusal>
-    ensures ready { IfOk result (λ r. IsRunOf (F.content files.old name.now) r.journal r.text.items) }
-    ensures refused { IfErr result (IsRefused (F.content files.old name.now) (F.faults files.old name.now) (F.faults files.new name.now)) }
+/// The text that a command asks of the image of a file.
+fn prepare<F: Files>(
+    alloc: Global,
+    command: Command,
+    files: &mut F,
+    name: &str,
+) -> Result<Ready, Refusal>
+    ensures ready { IfOk result (λ r. IsTextOf command (F.content files.old name.now) r.journal r.text.items) }
+    ensures refused { IfErr result (IsRefused command (F.content files.old name.now) (F.faults files.old name.now) (F.faults files.new name.now)) }
     ensures content { (other : List ℕ) → F.content files.new other ≡ F.content files.old other }
     ensures rises { (other : List ℕ) → F.faults files.old other ≤ F.faults files.new other }
 {
-    let image = load(alloc, files, name)?;
-    let (journal, outcome) = serial(alloc, &image)?;
-    let text = report(alloc, &outcome)?;
-    Ok(Ready { journal, text })
+    let image = load(alloc, command, files, name)?;
+    let ready = text_for(alloc, command, &image)?;
+    Ok(ready)
+}
+
+/// The text that a command asks of an image.
+fn text_for(alloc: Global, command: Command, image: &Image) -> Result<Ready, NoMemory>
+    ensures { IfOk result (λ r. IsTextFor command image.now r.journal r.text.items) }
+{
+    match command {
+        Command::Run => {
+            let (journal, outcome) = serial(alloc, image)?;
+            let text = report(alloc, &outcome)?;
+            Ok(Ready {
+                journal: Some(journal),
+                text,
+            })
+        }
+        Command::Show => {
+            let text = listing(alloc, image)?;
+            Ok(Ready {
+                journal: None,
+                text,
+            })
+        }
+    }
 }
 
 /// Says a line on the error stream, and ends with a status; with 5 where the line could not be written.
@@ -155,24 +186,18 @@ fn refuse<E: Sink>(alloc: Global, err: &mut E, name: &str, refusal: Refusal) -> 
     }
 }
 
-/// Writes the report of a run.
+/// Writes a text.
 fn finish<O: Sink, E: Sink>(out: &mut O, err: &mut E, ready: Ready) -> Ended
-    ensures { IsRun ready.journal ready.text.items result
+    ensures { IsWritten ready.journal ready.text.items result
         (device (O.written out.old) (O.faults out.old)) (device (O.written out.new) (O.faults out.new))
         (device (E.written err.old) (E.faults err.old)) (device (E.written err.new) (E.faults err.new)) }
 {
     let Ready { journal, text } = ready;
     match write_whole(out, text.as_slice()) {
-        Ok(()) => Ended {
-            status: 0,
-            journal: Some(journal),
-        },
+        Ok(()) => Ended { status: 0, journal },
         Err(_) => {
             let _ = write_whole(err, write_fault_line());
-            Ended {
-                status: 5,
-                journal: Some(journal),
-            }
+            Ended { status: 5, journal }
         }
     }
 }

@@ -1,26 +1,39 @@
 //! The words of the command line.
 
-ghost use Rattle.std.specs.Prelude.{◌≡◌, codes, option_map};
-ghost use Rattle.std.specs.Str.{bytes_eq};
+ghost use Rattle.std.specs.Prelude.{◌≡◌, option_map};
 ghost use Rattle.wedge_cli.specs.Words as asking;
 
-/// The name of the image that the words ask to be run; none where they are no command.
-pub(crate) fn asked(words: &[String]) -> Option<&str>
-    ensures { option_map (λ n. n.now) result ≡ asking.asked (asking.texts words.now) }
+/// What is asked for the image of a name.
+#[derive(Clone, Copy, Debug, PartialEq, Eq)]
+pub enum Command {
+    /// That it be run, and its report written.
+    Run,
+    /// That its text be listed.
+    Show,
+}
+
+/// What the words ask, and the name of the image; none where they are no command.
+pub(crate) fn asked(words: &[String]) -> Option<(Command, &str)>
+    ensures { option_map (λ a. (a.0, a.1.now)) result ≡ asking.asked (asking.texts words.now) }
 {
     match words {
-        [command, name] if is_run(command.as_str()) && is_plain(name.as_str()) => {
-            Some(name.as_str())
+        [command, name] if is_plain(name.as_str()) => {
+            let command = command_named(command.as_str())?;
+            Some((command, name.as_str()))
         }
         _ => None,
     }
 }
 
-/// Whether a word is the command `run`.
-fn is_run(word: &str) -> bool
-    ensures { result ≡ bytes_eq word.now (codes "run") }
+/// The command of a word.
+fn command_named(word: &str) -> Option<Command>
+    ensures { result ≡ asking.command_named word.now }
 {
-    word == "run"
+    match word {
+        "run" => Some(Command::Run),
+        "show" => Some(Command::Show),
+        _ => None,
+    }
 }
 
 /// Whether a word can name a file: it is not empty and does not begin with `-`.

@@ -6,4 +6,4 @@ use Rattle.wedge_cli.proofs.loading.load.Goals as goal
 pub returns-in-Err-TooLong-clause-refused : goal.returns-in-Err-TooLong-clause-refused
 returns-in-Err-TooLong-clause-refused g c =
     let longer = c.in-Err-TooLong.ensures.longer c.in-Err-TooLong.field-0-0 (ap (λ e. Err e) c.in-Err-TooLong.field-0-is) in
-    λ bytes told. accepted-long bytes c.too_long.result c.too_long.ensures (longer bytes told)
+    λ bytes told. accepted-long c.args.command bytes c.too_long.result c.too_long.ensures (longer bytes told)
