@@ -32,7 +32,8 @@ fn image_of(
 ) -> Result<Vec<u8>, AllocError> {
     let mut bytes = Vec::new(alloc);
     bytes.extend_from_slice(b"WEDG")?;
-    for word in [1, fuel, 0x10000, words.len() as u32] {
+    let count = u32::try_from(words.len()).unwrap_or(0);
+    for word in [1, fuel, 0x10000, count] {
         bytes.extend_from_slice(&word.to_le_bytes())?;
     }
     for word in words {
@@ -45,11 +46,10 @@ fn image_of(
     Ok(bytes)
 }
 
-/// A run of the program: its words, the bytes of its file `a`, the reads and writes that fail, and how
+/// A run of the program: the bytes of its file `a`, the reads and writes that fail, and how
 /// many bytes `out` takes.
 #[derive(Drop)]
-struct Run<'a> {
-    words: &'a [&'a str],
+struct Run {
     bytes: Vec<u8>,
     read_fails: u64,
     out_room: usize,
@@ -65,17 +65,24 @@ struct Left<'a> {
     turns: Option<usize>,
 }
 
+/// The words as the program takes them.
+fn strings(alloc: Global, words: &[&str]) -> Result<Vec<String>, AllocError> {
+    let mut strings = Vec::new(alloc);
+    for word in words {
+        strings.push(String::from_str(alloc, word)?)?;
+    }
+    Ok(strings)
+}
+
 /// Runs the program and compares what it leaves.
 fn leaves<R: Threads + Wait + Abort + Sync>(
     rt: &R,
     alloc: Global,
-    run: Run<'_>,
+    words: &[&str],
+    run: Run,
     left: Left<'_>,
 ) -> Result<(), Fail> {
-    let mut words = Vec::new(alloc);
-    for word in run.words {
-        words.push(String::from_str(alloc, word)?)?;
-    }
+    let words = strings(alloc, words)?;
     let file = MemFile {
         name: String::from_str(alloc, "a")?,
         bytes: run.bytes,
@@ -94,7 +101,7 @@ fn leaves<R: Threads + Wait + Abort + Sync>(
         &mut err,
         &NoPace,
     );
-    assert_eq!(rt; ended.status, left.status, "{}", left.out);
+    assert_eq!(rt; ended.status, left.status);
     assert_eq!(rt; out.bytes(), left.out.as_bytes());
     assert_eq!(rt; err.bytes(), left.err.as_bytes());
     assert_eq!(rt;
@@ -116,7 +123,6 @@ fn reports<R: Threads + Wait + Abort + Sync>(
 ) -> Result<(), Fail> {
     let (fuel, words, right, bits) = image;
     let run = Run {
-        words: &["run", "a"],
         bytes: image_of(alloc, fuel, words, right, bits)?,
         read_fails: 0,
         out_room: 1000,
@@ -125,6 +131,7 @@ fn reports<R: Threads + Wait + Abort + Sync>(
     leaves(
         rt,
         alloc,
+        &["run", "a"],
         run,
         Left {
             status: 0,
@@ -207,7 +214,6 @@ fn a_listing_names_procedures_and_words(rt: HostRuntime) -> Result<(), Fail> {
     ];
     for (words, right, listing) in cases {
         let run = Run {
-            words: &["show", "a"],
             bytes: image_of(alloc, 100, words, right, 2)?,
             read_fails: 0,
             out_room: 1000,
@@ -216,6 +222,7 @@ fn a_listing_names_procedures_and_words(rt: HostRuntime) -> Result<(), Fail> {
         leaves(
             &rt,
             alloc,
+            &["show", "a"],
             run,
             Left {
                 status: 0,
@@ -274,7 +281,6 @@ fn what_is_no_run_says_why(rt: HostRuntime) -> Result<(), Fail> {
         let mut bytes = image_of(alloc, 100, &OK, 3, 2)?;
         bytes.resize(length, 0)?;
         let run = Run {
-            words,
             bytes,
             read_fails,
             out_room: 1000,
@@ -283,6 +289,7 @@ fn what_is_no_run_says_why(rt: HostRuntime) -> Result<(), Fail> {
         leaves(
             &rt,
             alloc,
+            words,
             run,
             Left {
                 status,
@@ -293,7 +300,6 @@ fn what_is_no_run_says_why(rt: HostRuntime) -> Result<(), Fail> {
         )?;
     }
     let run = Run {
-        words: &["run", "a"],
         bytes: image_of(alloc, 100, &OK, 1, 2)?,
         read_fails: 0,
         out_room: 1000,
@@ -302,6 +308,7 @@ fn what_is_no_run_says_why(rt: HostRuntime) -> Result<(), Fail> {
     leaves(
         &rt,
         alloc,
+        &["run", "a"],
         run,
         Left {
             status: 3,
@@ -316,7 +323,6 @@ fn what_is_no_run_says_why(rt: HostRuntime) -> Result<(), Fail> {
 fn a_failed_write_is_told(rt: HostRuntime) -> Result<(), Fail> {
     let alloc = rt.alloc();
     let report = Run {
-        words: &["run", "a"],
         bytes: image_of(alloc, 100, &OK, 3, 2)?,
         read_fails: 0,
         out_room: 10,
@@ -325,6 +331,7 @@ fn a_failed_write_is_told(rt: HostRuntime) -> Result<(), Fail> {
     leaves(
         &rt,
         alloc,
+        &["run", "a"],
         report,
         Left {
             status: 5,
@@ -334,7 +341,6 @@ fn a_failed_write_is_told(rt: HostRuntime) -> Result<(), Fail> {
         },
     )?;
     let usage = Run {
-        words: &[],
         bytes: Vec::new(alloc),
         read_fails: 0,
         out_room: 10,
@@ -343,6 +349,7 @@ fn a_failed_write_is_told(rt: HostRuntime) -> Result<(), Fail> {
     leaves(
         &rt,
         alloc,
+        &[],
         usage,
         Left {
             status: 5,
