@@ -63,13 +63,26 @@ loaded_between a ins value e = subst IsBetween (sym (loaded_runs a ins value e))
 pub takes_between : (i : Image) (a : ActorState) (e : Event) → IsBetween (takes i a e).phase
 unfolding takes
 takes_between i a (event.Slot slot q (slot_reply.Loaded value)) = loaded_between (runs a) (option_and_then decode (fetch i a.hart.pc)) value refl
+takes_between i a (event.Slot slot q slot_reply.Opened) = tt
+takes_between i a (event.Slot slot q slot_reply.Closed) = tt
 takes_between i a (event.Slot slot q slot_reply.Stored) = tt
+takes_between i a (event.Slot slot q (slot_reply.Placed offset)) = tt
+takes_between i a (event.Slot slot q slot_reply.Freed) = tt
+takes_between i a (event.Slot slot q (slot_reply.Snapped bytes)) = tt
 takes_between i a (event.Slot slot q slot_reply.Unmapped) = tt
 takes_between i a (event.Slot slot q (slot_reply.Denied tag)) = tt
+takes_between i a (event.Slot slot q slot_reply.NoSuch) = tt
+takes_between i a (event.Slot slot q slot_reply.Full) = tt
+takes_between i a (event.Slot slot q slot_reply.Bad) = tt
+takes_between i a (event.Slot slot q slot_reply.Gone) = tt
+takes_between i a (event.Fd fd q stream_reply.Opened) = tt
+takes_between i a (event.Fd fd q (stream_reply.Given bytes)) = tt
 takes_between i a (event.Fd fd q stream_reply.Appended) = tt
+takes_between i a (event.Fd fd q stream_reply.Closed) = tt
 takes_between i a (event.Fd fd q stream_reply.NoSuch) = tt
 takes_between i a (event.Fd fd q (stream_reply.Denied wants)) = tt
 takes_between i a (event.Fd fd q stream_reply.Bad) = tt
+takes_between i a (event.Lives lives_ask.Claim r) = tt
 takes_between i a (event.Lives (lives_ask.Release e) r) = tt
 
 -- what a turn is made of: the actor of the name, what it wants at rest, and the event of that ask

@@ -5,7 +5,7 @@ use Rattle.wedge_base.specs.Bytes.{number_of}
 use Rattle.wedge_base.specs.Images.{Image, fetch}
 use Rattle.wedge_base.specs.Rights.{Sheet, at_least, right_on, bits_on, append_bit}
 use Rattle.wedge_base.specs.Slots.{Segment, slot_after}
-use Rattle.wedge_base.specs.Streams.{Stream, stream_after, append_reply}
+use Rattle.wedge_base.specs.Streams.{Stream, stream_after, append_reply, live_reply}
 use Rattle.wedge_base.specs.declared.rights.FdBits.{FdBits}
 use Rattle.wedge_base.specs.declared.rights.Right.TheVariants as right
 use Rattle.wedge_base.specs.declared.rights.StreamKind.{StreamKind}
@@ -31,18 +31,18 @@ use Rattle.sthread_life.specs.declared.phase.Phase.TheVariants as phase
 use Rattle.sthread_life.specs.Actors.{ActorState}
 use Rattle.sthread_life.specs.Local.{rest, is_running}
 use Rattle.sthread_life.specs.Taking.{wanted, runs, loads_by, loads_at, takes}
-use Rattle.sthread_life.specs.Worlds.{Cells, WorldState, opening, put_actor, event_for, put_cell, happened, turn_of, Runs}
+use Rattle.sthread_life.specs.Worlds.{Cells, WorldState, opening, put_actor, held, slot_in, stream_in, event_for, happened, turn_of, Runs}
 use Rattle.sthread_life.specs.Allowed.{Request, Loads, Stores, Appends, denied_by, request_of, slot_request, stream_request, otherwise, is_source, IsJudged, StepIsJudged, EachStep}
 use Rattle.sthread_life.specs.Between.{IsBetween, HasOwnBits, AsksItsOwn}
 use Rattle.sthread_life.specs.Laws.{RunsAreJudged}
 use Rattle.sthread_life.proofs.Resting.{rests, rest-stays}
 use Rattle.sthread_life.proofs.Between.{AllBetween, named_between, turn_between, run_between, opening_between, turn_parts}
 
--- writing what stands there changes nothing
-set_same : {X : Type 0} (xs : List X) (n : ℕ) (x : X) → slice_get xs n ≡ Some x → slice_set xs n x ≡ xs
-set_same [] n x e = refl
-set_same (y ∷ ys) zero x e = ap (λ z. z ∷ ys) (let f : Some y ≡ Some x = e in cc)
-set_same (y ∷ ys) (suc n) x e = ap (λ zs. y ∷ zs) (set_same ys n x e)
+-- putting what a place holds there changes nothing
+pub set_held : {X : Type 0} (xs : List (Option X)) (n : ℕ) (x : Option X) → held (slice_get xs n) ≡ x → slice_set xs n x ≡ xs
+set_held [] n x e = refl
+set_held (y ∷ ys) zero x e = ap (λ z. z ∷ ys) (sym e)
+set_held (y ∷ ys) (suc n) x e = ap (λ zs. y ∷ zs) (set_held ys n x e)
 
 -- a load that has its value notes no denial
 loaded_denials : (ins : Instr) (n : Need) (a : ActorState) (value : ℕ) → (loads_by ins n a value).denials ≡ a.denials
@@ -59,17 +59,17 @@ loads_denials a (Some ins) value = loaded_denials ins (local ins a.hart).need a 
 
 -- the world after an event on a slot
 abbrev after_slot : WorldState → ActorState → ℕ → Option Segment → SlotAsk → SlotReply → WorldState
-after_slot w b slot g q r = record w { cells = record w.cells { segments = put_cell w.cells.segments slot (slot_after g q r) }; actors = put_actor w.actors (takes w.image b (event.Slot slot q r)) }
+after_slot w b slot g q r = record w { cells = record w.cells { slots = slice_set w.cells.slots slot (slot_after g q r) }; actors = put_actor w.actors (takes w.image b (event.Slot slot q r)) }
 
 -- the reply of a live tag to a load inside its bytes, and what it makes of the world
 load_judged : (w : WorldState) (b : ActorState) (slot offset width value : ℕ) (live : Option Live) (g : Segment) (t : Bool)
-    → slice_get w.cells.segments slot ≡ Some g → at_least (right_on b.sheet g.tag) right.Read ≡ t
+    → slot_in w.cells slot ≡ Some g → at_least (right_on b.sheet g.tag) right.Read ≡ t
     → IsJudged w b (Loads g.tag) false (event.Slot slot (slot_ask.Load offset width live) (if t then slot_reply.Loaded value else slot_reply.Denied g.tag))
     (after_slot w b slot (Some g) (slot_ask.Load offset width live) (if t then slot_reply.Loaded value else slot_reply.Denied g.tag))
 unfolding takes
 load_judged w b slot offset width value live g false there held = record {
   done = sym (ap (λ c. c && true) held);
-  denied = λ n. ap (λ (gs : List Segment). record w { cells = record w.cells { segments = gs }; actors = put_actor w.actors (denied_by b (Loads g.tag)) }) (set_same w.cells.segments slot g there);
+  denied = λ n. ap (λ (gs : List (Option Segment)). record w { cells = record w.cells { slots = gs }; actors = put_actor w.actors (denied_by b (Loads g.tag)) }) (set_held w.cells.slots slot (Some g) there);
   allowed = λ y. absurd cc;
 }
 load_judged w b slot offset width value live g true there held = record {
@@ -79,13 +79,13 @@ load_judged w b slot offset width value live g true there held = record {
 }
 
 store_judged : (w : WorldState) (b : ActorState) (slot offset width value : ℕ) (live : Option Live) (g : Segment) (t : Bool)
-    → slice_get w.cells.segments slot ≡ Some g → at_least (right_on b.sheet g.tag) right.ReadWrite ≡ t
+    → slot_in w.cells slot ≡ Some g → at_least (right_on b.sheet g.tag) right.ReadWrite ≡ t
     → IsJudged w b (Stores g.tag) false (event.Slot slot (slot_ask.Store offset width value live) (if t then slot_reply.Stored else slot_reply.Denied g.tag))
     (after_slot w b slot (Some g) (slot_ask.Store offset width value live) (if t then slot_reply.Stored else slot_reply.Denied g.tag))
 unfolding takes
 store_judged w b slot offset width value live g false there held = record {
   done = sym (ap (λ c. c && true) held);
-  denied = λ n. ap (λ (gs : List Segment). record w { cells = record w.cells { segments = gs }; actors = put_actor w.actors (denied_by b (Stores g.tag)) }) (set_same w.cells.segments slot g there);
+  denied = λ n. ap (λ (gs : List (Option Segment)). record w { cells = record w.cells { slots = gs }; actors = put_actor w.actors (denied_by b (Stores g.tag)) }) (set_held w.cells.slots slot (Some g) there);
   allowed = λ y. absurd cc;
 }
 store_judged w b slot offset width value live g true there held = record {
@@ -96,16 +96,16 @@ store_judged w b slot offset width value live g true there held = record {
 
 -- the reply of a live stream to an append, and what it makes of the world
 append_judged : (w : WorldState) (b : ActorState) (fd : ℕ) (bits : FdBits) (bytes : List ℕ) (s : Stream) (t : Bool) (k : StreamKind)
-    → slice_get w.cells.streams fd ≡ Some s → (bits_on b.sheet fd).append ≡ t
+    → stream_in w.cells fd ≡ Some s → (bits_on b.sheet fd).append ≡ t
     → IsJudged w b (Appends fd) (is_source k) (event.Fd fd (stream_ask.Append bits bytes) (if t then append_reply k else reply.Denied append_bit))
     (record w {
-      cells = record w.cells { streams = put_cell w.cells.streams fd (stream_after (Some s) (stream_ask.Append bits bytes) (if t then append_reply k else reply.Denied append_bit)) };
+      cells = record w.cells { streams = slice_set w.cells.streams fd (stream_after (Some s) (stream_ask.Append bits bytes) (if t then append_reply k else reply.Denied append_bit)) };
       actors = put_actor w.actors (takes w.image b (event.Fd fd (stream_ask.Append bits bytes) (if t then append_reply k else reply.Denied append_bit)));
     })
 unfolding takes
 append_judged w b fd bits bytes s false k live held = record {
   done = sym (ap (λ c. c && not (is_source k)) held);
-  denied = λ n. ap (λ (ss : List Stream). record w { cells = record w.cells { streams = ss }; actors = put_actor w.actors (denied_by b (Appends fd)) }) (set_same w.cells.streams fd s live);
+  denied = λ n. ap (λ (ss : List (Option Stream)). record w { cells = record w.cells { streams = ss }; actors = put_actor w.actors (denied_by b (Appends fd)) }) (set_held w.cells.streams fd (Some s) live);
   allowed = λ y. absurd cc;
 }
 append_judged w b fd bits bytes s true kind.Append live held = record {
@@ -129,7 +129,7 @@ inside : (of_tag : ℕ → Request) (g : Segment) (offset : ℕ) (t : Bool) (r :
 inside of_tag g offset true r p e = (p, cc)
 inside of_tag g offset false r p e = absurd cc
 
-judged_load : (w : WorldState) (b : ActorState) (slot offset width : ℕ) (r : Request) (g : Option Segment) → slice_get w.cells.segments slot ≡ g → slot_request Loads g offset ≡ Some r
+judged_load : (w : WorldState) (b : ActorState) (slot offset width : ℕ) (r : Request) (g : Option Segment) → slot_in w.cells slot ≡ g → slot_request Loads g offset ≡ Some r
     → IsJudgedFor w b (want.Load slot offset width) r
 judged_load w b slot offset width r None there e = absurd cc
 judged_load w b slot offset width r (Some g) there e =
@@ -137,7 +137,7 @@ judged_load w b slot offset width r (Some g) there e =
     subst (IsJudgedFor w b (want.Load slot offset width)) p.1
     (rw (there, p.0) (load_judged w b slot offset width (number_of (slice_range g.bytes offset (offset + width))) (Some (record { tag = g.tag; right = right_on b.sheet g.tag })) g _ there refl))
 
-judged_store : (w : WorldState) (b : ActorState) (slot offset width value : ℕ) (r : Request) (g : Option Segment) → slice_get w.cells.segments slot ≡ g → slot_request Stores g offset ≡ Some r
+judged_store : (w : WorldState) (b : ActorState) (slot offset width value : ℕ) (r : Request) (g : Option Segment) → slot_in w.cells slot ≡ g → slot_request Stores g offset ≡ Some r
     → IsJudgedFor w b (want.Store slot offset width value) r
 judged_store w b slot offset width value r None there e = absurd cc
 judged_store w b slot offset width value r (Some g) there e =
@@ -145,19 +145,52 @@ judged_store w b slot offset width value r (Some g) there e =
     subst (IsJudgedFor w b (want.Store slot offset width value)) p.1
     (rw (there, p.0) (store_judged w b slot offset width value (Some (record { tag = g.tag; right = right_on b.sheet g.tag })) g _ there refl))
 
+-- a stream that is live, in which an append is in question
+live_append : (fd : ℕ) (r : Request) (t : Bool) → (if t then Some (Appends fd) else None) ≡ Some r → (t ≡ true) × (Appends fd ≡ r)
+live_append fd r true e = (refl, cc)
+live_append fd r false e = absurd cc
+
+live_judged : (w : WorldState) (b : ActorState) (fd : ℕ) (bits : FdBits) (bytes : List ℕ) (s : Stream) (v : Bool) → v ≡ true → stream_in w.cells fd ≡ Some s → bits ≡ bits_on b.sheet fd
+    → IsJudged w b (Appends fd) (is_source s.kind) (event.Fd fd (stream_ask.Append bits bytes) (if v then live_reply s (stream_ask.Append bits bytes) else reply.NoSuch))
+    (record w {
+      cells = record w.cells { streams = slice_set w.cells.streams fd (stream_after (Some s) (stream_ask.Append bits bytes) (if v then live_reply s (stream_ask.Append bits bytes) else reply.NoSuch)) };
+      actors = put_actor w.actors (takes w.image b (event.Fd fd (stream_ask.Append bits bytes) (if v then live_reply s (stream_ask.Append bits bytes) else reply.NoSuch)));
+    })
+live_judged w b fd bits bytes s true e there own = append_judged w b fd bits bytes s bits.append s.kind there (ap (λ (x : FdBits). x.append) (sym own))
+live_judged w b fd bits bytes s false e there own = absurd cc
+
 judged_append : (w : WorldState) (b : ActorState) (fd : ℕ) (bits : FdBits) (bytes : List ℕ) (r : Request) (s : Option Stream)
-    → slice_get w.cells.streams fd ≡ s → bits ≡ bits_on b.sheet fd → stream_request fd s (stream_ask.Append bits bytes) ≡ Some r
+    → stream_in w.cells fd ≡ s → bits ≡ bits_on b.sheet fd → stream_request fd s (stream_ask.Append bits bytes) ≡ Some r
     → IsJudgedFor w b (want.Fd fd (stream_ask.Append bits bytes)) r
-judged_append w b fd bits bytes r None live own e = absurd cc
-judged_append w b fd bits bytes r (Some s) live own e =
-    let is : Appends fd ≡ r = cc in
-    subst (IsJudgedFor w b (want.Fd fd (stream_ask.Append bits bytes))) is
-    (rw live (append_judged w b fd bits bytes s bits.append s.kind live (ap (λ (x : FdBits). x.append) (sym own))))
+judged_append w b fd bits bytes r None there own e = absurd cc
+judged_append w b fd bits bytes r (Some s) there own e =
+    let p = live_append fd r s.live e in
+    subst (IsJudgedFor w b (want.Fd fd (stream_ask.Append bits bytes))) p.1 (rw there (live_judged w b fd bits bytes s s.live p.0 there own))
+
+-- no other ask of a stream is in question yet
+no_request : (fd : ℕ) (s : Option Stream) (kind : StreamKind) (bytes : List ℕ) → stream_request fd s (stream_ask.Open kind bytes) ≡ None
+no_request fd None kind bytes = refl
+no_request fd (Some s) kind bytes = refl
+
+no_read : (fd : ℕ) (s : Option Stream) (bits : FdBits) (count : ℕ) → stream_request fd s (stream_ask.Read bits count) ≡ None
+no_read fd None bits count = refl
+no_read fd (Some s) bits count = refl
+
+no_close : (fd : ℕ) (s : Option Stream) (bits : FdBits) → stream_request fd s (stream_ask.Close bits) ≡ None
+no_close fd None bits = refl
+no_close fd (Some s) bits = refl
+
+none_is_some : {X : Type 0} (o : Option X) (x : X) → o ≡ None → o ≡ Some x → ⊥
+none_is_some None x n e = let f : None ≡ Some x = e in absurd cc
+none_is_some (Some y) x n e = let f : Some y ≡ None = n in absurd cc
 
 judged_want : (w : WorldState) (b : ActorState) (q : Want) (r : Request) → HasOwnBits b.sheet q → request_of w.cells q ≡ Some r → IsJudgedFor w b q r
-judged_want w b (want.Load slot offset width) r own e = judged_load w b slot offset width r (slice_get w.cells.segments slot) refl e
-judged_want w b (want.Store slot offset width value) r own e = judged_store w b slot offset width value r (slice_get w.cells.segments slot) refl e
-judged_want w b (want.Fd fd (stream_ask.Append bits bytes)) r own e = judged_append w b fd bits bytes r (slice_get w.cells.streams fd) refl own e
+judged_want w b (want.Load slot offset width) r own e = judged_load w b slot offset width r (slot_in w.cells slot) refl e
+judged_want w b (want.Store slot offset width value) r own e = judged_store w b slot offset width value r (slot_in w.cells slot) refl e
+judged_want w b (want.Fd fd (stream_ask.Append bits bytes)) r own e = judged_append w b fd bits bytes r (stream_in w.cells fd) refl own e
+judged_want w b (want.Fd fd (stream_ask.Open kind bytes)) r own e = absurd (none_is_some (stream_request fd (stream_in w.cells fd) (stream_ask.Open kind bytes)) r (no_request fd (stream_in w.cells fd) kind bytes) e)
+judged_want w b (want.Fd fd (stream_ask.Read bits count)) r own e = absurd (none_is_some (stream_request fd (stream_in w.cells fd) (stream_ask.Read bits count)) r (no_read fd (stream_in w.cells fd) bits count) e)
+judged_want w b (want.Fd fd (stream_ask.Close bits)) r own e = absurd (none_is_some (stream_request fd (stream_in w.cells fd) (stream_ask.Close bits)) r (no_close fd (stream_in w.cells fd) bits) e)
 judged_want w b (want.Lives q) r own e = absurd cc
 
 -- what an actor wants it asks with its own rights

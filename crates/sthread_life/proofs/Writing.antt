@@ -4,70 +4,37 @@ use Rattle.std.proofs.lemmas.Bool.{eqb-true, eq-eqb}
 use Rattle.std.specs.Prelude.{Option, Some, None, option_map, not, slice_get, slice_set, nat_lt, if◌then◌else◌}
 use Rattle.wedge_base.specs.Images.{Image}
 use Rattle.wedge_base.specs.Rights.{at_least, right_on}
-use Rattle.wedge_base.specs.Slots.{Segment, slot_after, stored}
+use Rattle.wedge_base.specs.Slots.{Segment, slot_after, live_reply}
 use Rattle.wedge_base.specs.Histories.{bytes_by, bytes_after_event, bytes_after}
 use Rattle.wedge_base.specs.declared.rights.Right.TheVariants as right
 use Rattle.wedge_base.specs.declared.events.Want.{Want}
 use Rattle.wedge_base.specs.declared.events.Want.TheVariants as want
 use Rattle.wedge_base.specs.declared.events.Event.{Event}
-use Rattle.wedge_base.specs.declared.events.Event.TheVariants as event
 use Rattle.wedge_base.specs.declared.events.Turn.{Turn}
 use Rattle.wedge_base.specs.declared.cells.Live.{Live}
-use Rattle.wedge_base.specs.declared.cells.SlotAsk.{SlotAsk}
 use Rattle.wedge_base.specs.declared.cells.SlotAsk.TheVariants as slot_ask
-use Rattle.wedge_base.specs.declared.cells.SlotReply.{SlotReply}
 use Rattle.wedge_base.specs.declared.cells.SlotReply.TheVariants as slot_reply
 use Rattle.sthread_life.specs.Actors.{ActorState}
 use Rattle.sthread_life.specs.Local.{rest, is_running}
-use Rattle.sthread_life.specs.Worlds.{Cells, WorldState, opening, cells_after, event_for, put_cell, turn_of, Runs}
+use Rattle.sthread_life.specs.Worlds.{Cells, WorldState, held, slot_in, opening, cells_after, event_for, turn_of, Runs}
 use Rattle.sthread_life.specs.Allowed.{allows, Stores, EachStep}
 use Rattle.sthread_life.specs.Written.{bytes_in, BytesFollow, StepWritesOwn}
 use Rattle.sthread_life.specs.Laws.{RunsWriteTheirOwn}
 use Rattle.sthread_life.proofs.Resting.{rests, rest-stays}
 use Rattle.sthread_life.proofs.Between.{turn_parts}
+use Rattle.sthread_life.proofs.Judging.{set_held}
 
 -- the bytes where a tag lives
 abbrev bytes_of_tag : Option Segment → Option (List ℕ)
 bytes_of_tag o = option_map (λ g. g.bytes) o
 
-map_same : {X : Type 0} (o : Option X) → o ≡ option_map (λ x. x) o
-map_same None = refl
-map_same (Some x) = refl
-
--- no tag comes to live where none does
-none_after : (q : SlotAsk) (r : SlotReply) → slot_after None q r ≡ None
-none_after (slot_ask.Load offset width live) (slot_reply.Loaded v) = refl
-none_after (slot_ask.Load offset width live) slot_reply.Stored = refl
-none_after (slot_ask.Load offset width live) slot_reply.Unmapped = refl
-none_after (slot_ask.Load offset width live) (slot_reply.Denied tag) = refl
-none_after (slot_ask.Store offset width value live) (slot_reply.Loaded v) = refl
-none_after (slot_ask.Store offset width value live) slot_reply.Stored = refl
-none_after (slot_ask.Store offset width value live) slot_reply.Unmapped = refl
-none_after (slot_ask.Store offset width value live) (slot_reply.Denied tag) = refl
-
--- what a tag is after an ask with its reply
-record After (g : Segment) (q : SlotAsk) (r : SlotReply) : Type 0 where
-  pub new : Segment
-  pub is : slot_after (Some g) q r ≡ Some new
-  pub bytes : new.bytes ≡ bytes_by g.bytes q r
-
-some_after : (g : Segment) (q : SlotAsk) (r : SlotReply) → After g q r
-some_after g (slot_ask.Load offset width live) (slot_reply.Loaded v) = record { new = g; is = refl; bytes = refl }
-some_after g (slot_ask.Load offset width live) slot_reply.Stored = record { new = g; is = refl; bytes = refl }
-some_after g (slot_ask.Load offset width live) slot_reply.Unmapped = record { new = g; is = refl; bytes = refl }
-some_after g (slot_ask.Load offset width live) (slot_reply.Denied tag) = record { new = g; is = refl; bytes = refl }
-some_after g (slot_ask.Store offset width value live) (slot_reply.Loaded v) = record { new = g; is = refl; bytes = refl }
-some_after g (slot_ask.Store offset width value live) slot_reply.Stored = record { new = stored offset width value g; is = refl; bytes = refl }
-some_after g (slot_ask.Store offset width value live) slot_reply.Unmapped = record { new = g; is = refl; bytes = refl }
-some_after g (slot_ask.Store offset width value live) (slot_reply.Denied tag) = record { new = g; is = refl; bytes = refl }
-
--- a cell that is put in its place is what is there, and each other stays
-get_put_same : (xs : List Segment) (s : ℕ) (old new : Segment) → slice_get xs s ≡ Some old → slice_get (slice_set xs s new) s ≡ Some new
+-- what is put in a place is what is there, and each other place stays
+get_put_same : (xs : List (Option Segment)) (s : ℕ) (old : Segment) (new : Option Segment) → held (slice_get xs s) ≡ Some old → held (slice_get (slice_set xs s new) s) ≡ new
 get_put_same [] s old new e = absurd cc
 get_put_same (y ∷ ys) zero old new e = refl
 get_put_same (y ∷ ys) (suc m) old new e = get_put_same ys m old new e
 
-get_put_other : (xs : List Segment) (s slot : ℕ) (new : Segment) → (s ≡ slot → ⊥) → slice_get (slice_set xs s new) slot ≡ slice_get xs slot
+get_put_other : (xs : List (Option Segment)) (s slot : ℕ) (new : Option Segment) → (s ≡ slot → ⊥) → slice_get (slice_set xs s new) slot ≡ slice_get xs slot
 get_put_other [] s slot new ne = refl
 get_put_other (y ∷ ys) zero zero new ne = absurd (ne refl)
 get_put_other (y ∷ ys) zero (suc n) new ne = refl
@@ -77,38 +44,47 @@ get_put_other (y ∷ ys) (suc m) (suc n) new ne = get_put_other ys m n new (λ e
 not_equal : (s slot : ℕ) → (s == slot) ≡ false → s ≡ slot → ⊥
 not_equal s slot eq e = let both : true ≡ false = sym (eq-eqb s slot e) ∙ eq in cc
 
--- the slot of a tag that is stored to, and another
-follow_some : (xs : List Segment) (s slot : ℕ) (g : Segment) (q : SlotAsk) (r : SlotReply) (t : Bool) → slice_get xs s ≡ Some g → (s == slot) ≡ t
-    → bytes_of_tag (slice_get (put_cell xs s (slot_after (Some g) q r)) slot) ≡ option_map (λ bytes. if s == slot then bytes_by bytes q r else bytes) (bytes_of_tag (slice_get xs slot))
-follow_some xs s slot g q r false there eq =
-    let a = some_after g q r in
-    rw (a.is, eq) (ap bytes_of_tag (get_put_other xs s slot a.new (not_equal s slot eq)) ∙ map_same (bytes_of_tag (slice_get xs slot)))
-follow_some xs s slot g q r true there eq =
-    let a = some_after g q r in
-    let here : slice_get xs slot ≡ Some g = subst (λ n. slice_get xs n ≡ Some g) (eqb-true s slot eq) there in
-    let put : slice_get (slice_set xs s a.new) slot ≡ Some a.new = subst (λ n. slice_get (slice_set xs s a.new) n ≡ Some a.new) (eqb-true s slot eq) (get_put_same xs s g a.new there) in
-    rw (a.is, eq, here) (ap bytes_of_tag put ∙ ap (λ (x : List ℕ). Some x) a.bytes)
+either_way : {X : Type 0} (t : Bool) (x : X) → (if t then x else x) ≡ x
+either_way true x = refl
+either_way false x = refl
 
-follow_slot : (xs : List Segment) (s slot : ℕ) (o : Option Segment) (q : SlotAsk) (r : SlotReply) (t : Bool) → slice_get xs s ≡ o → (s == slot) ≡ t
-    → bytes_of_tag (slice_get (put_cell xs s (slot_after o q r)) slot) ≡ option_map (λ bytes. if s == slot then bytes_by bytes q r else bytes) (bytes_of_tag (slice_get xs slot))
-follow_slot xs s slot None q r false there eq =
-    rw (none_after q r, eq) (map_same (bytes_of_tag (slice_get xs slot)))
-follow_slot xs s slot None q r true there eq =
-    let here : slice_get xs slot ≡ None = subst (λ n. slice_get xs n ≡ None) (eqb-true s slot eq) there in
-    rw (none_after q r, here) refl
-follow_slot xs s slot (Some g) q r t there eq =
-    follow_some xs s slot g q r t there eq
+-- what the reply to a store makes of the bytes
+store_bytes : (g : Segment) (offset width value : ℕ) (live : Option Live) (within held : Bool)
+    → bytes_of_tag (slot_after (Some g) (slot_ask.Store offset width value live) (if not within then slot_reply.Unmapped else if held then slot_reply.Stored else slot_reply.Denied g.tag))
+    ≡ bytes_by (Some g.bytes) (slot_ask.Store offset width value live) (if not within then slot_reply.Unmapped else if held then slot_reply.Stored else slot_reply.Denied g.tag)
+store_bytes g offset width value live false held = refl
+store_bytes g offset width value live true false = refl
+store_bytes g offset width value live true true = refl
 
--- an event makes of the bytes in a slot what the history says
-event_follows : (c : Cells) (e : Event) (slot : ℕ) → bytes_in (cells_after c e) slot ≡ option_map (λ bytes. bytes_after_event slot bytes e) (bytes_in c slot)
-event_follows c (event.Slot s q r) slot = follow_slot c.segments s slot (slice_get c.segments s) q r (s == slot) refl refl
-event_follows c (event.Fd fd q r) slot = map_same (bytes_in c slot)
-event_follows c (event.Lives q r) slot = map_same (bytes_in c slot)
+-- the bytes in a slot after a load and after a store, there or in another slot
+abbrev IsFollowed : Cells → ActorState → ℕ → Want → Type 0
+IsFollowed c b slot q = bytes_in (cells_after c (event_for c b q)) slot ≡ bytes_after_event slot (bytes_in c slot) (event_for c b q)
 
-map_twice : (o : Option (List ℕ)) (slot : ℕ) (t : Turn) (ts : List Turn)
-    → option_map (λ bytes. bytes_after slot bytes ts) (option_map (λ bytes. bytes_after_event slot bytes t.event) o) ≡ option_map (λ bytes. bytes_after slot bytes (t ∷ ts)) o
-map_twice None slot t ts = refl
-map_twice (Some bytes) slot t ts = refl
+load_follows : (c : Cells) (b : ActorState) (s offset width slot : ℕ) → IsFollowed c b slot (want.Load s offset width)
+load_follows c b s offset width slot =
+    ap (λ (xs : List (Option Segment)). bytes_of_tag (held (slice_get xs slot))) (set_held c.slots s (slot_in c s) refl) ∙ sym (either_way (s == slot) (bytes_in c slot))
+
+store_follows : (c : Cells) (b : ActorState) (s offset width value slot : ℕ) (o : Option Segment) (t : Bool) → slot_in c s ≡ o → (s == slot) ≡ t
+    → IsFollowed c b slot (want.Store s offset width value)
+store_follows c b s offset width value slot None t there eq =
+    rw there (ap (λ (xs : List (Option Segment)). bytes_of_tag (held (slice_get xs slot))) (set_held c.slots s None there) ∙ sym (either_way (s == slot) (bytes_in c slot)))
+store_follows c b s offset width value slot (Some g) false there eq =
+    rw (there, eq) (ap (λ o. bytes_of_tag (held o)) (get_put_other c.slots s slot _ (not_equal s slot eq)))
+store_follows c b s offset width value slot (Some g) true there eq =
+    let same : s ≡ slot = eqb-true s slot eq in
+    let here : slot_in c slot ≡ Some g = subst (λ n. slot_in c n ≡ Some g) same there in
+    let live = Some (record { tag = g.tag; right = right_on b.sheet g.tag }) in
+    let q = slot_ask.Store offset width value live in
+    let new = slot_after (Some g) q (live_reply g q) in
+    let put : held (slice_get (slice_set c.slots s new) slot) ≡ new = subst (λ n. held (slice_get (slice_set c.slots s new) n) ≡ new) same (get_put_same c.slots s g new there) in
+    rw (there, eq, here) (ap bytes_of_tag put ∙ store_bytes g offset width value live (nat_lt offset (length g.bytes)) (at_least (right_on b.sheet g.tag) right.ReadWrite))
+
+-- an event that an actor comes to makes of the bytes in a slot what the history says
+want_follows : (c : Cells) (b : ActorState) (q : Want) (slot : ℕ) → IsFollowed c b slot q
+want_follows c b (want.Load s offset width) slot = load_follows c b s offset width slot
+want_follows c b (want.Store s offset width value) slot = store_follows c b s offset width value slot (slot_in c s) (s == slot) refl refl
+want_follows c b (want.Fd fd q) slot = refl
+want_follows c b (want.Lives q) slot = refl
 
 -- a turn's event makes the cells
 turn_cells : (w : WorldState) (t : Turn) (new : WorldState) → turn_of w t.actor ≡ Some (record { event = t.event; world = new }) → new.cells ≡ cells_after w.cells t.event
@@ -116,39 +92,40 @@ turn_cells w t new e =
     let p = turn_parts w t.actor t.event new e in
     ap (λ (x : WorldState). x.cells) p.new_is ∙ ap (cells_after w.cells) (sym p.event_is)
 
+turn_follows : (w : WorldState) (t : Turn) (new : WorldState) (slot : ℕ) → turn_of w t.actor ≡ Some (record { event = t.event; world = new })
+    → bytes_in new.cells slot ≡ bytes_after_event slot (bytes_in w.cells slot) t.event
+turn_follows w t new slot e =
+    let p = turn_parts w t.actor t.event new e in
+    let b = rest w.image p.actor in
+    ap (λ (c : Cells). bytes_in c slot) (turn_cells w t new e)
+    ∙ subst (λ x. bytes_in (cells_after w.cells x) slot ≡ bytes_after_event slot (bytes_in w.cells slot) x) (sym p.event_is) (want_follows w.cells b p.want slot)
+
 bytes_follow : (old : WorldState) (turns : List Turn) (new : WorldState) → Runs old turns new → BytesFollow old.cells turns new.cells
-bytes_follow old [] new run slot = ap (λ (w : WorldState). bytes_in w.cells slot) run ∙ map_same (bytes_in old.cells slot)
+bytes_follow old [] new run slot = ap (λ (w : WorldState). bytes_in w.cells slot) run
 bytes_follow old (t ∷ ts) new run slot =
-    bytes_follow run.0 ts new run.2 slot
-    ∙ ap (λ (c : Cells). option_map (λ bytes. bytes_after slot bytes ts) (bytes_in c slot)) (turn_cells old t run.0 run.1)
-    ∙ ap (option_map (λ bytes. bytes_after slot bytes ts)) (event_follows old.cells t.event slot)
-    ∙ map_twice (bytes_in old.cells slot) slot t ts
+    bytes_follow run.0 ts new run.2 slot ∙ ap (λ bytes. bytes_after slot bytes ts) (turn_follows old t run.0 slot run.1)
 
 -- what an event leaves of the bytes, or that the actor may store
 abbrev IsOwn : Cells → ActorState → ℕ → Segment → Event → Type 0
-IsOwn c b slot g e = (bytes_after_event slot g.bytes e ≡ g.bytes) ⊎ (allows b (Stores g.tag) ≡ true)
-
-either_way : (t : Bool) (bytes : List ℕ) → (if t then bytes else bytes) ≡ bytes
-either_way true bytes = refl
-either_way false bytes = refl
+IsOwn c b slot g e = (bytes_after_event slot (Some g.bytes) e ≡ Some g.bytes) ⊎ (allows b (Stores g.tag) ≡ true)
 
 -- a store that is judged by the pair of the tag and the actor's right on it
 store_own : (b : ActorState) (g : Segment) (offset width value : ℕ) (live : Option Live) (within held : Bool) → at_least (right_on b.sheet g.tag) right.ReadWrite ≡ held
-    → (bytes_by g.bytes (slot_ask.Store offset width value live) (if not within then slot_reply.Unmapped else if held then slot_reply.Stored else slot_reply.Denied g.tag) ≡ g.bytes)
+    → (bytes_by (Some g.bytes) (slot_ask.Store offset width value live) (if not within then slot_reply.Unmapped else if held then slot_reply.Stored else slot_reply.Denied g.tag) ≡ Some g.bytes)
     ⊎ (allows b (Stores g.tag) ≡ true)
 store_own b g offset width value live false held e = inl refl
 store_own b g offset width value live true false e = inl refl
 store_own b g offset width value live true true e = inr e
 
-store_at : (c : Cells) (b : ActorState) (s offset width value slot : ℕ) (g : Segment) (t : Bool) → slice_get c.segments slot ≡ Some g → (s == slot) ≡ t
+store_at : (c : Cells) (b : ActorState) (s offset width value slot : ℕ) (g : Segment) (t : Bool) → slot_in c slot ≡ Some g → (s == slot) ≡ t
     → IsOwn c b slot g (event_for c b (want.Store s offset width value))
 store_at c b s offset width value slot g false there eq = inl (rw eq refl)
 store_at c b s offset width value slot g true there eq =
-    let here : slice_get c.segments s ≡ Some g = subst (λ n. slice_get c.segments n ≡ Some g) (sym (eqb-true s slot eq)) there in
+    let here : slot_in c s ≡ Some g = subst (λ n. slot_in c n ≡ Some g) (sym (eqb-true s slot eq)) there in
     rw (here, eq) (store_own b g offset width value (Some (record { tag = g.tag; right = right_on b.sheet g.tag })) (nat_lt offset (length g.bytes)) _ refl)
 
-event_own : (c : Cells) (b : ActorState) (q : Want) (slot : ℕ) (g : Segment) → slice_get c.segments slot ≡ Some g → IsOwn c b slot g (event_for c b q)
-event_own c b (want.Load s offset width) slot g there = inl (either_way (s == slot) g.bytes)
+event_own : (c : Cells) (b : ActorState) (q : Want) (slot : ℕ) (g : Segment) → slot_in c slot ≡ Some g → IsOwn c b slot g (event_for c b q)
+event_own c b (want.Load s offset width) slot g there = inl (either_way (s == slot) (Some g.bytes))
 event_own c b (want.Store s offset width value) slot g there = store_at c b s offset width value slot g (s == slot) there refl
 event_own c b (want.Fd fd q) slot g there = inl refl
 event_own c b (want.Lives q) slot g there = inl refl
@@ -158,7 +135,8 @@ rest_sheet : (i : Image) (a : ActorState) (t : Bool) → is_running a.phase ≡ 
 rest_sheet i a true e = (rests i a e).sheet
 rest_sheet i a false e = ap (λ (x : ActorState). x.sheet) (rest-stays i a e)
 
-step_writes_own : (w : WorldState) (t : Turn) (new : WorldState) → turn_of w t.actor ≡ Some (record { event = t.event; world = new }) → StepWritesOwn w t new
+-- whoever changes the bytes of a tag in a step may store to it
+pub step_writes_own : (w : WorldState) (t : Turn) (new : WorldState) → turn_of w t.actor ≡ Some (record { event = t.event; world = new }) → StepWritesOwn w t new
 step_writes_own w t new e slot g there =
     let p = turn_parts w t.actor t.event new e in
     let b = rest w.image p.actor in

@@ -1,6 +1,6 @@
 -- What a sheet allows: the requests that may be denied, when each is in question, what allows it, and
 -- what a denial names. Apart from the step, so that the step's denials are a theorem.
-use Rattle.std.specs.Prelude.{◌≡◌, ℕ, Bool, true, false, not, ◌&&◌, List, [], ◌∷◌, length, slice_get, Option, Some, None, nat_lt, if◌then◌else◌}
+use Rattle.std.specs.Prelude.{◌≡◌, ℕ, Bool, true, false, not, ◌&&◌, List, [], ◌∷◌, length, Option, Some, None, nat_lt, if◌then◌else◌}
 use Rattle.wedge_base.specs.Rights.{at_least, right_on, bits_on, append_bit}
 use Rattle.wedge_base.specs.Slots.{Segment}
 use Rattle.wedge_base.specs.Streams.{Stream}
@@ -24,7 +24,7 @@ use Rattle.wedge_base.specs.declared.events.Turn.{Turn}
 use Rattle.sthread_life.specs.Actors.{ActorState, notes, ends, denies}
 use Rattle.sthread_life.specs.Local.{rest}
 use Rattle.sthread_life.specs.Taking.{wanted, takes}
-use Rattle.sthread_life.specs.Worlds.{Cells, WorldState, actor_named, put_actor, turn_of}
+use Rattle.sthread_life.specs.Worlds.{Cells, WorldState, slot_in, stream_in, actor_named, put_actor, turn_of}
 
 -- a request that a sheet may forbid: to load from or store to the tag that lives in a slot, or to append
 -- to a descriptor
@@ -51,13 +51,14 @@ slot_request of_tag (Some g) offset = if nat_lt offset (length g.bytes) then Som
 -- in question at a descriptor: a live stream
 abbrev pub stream_request : ℕ → Option Stream → StreamAsk → Option Request
 stream_request fd None q = None
-stream_request fd (Some s) (stream_ask.Append bits bytes) = Some (Appends fd)
+stream_request fd (Some s) (stream_ask.Append bits bytes) = if s.live then Some (Appends fd) else None
+stream_request fd (Some s) q = None
 
 -- the request that is in question in what is wanted
 abbrev pub request_of : Cells → Want → Option Request
-request_of c (want.Load slot offset width) = slot_request Loads (slice_get c.segments slot) offset
-request_of c (want.Store slot offset width value) = slot_request Stores (slice_get c.segments slot) offset
-request_of c (want.Fd fd q) = stream_request fd (slice_get c.streams fd) q
+request_of c (want.Load slot offset width) = slot_request Loads (slot_in c slot) offset
+request_of c (want.Store slot offset width value) = slot_request Stores (slot_in c slot) offset
+request_of c (want.Fd fd q) = stream_request fd (stream_in c fd) q
 request_of c (want.Lives q) = None
 
 -- whether it is refused for a cause that stands behind the denial: a source takes no bytes
@@ -68,11 +69,12 @@ is_source kind.Append = false
 abbrev pub stream_otherwise : Option Stream → StreamAsk → Bool
 stream_otherwise None q = false
 stream_otherwise (Some s) (stream_ask.Append bits bytes) = is_source s.kind
+stream_otherwise (Some s) q = false
 
 abbrev pub otherwise : Cells → Want → Bool
 otherwise c (want.Load slot offset width) = false
 otherwise c (want.Store slot offset width value) = false
-otherwise c (want.Fd fd q) = stream_otherwise (slice_get c.streams fd) q
+otherwise c (want.Fd fd q) = stream_otherwise (stream_in c fd) q
 otherwise c (want.Lives q) = false
 
 -- whether an event is a request that took place

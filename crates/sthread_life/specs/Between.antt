@@ -19,7 +19,10 @@ IsBetween (phase.Ended e) = Unit {0}
 abbrev pub HasOwnBits : Sheet → Want → Type 0
 HasOwnBits s (want.Load slot offset width) = Unit {0}
 HasOwnBits s (want.Store slot offset width value) = Unit {0}
+HasOwnBits s (want.Fd fd (stream_ask.Open kind bytes)) = Unit {0}
+HasOwnBits s (want.Fd fd (stream_ask.Read bits count)) = bits ≡ bits_on s fd
 HasOwnBits s (want.Fd fd (stream_ask.Append bits bytes)) = bits ≡ bits_on s fd
+HasOwnBits s (want.Fd fd (stream_ask.Close bits)) = bits ≡ bits_on s fd
 HasOwnBits s (want.Lives q) = Unit {0}
 
 -- what an actor with this sheet asks it asks with its own rights

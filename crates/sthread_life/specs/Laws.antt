@@ -10,8 +10,8 @@ use Rattle.sthread_life.specs.Allowed.{StepIsJudged, EachStep}
 abbrev pub RunsAreJudged : Type 0
 RunsAreJudged = (i : Image) (turns : List Turn) (new : WorldState) → Runs (opening i) turns new → EachStep StepIsJudged (opening i) turns
 
--- after each run the bytes in each slot are those that the image declares, with the stores of the run
--- written over them in order; and in each step of it whoever changes the bytes of a tag may store to it
+-- after each run the bytes in each slot are those that the image declares, with what the run wrote over
+-- them in order; and in each step of it whoever changes the bytes of a tag may store to it
 pub record IsWrittenByOwners (i : Image) (turns : List Turn) (new : WorldState) : Type 0 where
   pub follow : BytesFollow (opening i).cells turns new.cells
   pub writers : EachStep StepWritesOwn (opening i) turns

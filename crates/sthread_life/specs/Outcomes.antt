@@ -1,5 +1,5 @@
 -- What a run ends with: a line for each actor that has ended, and the bytes of each append stream.
-use Rattle.std.specs.Prelude.{ℕ, ◌+◌, List, [], ◌∷◌, slice_get, unwrap_or, option_map, if◌then◌else◌}
+use Rattle.std.specs.Prelude.{ℕ, ◌+◌, List, [], ◌∷◌, Option, Some, None, slice_get, unwrap_or, option_map, if◌then◌else◌}
 use Rattle.std.specs.Ordering.{nat_cmp, is_lt}
 use Rattle.std.specs.Cmp.Lexicographic.{slice_cmp}
 use Rattle.wedge_base.specs.Images.{Image, procedure_name}
@@ -36,14 +36,18 @@ lines_of i (a ∷ as_) = with_actor i a a.phase (lines_of i as_)
 abbrev pub label_of : Image → ℕ → List ℕ
 label_of i n = unwrap_or (option_map (λ f. f.name) (slice_get i.fds n)) []
 
--- an append stream has a line, a source none
-abbrev pub with_stream : Image → ℕ → Stream → StreamKind → List StreamLine → List StreamLine
-with_stream i n s kind.Append ls = record { number = n; label = label_of i n; bytes = s.bytes } ∷ ls
-with_stream i n s kind.Source ls = ls
+-- an append stream has a line, a source none, and what was never opened none
+abbrev pub with_kind : Image → ℕ → Stream → StreamKind → List StreamLine → List StreamLine
+with_kind i n s kind.Append ls = record { number = n; label = label_of i n; bytes = s.bytes } ∷ ls
+with_kind i n s kind.Source ls = ls
 
-abbrev pub streams_of : Image → ℕ → List Stream → List StreamLine
+abbrev pub with_stream : Image → ℕ → Option Stream → List StreamLine → List StreamLine
+with_stream i n None ls = ls
+with_stream i n (Some s) ls = with_kind i n s s.kind ls
+
+abbrev pub streams_of : Image → ℕ → List (Option Stream) → List StreamLine
 streams_of i n [] = []
-streams_of i n (s ∷ ss) = with_stream i n s s.kind (streams_of i (n + 1) ss)
+streams_of i n (s ∷ ss) = with_stream i n s (streams_of i (n + 1) ss)
 
 abbrev pub outcome_of : WorldState → Outcome
 outcome_of w = record { actors = lines_of w.image w.actors; streams = streams_of w.image 0 w.cells.streams }

@@ -61,20 +61,23 @@ abbrev pub loads_at : ActorState → Option Instr → ℕ → ActorState
 loads_at a None value = a
 loads_at a (Some ins) value = loads_by ins (local ins a.hart).need a value
 
--- the right that an access wants
+-- the right that an ask wants
 abbrev pub wanted_right : SlotAsk → Right
 wanted_right (slot_ask.Load offset width live) = right.Read
-wanted_right (slot_ask.Store offset width value live) = right.ReadWrite
+wanted_right q = right.ReadWrite
 
 -- a load or store that is denied ends its actor
 abbrev pub denied_on : ActorState → ℕ → SlotAsk → ActorState
 denied_on a tag q = ends (notes a (denial.Tag tag (wanted_right q))) end_.Denied
 
+-- An actor asks a slot for loads and stores alone, and a stream for appends alone, until further calls are
+-- built; a reply to another ask makes nothing of it but that it goes on.
 abbrev pub takes_slot : Image → ActorState → SlotAsk → SlotReply → ActorState
 takes_slot i a q (slot_reply.Loaded value) = loads_at (runs a) (option_and_then decode (fetch i a.hart.pc)) value
 takes_slot i a q slot_reply.Stored = has_stored (runs a)
 takes_slot i a q slot_reply.Unmapped = ends a end_.Unmapped
 takes_slot i a q (slot_reply.Denied tag) = denied_on a tag q
+takes_slot i a q r = runs a
 
 -- an append takes a unit of fuel for each byte
 abbrev pub takes_stream : ActorState → ℕ → StreamReply → ActorState
@@ -82,9 +85,11 @@ takes_stream a fd stream_reply.Appended = answers (spends a (a2 a)) (a2 a)
 takes_stream a fd stream_reply.NoSuch = refuses a code.NoSuch
 takes_stream a fd (stream_reply.Denied wants) = denies a (denial.Fd fd wants)
 takes_stream a fd stream_reply.Bad = refuses a code.Bad
+takes_stream a fd r = runs a
 
 abbrev pub takes_lives : ActorState → LivesAsk → ActorState
 takes_lives a (lives_ask.Release e) = record a { phase = phase.Ended e }
+takes_lives a lives_ask.Claim = runs a
 
 -- what an event makes of the actor that did it
 unfoldable pub takes : Image → ActorState → Event → ActorState

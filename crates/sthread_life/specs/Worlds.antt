@@ -1,7 +1,7 @@
 -- The world, its turns and its runs.
 use Rattle.std.specs.Prelude.{◌≡◌, ℕ, Bool, false, List, [], ◌∷◌, map, find, slice_get, slice_set, Option, Some, None, option_map, if◌then◌else◌}
 use Rattle.wedge_base.specs.Images.{Image}
-use Rattle.wedge_base.specs.Slots.{Segment, slot_reply, slot_after, declared_segments}
+use Rattle.wedge_base.specs.Slots.{Segment, slot_reply, slot_after, declared_slots}
 use Rattle.wedge_base.specs.Streams.{Stream, stream_reply, stream_after, declared_stream}
 use Rattle.wedge_base.specs.Names.{same, root_name}
 use Rattle.wedge_base.specs.Lives.{lives_reply, lives_next, lives_opening}
@@ -16,11 +16,24 @@ use Rattle.sthread_life.specs.Actors.{ActorState, root}
 use Rattle.sthread_life.specs.Local.{rest, has_ended}
 use Rattle.sthread_life.specs.Taking.{wanted, asks, takes}
 
--- every cell: the tags by slot, the streams by descriptor, and the count of live sthreads
+-- every cell: the slots, with the tag that lives in each; the streams by descriptor; and the count of live
+-- sthreads. What stands past the end of a list is empty: until tags and descriptors can be made, a run has
+-- those that its image declares.
 pub record Cells : Type 0 where
-  pub segments : List Segment
-  pub streams : List Stream
+  pub slots : List (Option Segment)
+  pub streams : List (Option Stream)
   pub lives : ℕ
+
+-- what a place holds; one past the end holds nothing
+abbrev pub held : {X : Type 0} → Option (Option X) → Option X
+held None = None
+held (Some x) = x
+
+abbrev pub slot_in : Cells → ℕ → Option Segment
+slot_in c slot = held (slice_get c.slots slot)
+
+abbrev pub stream_in : Cells → ℕ → Option Stream
+stream_in c fd = held (slice_get c.streams fd)
 
 -- every actor and every cell, with the image of the run
 pub record WorldState : Type 0 where
@@ -30,7 +43,7 @@ pub record WorldState : Type 0 where
 
 -- the cells and the world as a run of the image begins
 abbrev pub opening_cells : Image → Cells
-opening_cells i = record { segments = declared_segments 0 i.tags; streams = map declared_stream i.fds; lives = lives_opening }
+opening_cells i = record { slots = declared_slots 0 i.tags; streams = map (λ f. Some (declared_stream f)) i.fds; lives = lives_opening }
 
 abbrev pub opening : Image → WorldState
 opening i = record { image = i; cells = opening_cells i; actors = root i ∷ [] }
@@ -46,7 +59,7 @@ put_actor (b ∷ bs) a = if same b.name a.name then a ∷ bs else b ∷ put_acto
 
 -- the tag that lives in the slot of a want
 abbrev pub tag_in : Cells → ℕ → Option ℕ
-tag_in c slot = option_map (λ g. g.tag) (slice_get c.segments slot)
+tag_in c slot = option_map (λ g. g.tag) (slot_in c slot)
 
 abbrev pub live_at : Cells → Want → Option ℕ
 live_at c (want.Load slot offset width) = tag_in c slot
@@ -56,19 +69,14 @@ live_at c (want.Lives q) = None
 
 -- the event that an ask comes to: the cell gives its reply
 abbrev pub event_of : Cells → Ask → Event
-event_of c (ask.Slot slot q) = event.Slot slot q (slot_reply (slice_get c.segments slot) q)
-event_of c (ask.Fd fd q) = event.Fd fd q (stream_reply (slice_get c.streams fd) q)
+event_of c (ask.Slot slot q) = event.Slot slot q (slot_reply (slot_in c slot) q)
+event_of c (ask.Fd fd q) = event.Fd fd q (stream_reply (stream_in c fd) q)
 event_of c (ask.Lives q) = event.Lives q (lives_reply c.lives q)
-
--- the cells of a kind with one of them as it is after a reply
-abbrev pub put_cell : {X : Type 0} → List X → ℕ → Option X → List X
-put_cell cells n None = cells
-put_cell cells n (Some x) = slice_set cells n x
 
 -- the cell of an event goes on, and every other stays
 abbrev pub cells_after : Cells → Event → Cells
-cells_after c (event.Slot slot q r) = record c { segments = put_cell c.segments slot (slot_after (slice_get c.segments slot) q r) }
-cells_after c (event.Fd fd q r) = record c { streams = put_cell c.streams fd (stream_after (slice_get c.streams fd) q r) }
+cells_after c (event.Slot slot q r) = record c { slots = slice_set c.slots slot (slot_after (slot_in c slot) q r) }
+cells_after c (event.Fd fd q r) = record c { streams = slice_set c.streams fd (stream_after (stream_in c fd) q r) }
 cells_after c (event.Lives q r) = record c { lives = lives_next c.lives q }
 
 -- a turn's event, and the world after it

@@ -1,19 +1,19 @@
 -- The bytes of tags by the history of a run, and who wrote them.
-use Rattle.std.specs.Prelude.{◌≡◌, ◌⊎◌, ℕ, true, List, slice_get, Option, Some, option_map}
+use Rattle.std.specs.Prelude.{◌≡◌, ◌⊎◌, ℕ, true, List, Option, Some, option_map}
 use Rattle.wedge_base.specs.Histories.{bytes_after_event, bytes_after}
 use Rattle.wedge_base.specs.Slots.{Segment}
 use Rattle.wedge_base.specs.declared.events.Turn.{Turn}
 use Rattle.sthread_life.specs.Actors.{ActorState}
-use Rattle.sthread_life.specs.Worlds.{Cells, WorldState, actor_named}
+use Rattle.sthread_life.specs.Worlds.{Cells, WorldState, slot_in, actor_named}
 use Rattle.sthread_life.specs.Allowed.{allows, Stores}
 
 -- the bytes of the tag that lives in a slot
 abbrev pub bytes_in : Cells → ℕ → Option (List ℕ)
-bytes_in c slot = option_map (λ g. g.bytes) (slice_get c.segments slot)
+bytes_in c slot = option_map (λ g. g.bytes) (slot_in c slot)
 
--- the bytes in each slot are those before, with the stores of these turns written over them in order
+-- the bytes in each slot are those before, with what these turns wrote over them in order
 abbrev pub BytesFollow : Cells → List Turn → Cells → Type 0
-BytesFollow old turns new = (slot : ℕ) → bytes_in new slot ≡ option_map (λ bytes. bytes_after slot bytes turns) (bytes_in old slot)
+BytesFollow old turns new = (slot : ℕ) → bytes_in new slot ≡ bytes_after slot (bytes_in old slot) turns
 
 -- the actor of a name may store to a tag
 abbrev pub MayStore : List ActorState → List ℕ → ℕ → Type 0
@@ -21,5 +21,5 @@ MayStore actors name tag = (a : ActorState) × (actor_named actors name ≡ Some
 
 -- a step leaves the bytes in each slot alone, or its actor may store to the tag that lives there
 abbrev pub StepWritesOwn : WorldState → Turn → WorldState → Type 0
-StepWritesOwn old t new = (slot : ℕ) (g : Segment) → slice_get old.cells.segments slot ≡ Some g
-    → (bytes_after_event slot g.bytes t.event ≡ g.bytes) ⊎ MayStore old.actors t.actor g.tag
+StepWritesOwn old t new = (slot : ℕ) (g : Segment) → slot_in old.cells slot ≡ Some g
+    → (bytes_after_event slot (Some g.bytes) t.event ≡ Some g.bytes) ⊎ MayStore old.actors t.actor g.tag

@@ -25,24 +25,26 @@ impl Actor {
         ensures name { OnOk result (self.new.name ≡ self.old.name) }
     {
         match event {
-            Event::Slot { ask, reply, .. } => self.take_slot(image, *ask, *reply),
+            Event::Slot { ask, reply, .. } => self.take_slot(image, *ask, reply),
             Event::Fd { fd, reply, .. } => self.take_stream(*fd, reply),
             Event::Lives { ask, .. } => {
-                let LivesAsk::Release { end } = ask;
-                self.phase = Phase::Ended(*end);
+                self.phase = match ask {
+                    LivesAsk::Claim => Phase::Running,
+                    LivesAsk::Release { end } => Phase::Ended(*end),
+                };
                 Ok(())
             }
         }
     }
 
     /// What a slot's reply makes of it.
-    fn take_slot(&mut self, image: &Image, ask: SlotAsk, reply: SlotReply) -> Result<(), NoMemory>
-        ensures { OnOk result (self.new ≡ taking.takes_slot image.now self.old ask reply) }
+    fn take_slot(&mut self, image: &Image, ask: SlotAsk, reply: &SlotReply) -> Result<(), NoMemory>
+        ensures { OnOk result (self.new ≡ taking.takes_slot image.now self.old ask reply.now) }
     {
         match reply {
             SlotReply::Loaded { value } => {
                 self.phase = Phase::Running;
-                self.take_load(image, value);
+                self.take_load(image, *value);
             }
             SlotReply::Stored => {
                 self.phase = Phase::Running;
@@ -51,9 +53,10 @@ impl Actor {
             SlotReply::Unmapped => self.end(End::Unmapped),
             SlotReply::Denied { tag } => {
                 let wants = wanted_right(ask);
-                self.note(Denial::Tag { tag, wants })?;
+                self.note(Denial::Tag { tag: *tag, wants })?;
                 self.end(End::Denied);
             }
+            _ => self.phase = Phase::Running,
         }
         Ok(())
     }
@@ -90,17 +93,20 @@ impl Actor {
                 self.refuse(Code::Denied);
             }
             StreamReply::Bad => self.refuse(Code::Bad),
+            StreamReply::Opened | StreamReply::Given { .. } | StreamReply::Closed => {
+                self.phase = Phase::Running;
+            }
         }
         Ok(())
     }
 }
 
-/// The right that an access wants.
+/// The right that an ask wants.
 fn wanted_right(ask: SlotAsk) -> Right
     ensures { result ≡ taking.wanted_right ask }
 {
     match ask {
         SlotAsk::Load { .. } => Right::Read,
-        SlotAsk::Store { .. } => Right::ReadWrite,
+        _ => Right::ReadWrite,
     }
 }

@@ -58,6 +58,10 @@ window = 0x10000
 abbrev pub page : ℕ
 page = 4096
 
+-- the most pages of a tag
+abbrev pub most_pages : ℕ
+most_pages = 16
+
 abbrev pub windows_base : ℕ
 windows_base = 0x40000000
 

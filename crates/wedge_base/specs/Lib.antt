@@ -1,12 +1,17 @@
 pub mod Bytes
 pub mod Names
+pub mod Texts
 pub mod Maps
 pub mod Memory
 pub mod Images
 pub mod Rights
+pub mod Files
+pub mod Paths
 pub mod Wants
+pub mod Blocks
 pub mod Slots
 pub mod Histories
 pub mod Streams
+pub mod Directories
 pub mod Lives
 pub mod Journals

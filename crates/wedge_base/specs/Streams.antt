@@ -1,8 +1,9 @@
--- The cell of a descriptor: the stream behind it, if there is one.
-use Rattle.std.specs.Prelude.{ℕ, List, ◌++◌, slice_get, Option, Some, None, option_map, if◌then◌else◌}
+-- The cell of a descriptor: the stream behind it, once it is opened.
+use Rattle.std.specs.Prelude.{ℕ, ◌+◌, Bool, true, false, List, ◌++◌, length, take, drop, slice_get, Option, Some, None, option_map, if◌then◌else◌}
 use Rattle.wedge_base.specs.Images.{Image}
-use Rattle.wedge_base.specs.Rights.{append_bit}
+use Rattle.wedge_base.specs.Rights.{bits_within, read_bit, append_bit}
 use Rattle.wedge_base.specs.declared.image.FdEntry.{FdEntry}
+use Rattle.wedge_base.specs.declared.rights.FdBits.{FdBits}
 use Rattle.wedge_base.specs.declared.rights.StreamKind.{StreamKind}
 use Rattle.wedge_base.specs.declared.rights.StreamKind.TheVariants as kind
 use Rattle.wedge_base.specs.declared.cells.StreamAsk.{StreamAsk}
@@ -10,37 +11,69 @@ use Rattle.wedge_base.specs.declared.cells.StreamAsk.TheVariants as ask
 use Rattle.wedge_base.specs.declared.cells.StreamReply.{StreamReply}
 use Rattle.wedge_base.specs.declared.cells.StreamReply.TheVariants as reply
 
+-- a stream: a source has fixed bytes and a position, an append stream bytes that grow; a closed one
+-- keeps its bytes
 pub record Stream : Type 0 where
   pub kind : StreamKind
   pub bytes : List ℕ
+  pub position : ℕ
+  pub live : Bool
 
 -- there are descriptors 0 to 1,023
 abbrev pub most_fds : ℕ
 most_fds = 1024
 
--- an append stream takes bytes, a source none
+abbrev pub opened : StreamKind → List ℕ → Stream
+opened kind bytes = record { kind = kind; bytes = bytes; position = 0; live = true }
+
+-- the bit that closing takes
+abbrev pub closing_bit : StreamKind → FdBits
+closing_bit kind.Source = read_bit
+closing_bit kind.Append = append_bit
+
+-- a source is read and takes no bytes, an append stream the other way round
+abbrev pub read_reply : StreamKind → Stream → ℕ → StreamReply
+read_reply kind.Source s count = reply.Given (take count (drop s.position s.bytes))
+read_reply kind.Append s count = reply.Bad
+
 abbrev pub append_reply : StreamKind → StreamReply
 append_reply kind.Append = reply.Appended
 append_reply kind.Source = reply.Bad
 
--- the reply where a stream is live, and where none is
+-- the reply of a live stream
 abbrev pub live_reply : Stream → StreamAsk → StreamReply
+live_reply s (ask.Open kind bytes) = reply.Opened
+live_reply s (ask.Read bits count) = if bits.read then read_reply s.kind s count else reply.Denied read_bit
 live_reply s (ask.Append bits bytes) = if bits.append then append_reply s.kind else reply.Denied append_bit
+live_reply s (ask.Close bits) = if bits_within (closing_bit s.kind) bits then reply.Closed else reply.Denied (closing_bit s.kind)
 
+-- the reply of one that is closed or was never opened
 abbrev pub dead_reply : StreamAsk → StreamReply
+dead_reply (ask.Open kind bytes) = reply.Opened
+dead_reply (ask.Read bits count) = reply.NoSuch
 dead_reply (ask.Append bits bytes) = reply.NoSuch
+dead_reply (ask.Close bits) = reply.NoSuch
 
 abbrev pub stream_reply : Option Stream → StreamAsk → StreamReply
 stream_reply None q = dead_reply q
-stream_reply (Some s) q = live_reply s q
+stream_reply (Some s) q = if s.live then live_reply s q else dead_reply q
 
--- a stream with more bytes at its end
+-- a stream read further, with more bytes at its end, and closed
+abbrev pub moved : ℕ → Stream → Stream
+moved count s = record s { position = s.position + count }
+
 abbrev pub grown : List ℕ → Stream → Stream
 grown bytes s = record s { bytes = s.bytes ++ bytes }
 
+abbrev pub closed : Stream → Stream
+closed s = record s { live = false }
+
 -- what an ask with its reply makes of the stream; each other reply changes nothing
 abbrev pub stream_after : Option Stream → StreamAsk → StreamReply → Option Stream
+stream_after s (ask.Open kind bytes) r = Some (opened kind bytes)
+stream_after s (ask.Read bits count) (reply.Given bytes) = option_map (moved (length bytes)) s
 stream_after s (ask.Append bits bytes) reply.Appended = option_map (grown bytes) s
+stream_after s (ask.Close bits) reply.Closed = option_map closed s
 stream_after s q r = s
 
 abbrev pub stream_next : Option Stream → StreamAsk → Option Stream
@@ -48,7 +81,11 @@ stream_next s q = stream_after s q (stream_reply s q)
 
 -- a declared descriptor's stream, as a run begins
 abbrev pub declared_stream : FdEntry → Stream
-declared_stream f = record { kind = f.kind; bytes = f.content }
+declared_stream f = opened f.kind f.content
 
 abbrev pub stream_opening : Image → ℕ → Option Stream
 stream_opening i fd = option_map declared_stream (slice_get i.fds fd)
+
+-- each ask fits
+abbrev pub StreamFits : Option Stream → StreamAsk → Type 0
+StreamFits s q = Unit {0}

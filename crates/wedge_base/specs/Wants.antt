@@ -1,5 +1,5 @@
 -- From what an actor wants to what it asks.
-use Rattle.std.specs.Prelude.{◌≡◌, ◌⊎◌, ◌%◌, ◌<◌, ℕ, Option, Some}
+use Rattle.std.specs.Prelude.{Option}
 use Rattle.wedge_base.specs.declared.cells.Live.{Live}
 use Rattle.wedge_base.specs.declared.cells.SlotAsk.TheVariants as slot_ask
 use Rattle.wedge_base.specs.declared.events.CellName.{CellName}

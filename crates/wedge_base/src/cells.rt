@@ -2,7 +2,7 @@
 
 use crate::items::Bytes;
 use crate::numbers::TagNo;
-use crate::rights::{End, FdBits, Right};
+use crate::rights::{End, FdBits, Right, StreamKind};
 
 /// The tag that lives in a slot, and the asker's own right on it.
 #[derive(Clone, Copy, Debug, PartialEq, Eq)]
@@ -11,10 +11,19 @@ pub struct Live {
     pub right: Option<Right>,
 }
 
-/// What a slot is asked. An access carries the tag that lives there at that event, or none, with the
-/// asker's right on it; its offset is in bytes from the start of the window.
+/// What a slot is asked. An access and a release of a block carry the tag that lives there at that event,
+/// or none, with the asker's right on it; an offset is in bytes from the start of the window.
 #[derive(Clone, Copy, Debug, PartialEq, Eq)]
 pub enum SlotAsk {
+    /// To begin a tag of 1 to 16 pages there, with zero bytes and no blocks.
+    Open {
+        tag: TagNo,
+        pages: u32,
+    },
+    /// To end a tag.
+    Close {
+        tag: TagNo,
+    },
     /// To load 1, 2 or 4 bytes.
     Load {
         offset: u32,
@@ -28,29 +37,69 @@ pub enum SlotAsk {
         value: u32,
         live: Option<Live>,
     },
+    /// To place a block of at least so many bytes in a tag.
+    Smalloc {
+        tag: TagNo,
+        size: u32,
+    },
+    /// To free the block that begins at an offset.
+    Sfree {
+        offset: u32,
+        live: Option<Live>,
+    },
+    /// To copy the bytes of a tag.
+    Snap {
+        tag: TagNo,
+    },
 }
 
-#[derive(Clone, Copy, Debug, PartialEq, Eq)]
+#[derive(Clone, Debug, Drop)]
 pub enum SlotReply {
+    Opened,
+    Closed,
     /// The bytes as a number, the lowest first.
     Loaded { value: u32 },
     Stored,
+    /// The offset of the block.
+    Placed { offset: u32 },
+    Freed,
+    /// The bytes of the tag.
+    Snapped { bytes: Bytes },
     /// No tag lives there, or the offset is past its pages.
     Unmapped,
     /// The asker's right on the tag that lives there is too low.
     Denied { tag: TagNo },
+    /// The tag doesn't live there, or none does.
+    NoSuch,
+    /// No gap is large enough.
+    Full,
+    /// No block begins at the offset.
+    Bad,
+    /// The tag to be copied doesn't live there.
+    Gone,
 }
 
-/// What a descriptor's stream is asked. Each ask carries the asker's own bits on the descriptor.
+/// What a descriptor's stream is asked. Each ask but the first carries the asker's own bits on the
+/// descriptor.
 #[derive(Clone, Debug, Drop)]
 pub enum StreamAsk {
+    /// To begin, with these bytes.
+    Open { kind: StreamKind, bytes: Bytes },
+    /// To give the next bytes, so many at most.
+    Read { bits: FdBits, count: u32 },
     /// To add bytes at the end.
     Append { bits: FdBits, bytes: Bytes },
+    /// To end.
+    Close { bits: FdBits },
 }
 
 #[derive(Clone, Debug, Drop)]
 pub enum StreamReply {
+    Opened,
+    /// The next bytes; none at the end.
+    Given { bytes: Bytes },
     Appended,
+    Closed,
     /// No live stream stands behind the descriptor.
     NoSuch,
     /// The asker lacks these bits.
@@ -59,14 +108,37 @@ pub enum StreamReply {
     Bad,
 }
 
+/// What a directory is asked, which gives out places and numbers.
+#[derive(Clone, Copy, Debug, PartialEq, Eq)]
+pub enum DirectoryAsk {
+    /// To give out a place.
+    Claim,
+    /// To take a place back.
+    Release { place: u32 },
+}
+
+#[derive(Clone, Copy, Debug, PartialEq, Eq)]
+pub enum DirectoryReply {
+    /// The place, and a number that was never given out before.
+    Claimed { place: u32, number: u32 },
+    /// No place is left, or no number.
+    Full,
+    Released,
+}
+
 /// What the count of live sthreads is asked.
 #[derive(Clone, Copy, Debug, PartialEq, Eq)]
 pub enum LivesAsk {
+    /// One more is to live.
+    Claim,
     /// An sthread ends, in this way.
     Release { end: End },
 }
 
 #[derive(Clone, Copy, Debug, PartialEq, Eq)]
 pub enum LivesReply {
+    Claimed,
+    /// As many live as may.
+    Full,
     Released,
 }

@@ -8,8 +8,12 @@ use crate::numbers::{FdNo, Slot, Stamp};
 /// A cell: a piece of shared state on which one event happens at a time.
 #[derive(Clone, Copy, Debug, PartialEq, Eq)]
 pub enum CellName {
+    /// The directory that gives out slots and tag numbers.
+    Slots,
     /// A slot, and the tag that lives there.
     Slot { slot: Slot },
+    /// The directory that gives out descriptors.
+    Fds,
     /// The stream behind a descriptor.
     Fd { fd: FdNo },
     /// The count of live sthreads.

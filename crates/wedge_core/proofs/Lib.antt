@@ -3,3 +3,4 @@ pub mod Runs
 pub mod Turning
 pub mod Working
 pub mod Numbering
+pub mod CellPlaces

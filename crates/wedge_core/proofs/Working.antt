@@ -96,13 +96,26 @@ loads_fuel a (Some ins) value = loaded_fuel ins (local ins a.hart).need a value
 takes_fuel : (i : Image) (b : ActorState) (e : Event) → (takes i b e).fuel ≤ b.fuel
 unfolding takes
 takes_fuel i b (event.Slot slot q (slot_reply.Loaded value)) = omega (arith, loads_fuel (runs b) (option_and_then decode (fetch i b.hart.pc)) value)
+takes_fuel i b (event.Slot slot q slot_reply.Opened) = omega arith
+takes_fuel i b (event.Slot slot q slot_reply.Closed) = omega arith
 takes_fuel i b (event.Slot slot q slot_reply.Stored) = omega arith
+takes_fuel i b (event.Slot slot q (slot_reply.Placed offset)) = omega arith
+takes_fuel i b (event.Slot slot q slot_reply.Freed) = omega arith
+takes_fuel i b (event.Slot slot q (slot_reply.Snapped bytes)) = omega arith
 takes_fuel i b (event.Slot slot q slot_reply.Unmapped) = omega arith
 takes_fuel i b (event.Slot slot q (slot_reply.Denied tag)) = omega arith
+takes_fuel i b (event.Slot slot q slot_reply.NoSuch) = omega arith
+takes_fuel i b (event.Slot slot q slot_reply.Full) = omega arith
+takes_fuel i b (event.Slot slot q slot_reply.Bad) = omega arith
+takes_fuel i b (event.Slot slot q slot_reply.Gone) = omega arith
+takes_fuel i b (event.Fd fd q reply.Opened) = omega arith
+takes_fuel i b (event.Fd fd q (reply.Given bytes)) = omega arith
 takes_fuel i b (event.Fd fd q reply.Appended) = omega arith
+takes_fuel i b (event.Fd fd q reply.Closed) = omega arith
 takes_fuel i b (event.Fd fd q reply.NoSuch) = omega arith
 takes_fuel i b (event.Fd fd q (reply.Denied wants)) = omega arith
 takes_fuel i b (event.Fd fd q reply.Bad) = omega arith
+takes_fuel i b (event.Lives lives_ask.Claim r) = omega arith
 takes_fuel i b (event.Lives (lives_ask.Release e) r) = omega arith
 
 released_work : (i : Image) (b : ActorState) (c : Cells) (q : Want) (x : Phase) → wanted x ≡ Some q → is_running x ≡ false → has_ended x ≡ false → IsBetween x → work (takes i b (event_for c b q)) ≤ b.fuel
@@ -112,6 +125,7 @@ released_work i b c q (phase.Within y) w r l h = absurd h
 released_work i b c (want.Load slot offset width) (phase.Ending x) w r l h = cc
 released_work i b c (want.Store slot offset width value) (phase.Ending x) w r l h = cc
 released_work i b c (want.Fd fd y) (phase.Ending x) w r l h = cc
+released_work i b c (want.Lives lives_ask.Claim) (phase.Ending x) w r l h = cc
 released_work i b c (want.Lives (lives_ask.Release y)) (phase.Ending x) w r l h = omega arith
 released_work i b c q (phase.Ended x) w r l h = cc
 
@@ -158,13 +172,26 @@ loads_name a (Some ins) value = loaded_name ins (local ins a.hart).need a value
 takes_name : (i : Image) (b : ActorState) (e : Event) → (takes i b e).name ≡ b.name
 unfolding takes
 takes_name i b (event.Slot slot q (slot_reply.Loaded value)) = loads_name (runs b) (option_and_then decode (fetch i b.hart.pc)) value
+takes_name i b (event.Slot slot q slot_reply.Opened) = refl
+takes_name i b (event.Slot slot q slot_reply.Closed) = refl
 takes_name i b (event.Slot slot q slot_reply.Stored) = refl
+takes_name i b (event.Slot slot q (slot_reply.Placed offset)) = refl
+takes_name i b (event.Slot slot q slot_reply.Freed) = refl
+takes_name i b (event.Slot slot q (slot_reply.Snapped bytes)) = refl
 takes_name i b (event.Slot slot q slot_reply.Unmapped) = refl
 takes_name i b (event.Slot slot q (slot_reply.Denied tag)) = refl
+takes_name i b (event.Slot slot q slot_reply.NoSuch) = refl
+takes_name i b (event.Slot slot q slot_reply.Full) = refl
+takes_name i b (event.Slot slot q slot_reply.Bad) = refl
+takes_name i b (event.Slot slot q slot_reply.Gone) = refl
+takes_name i b (event.Fd fd q reply.Opened) = refl
+takes_name i b (event.Fd fd q (reply.Given bytes)) = refl
 takes_name i b (event.Fd fd q reply.Appended) = refl
+takes_name i b (event.Fd fd q reply.Closed) = refl
 takes_name i b (event.Fd fd q reply.NoSuch) = refl
 takes_name i b (event.Fd fd q (reply.Denied wants)) = refl
 takes_name i b (event.Fd fd q reply.Bad) = refl
+takes_name i b (event.Lives lives_ask.Claim r) = refl
 takes_name i b (event.Lives (lives_ask.Release e) r) = refl
 
 -- what a turn of the root leaves

@@ -1,13 +1,13 @@
 //! What a run ends with.
 
-ghost use Rattle.std.specs.Prelude.{◌≡◌, ◌≤◌, ◌++◌, [], length, IfOk, OnOk};
+ghost use Rattle.std.specs.Prelude.{◌≡◌, ◌≤◌, ◌++◌, [], length, unwrap_or, option_map, IfOk, OnOk};
 ghost use Rattle.wedge_base.specs.Streams.{most_fds};
 ghost use Rattle.std.specs.Ordering.{nat_cmp, is_lt};
 ghost use Rattle.std.specs.Cmp.Lexicographic.{slice_cmp};
 ghost use Rattle.sthread_life.specs.Outcomes as outcomes;
 
-use crate::stream::Stream;
 use crate::world::World;
+use fd_table::Stream;
 use image_form::Image;
 use std::alloc::Global;
 use sthread_life::{Actor, Phase};
@@ -120,11 +120,11 @@ fn add_stream(
     stream: &Stream,
     lines: &mut Vec<StreamLine>,
 ) -> Result<(), NoMemory>
-    ensures { OnOk result (lines.new.items ≡ lines.old.items ++ outcomes.with_stream image.now number stream.now stream.now.kind []) }
+    ensures { OnOk result (lines.new.items ≡ lines.old.items ++ outcomes.with_stream image.now number stream.now []) }
 {
     match stream.kind() {
-        StreamKind::Source => Ok(()),
-        StreamKind::Append => {
+        None | Some(StreamKind::Source) => Ok(()),
+        Some(StreamKind::Append) => {
             lines.push(stream_line(alloc, image, number, stream)?)?;
             Ok(())
         }
@@ -138,7 +138,7 @@ fn stream_line(
     number: u32,
     stream: &Stream,
 ) -> Result<StreamLine, NoMemory>
-    ensures { IfOk result (λ l. l ≡ record { number = number; label = outcomes.label_of image.now number; bytes = stream.now.bytes }) }
+    ensures { IfOk result (λ l. l ≡ record { number = number; label = outcomes.label_of image.now number; bytes = unwrap_or (option_map (λ s. s.bytes) stream.now) [] }) }
 {
     Ok(StreamLine {
         number: FdNo(number),

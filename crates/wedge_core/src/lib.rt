@@ -6,9 +6,9 @@ mod built;
 mod cells;
 mod ending;
 mod error;
-mod segment;
 mod serially;
-mod stream;
+#[cfg(test)]
+mod tests;
 mod turns;
 mod world;
 
@@ -16,8 +16,6 @@ pub use built::is_built;
 pub use cells::Cells;
 pub use ending::outcome;
 pub use error::NoTurn;
-pub use segment::Segment;
 pub use serially::serial;
-pub use stream::Stream;
 pub use turns::{Taken, turn};
 pub use world::{World, open_world};

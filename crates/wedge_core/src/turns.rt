@@ -3,6 +3,7 @@
 ghost use Rattle.std.specs.Prelude.{◌≡◌, ◌++◌, ◌∷◌, [], ◌↔◌, ◌⊎◌, false, true, Some, None, IfOk, OnOk, OnErr, IsErrOf};
 ghost use Rattle.wedge_base.specs.declared.events.Want.{Want as AWant};
 ghost use Rattle.sthread_life.specs.Allowed.{StepIsJudged};
+ghost use Rattle.sthread_life.specs.Written.{StepWritesOwn};
 ghost use Rattle.sthread_life.specs.Local.{rest, has_ended};
 ghost use Rattle.sthread_life.specs.Taking.{wanted, takes};
 ghost use Rattle.sthread_life.specs.Worlds.{actor_named, event_for, cells_after};
@@ -28,6 +29,7 @@ pub fn turn(world: &mut World<'_>, name: &ActorName) -> Result<Taken, NoTurn>
     ensures took { IfOk result (λ t. IsTurn world.old.state name.now t.event world.new.state) }
     ensures noted { IfOk result (λ t. world.new.turns ≡ world.old.turns ++ record { actor = name.now; event = t.event } ∷ []) }
     ensures judged { IfOk result (λ t. StepIsJudged world.old.state (record { actor = name.now; event = t.event }) world.new.state) }
+    ensures owned { IfOk result (λ t. StepWritesOwn world.old.state (record { actor = name.now; event = t.event }) world.new.state) }
 
     ensures unknown { IsErrOf result NoTurn.Unknown ↔ ((world.old.stopped ≡ false) × (actor_named world.old.state.actors name.now ≡ None)) }
     ensures ended { IsErrOf result NoTurn.Ended ↔ ((world.old.stopped ≡ false) × HasEnded world.old.state.actors name.now) }
@@ -83,38 +85,39 @@ fn turn_over(
     if actor.has_ended() {
         return Err(NoTurn::Ended);
     }
-    let event = step(image, cells, actor)?;
-    note(turns, name, &event)?;
+    let (event, copy) = step(image, cells, actor)?;
+    note(turns, name, copy)?;
     Ok(event)
 }
 
-/// The turn of an actor that has not ended.
-fn step(image: &Image, cells: &mut Cells, actor: &mut Actor) -> Result<Event, NoMemory>
+/// The turn of an actor that has not ended: its event, in two equal copies.
+fn step(image: &Image, cells: &mut Cells, actor: &mut Actor) -> Result<(Event, Event), NoMemory>
     requires { has_ended actor.old.phase ≡ false }
-    ensures asks { IfOk result (λ e. (q : AWant) × (wanted (rest image.now actor.old).phase ≡ Some q) × (e ≡ event_for cells.old (rest image.now actor.old) q)) }
-    ensures cells { IfOk result (λ e. cells.new ≡ cells_after cells.old e) }
-    ensures takes { IfOk result (λ e. actor.new ≡ takes image.now (rest image.now actor.old) e) }
+    ensures asks { IfOk result (λ r. (q : AWant) × (wanted (rest image.now actor.old).phase ≡ Some q) × (r.0 ≡ event_for cells.old (rest image.now actor.old) q)) }
+    ensures copy { IfOk result (λ r. r.1 ≡ r.0) }
+    ensures cells { IfOk result (λ r. cells.new ≡ cells_after cells.old r.0) }
+    ensures takes { IfOk result (λ r. actor.new ≡ takes image.now (rest image.now actor.old) r.0) }
     ensures name { OnOk result (actor.new.name ≡ actor.old.name) }
 {
     match actor.local(image)? {
         Next::Ended(_) => unreachable!(),
         Next::Shared(want) => {
             let live = cells.live(&want);
-            let event = cells.act(actor.ask(want, live))?;
+            let (event, copy) = cells.act(actor.ask(want, live))?;
             actor.take(image, &event)?;
-            Ok(event)
+            Ok((event, copy))
         }
     }
 }
 
 /// Adds a turn to those taken.
-fn note(turns: &mut Vec<Turn>, name: &ActorName, event: &Event) -> Result<(), NoMemory>
-    ensures ok { OnOk result (turns.new.items ≡ turns.old.items ++ record { actor = name.now; event = event.now } ∷ []) }
+fn note(turns: &mut Vec<Turn>, name: &ActorName, event: Event) -> Result<(), NoMemory>
+    ensures ok { OnOk result (turns.new.items ≡ turns.old.items ++ record { actor = name.now; event = event } ∷ []) }
     ensures err { OnErr result (turns.new.items ≡ turns.old.items) }
 {
     let turn = Turn {
         actor: name.copy()?,
-        event: event.clone()?,
+        event,
     };
     turns.push(turn)?;
     Ok(())

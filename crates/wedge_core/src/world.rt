@@ -14,7 +14,7 @@ use wedge_base::{NoMemory, Turn};
 /// The world of a run: every actor and every cell, and the turns taken so far. Its turns are always a
 /// run from the opening world of its image, and its state is where that run leads, unless it has
 /// stopped for want of memory.
-#[derive(Debug, Drop)]
+#[derive(Drop)]
 pub struct World<'a> {
     pub(crate) image: &'a Image,
     pub(crate) cells: Cells,
@@ -42,6 +42,13 @@ impl<'a> Model for World<'a> {
 }
 
 impl<'a> World<'a> {
+    /// Lends the cells.
+    pub fn cells(&self) -> &Cells
+        ensures { result.now ≡ self.now.state.cells }
+    {
+        &self.cells
+    }
+
     /// Hands out the turns taken so far.
     pub(crate) fn into_turns(self) -> Vec<Turn>
         ensures turns { result.items ≡ self.entry.turns }

@@ -1,0 +1,11 @@
+-- The streams as a run begins.
+use Rattle.std.specs.Prelude.{Option, None}
+use Rattle.wedge_base.specs.Images.{Image}
+use Rattle.wedge_base.specs.Streams.{Stream, stream_opening}
+use Rattle.wedge_base.specs.declared.events.CellName.{CellName}
+use Rattle.wedge_base.specs.declared.events.CellName.TheVariants as cell
+
+-- what the image declares is opened
+abbrev pub opening : Image → CellName → Option Stream
+opening i (cell.Fd fd) = stream_opening i fd
+opening i name = None

@@ -1,0 +1,78 @@
+//! A stream as a cell.
+
+ghost use Rattle.std.specs.Prelude.{◌≡◌, Some, IfOk, OnErr};
+ghost use Rattle.fd_table.specs.Faults.{reply_of};
+
+use crate::fault::StreamFault;
+use crate::opened::Opened;
+use crate::stream::Stream;
+use wedge_base::{NoMemory, Object, StreamAsk, StreamReply};
+
+impl Object for Stream {
+    ghost use Rattle.std.specs.Prelude.{◌≡◌, IfOk, OnErr};
+    ghost use Rattle.wedge_base.specs.Streams.{stream_reply, stream_next, StreamFits};
+    ghost use Rattle.fd_table.specs.Openings.{opening};
+
+    type Ask = StreamAsk;
+
+    type Reply = StreamReply;
+
+    ghost reply = { stream_reply };
+
+    ghost next = { stream_next };
+
+    ghost opening = { opening };
+
+    ghost fits = { λ _ s q. StreamFits s q };
+
+    fn act(&mut self, ask: &StreamAsk) -> Result<(StreamReply, StreamReply), NoMemory>
+        ensures first { IfOk result (λ r. r.0 ≡ stream_reply self.old ask.now) }
+        ensures second { IfOk result (λ r. r.1 ≡ stream_reply self.old ask.now) }
+        ensures after { IfOk result (λ r. self.new ≡ stream_next self.old ask.now) }
+        ensures err { OnErr result (self.new ≡ self.old) }
+    {
+        match ask {
+            StreamAsk::Open { kind, bytes } => {
+                let bytes = bytes.clone()?.into_vec();
+                self.opened = Some(Opened::new(*kind, bytes));
+                Ok((StreamReply::Opened, StreamReply::Opened))
+            }
+            StreamAsk::Read { bits, count } => match self.give(*bits, *count as usize) {
+                Ok((bytes, copy)) => Ok((
+                    StreamReply::Given { bytes },
+                    StreamReply::Given { bytes: copy },
+                )),
+                Err(fault) => replies(fault),
+            },
+            StreamAsk::Append { bits, bytes } => match self.append(*bits, bytes.as_slice()) {
+                Ok(()) => Ok((StreamReply::Appended, StreamReply::Appended)),
+                Err(fault) => replies(fault),
+            },
+            StreamAsk::Close { bits } => match self.close(*bits) {
+                Ok(()) => Ok((StreamReply::Closed, StreamReply::Closed)),
+                Err(fault) => replies(fault),
+            },
+        }
+    }
+
+    fn copy_ask(ask: &StreamAsk) -> Result<StreamAsk, NoMemory> {
+        Ok(ask.clone()?)
+    }
+}
+
+/// The reply that a fault stands for, in two copies.
+fn replies(fault: StreamFault) -> Result<(StreamReply, StreamReply), NoMemory>
+    ensures first { IfOk result (λ r. reply_of fault ≡ Some r.0) }
+    ensures second { IfOk result (λ r. reply_of fault ≡ Some r.1) }
+    ensures err { OnErr result (fault ≡ StreamFault.NoMemory) }
+{
+    match fault {
+        StreamFault::NoMemory => Err(NoMemory),
+        StreamFault::NoSuch => Ok((StreamReply::NoSuch, StreamReply::NoSuch)),
+        StreamFault::Denied { wants } => Ok((
+            StreamReply::Denied { wants },
+            StreamReply::Denied { wants },
+        )),
+        StreamFault::Bad => Ok((StreamReply::Bad, StreamReply::Bad)),
+    }
+}

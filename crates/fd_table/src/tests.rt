@@ -1,0 +1,178 @@
+use super::*;
+use std::process::Abort;
+use std::test::Fail;
+use wedge_base::{Bytes, FdBits, FdEntry, NoMemory, Object, StreamAsk, StreamKind, StreamReply};
+
+const NONE: FdBits = FdBits {
+    read: false,
+    append: false,
+};
+
+const READ: FdBits = FdBits {
+    read: true,
+    append: false,
+};
+
+const APPEND: FdBits = FdBits {
+    read: false,
+    append: true,
+};
+
+const BOTH: FdBits = FdBits {
+    read: true,
+    append: true,
+};
+
+/// A declared stream begins with its content.
+#[test]
+fn declared_stream_has_its_content(rt: HostRuntime) -> Result<(), Fail> {
+    let entry = FdEntry {
+        name: Bytes::from_slice(rt.alloc(), b"in")?,
+        kind: StreamKind::Source,
+        bits: READ,
+        content: Bytes::from_slice(rt.alloc(), b"abc")?,
+    };
+    let stream = Stream::declared(rt.alloc(), &entry)?;
+    assert!(rt; stream.is_live());
+    assert!(rt; matches!(stream.kind(), Some(StreamKind::Source)));
+    assert_eq!(rt; stream.bytes(), b"abc".as_slice());
+    Ok(())
+}
+
+/// A source is read in pieces and past its end; what a piece does not fill of the buffer stays.
+#[test]
+fn source_is_read_past_its_end(rt: HostRuntime) -> Result<(), Fail> {
+    let mut stream = Stream::source(rt.alloc(), b"abcdefgh")?;
+    let mut buf = [b'-'; 3];
+    for (count, held) in [
+        (3, b"abc"),
+        (3, b"def"),
+        (2, b"ghf"),
+        (0, b"ghf"),
+        (0, b"ghf"),
+    ] {
+        let found = stream.read(READ, &mut buf);
+        assert!(rt; matches!(found, Ok(n) if n == count), "{count} bytes");
+        assert_eq!(rt; buf.as_slice(), held.as_slice());
+    }
+    assert_eq!(rt; stream.bytes(), b"abcdefgh".as_slice());
+    Ok(())
+}
+
+/// An append stream grows at its end.
+#[test]
+fn append_stream_grows(rt: HostRuntime) {
+    let mut stream = Stream::append_only(rt.alloc());
+    assert!(rt; stream.bytes().is_empty());
+    for piece in ["ab", "", "c"] {
+        assert!(rt; stream.append(APPEND, piece.as_bytes()).is_ok());
+    }
+    assert_eq!(rt; stream.bytes(), b"abc".as_slice());
+    assert!(rt; matches!(stream.kind(), Some(StreamKind::Append)));
+}
+
+/// What lacks a bit is denied, and names it, before the kind is judged.
+#[test]
+fn bits_are_judged_before_the_kind(rt: HostRuntime) -> Result<(), Fail> {
+    let mut buf = [0; 4];
+    let mut source = Stream::source(rt.alloc(), b"ab")?;
+    let mut growing = Stream::append_only(rt.alloc());
+    let wants_read = StreamFault::Denied { wants: READ };
+    let wants_append = StreamFault::Denied { wants: APPEND };
+    assert!(rt; source.read(APPEND, &mut buf) == Err(wants_read));
+    assert!(rt; growing.read(NONE, &mut buf) == Err(wants_read));
+    assert!(rt; growing.read(BOTH, &mut buf) == Err(StreamFault::Bad));
+    assert!(rt; growing.append(READ, b"x") == Err(wants_append));
+    assert!(rt; source.append(NONE, b"x") == Err(wants_append));
+    assert!(rt; source.append(BOTH, b"x") == Err(StreamFault::Bad));
+    assert!(rt; source.close(APPEND) == Err(wants_read));
+    assert!(rt; growing.close(READ) == Err(wants_append));
+    assert!(rt; source.is_live() && growing.is_live());
+    assert_eq!(rt; source.bytes(), b"ab".as_slice());
+    assert!(rt; growing.bytes().is_empty());
+    Ok(())
+}
+
+/// A closed stream is no stream, but its bytes stay; nor is one that was never opened.
+#[test]
+fn closed_streams_are_gone(rt: HostRuntime) -> Result<(), Fail> {
+    let mut buf = [0; 4];
+    let mut source = Stream::source(rt.alloc(), b"ab")?;
+    assert!(rt; source.close(READ).is_ok());
+    assert_eq!(rt; source.bytes(), b"ab".as_slice());
+    assert!(rt; matches!(source.kind(), Some(StreamKind::Source)));
+    for stream in [source, Stream::unopened()] {
+        let mut stream = stream;
+        assert!(rt; !stream.is_live());
+        assert!(rt; stream.read(NONE, &mut buf) == Err(StreamFault::NoSuch));
+        assert!(rt; stream.append(BOTH, b"x") == Err(StreamFault::NoSuch));
+        assert!(rt; stream.close(BOTH) == Err(StreamFault::NoSuch));
+    }
+    assert!(rt; Stream::unopened().kind().is_none());
+    assert!(rt; Stream::unopened().bytes().is_empty());
+    Ok(())
+}
+
+/// Opens a stream through its cell, by a copy of the ask.
+fn opens(rt: &(impl Abort + AllocGlobal), stream: &mut Stream, bytes: &[u8]) -> Result<(), Fail> {
+    let open = StreamAsk::Open {
+        kind: StreamKind::Source,
+        bytes: Bytes::from_slice(rt.alloc(), bytes)?,
+    };
+    let copy = Stream::copy_ask(&open)?;
+    let (first, second) = stream.act(&copy)?;
+    assert!(rt; matches!(first, StreamReply::Opened) && matches!(second, StreamReply::Opened));
+    Ok(())
+}
+
+/// Reads three bytes through the cell.
+fn reads(rt: &impl Abort, stream: &mut Stream, bytes: &[u8]) -> Result<(), Fail> {
+    let ask = StreamAsk::Read {
+        bits: READ,
+        count: 3,
+    };
+    let (first, second) = stream.act(&ask)?;
+    assert!(rt; matches!(&first, StreamReply::Given { bytes: b } if b.as_slice() == bytes));
+    assert!(rt; matches!(&second, StreamReply::Given { bytes: b } if b.as_slice() == bytes));
+    Ok(())
+}
+
+/// Whether both copies of the reply to a close say so.
+fn closes(stream: &mut Stream) -> Result<bool, NoMemory> {
+    let ask = StreamAsk::Close { bits: READ };
+    let (first, second) = stream.act(&ask)?;
+    Ok(matches!(first, StreamReply::Closed) && matches!(second, StreamReply::Closed))
+}
+
+/// A cell is opened, read past its end, closed and opened again.
+#[test]
+fn cells_are_opened_read_and_closed(rt: HostRuntime) -> Result<(), Fail> {
+    let mut stream = Stream::unopened();
+    opens(&rt, &mut stream, b"abcd")?;
+    reads(&rt, &mut stream, b"abc")?;
+    reads(&rt, &mut stream, b"d")?;
+    reads(&rt, &mut stream, b"")?;
+    assert!(rt; closes(&mut stream)?);
+    assert!(rt; !closes(&mut stream)?);
+    opens(&rt, &mut stream, b"ef")?;
+    reads(&rt, &mut stream, b"ef")?;
+    Ok(())
+}
+
+/// An append stream grows through its cell.
+#[test]
+fn cells_grow(rt: HostRuntime) -> Result<(), Fail> {
+    let mut stream = Stream::append_only(rt.alloc());
+    let grow = StreamAsk::Append {
+        bits: BOTH,
+        bytes: Bytes::from_slice(rt.alloc(), b"ab")?,
+    };
+    for _ in 0..2 {
+        let (first, second) = stream.act(&grow)?;
+        assert!(rt;
+            matches!(first, StreamReply::Appended) && matches!(second, StreamReply::Appended)
+        );
+    }
+    assert_eq!(rt; stream.bytes(), b"abab".as_slice());
+    Ok(())
+}

@@ -1,0 +1,183 @@
+//! A live tag.
+
+ghost use Rattle.std.specs.Prelude.{◌≡◌, ◌*◌, ◌%◌, ◌+◌, ◌-◌, ◌≤◌, ◌++◌, [], Some, IfOk, OnErr, length};
+ghost use Rattle.wedge_base.specs.Blocks.{AreBlocks};
+ghost use Rattle.wedge_base.specs.Bytes.{zeros};
+ghost use Rattle.wedge_base.specs.Images.{page, window, most_pages};
+ghost use Rattle.wedge_base.specs.Slots as slots;
+
+use crate::bytes::{opening_bytes, zeroed};
+use crate::rights::{at_least, right_in};
+use smalloc_heap::{Block, Heap, SmallocFault};
+use std::alloc::Global;
+use std::marker::Model;
+use wedge_base::{Bytes, Live, NoMemory, Right, SlotAsk, SlotReply, TagNo};
+
+/// The bytes of a page.
+const PAGE: u32 = 4096;
+
+/// A live tag: its number, its bytes, and the heap in which its blocks are placed.
+#[derive(Debug, Drop)]
+pub struct Segment {
+    tag: TagNo,
+    bytes: Bytes,
+    heap: Heap,
+}
+
+impl Model for Segment {
+    ghost use Rattle.std.specs.Prelude.{◌≡◌, ◌%◌, ◌≤◌, length};
+    ghost use Rattle.wedge_base.specs.Images.{page, window};
+    ghost use Rattle.wedge_base.specs.Slots.{Segment as Plain};
+
+    ghost Value = { Plain };
+
+    ghost view = { λ g. record { tag = g.tag; bytes = g.bytes; blocks = g.heap.blocks } };
+
+    ghost invariant = { λ g. (length g.bytes % page ≡ 0) × (length g.bytes ≤ window) × (g.heap.room ≡ length g.bytes) };
+}
+
+impl Segment {
+    /// A tag of so many pages, with zero bytes and no blocks.
+    pub fn opened(alloc: Global, tag: TagNo, pages: u32) -> Result<Segment, NoMemory>
+        requires { pages ≤ most_pages }
+        ensures { IfOk result (λ g. g ≡ slots.opened tag pages) }
+    {
+        let size = pages * PAGE;
+        Ok(Segment {
+            tag,
+            bytes: Bytes::new(zeroed(alloc, size as usize)?),
+            heap: Heap::new(alloc, size),
+        })
+    }
+
+    /// A tag of so many pages, with this content and zeros after it, and no blocks.
+    pub fn declared(
+        alloc: Global,
+        tag: TagNo,
+        content: &[u8],
+        pages: u32,
+    ) -> Result<Segment, NoMemory>
+        requires pages { pages ≤ most_pages }
+        requires content { length content.now ≤ pages * page }
+        ensures { IfOk result (λ g. g ≡ record { tag = tag; bytes = content.now ++ zeros (pages * page - length content.now); blocks = [] }) }
+    {
+        let size = pages * PAGE;
+        Ok(Segment {
+            tag,
+            bytes: opening_bytes(alloc, content, size as usize)?,
+            heap: Heap::new(alloc, size),
+        })
+    }
+
+    /// The number of the tag.
+    pub fn tag(&self) -> TagNo
+        ensures { result ≡ self.now.tag }
+    {
+        self.tag
+    }
+
+    /// Lends the bytes: whole pages, 16 at most.
+    pub fn bytes(&self) -> &[u8]
+        ensures is { result.now ≡ self.now.bytes }
+        ensures pages { length self.now.bytes % page ≡ 0 }
+        ensures few { length self.now.bytes ≤ window }
+    {
+        self.bytes.as_slice()
+    }
+
+    /// Lends the blocks, by offset. They lie in the bytes, apart.
+    pub fn blocks(&self) -> &[Block]
+        ensures is { result.now ≡ self.now.blocks }
+        ensures apart { AreBlocks 0 (length self.now.bytes) self.now.blocks }
+    {
+        self.heap.blocks()
+    }
+
+    /// A load, judged by the asker's right.
+    pub fn load(&self, offset: u32, width: u8, live: Option<Live>) -> (SlotReply, SlotReply)
+        requires { slots.IsAligned offset width }
+        ensures first { result.0 ≡ slots.live_reply self.now (SlotAsk.Load offset width live) }
+        ensures second { result.1 ≡ slots.live_reply self.now (SlotAsk.Load offset width live) }
+    {
+        let place = offset as usize;
+        if place >= self.bytes.as_slice().len() {
+            return twice!(SlotReply::Unmapped);
+        }
+        if !at_least(right_in(live), Right::Read) {
+            return twice!(SlotReply::Denied { tag: self.tag });
+        }
+        let value = self.bytes.number_at(place, width);
+        twice!(SlotReply::Loaded { value })
+    }
+
+    /// A store, judged by the asker's right.
+    pub fn store(
+        &mut self,
+        offset: u32,
+        width: u8,
+        value: u32,
+        live: Option<Live>,
+    ) -> (SlotReply, SlotReply)
+        requires { slots.IsAligned offset width }
+        ensures first { result.0 ≡ slots.live_reply self.old (SlotAsk.Store offset width value live) }
+        ensures second { result.1 ≡ slots.live_reply self.old (SlotAsk.Store offset width value live) }
+        ensures after { Some self.new ≡ slots.slot_next (Some self.old) (SlotAsk.Store offset width value live) }
+    {
+        let place = offset as usize;
+        if place >= self.bytes.as_slice().len() {
+            return twice!(SlotReply::Unmapped);
+        }
+        if !at_least(right_in(live), Right::ReadWrite) {
+            return twice!(SlotReply::Denied { tag: self.tag });
+        }
+        self.bytes.write_number(place, width, value);
+        twice!(SlotReply::Stored)
+    }
+
+    /// Places a block of at least so many bytes, if the tag is this one.
+    pub fn smalloc(&mut self, tag: TagNo, size: u32) -> Result<(SlotReply, SlotReply), NoMemory>
+        requires { 1 ≤ size }
+        ensures first { IfOk result (λ r. r.0 ≡ slots.live_reply self.old (SlotAsk.Smalloc tag size)) }
+        ensures second { IfOk result (λ r. r.1 ≡ slots.live_reply self.old (SlotAsk.Smalloc tag size)) }
+        ensures after { IfOk result (λ _. Some self.new ≡ slots.slot_next (Some self.old) (SlotAsk.Smalloc tag size)) }
+        ensures err { OnErr result (self.new ≡ self.old) }
+    {
+        if self.tag != tag {
+            return Ok(twice!(SlotReply::NoSuch));
+        }
+        match self.heap.smalloc(size) {
+            Ok(offset) => Ok(twice!(SlotReply::Placed { offset })),
+            Err(SmallocFault::NoSpace) => Ok(twice!(SlotReply::Full)),
+            Err(SmallocFault::NoMemory) => Err(NoMemory),
+        }
+    }
+
+    /// Frees the block that begins at an offset, judged by the asker's right.
+    pub fn sfree(&mut self, offset: u32, live: Option<Live>) -> (SlotReply, SlotReply)
+        ensures first { result.0 ≡ slots.live_reply self.old (SlotAsk.Sfree offset live) }
+        ensures second { result.1 ≡ slots.live_reply self.old (SlotAsk.Sfree offset live) }
+        ensures after { Some self.new ≡ slots.slot_next (Some self.old) (SlotAsk.Sfree offset live) }
+    {
+        let held = right_in(live);
+        if !at_least(held, Right::ReadWrite) {
+            return twice!(SlotReply::Denied { tag: self.tag });
+        }
+        match self.heap.sfree(offset) {
+            Ok(()) => twice!(SlotReply::Freed),
+            Err(_) => twice!(SlotReply::Bad),
+        }
+    }
+
+    /// Copies the bytes, if the tag is this one.
+    pub fn snap(&self, tag: TagNo) -> Result<(SlotReply, SlotReply), NoMemory>
+        ensures first { IfOk result (λ r. r.0 ≡ slots.live_reply self.now (SlotAsk.Snap tag)) }
+        ensures second { IfOk result (λ r. r.1 ≡ slots.live_reply self.now (SlotAsk.Snap tag)) }
+    {
+        if self.tag != tag {
+            return Ok(twice!(SlotReply::Gone));
+        }
+        Ok(twice!(SlotReply::Snapped {
+            bytes: self.bytes.clone()?
+        }))
+    }
+}

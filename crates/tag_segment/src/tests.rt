@@ -1,0 +1,238 @@
+//! Slots at work.
+
+ghost use Rattle.std.specs.Prelude.{IsTrue};
+ghost use Rattle.wedge_base.specs.Slots as slots;
+
+use super::*;
+use smalloc_heap::Block;
+use std::process::Abort;
+use std::test::Fail;
+use wedge_base::{Live, NoMemory, Object, Right, SlotAsk, SlotReply, TagNo};
+
+/// What a slot is asked, for whatever tag lives there.
+#[derive(Clone, Copy, Debug)]
+enum Step {
+    Open(TagNo, u32),
+    Close(TagNo),
+    /// An offset, a width and a right.
+    Load(u32, u8, Option<Right>),
+    Store(u32, u8, u32, Option<Right>),
+    Smalloc(TagNo, u32),
+    Sfree(u32, Option<Right>),
+    Snap(TagNo),
+}
+
+const READ: Option<Right> = Some(Right::Read);
+
+const WRITE: Option<Right> = Some(Right::ReadWrite);
+
+const COPY: Option<Right> = Some(Right::Cow);
+
+const TAG: TagNo = TagNo(7);
+
+const OTHER: TagNo = TagNo(8);
+
+#[test]
+fn an_empty_slot(rt: HostRuntime) -> Result<(), Fail> {
+    let mut slot = SlotState::empty(rt.alloc());
+    assert_eq!(rt; slot.live(), None);
+    assert!(rt; slot.bytes().is_none());
+    let steps = [
+        (Step::Load(0, 4, WRITE), "Unmapped"),
+        (Step::Store(0, 4, 1, WRITE), "Unmapped"),
+        (Step::Sfree(0, WRITE), "NoSuch"),
+        (Step::Smalloc(TAG, 8), "NoSuch"),
+        (Step::Close(TAG), "NoSuch"),
+        (Step::Snap(TAG), "Gone"),
+    ];
+    run(&rt, &mut slot, &steps)?;
+    assert_eq!(rt; slot.live(), None);
+    Ok(())
+}
+
+#[test]
+fn a_tag_opened_again_is_blank(rt: HostRuntime) -> Result<(), Fail> {
+    let mut slot = SlotState::empty(rt.alloc());
+    for tag in [TAG, OTHER, TAG] {
+        let steps = [
+            (Step::Open(tag, 16), "Opened"),
+            (Step::Load(8, 4, READ), "Loaded { value: 0 }"),
+            (Step::Load(65532, 4, READ), "Loaded { value: 0 }"),
+            (Step::Smalloc(tag, 65536), "Placed { offset: 0 }"),
+            (Step::Smalloc(tag, 1), "Full"),
+            (Step::Store(8, 4, 77, WRITE), "Stored"),
+            (Step::Load(8, 4, READ), "Loaded { value: 77 }"),
+            (Step::Close(tag), "Closed"),
+            (Step::Load(8, 4, READ), "Unmapped"),
+            (Step::Open(tag, 1), "Opened"),
+            (Step::Load(8, 4, READ), "Loaded { value: 0 }"),
+            (Step::Load(4096, 4, READ), "Unmapped"),
+            (Step::Smalloc(tag, 4096), "Placed { offset: 0 }"),
+        ];
+        run(&rt, &mut slot, &steps)?;
+        assert_eq!(rt; slot.live(), Some(tag));
+        let block = Block {
+            offset: 0,
+            size: 4096,
+        };
+        assert_eq!(rt; slot.blocks(), Some([block].as_slice()));
+    }
+    Ok(())
+}
+
+#[test]
+fn accesses_under_each_right(rt: HostRuntime) -> Result<(), Fail> {
+    let mut slot = SlotState::declared(rt.alloc(), TAG, b"abcd", 1)?;
+    for right in [None, COPY] {
+        let steps = [
+            (Step::Load(0, 4, right), "Denied { tag: TagNo(7) }"),
+            (Step::Store(0, 4, 1, right), "Denied { tag: TagNo(7) }"),
+            (Step::Sfree(0, right), "Denied { tag: TagNo(7) }"),
+            (Step::Load(4096, 4, right), "Unmapped"),
+        ];
+        run(&rt, &mut slot, &steps)?;
+    }
+    let steps = [
+        (Step::Load(0, 4, READ), "Loaded { value: 1684234849 }"),
+        (Step::Load(2, 2, WRITE), "Loaded { value: 25699 }"),
+        (Step::Load(4, 1, READ), "Loaded { value: 0 }"),
+        (Step::Store(0, 4, 1, READ), "Denied { tag: TagNo(7) }"),
+        (Step::Store(4096, 1, 1, READ), "Unmapped"),
+        (Step::Load(3, 1, READ), "Loaded { value: 100 }"),
+        (Step::Store(2, 2, 0x1_0203, WRITE), "Stored"),
+        (Step::Load(0, 4, READ), "Loaded { value: 33776225 }"),
+    ];
+    run(&rt, &mut slot, &steps)?;
+    Ok(())
+}
+
+#[test]
+fn another_tag_is_asked_for(rt: HostRuntime) -> Result<(), Fail> {
+    let mut slot = SlotState::declared(rt.alloc(), TAG, b"abcd", 1)?;
+    let steps = [
+        (Step::Close(OTHER), "NoSuch"),
+        (Step::Snap(OTHER), "Gone"),
+        (Step::Smalloc(OTHER, 8), "NoSuch"),
+        (Step::Load(0, 1, READ), "Loaded { value: 97 }"),
+        (Step::Open(OTHER, 1), "Opened"),
+        (Step::Load(0, 1, READ), "Loaded { value: 0 }"),
+        (Step::Snap(TAG), "Gone"),
+    ];
+    run(&rt, &mut slot, &steps)?;
+    Ok(())
+}
+
+#[test]
+fn blocks_are_freed_under_a_right_to_write(rt: HostRuntime) -> Result<(), Fail> {
+    let mut slot = SlotState::declared(rt.alloc(), TAG, &[], 1)?;
+    let steps = [
+        (Step::Smalloc(TAG, 5), "Placed { offset: 0 }"),
+        (Step::Smalloc(TAG, 9), "Placed { offset: 8 }"),
+        (Step::Sfree(4, READ), "Denied { tag: TagNo(7) }"),
+        (Step::Sfree(4, WRITE), "Bad"),
+        (Step::Sfree(16, WRITE), "Bad"),
+        (Step::Sfree(0, READ), "Denied { tag: TagNo(7) }"),
+        (Step::Sfree(0, WRITE), "Freed"),
+        (Step::Sfree(0, WRITE), "Bad"),
+        (Step::Smalloc(TAG, 16), "Placed { offset: 24 }"),
+        (Step::Smalloc(TAG, 8), "Placed { offset: 0 }"),
+        (Step::Smalloc(TAG, u32::MAX), "Full"),
+    ];
+    run(&rt, &mut slot, &steps)?;
+    Ok(())
+}
+
+#[test]
+fn a_snap_copies_the_bytes(rt: HostRuntime) -> Result<(), Fail> {
+    let mut slot = SlotState::declared(rt.alloc(), TAG, b"abcd", 1)?;
+    let (first, second) = slot.act(&SlotAsk::Snap { tag: TAG })?;
+    let lent = slot.bytes().ok_or("a tag lives there")?;
+    assert_eq!(rt; lent.len(), 4096);
+    assert!(rt; lent.starts_with(b"abcd\0"));
+    for reply in [first, second] {
+        let SlotReply::Snapped { bytes } = reply else {
+            return Err(Fail::from("the tag lives there"));
+        };
+        assert_eq!(rt; bytes.as_slice(), lent);
+    }
+    Ok(())
+}
+
+/// Asks a slot one thing after another, and compares each reply with what is wanted.
+fn run(
+    rt: &(impl Abort + AllocGlobal),
+    slot: &mut SlotState,
+    steps: &[(Step, &str)],
+) -> Result<(), NoMemory> {
+    for (step, wanted) in steps {
+        let ask = ask_of(rt, slot, *step);
+        assert_eq!(rt; SlotState::copy_ask(&ask)?, ask);
+        let (first, second) = replies(slot, &ask)?;
+        let first = format!(in rt.alloc(); "{first:?}")?;
+        let second = format!(in rt.alloc(); "{second:?}")?;
+        assert_eq!(rt; first.as_str(), *wanted, "{step:?}");
+        assert_eq!(rt; second.as_str(), *wanted, "{step:?}");
+    }
+    Ok(())
+}
+
+/// Both replies of a slot.
+fn replies(slot: &mut SlotState, ask: &SlotAsk) -> Result<(SlotReply, SlotReply), NoMemory>
+    requires { slots.SlotFits slot.old ask.now }
+{
+    slot.act(ask)
+}
+
+/// The ask of a step, with the tag that lives in the slot.
+fn ask_of(rt: &impl Abort, slot: &SlotState, step: Step) -> SlotAsk
+    ensures { slots.SlotFits slot.now result }
+{
+    match step {
+        Step::Open(tag, pages) if pages > 0 && pages <= 16 => SlotAsk::Open { tag, pages },
+        Step::Close(tag) => SlotAsk::Close { tag },
+        Step::Load(offset, width, right) if is_aligned(offset, width) => {
+            let live = pair(slot, right);
+            SlotAsk::Load {
+                offset,
+                width,
+                live,
+            }
+        }
+        Step::Store(offset, width, value, right) if is_aligned(offset, width) => {
+            let live = pair(slot, right);
+            SlotAsk::Store {
+                offset,
+                width,
+                value,
+                live,
+            }
+        }
+        Step::Smalloc(tag, size) if size > 0 => SlotAsk::Smalloc { tag, size },
+        Step::Sfree(offset, right) if offset < 65536 => {
+            let live = pair(slot, right);
+            SlotAsk::Sfree { offset, live }
+        }
+        Step::Snap(tag) => SlotAsk::Snap { tag },
+        _ => panic!(rt; "{step:?} fits no slot"),
+    }
+}
+
+fn is_aligned(offset: u32, width: u8) -> bool
+    ensures { IsTrue result → slots.IsAligned offset width }
+{
+    offset < 65536
+        && match width {
+            1 => true,
+            2 => offset % 2 == 0,
+            4 => offset % 4 == 0,
+            _ => false,
+        }
+}
+
+/// The tag that lives in a slot, and a right on it.
+fn pair(slot: &SlotState, right: Option<Right>) -> Option<Live>
+    ensures { slots.IsPair slot.now result }
+{
+    let tag = slot.live()?;
+    Some(Live { tag, right })
+}

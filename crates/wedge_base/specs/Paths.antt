@@ -1,0 +1,54 @@
+-- Paths: their parts, and how one is resolved under a root.
+use Rattle.std.specs.Prelude.{ℕ, ◌==◌, Bool, true, false, not, ◌&&◌, ◌||◌, List, [], ◌∷◌, ◌++◌, length, take, ◌-◌, filter, Option, Some, None, nat_lt, nat_le, if◌then◌else◌}
+use Rattle.std.specs.List.{list_all}
+use Rattle.wedge_base.specs.Names.{same}
+
+-- a byte put before the first piece
+abbrev pub onto : ℕ → List (List ℕ) → List (List ℕ)
+onto b [] = (b ∷ []) ∷ []
+onto b (p ∷ ps) = (b ∷ p) ∷ ps
+
+-- the pieces between the slashes
+abbrev pub pieces : List ℕ → List (List ℕ)
+pieces [] = [] ∷ []
+pieces (b ∷ bs) = if b == 47 then [] ∷ pieces bs else onto b (pieces bs)
+
+-- the parts of a canonical path
+abbrev pub parts_of : List ℕ → List (List ℕ)
+parts_of path = filter (λ p. not (same p [])) (pieces path)
+
+-- the text of parts, each after a slash
+abbrev pub after_slashes : List (List ℕ) → List ℕ
+after_slashes [] = []
+after_slashes (p ∷ ps) = 47 ∷ p ++ after_slashes ps
+
+abbrev pub text_of : List (List ℕ) → List ℕ
+text_of [] = 47 ∷ []
+text_of (p ∷ ps) = after_slashes (p ∷ ps)
+
+-- the parts kept so far, and those of the next piece: nothing for an empty one or `.`, one less for `..`
+abbrev pub walked : List (List ℕ) → List (List ℕ) → List (List ℕ)
+walked kept [] = kept
+walked kept (p ∷ ps) =
+    if same p [] || same p (46 ∷ []) then walked kept ps
+    else if same p (46 ∷ 46 ∷ []) then walked (take (length kept - 1) kept) ps
+    else walked (kept ++ p ∷ []) ps
+
+-- 1 to 256 bytes from 0x21 to 0x7E, the first a slash
+abbrev pub is_path : List ℕ → Bool
+is_path [] = false
+is_path (b ∷ bs) = (b == 47) && nat_lt (length bs) 256 && list_all (λ x. nat_le 0x21 x && nat_le x 0x7e) bs
+
+-- the path under a root that a text names, if it is the text of a path
+abbrev pub resolve : List ℕ → List ℕ → Option (List ℕ)
+resolve root path = if is_path path then Some (text_of (parts_of root ++ walked [] (pieces path))) else None
+
+-- whether the first list stands at the front of the second
+abbrev pub is_front : List (List ℕ) → List (List ℕ) → Bool
+is_front [] ys = true
+is_front (x ∷ xs) [] = false
+is_front (x ∷ xs) (y ∷ ys) = same x y && is_front xs ys
+
+-- whether a path lies under a root
+abbrev pub under : List ℕ → List ℕ → Bool
+under root path = is_front (parts_of root) (parts_of path)
