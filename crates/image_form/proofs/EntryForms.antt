@@ -5,7 +5,8 @@ use Rattle.std.proofs.lemmas.List.{append-nil}
 use Rattle.wedge_base.specs.declared.image.Procedure.{Procedure}
 use Rattle.wedge_base.specs.declared.image.MemoryRange.{MemoryRange}
 use Rattle.image_form.specs.declared.fault.Why.TheVariants.{Range, Overlap, Limit}
-use Rattle.image_form.specs.Forms.{is_name, is_below}
+use Rattle.wedge_base.specs.Texts.{is_name}
+use Rattle.image_form.specs.Forms.{is_below}
 use Rattle.image_form.specs.Spelling.{number, string, content, table, procedure, range}
 use Rattle.image_form.specs.Rules.{high_end, most_procedures, most_ranges, most_range_bytes, is_among, addresses, begins_at, end_of, is_off_text, IsProcedure, AreProcedures, IsRange, AreRanges}
 use Rattle.image_form.specs.Reading.{◌>>=◌, Read, demand, last_of, bytes_at, number_at, checked_at, entries_at, table_at, is_base, is_word_count, words_at, is_address, address_at, procedure_at, procedures_at, is_range_length, range_length_at, range_at, ranges_at}

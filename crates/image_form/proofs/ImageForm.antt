@@ -17,7 +17,8 @@ use Rattle.wedge_base.specs.declared.rights.StreamKind.{StreamKind}
 use Rattle.wedge_base.specs.declared.rights.StreamKind.TheVariants as kind
 use Rattle.image_form.specs.declared.fault.Why.TheVariants.{Magic, Version, Range, Limit, Trailing}
 use Rattle.image_form.specs.declared.fault.ImageError.{ImageError}
-use Rattle.image_form.specs.Forms.{is_name, is_path, is_root, is_below, ascend}
+use Rattle.wedge_base.specs.Texts.{is_name}
+use Rattle.image_form.specs.Forms.{is_path, is_root, is_below, ascend}
 use Rattle.image_form.specs.Spelling.{most_bytes, magic, version, number, string, content, table, procedure, range, right_code, tag, kind_code, bits_code, fd, file, spelling}
 use Rattle.image_form.specs.Rules.{most_fuel, most_tags, most_pages, most_fds, most_files, begins_at, may_hold, IsText, IsProcedure, AreProcedures, AreRanges, IsTag, AreTags, IsFd, AreFds, IsFile, AreFiles, IsImage, Spells}
 use Rattle.image_form.specs.Reading.{◌>>=◌, Read, last_of, number_at, checked_at, limited_at, formed_at, key_at, content_at, table_at, right_of, right_at, is_page_count, tag_at, tags_at, kind_of, kind_at, bits_of, bits_at, fd_at, fds_at, file_at, files_at, header_at, is_base, words_at, procedures_at, ranges_at, image_at, reading, place, Gives}

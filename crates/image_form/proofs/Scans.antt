@@ -7,7 +7,8 @@ use Rattle.std.proofs.lemmas.List.{map-append}
 use Rattle.std.proofs.lemmas.List.Sums.{sum_by-append, sum_by-cons}
 use Rattle.wedge_base.specs.declared.image.Procedure.{Procedure}
 use Rattle.wedge_base.specs.declared.image.MemoryRange.{MemoryRange}
-use Rattle.image_form.specs.Forms.{is_below, ascend_from, is_name, is_path, is_root, starts_name, continues_name, is_printed, is_part}
+use Rattle.image_form.specs.Forms.{is_below, ascend_from, is_path, is_root, is_printed, is_part}
+use Rattle.wedge_base.specs.Texts.{is_name, starts_name, continues_name}
 use Rattle.image_form.specs.Rules.{high_end, low_end, most_range_bytes, is_among, addresses, differ_from, end_of, is_off_text, lie_apart}
 use Rattle.image_form.specs.Reading.{last_of, is_base, is_word_count, is_address, is_range_length}
 use Rattle.image_form.proofs.Lasts.{last_of-push}

@@ -11,7 +11,8 @@ use Rattle.wedge_base.specs.declared.image.MemoryRange.{MemoryRange}
 use Rattle.wedge_base.specs.declared.image.TagEntry.{TagEntry}
 use Rattle.wedge_base.specs.declared.image.FdEntry.{FdEntry}
 use Rattle.wedge_base.specs.declared.image.FileEntry.{FileEntry}
-use Rattle.image_form.specs.Forms.{is_name, is_path, is_root}
+use Rattle.wedge_base.specs.Texts.{is_name}
+use Rattle.image_form.specs.Forms.{is_path, is_root}
 use Rattle.image_form.specs.Spelling.{magic, version, number, string, content, table, procedure, range, right_code, tag, kind_code, bits_code, fd, file, spelling}
 use Rattle.image_form.specs.Fitting.{WordFits, ProcedureFits, RangeFits, TagFits, FdFits, FileFits, TableFits, PartsFit}
 use Rattle.image_form.specs.Rules.{high_end, IsProcedure, IsRange, IsTag, IsFd, IsFile, IsImage}

@@ -1,4 +1,5 @@
 pub mod Forms
+pub mod Words
 pub mod Spelling
 pub mod Rules
 pub mod Address

@@ -20,7 +20,8 @@ use Rattle.image_form.specs.declared.fault.Why.TheVariants.{Magic, Version, Trun
 use Rattle.image_form.specs.declared.fault.ImageError.{ImageError}
 use Rattle.image_form.specs.declared.fault.ImageError.TheVariants as error
 use Rattle.image_form.specs.Spelling.{most_bytes, magic, version}
-use Rattle.image_form.specs.Forms.{is_name, is_path, is_root, is_below}
+use Rattle.wedge_base.specs.Texts.{is_name}
+use Rattle.image_form.specs.Forms.{is_path, is_root, is_below}
 use Rattle.image_form.specs.Rules.{most_fuel, low_end, high_end, most_procedures, most_ranges, most_range_bytes, most_tags, most_pages, most_fds, most_files, is_among, addresses, begins_at, end_of, is_off_text, may_hold}
 
 -- ---- what reading gives

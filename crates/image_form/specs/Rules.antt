@@ -10,7 +10,8 @@ use Rattle.wedge_base.specs.declared.image.FileEntry.{FileEntry}
 use Rattle.wedge_base.specs.declared.rights.StreamKind.{StreamKind}
 use Rattle.wedge_base.specs.declared.rights.StreamKind.TheVariants as kind
 use Rattle.image_form.specs.Spelling.{spelling, most_bytes}
-use Rattle.image_form.specs.Forms.{is_name, is_path, is_root, ascend}
+use Rattle.wedge_base.specs.Texts.{is_name}
+use Rattle.image_form.specs.Forms.{is_path, is_root, ascend}
 
 -- ---- limits
 

@@ -24,6 +24,27 @@ pub enum Why {
     Limit,
 }
 
+impl Why {
+    ghost use Rattle.std.specs.Prelude.{◌≡◌};
+    ghost use Rattle.image_form.specs.Words as words;
+
+    /// The word for it.
+    pub fn word(self) -> &'static str
+        ensures { result.now ≡ words.word self }
+    {
+        match self {
+            Why::Magic => "magic",
+            Why::Version => "version",
+            Why::Truncated => "truncated",
+            Why::Trailing => "trailing",
+            Why::Order => "order",
+            Why::Range => "range",
+            Why::Overlap => "overlap",
+            Why::Limit => "limit",
+        }
+    }
+}
+
 /// The first thing that is wrong with an image, by the order of its fields.
 #[derive(Clone, Copy, Debug, PartialEq, Eq)]
 pub struct Fault {

@@ -9,6 +9,9 @@ use crate::fields::{kind, limited, name_after, number, refused, stream_content};
 use std::alloc::Global;
 use wedge_base::{Bytes, FdBits, FdEntry};
 
+/// The most descriptors of an image.
+const MOST_FDS: u32 = 64;
+
 /// The name of the last descriptor, or no bytes.
 fn last_name(front: &[FdEntry]) -> &[u8]
     ensures { result.now ≡ last_of (λ f. f.name) [] front.now }
@@ -89,6 +92,6 @@ pub(crate) fn fds(
 ) -> Result<(Vec<FdEntry>, &[u8]), ImageError>
     ensures { Gives (λ x. (x.0.items, x.1.now)) result (reading.fds_at total bytes.now) }
 {
-    let (count, rest) = limited(64, total, bytes)?;
+    let (count, rest) = limited(MOST_FDS, total, bytes)?;
     fd_list(alloc, count, total, rest)
 }

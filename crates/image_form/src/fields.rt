@@ -5,14 +5,15 @@ ghost use Rattle.std.specs.Prelude.{◌≡◌, length, IfOk, nat_le, nat_lt, ◌
 ghost use Rattle.image_form.specs.declared.fault.ImageError.TheVariants as error;
 ghost use Rattle.image_form.specs.declared.fault.Why.TheVariants as why;
 ghost use Rattle.image_form.specs.Forms as forms;
+ghost use Rattle.wedge_base.specs.Texts as texts;
 ghost use Rattle.image_form.specs.Reading as reading;
 ghost use Rattle.image_form.specs.Rules as rules;
 ghost use Rattle.image_form.specs.Reading.{Gives, place};
 
 use crate::fault::{Fault, ImageError, Why};
-use crate::forms::{is_below, is_name, is_path, is_root};
+use crate::forms::{is_below, is_path, is_root};
 use std::alloc::Global;
-use wedge_base::{Bytes, PathText, StreamKind};
+use wedge_base::{Bytes, PathText, StreamKind, is_name};
 
 /// A fault at the first of the bytes that are left.
 pub(crate) fn refused(total: usize, rest: &[u8], why: Why) -> ImageError
@@ -84,7 +85,7 @@ pub(crate) fn name_after<'a>(
     total: usize,
     bytes: &'a [u8],
 ) -> Result<(&'a [u8], &'a [u8]), ImageError>
-    ensures { Gives (λ x. (x.0.now, x.1.now)) result (reading.key_at forms.is_name before.now total bytes.now) }
+    ensures { Gives (λ x. (x.0.now, x.1.now)) result (reading.key_at texts.is_name before.now total bytes.now) }
 {
     let (name, rest) = string(total, bytes)?;
     if !is_name(name) {

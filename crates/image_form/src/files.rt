@@ -10,6 +10,9 @@ use crate::fields::{kind, limited, number, path_after, refused, stream_content};
 use std::alloc::Global;
 use wedge_base::{Bytes, FileEntry, PathText};
 
+/// The most files of an image.
+const MOST_FILES: u32 = 1024;
+
 /// The path of the last file, or no bytes.
 fn last_path(front: &[FileEntry]) -> &[u8]
     ensures { result.now ≡ last_of (λ f. f.path) [] front.now }
@@ -88,6 +91,6 @@ pub(crate) fn files(
 ) -> Result<(Vec<FileEntry>, &[u8]), ImageError>
     ensures { Gives (λ x. (x.0.items, x.1.now)) result (reading.files_at total bytes.now) }
 {
-    let (count, rest) = limited(1024, total, bytes)?;
+    let (count, rest) = limited(MOST_FILES, total, bytes)?;
     file_list(alloc, count, total, rest)
 }

@@ -1,39 +1,8 @@
-//! The form of names and paths, and their order.
+//! The form of paths, and the order of texts.
 
 ghost use Rattle.std.specs.Prelude.{◌≡◌, ◌==◌};
 ghost use Rattle.std.specs.List.{list_all, slice_split};
 ghost use Rattle.image_form.specs.Forms as forms;
-
-fn starts_name(c: u8) -> bool
-    ensures { result ≡ forms.starts_name c }
-{
-    c.is_ascii_alphabetic() || c == b'_'
-}
-
-fn continues_name(c: u8) -> bool
-    ensures { result ≡ forms.continues_name c }
-{
-    starts_name(c) || c.is_ascii_digit() || c == b'.'
-}
-
-fn all_continue_name(text: &[u8]) -> bool
-    ensures { result ≡ list_all forms.continues_name text.now }
-{
-    text.iter().all(|c| continues_name(*c))
-}
-
-/// Whether a text is a name.
-#[tactic(auto, unfolding(crate::specs::Forms::is_name))]
-pub(crate) fn is_name(text: &[u8]) -> bool
-    ensures { result ≡ forms.is_name text.now }
-{
-    match text {
-        [] => false,
-        [first, others @ ..] => {
-            others.len() <= 63 && starts_name(*first) && all_continue_name(others)
-        }
-    }
-}
 
 fn is_part(part: &[u8]) -> bool
     ensures { result ≡ forms.is_part part.now }

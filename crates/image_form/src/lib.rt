@@ -25,4 +25,6 @@ pub use reading::read_image;
 pub use writing::write_image;
 
 #[cfg(test)]
+mod table_tests;
+#[cfg(test)]
 mod tests;

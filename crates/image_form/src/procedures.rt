@@ -16,6 +16,9 @@ use std::alloc::Global;
 use std::collections::BTreeSet;
 use wedge_base::{Bytes, Procedure};
 
+/// The most procedures of an image.
+const MOST_PROCEDURES: u32 = 4096;
+
 /// Where the text lies: so many words from a base on.
 #[derive(Clone, Copy)]
 pub(crate) struct TextSpan {
@@ -98,7 +101,7 @@ pub(crate) fn procedures(
 ) -> Result<(Vec<Procedure>, &[u8]), ImageError>
     ensures { Gives (λ x. (x.0.items, x.1.now)) result (reading.procedures_at text.base text.count total bytes.now) }
 {
-    let (count, after) = limited(4096, total, bytes)?;
+    let (count, after) = limited(MOST_PROCEDURES, total, bytes)?;
     let (procedures, rest) = procedure_list(alloc, text, count, total, after)?;
     if !begins_at(&procedures, text.base) {
         return Err(refused(total, bytes, Why::Range));

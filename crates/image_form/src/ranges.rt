@@ -13,6 +13,9 @@ use crate::text::{HIGH_END, base};
 use std::alloc::Global;
 use wedge_base::{Bytes, MemoryRange, NoMemory};
 
+/// The most data ranges of an image.
+const MOST_RANGES: u32 = 16;
+
 /// The most bytes of all data ranges together.
 const MOST_RANGE_BYTES: u32 = 0x100000;
 
@@ -138,6 +141,6 @@ pub(crate) fn ranges(
 ) -> Result<(Vec<MemoryRange>, &[u8]), ImageError>
     ensures { Gives (λ x. (x.0.items, x.1.now)) result (reading.ranges_at text.base text.count total bytes.now) }
 {
-    let (count, rest) = limited(16, total, bytes)?;
+    let (count, rest) = limited(MOST_RANGES, total, bytes)?;
     range_list(alloc, text, count, total, rest)
 }

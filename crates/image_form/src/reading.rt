@@ -29,6 +29,9 @@ pub(crate) const MAGIC: u32 = 0x47444557;
 /// The one version of the form.
 pub(crate) const VERSION: u32 = 1;
 
+/// The most fuel of an image, in instructions.
+const MOST_FUEL: u32 = 16777216;
+
 /// The most bytes of an image's file.
 pub(crate) const MOST_BYTES: usize = 16777216;
 
@@ -63,7 +66,7 @@ fn header(total: usize, bytes: &[u8]) -> Result<(u32, &[u8]), ImageError>
 {
     let (_, rest) = magic(total, bytes)?;
     let (_, rest) = version(total, rest)?;
-    limited(16777216, total, rest)
+    limited(MOST_FUEL, total, rest)
 }
 
 /// The parts of an image.

@@ -14,6 +14,9 @@ use wedge_base::{Bytes, Right, TagEntry};
 /// The bytes of a page.
 const PAGE: u32 = 4096;
 
+/// The most tags of an image.
+const MOST_TAGS: u32 = 256;
+
 /// The name of the last tag, or no bytes.
 fn last_name(front: &[TagEntry]) -> &[u8]
     ensures { result.now ≡ last_of (λ t. t.name) [] front.now }
@@ -125,6 +128,6 @@ pub(crate) fn tags(
 ) -> Result<(Vec<TagEntry>, &[u8]), ImageError>
     ensures { Gives (λ x. (x.0.items, x.1.now)) result (reading.tags_at total bytes.now) }
 {
-    let (count, rest) = limited(256, total, bytes)?;
+    let (count, rest) = limited(MOST_TAGS, total, bytes)?;
     tag_list(alloc, count, total, rest)
 }

@@ -1,0 +1,97 @@
+//! Tables with as many entries as there may be.
+
+use super::*;
+use std::alloc::Global;
+use std::test::Fail;
+use wedge_base::NoMemory;
+
+/// What stands before the words of an image: fuel 100, base 0x10000.
+static HEAD: [u8; 16] = [0x57, 0x45, 0x44, 0x47, 1, 0, 0, 0, 100, 0, 0, 0, 0, 0, 1, 0];
+
+/// No data, no tags and no descriptors.
+static NO_TABLES: [u8; 12] = [0; 12];
+
+fn push_number(bytes: &mut Vec<u8>, number: u32) -> Result<(), NoMemory> {
+    bytes.extend_from_slice(&number.to_le_bytes())?;
+    Ok(())
+}
+
+/// A text of two characters and four digits, with its length.
+fn push_text(bytes: &mut Vec<u8>, start: &[u8; 2], number: u16) -> Result<(), NoMemory> {
+    bytes.extend_from_slice(&[6, 0])?;
+    bytes.extend_from_slice(start)?;
+    for place in [1000u16, 100, 10, 1] {
+        bytes.push(b'0' + (number / place % 10) as u8)?;
+    }
+    Ok(())
+}
+
+/// An image of so many words and procedures, each of one word, with so many files. The last procedure
+/// has the address of the one whose place is given.
+fn image(alloc: Global, procedures: u16, last: u16, files: u16) -> Result<Vec<u8>, NoMemory> {
+    let mut bytes = Vec::from_slice(alloc, &HEAD)?;
+    push_number(&mut bytes, u32::from(procedures))?;
+    for _ in 0..procedures {
+        push_number(&mut bytes, 0x73)?;
+    }
+    push_number(&mut bytes, u32::from(procedures))?;
+    for place in 0..procedures {
+        push_text(&mut bytes, b"p_", place)?;
+        let begins = if place < procedures - 1 { place } else { last };
+        push_number(&mut bytes, 0x10000 + 4 * u32::from(begins))?;
+    }
+    push_number(&mut bytes, 0x10000)?;
+    bytes.extend_from_slice(&NO_TABLES)?;
+    push_number(&mut bytes, u32::from(files))?;
+    for place in 0..files {
+        push_text(&mut bytes, b"/f", place)?;
+        bytes.extend_from_slice(&[0; 16])?;
+    }
+    bytes.extend_from_slice(&[0, 0, 0, 0, 1, 0, b'/'])?;
+    Ok(bytes)
+}
+
+fn fault_of(alloc: Global, bytes: &[u8]) -> Option<(usize, Why)> {
+    match read_image(alloc, bytes) {
+        Ok(_) | Err(ImageError::NoMemory) => None,
+        Err(ImageError::Fault(fault)) => Some((fault.at, fault.why)),
+    }
+}
+
+#[test]
+fn as_many_procedures_and_files_as_may_be(rt: HostRuntime) -> Result<(), Fail> {
+    let bytes = image(rt.alloc(), 4096, 4095, 1024)?;
+    let image = read_image(rt.alloc(), &bytes).ok().ok_or("an image")?;
+    assert_eq!(rt; image.procedures().len(), 4096);
+    assert_eq!(rt; image.files().len(), 1024);
+    let last = 0x10000 + 4 * 4095;
+    assert_eq!(rt; image.proc_at(last), Some(last));
+    let written = write_image(rt.alloc(), &image)?;
+    assert_eq!(rt; written, bytes);
+    Ok(())
+}
+
+/// The table of procedures begins after 20 bytes and 4 a word, and each entry has 12.
+#[test]
+fn the_last_procedure_where_another_is(rt: HostRuntime) -> Result<(), Fail> {
+    let bytes = image(rt.alloc(), 4096, 4094, 0)?;
+    let at = 20 + 4 * 4096 + 4 + 12 * 4095 + 8;
+    assert_eq!(rt; fault_of(rt.alloc(), &bytes), Some((at, Why::Overlap)));
+    Ok(())
+}
+
+#[test]
+fn one_procedure_too_many(rt: HostRuntime) -> Result<(), Fail> {
+    let bytes = image(rt.alloc(), 4097, 4096, 0)?;
+    let at = 20 + 4 * 4097;
+    assert_eq!(rt; fault_of(rt.alloc(), &bytes), Some((at, Why::Limit)));
+    Ok(())
+}
+
+/// With one procedure the table of files begins at 56.
+#[test]
+fn one_file_too_many(rt: HostRuntime) -> Result<(), Fail> {
+    let bytes = image(rt.alloc(), 1, 0, 1025)?;
+    assert_eq!(rt; fault_of(rt.alloc(), &bytes), Some((56, Why::Limit)));
+    Ok(())
+}
