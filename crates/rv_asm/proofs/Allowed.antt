@@ -39,11 +39,11 @@ plain_high f z h k = rw (allowed_plain f h) at (high_there (allowed f) z k)
 pub plain_step : (f : Form) (z : ℤ) → f ≢ form.Upper → is_allowed (allowed f) z ≡ true → word_of z % (ranges f).step ≡ 0
 plain_step f z h k = rw (allowed_plain f h) at (step_there (allowed f) z k)
 
-low_fits : (f : Form) → negsuc (2 ^ 31 - 1) ≤ℤ (ranges f).low
+pub low_fits : (f : Form) → negsuc (2 ^ 31 - 1) ≤ℤ (ranges f).low
 low_fits form.Upper = omega (arith, ints)
 low_fits _ = omega (arith, ints)
 
-high_fits : (f : Form) → (ranges f).high ≤ℤ pos (2 ^ 31 - 1)
+pub high_fits : (f : Form) → (ranges f).high ≤ℤ pos (2 ^ 31 - 1)
 high_fits form.Upper = omega (arith, ints)
 high_fits _ = omega (arith, ints)
 

@@ -5,3 +5,11 @@ pub mod Places
 pub mod Equating
 pub mod Allowed
 pub mod Passes
+pub mod Plain
+pub mod Pieces
+pub mod Numerals
+pub mod Shapes
+pub mod Names
+pub mod Placing
+pub mod Reading
+pub mod ReadBack

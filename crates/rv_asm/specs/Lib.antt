@@ -6,3 +6,5 @@ pub mod Statements
 pub mod Parsing
 pub mod Assembly
 pub mod Views
+pub mod Laws
+pub mod Words

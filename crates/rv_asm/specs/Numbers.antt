@@ -1,21 +1,9 @@
--- Integers and names, as they are written.
+-- Integers, as they are written.
 use Rattle.std.specs.Prelude.{ℕ, ◌^◌, ◌==◌, min, ℤ, pos, Bool, false, ◌||◌, ◌&&◌, List, [], ◌∷◌, length, Option, Some, None, option_map, nat_lt, nat_le, ◌-ℤ◌, if◌then◌else◌}
 use Rattle.std.specs.List.{list_all}
 use Rattle.std.specs.Char.{digit_value}
 use Rattle.std.specs.Str.Parse.{digits_value}
-
--- a letter or `_`
-abbrev pub starts_name : ℕ → Bool
-starts_name c = (nat_le 65 c && nat_le c 90) || (nat_le 97 c && nat_le c 122) || c == 95
-
--- a letter, `_`, a digit or `.`
-abbrev pub continues_name : ℕ → Bool
-continues_name c = starts_name c || (nat_le 48 c && nat_le c 57) || c == 46
-
--- a name has 1 to 64 bytes
-abbrev pub is_name : List ℕ → Bool
-is_name [] = false
-is_name (c ∷ cs) = nat_le (length cs) 63 && starts_name c && list_all continues_name cs
+use Rattle.wedge_base.specs.Texts.{is_name}
 
 -- Numbers from here on count as this one: all of them are past every range.
 abbrev pub past_all : ℕ

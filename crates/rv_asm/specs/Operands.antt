@@ -4,7 +4,8 @@ use Rattle.std.specs.List.{before_first, after_first}
 use Rattle.std.specs.Str.{bytes_eq}
 use Rattle.rv_isa.specs.Text.{register_names}
 use Rattle.rv_asm.specs.Lexing.{operands, one, two, three}
-use Rattle.rv_asm.specs.Numbers.{Number, number, decimal, is_name}
+use Rattle.wedge_base.specs.Texts.{is_name}
+use Rattle.rv_asm.specs.Numbers.{Number, number, decimal}
 
 infixl 10 ◌>>=◌
 abbrev pub ◌>>=◌ : {X Y : Type 0} → Option X → (X → Option Y) → Option Y

@@ -9,7 +9,8 @@ use Rattle.rv_isa.specs.declared.Form.TheVariants as form
 use Rattle.rv_isa.specs.Table.{ops, form_of}
 use Rattle.rv_isa.specs.Text.{mnemonic}
 use Rattle.rv_asm.specs.Lexing.{first_word, following, content, operands, one}
-use Rattle.rv_asm.specs.Numbers.{Number, is_name}
+use Rattle.wedge_base.specs.Texts.{is_name}
+use Rattle.rv_asm.specs.Numbers.{Number}
 use Rattle.rv_asm.specs.Numbers as number
 use Rattle.rv_asm.specs.Operands.{◌>>=◌, or_else, one_number, register_number, register_base, register_label, two_registers, two_registers_number, three_registers}
 use Rattle.rv_asm.specs.Statements.{Template, template, Statement}

@@ -18,6 +18,24 @@ pub enum Why {
     Twice,
 }
 
+impl Why {
+    ghost use Rattle.std.specs.Prelude.{◌≡◌};
+    ghost use Rattle.rv_asm.specs.Words as words;
+
+    /// The word for it.
+    pub fn word(self) -> &'static str
+        ensures { result.now ≡ words.word self }
+    {
+        match self {
+            Why::Mnemonic => "mnemonic",
+            Why::Operand => "operand",
+            Why::Range => "range",
+            Why::Label => "label",
+            Why::Twice => "twice",
+        }
+    }
+}
+
 /// The first line that is at fault, and what is wrong with it.
 #[derive(Clone, Copy, Debug, PartialEq, Eq)]
 pub struct Fault {

@@ -1,4 +1,4 @@
-//! Integers and names, as they are written.
+//! Integers, as they are written.
 
 ghost use Rattle.std.specs.Prelude.{◌≡◌, ◌≤◌, min, option_map, IfSome};
 ghost use Rattle.std.specs.List.{list_all};
@@ -8,36 +8,7 @@ ghost use Rattle.rv_asm.specs.Numbers as numbers;
 ghost use Rattle.rv_asm.specs.Views.{number_view};
 
 use crate::numbers::Number;
-
-fn starts_name(c: u8) -> bool
-    ensures { result ≡ numbers.starts_name c }
-{
-    c.is_ascii_alphabetic() || c == b'_'
-}
-
-fn continues_name(c: u8) -> bool
-    ensures { result ≡ numbers.continues_name c }
-{
-    starts_name(c) || c.is_ascii_digit() || c == b'.'
-}
-
-fn all_continue_name(text: &[u8]) -> bool
-    ensures { result ≡ list_all numbers.continues_name text.now }
-{
-    text.iter().all(|c| continues_name(*c))
-}
-
-/// Whether a text is a name.
-pub(crate) fn is_name(text: &[u8]) -> bool
-    ensures { result ≡ numbers.is_name text.now }
-{
-    match text {
-        [] => false,
-        [first, others @ ..] => {
-            others.len() <= 63 && starts_name(*first) && all_continue_name(others)
-        }
-    }
-}
+use wedge_base::is_name;
 
 /// Numbers from here on count as this one: all of them are past every range.
 const PAST_ALL: u64 = 0x2_0000_0000;

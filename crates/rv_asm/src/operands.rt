@@ -5,9 +5,10 @@ ghost use Rattle.rv_asm.specs.Operands as operands;
 ghost use Rattle.rv_asm.specs.Views.{number_view};
 
 use crate::lexing::{one, three, two};
-use crate::literals::{is_name, number};
+use crate::literals::number;
 use crate::numbers::Number;
 use crate::registers::register;
+use wedge_base::is_name;
 
 fn place_of_opening(text: &[u8]) -> Option<usize>
     ensures { result ≡ position operands.is_opening text.now }

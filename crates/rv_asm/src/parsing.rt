@@ -9,7 +9,6 @@ ghost use Rattle.rv_asm.specs.Views.{number_view, template_view, statement_view}
 
 use crate::fault::Why;
 use crate::lexing::{content, first_word, one};
-use crate::literals::is_name;
 use crate::mnemonics::{Head, Shorthand, head_named};
 use crate::numbers::Number;
 use crate::operands::{
@@ -20,6 +19,7 @@ use crate::services::service_named;
 use crate::statements::Statement;
 use crate::templates::{Register, Template};
 use rv_isa::{Form, Op};
+use wedge_base::is_name;
 
 /// The operands of an instruction, by its form.
 #[tactic(auto, unfolding(crate::specs::Parsing::with_form))]

@@ -1,0 +1,21 @@
+-- The text of an instruction is read back.
+use Rattle.std.specs.Prelude.{◌≡◌, ℕ, ◌^◌, ◌<◌, List, [], ◌∷◌, Some, Ok}
+use Rattle.rv_isa.specs.declared.Instr.{Instr}
+use Rattle.rv_isa.specs.Table.{decode, IsOfRow}
+use Rattle.rv_isa.specs.Encoding.{encoded}
+use Rattle.rv_isa.specs.Text.{text}
+use Rattle.rv_asm.specs.declared.assembled.Assembled.{Assembled}
+use Rattle.rv_asm.specs.declared.assembled.Equate.{Equate}
+use Rattle.rv_asm.specs.Assembly.{assembled}
+
+-- one word, and no procedure
+abbrev pub alone : ℕ → Assembled
+alone word = record { words = word ∷ []; procedures = [] }
+
+-- the text of each instruction of the table is assembled to its word, at each address, under each list of equates
+abbrev pub TextsAreReadBack : Type 0
+TextsAreReadBack = (i : Instr) (base : ℕ) (names : List Equate) → IsOfRow i → assembled (text i) base names ≡ Ok (alone (encoded i))
+
+-- the text of what a word decodes to is assembled to that word
+abbrev pub WordsAreReadBack : Type 0
+WordsAreReadBack = (word : ℕ) (i : Instr) (base : ℕ) (names : List Equate) → word < 2 ^ 32 → decode word ≡ Some i → assembled (text i) base names ≡ Ok (alone word)
