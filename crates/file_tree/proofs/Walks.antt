@@ -1,0 +1,92 @@
+-- The walk over pieces, a piece at a time, and what it keeps.
+use Rattle.std.proofs.Common.{◌≡◌, ℕ, zero, suc, ◌+◌, ◌-◌, ◌<◌, ◌≤◌, Bool, true, false, ◌||◌, List, [], ◌∷◌, ◌++◌, length, get_or, map, take, drop, if◌then◌else◌, refl, ap, sym, subst, ◌∙◌}
+use Rattle.std.proofs.lemmas.Bool.{eq-eqb}
+use Rattle.std.proofs.lemmas.List.{drop_more, drop_all}
+use Rattle.wedge_base.specs.Names.{same}
+use Rattle.wedge_base.specs.Paths.{pieces, parts_of, text_of, walked, is_front, under}
+use Rattle.file_tree.specs.Canonical.{AreNames, IsCanonical}
+use Rattle.file_tree.proofs.Pieces.{HasNoSlash, ArePieces, AreParts, AreParts-append, ArePieces-pieces, AreParts-parts_of, parts_of-text_of}
+
+module _ {X : Type 0} (view : X → List ℕ) (xs : List X) where
+  cut : (kept : List (List ℕ)) (i : ℕ) (x : X) → i < length xs → x ≡ get_or xs i x → walked kept (map view (drop i xs)) ≡ walked kept (view x ∷ map view (drop (i + 1) xs))
+  cut kept i x h e = ap (λ ys. walked kept (map view ys)) (drop_more xs i x h ∙ ap (λ y. y ∷ drop (i + 1) xs) (sym e))
+
+  -- a piece that is empty or `.`
+  pub walked_stays : (kept : List (List ℕ)) (i : ℕ) (x : X) → i < length xs → x ≡ get_or xs i x → (same (view x) [] || same (view x) (46 ∷ [])) ≡ true → walked kept (map view (drop i xs)) ≡ walked kept (map view (drop (i + 1) xs))
+  walked_stays kept i x h e t = cut kept i x h e ∙ rw t
+
+  -- a piece `..`
+  pub walked_up : (kept : List (List ℕ)) (i : ℕ) (x : X) → i < length xs → x ≡ get_or xs i x → (same (view x) [] || same (view x) (46 ∷ [])) ≡ false → same (view x) (46 ∷ 46 ∷ []) ≡ true → walked kept (map view (drop i xs)) ≡ walked (take (length kept - 1) kept) (map view (drop (i + 1) xs))
+  walked_up kept i x h e t u = cut kept i x h e ∙ rw (t, u)
+
+  -- a part
+  pub walked_on : (kept : List (List ℕ)) (i : ℕ) (x : X) → i < length xs → x ≡ get_or xs i x → (same (view x) [] || same (view x) (46 ∷ [])) ≡ false → same (view x) (46 ∷ 46 ∷ []) ≡ false → walked kept (map view (drop i xs)) ≡ walked (kept ++ view x ∷ []) (map view (drop (i + 1) xs))
+  walked_on kept i x h e t u = cut kept i x h e ∙ rw (t, u)
+
+  pub walked_end : (kept : List (List ℕ)) (i : ℕ) → length xs ≤ i → walked kept (map view (drop i xs)) ≡ kept
+  walked_end kept i h = ap (λ ys. walked kept (map view ys)) (drop_all i xs h)
+
+AreParts-take : (n : ℕ) (ps : List (List ℕ)) → AreParts ps → AreParts (take n ps)
+AreParts-take zero ps h = tt
+AreParts-take (suc n) [] h = tt
+AreParts-take (suc n) (p ∷ ps) h = (h.0, AreParts-take n ps h.1)
+
+-- what a piece makes of the parts kept, whatever it is compared with
+AreParts-step : (kept : List (List ℕ)) (p : List ℕ) (ps : List (List ℕ)) (empty here up : Bool) → same p [] ≡ empty → AreParts kept → HasNoSlash p → ((others : List (List ℕ)) → AreParts others → AreParts (walked others ps))
+    → AreParts (if empty || here then walked kept ps else if up then walked (take (length kept - 1) kept) ps else walked (kept ++ p ∷ []) ps)
+AreParts-step kept p ps true here up e h k more = more kept h
+AreParts-step kept p ps false true up e h k more = more kept h
+AreParts-step kept p ps false false true e h k more = more (take (length kept - 1) kept) (AreParts-take (length kept - 1) kept h)
+AreParts-step kept p ps false false false e h k more = more (kept ++ p ∷ []) (AreParts-append kept (p ∷ []) h ((e, k), tt))
+
+AreParts-walked : (kept ps : List (List ℕ)) → AreParts kept → ArePieces ps → AreParts (walked kept ps)
+AreParts-walked kept [] h k = h
+AreParts-walked kept (p ∷ ps) h k =
+    AreParts-step kept p ps (same p []) (same p (46 ∷ [])) (same p (46 ∷ 46 ∷ [])) refl h k.0 (λ others o. AreParts-walked others ps o k.1)
+
+AreNames-take : (n : ℕ) (ps : List (List ℕ)) → AreNames ps → AreNames (take n ps)
+AreNames-take zero ps h = tt
+AreNames-take (suc n) [] h = tt
+AreNames-take (suc n) (p ∷ ps) h = (h.0, h.1, AreNames-take n ps h.2)
+
+AreNames-append : (ps qs : List (List ℕ)) → AreNames ps → AreNames qs → AreNames (ps ++ qs)
+AreNames-append [] qs h k = k
+AreNames-append (p ∷ ps) qs h k = (h.0, h.1, AreNames-append ps qs h.2 k)
+
+AreNames-step : (kept : List (List ℕ)) (p : List ℕ) (ps : List (List ℕ)) (empty here up : Bool) → same p (46 ∷ []) ≡ here → same p (46 ∷ 46 ∷ []) ≡ up → AreNames kept → ((others : List (List ℕ)) → AreNames others → AreNames (walked others ps))
+    → AreNames (if empty || here then walked kept ps else if up then walked (take (length kept - 1) kept) ps else walked (kept ++ p ∷ []) ps)
+AreNames-step kept p ps true here up e u h more = more kept h
+AreNames-step kept p ps false true up e u h more = more kept h
+AreNames-step kept p ps false false true e u h more = more (take (length kept - 1) kept) (AreNames-take (length kept - 1) kept h)
+AreNames-step kept p ps false false false e u h more = more (kept ++ p ∷ []) (AreNames-append kept (p ∷ []) h (e, u, tt))
+
+AreNames-walked : (kept ps : List (List ℕ)) → AreNames kept → AreNames (walked kept ps)
+AreNames-walked kept [] h = h
+AreNames-walked kept (p ∷ ps) h =
+    AreNames-step kept p ps (same p []) (same p (46 ∷ [])) (same p (46 ∷ 46 ∷ [])) refl refl h (λ others o. AreNames-walked others ps o)
+
+same-itself : (p : List ℕ) → same p p ≡ true
+same-itself [] = refl
+same-itself (b ∷ p) = rw (eq-eqb b b refl, same-itself p)
+
+is_front-append : (ps qs : List (List ℕ)) → is_front ps (ps ++ qs) ≡ true
+is_front-append [] qs = refl
+is_front-append (p ∷ ps) qs = rw (same-itself p, is_front-append ps qs)
+
+-- the parts of a root and those that a path adds are those of their text
+parts_of-resolved : (root path : List ℕ) → parts_of (text_of (parts_of root ++ walked [] (pieces path))) ≡ parts_of root ++ walked [] (pieces path)
+parts_of-resolved root path =
+    parts_of-text_of (parts_of root ++ walked [] (pieces path)) (AreParts-append (parts_of root) (walked [] (pieces path)) (AreParts-parts_of root) (AreParts-walked [] (pieces path) tt (ArePieces-pieces path)))
+
+-- what is put after a root lies under it
+pub under_resolved : (root path : List ℕ) → under root (text_of (parts_of root ++ walked [] (pieces path))) ≡ true
+under_resolved root path = ap (λ x. is_front (parts_of root) x) (parts_of-resolved root path) ∙ is_front-append (parts_of root) (walked [] (pieces path))
+
+-- what is put after a canonical root is canonical
+pub canonical_resolved : (root path found : List ℕ) → found ≡ text_of (parts_of root ++ walked [] (pieces path)) → IsCanonical root → IsCanonical found
+canonical_resolved root path found is h =
+    let parts : parts_of found ≡ parts_of root ++ walked [] (pieces path) = ap parts_of is ∙ parts_of-resolved root path in
+    record {
+      spelled = is ∙ sym (ap text_of parts);
+      named = subst AreNames (sym parts) (AreNames-append (parts_of root) (walked [] (pieces path)) h.named (AreNames-walked [] (pieces path) tt));
+    }

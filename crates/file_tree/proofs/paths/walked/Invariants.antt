@@ -1,0 +1,7 @@
+use Rattle.std.proofs.Common.{◌≡◌, [], map, drop}
+use Rattle.wedge_base.specs.Paths as paths
+use Rattle.file_tree.proofs.paths.walked.Given as goal
+
+abbrev pub invariant-loop-piece : goal.invariant-loop-piece
+invariant-loop-piece l =
+    paths.walked (map (λ p. p.now) l.kept.items) (map (λ p. p.now) (drop l.piece-index l.piece-items)) ≡ paths.walked [] (paths.pieces l.path)

@@ -1,0 +1,11 @@
+//! Directories: the cells that give out places, as slots and descriptors, each with a number of its own.
+#![tactic(auto)]
+
+mod directory;
+mod fault;
+mod object;
+#[cfg(test)]
+mod tests;
+
+pub use directory::{Claimed, Directory};
+pub use fault::ClaimFault;
