@@ -1,0 +1,7 @@
+pub mod Keys
+pub mod Values
+pub mod Faults
+pub mod Sorting
+pub mod Parts
+pub mod Partition
+pub mod Views
