@@ -39,24 +39,28 @@ refusal_of_3 c refusal.NoMemory content before after cause e = absurd (omega ari
 refusal_of_3 c refusal.Read content before after cause e = absurd (omega arith)
 refusal_of_3 c (refusal.Image fault) content before after cause e = λ bytes told. (refusal.Image fault, cause bytes told)
 refusal_of_3 c refusal.Unbuilt content before after cause e = λ bytes told. (refusal.Unbuilt, cause bytes told)
+refusal_of_3 c (refusal.Partition p) content before after cause e = λ bytes told. (refusal.Partition p, cause bytes told)
 
 refusal_of_4 : (c : Command) (r : Refusal) (content : Option (List ℕ)) (before after : ℕ) → IsRefused c content before after r → status_of r ≡ 4 → before < after
 refusal_of_4 c refusal.NoMemory content before after cause e = absurd (omega arith)
 refusal_of_4 c refusal.Read content before after cause e = cause
 refusal_of_4 c (refusal.Image fault) content before after cause e = absurd (omega arith)
 refusal_of_4 c refusal.Unbuilt content before after cause e = absurd (omega arith)
+refusal_of_4 c (refusal.Partition p) content before after cause e = absurd (omega arith)
 
 refusal_not_2 : (r : Refusal) → Not (status_of r) 2
 refusal_not_2 refusal.NoMemory e = absurd (omega arith)
 refusal_not_2 refusal.Read e = absurd (omega arith)
 refusal_not_2 (refusal.Image fault) e = absurd (omega arith)
 refusal_not_2 refusal.Unbuilt e = absurd (omega arith)
+refusal_not_2 (refusal.Partition p) e = absurd (omega arith)
 
 refusal_not_5 : (r : Refusal) → Not (status_of r) 5
 refusal_not_5 refusal.NoMemory e = absurd (omega arith)
 refusal_not_5 refusal.Read e = absurd (omega arith)
 refusal_not_5 (refusal.Image fault) e = absurd (omega arith)
 refusal_not_5 refusal.Unbuilt e = absurd (omega arith)
+refusal_not_5 (refusal.Partition p) e = absurd (omega arith)
 
 done_not_2 : (c : Command) (name : List ℕ) (content : Option (List ℕ)) (before after : ℕ) (ended : Ended) (o p e f : Device) → IsEither c name content before after ended o p e f → Not ended.status 2
 done_not_2 c name content before after ended o p e f (inl r) is =

@@ -1,13 +1,14 @@
 -- What the program ends with.
 use Rattle.std.specs.Prelude.{◌≡◌, ℕ, ◌<◌, ◌≤◌, ◌⊎◌, List, take, Option, Some, None}
 use Rattle.wedge_base.specs.Images.{Image}
+use Rattle.image_form.specs.Rules.{Spells}
 use Rattle.wedge_base.specs.declared.events.Journal.{Journal}
 use Rattle.wedge_base.specs.declared.outcome.Outcome.{Outcome}
 use Rattle.host_io.specs.Told.{grown_by}
 use Rattle.wedge_core.specs.Serial.{IsWholeRun, IsNumbered}
 use Rattle.report_text.specs.Reports.{report_of}
 use Rattle.wedge_cli.specs.declared.words.Command.{Command}
-use Rattle.wedge_cli.specs.declared.words.Command.TheVariants.{Run, Show}
+use Rattle.wedge_cli.specs.declared.words.Command.TheVariants.{Run, Show, Build}
 use Rattle.wedge_cli.specs.declared.top.Ended.{Ended}
 use Rattle.wedge_cli.specs.Lines.{usage_line}
 use Rattle.wedge_cli.specs.Listing.{listing}
@@ -21,13 +22,14 @@ pub record IsReportOf (i : Image) (journal : Journal) (text : List ℕ) : Type 0
   pub stamps : IsNumbered journal.entries
   pub report : text ≡ report_of outcome
 
--- the text that a command asks of an image, and the journal that comes with a report
+-- what a command writes of an image: a report with its journal, a listing, or the one spelling of it
 abbrev pub IsTextFor : Command → Image → Option Journal → List ℕ → Type 0
 IsTextFor Run i None text = ⊥
 IsTextFor Run i (Some journal) text = IsReportOf i journal text
 IsTextFor Show i journal text = (journal ≡ None) × (text ≡ listing i)
+IsTextFor Build i journal text = (journal ≡ None) × Spells i text
 
--- the same of the image that the file's bytes spell
+-- the same of the image of the file's bytes
 pub record IsTextOf (c : Command) (content : Option (List ℕ)) (journal : Option Journal) (text : List ℕ) : Type 0 where
   pub image : Image
   pub loaded : IsLoaded c content image
@@ -62,7 +64,7 @@ pub record IsWritten (journal : Option Journal) (text : List ℕ) (ended : Ended
   pub out : (Takes text out_before out_after × (err_after ≡ err_before) × (ended.status ≡ 0))
       ⊎ (Rises out_before out_after × ((n : ℕ) × (out_after.written ≡ grown_by out_before.written (take n text))) × (err_before.faults ≤ err_after.faults) × (ended.status ≡ 5))
 
--- what a command asks of the image that the file's bytes spell is written
+-- what a command asks of the image of the file's bytes is written
 pub record IsDone (c : Command) (content : Option (List ℕ)) (ended : Ended) (out_before out_after err_before err_after : Device) : Type 0 where
   pub journal : Option Journal
   pub text : List ℕ

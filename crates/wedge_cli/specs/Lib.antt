@@ -1,7 +1,7 @@
 pub mod Words
 pub mod Lines
+pub mod Refusals
 pub mod Loading
 pub mod Ended
 pub mod Causes
-pub mod Refusals
 pub mod Listing

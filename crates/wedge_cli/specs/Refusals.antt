@@ -1,10 +1,32 @@
--- Refusals of images.
+-- Refusals of images and of partitions.
 use Rattle.image_form.specs.declared.fault.ImageError.{ImageError}
 use Rattle.image_form.specs.declared.fault.ImageError.TheVariants as error
+use Rattle.part_toml.specs.declared.fault.PartFault.{PartFault}
+use Rattle.part_toml.specs.declared.fault.PartFault.TheVariants as fault
+use Rattle.part_toml.specs.Faults as meant
+use Rattle.part_toml.specs.Faults.{Refusal as Meant}
 use Rattle.wedge_cli.specs.declared.refusal.Refusal.{Refusal}
 use Rattle.wedge_cli.specs.declared.refusal.Refusal.TheVariants as refusal
+use Rattle.wedge_cli.specs.declared.refusal.PartRefusal.{PartRefusal}
+use Rattle.wedge_cli.specs.declared.refusal.PartRefusal.TheVariants as part
 
 -- the refusal of what reading answered
 abbrev pub refusal_of : ImageError → Refusal
 refusal_of error.NoMemory = refusal.NoMemory
 refusal_of (error.Fault fault) = refusal.Image fault
+
+abbrev pub part_refusal_of : PartFault → Refusal
+part_refusal_of fault.NoMemory = refusal.NoMemory
+part_refusal_of fault.Toml = refusal.Partition part.Toml
+part_refusal_of (fault.Key name) = refusal.Partition (part.Key name)
+part_refusal_of (fault.Kind name) = refusal.Partition (part.Kind name)
+part_refusal_of (fault.Asm line why) = refusal.Partition (part.Asm line why)
+part_refusal_of (fault.Image at why) = refusal.Partition (part.Image at why)
+
+-- what is meant by a refused partition
+abbrev pub as_refused : Meant → PartRefusal
+as_refused meant.Toml = part.Toml
+as_refused (meant.Key name) = part.Key name
+as_refused (meant.Kind name) = part.Kind name
+as_refused (meant.Asm line why) = part.Asm line why
+as_refused (meant.Image at why) = part.Image at why

@@ -3,7 +3,7 @@ use Rattle.std.specs.Prelude.{ℕ, ◌==◌, Bool, false, not, List, [], ◌∷�
 use Rattle.std.specs.Str.{bytes_eq}
 use Rattle.std.specs.String.{string_bytes}
 use Rattle.wedge_cli.specs.declared.words.Command.{Command}
-use Rattle.wedge_cli.specs.declared.words.Command.TheVariants.{Run, Show}
+use Rattle.wedge_cli.specs.declared.words.Command.TheVariants.{Run, Show, Build}
 
 -- the texts of the words
 abbrev pub texts : {A : Type 0} → List (String A) → List (List ℕ)
@@ -15,9 +15,13 @@ is_plain [] = false
 is_plain (c ∷ cs) = not (c == 45)
 
 abbrev pub command_named : List ℕ → Option Command
-command_named word = if bytes_eq word (codes "run") then Some Run else if bytes_eq word (codes "show") then Some Show else None
+command_named word =
+    if bytes_eq word (codes "run") then Some Run
+    else if bytes_eq word (codes "show") then Some Show
+    else if bytes_eq word (codes "build") then Some Build
+    else None
 
--- the command, and the name of the image
+-- the command, and the name of the file
 abbrev pub Asked : Type 0
 Asked = Option (Command × List ℕ)
 

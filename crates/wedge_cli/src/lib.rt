@@ -1,6 +1,8 @@
 //! The program: from the words of the command line to what is written.
 #![tactic(auto)]
 
+#[cfg(test)]
+mod build_tests;
 mod lines;
 mod loading;
 mod refusal;

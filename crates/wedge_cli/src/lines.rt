@@ -1,11 +1,10 @@
 //! The lines of refusals.
 
-ghost use Rattle.std.specs.Prelude.{◌≡◌, codes, IfOk};
-ghost use Rattle.std.specs.String.{string_bytes};
+ghost use Rattle.std.specs.Prelude.{◌≡◌, ◌++◌, codes, IfOk, OnOk};
+ghost use Rattle.std.specs.Fmt.{decimal};
 ghost use Rattle.wedge_cli.specs.Lines as lines;
 
-use crate::refusal::Refusal;
-use image_form::Why;
+use crate::refusal::{PartRefusal, Refusal};
 use std::alloc::{AllocError, Global};
 
 /// The line of words that are no command.
@@ -29,46 +28,95 @@ pub(crate) fn no_memory_line() -> &'static [u8]
     b"wedge: out of memory\n"
 }
 
-/// The line of a refusal other than want of memory.
+/// The line of a refusal.
 pub(crate) fn refusal_line(
     alloc: Global,
     name: &str,
-    refusal: Refusal,
-) -> Result<String, AllocError>
-    ensures { IfOk result (λ s. string_bytes s ≡ lines.line (lines.refusal_text name.now refusal)) }
+    refusal: &Refusal,
+) -> Result<Vec<u8>, AllocError>
+    ensures { IfOk result (λ v. v.items ≡ lines.line (lines.refusal_text name.now refusal.now)) }
 {
     match refusal {
-        Refusal::NoMemory => format!(in alloc; "wedge: out of memory\n"),
-        Refusal::Read => format!(in alloc; "wedge: read fault: {name}\n"),
-        Refusal::Image(fault) => refused_line(alloc, fault.at, why_text(fault.why)),
+        Refusal::NoMemory => Vec::from_slice(alloc, no_memory_line()),
+        Refusal::Read => read_line(alloc, name),
+        Refusal::Image(fault) => refused_line(alloc, fault.at, fault.why.word()),
         Refusal::Unbuilt => refused_line(alloc, 0, "unbuilt"),
+        Refusal::Partition(fault) => partition_line(alloc, fault),
     }
 }
 
-/// The line of an image that is refused at a place.
-fn refused_line(alloc: Global, at: usize, word: &str) -> Result<String, AllocError>
-    ensures { IfOk result (λ s. string_bytes s ≡ lines.line (lines.refused_at at word.now)) }
+/// The line of a read that failed.
+fn read_line(alloc: Global, name: &str) -> Result<Vec<u8>, AllocError>
+    ensures { IfOk result (λ v. v.items ≡ lines.line (codes "read fault: " ++ name.now)) }
 {
-    let mut line = String::from_str(alloc, "wedge: image refused at ")?;
-    line.push_str(at.to_string(alloc)?.as_str())?;
-    line.push_str(": ")?;
-    line.push_str(word)?;
-    line.push_str("\n")?;
+    let mut line = Vec::from_slice(alloc, b"wedge: read fault: ")?;
+    line.extend_from_slice(name.as_bytes())?;
+    line.push(b'\n')?;
     Ok(line)
 }
 
-/// The word of a reason.
-fn why_text(why: Why) -> &'static str
-    ensures { result.now ≡ lines.why_text why }
+/// The line of an image that is refused at a place.
+fn refused_line(alloc: Global, at: usize, word: &str) -> Result<Vec<u8>, AllocError>
+    ensures { IfOk result (λ v. v.items ≡ lines.line (lines.refused_at at word.now)) }
 {
-    match why {
-        Why::Magic => "magic",
-        Why::Version => "version",
-        Why::Truncated => "truncated",
-        Why::Trailing => "trailing",
-        Why::Order => "order",
-        Why::Range => "range",
-        Why::Overlap => "overlap",
-        Why::Limit => "limit",
+    let mut line = Vec::from_slice(alloc, b"wedge: image refused at ")?;
+    add_place(alloc, &mut line, at, b": ", word)?;
+    line.push(b'\n')?;
+    Ok(line)
+}
+
+/// The line of a partition that is refused.
+fn partition_line(alloc: Global, fault: &PartRefusal) -> Result<Vec<u8>, AllocError>
+    ensures { IfOk result (λ v. v.items ≡ lines.line (codes "partition refused: " ++ lines.part_text fault.now)) }
+{
+    let mut line = Vec::from_slice(alloc, b"wedge: partition refused: ")?;
+    add_part(alloc, &mut line, fault)?;
+    line.push(b'\n')?;
+    Ok(line)
+}
+
+/// Adds what is wrong with a partition.
+fn add_part(alloc: Global, line: &mut Vec<u8>, fault: &PartRefusal) -> Result<(), AllocError>
+    ensures { OnOk result (line.new.items ≡ line.old.items ++ lines.part_text fault.now) }
+{
+    match fault {
+        PartRefusal::Limit => line.extend_from_slice(b"limit"),
+        PartRefusal::Toml => line.extend_from_slice(b"toml"),
+        PartRefusal::Key { name } => add_two(line, b"key ", name.as_slice()),
+        PartRefusal::Kind { name } => add_two(line, b"kind ", name.as_slice()),
+        PartRefusal::Asm { line: number, why } => {
+            line.extend_from_slice(b"line ")?;
+            add_place(alloc, line, *number, b" ", why.word())
+        }
+        PartRefusal::Image { at, why } => {
+            line.extend_from_slice(b"image at ")?;
+            add_place(alloc, line, *at, b": ", why.word())
+        }
     }
+}
+
+/// Adds two texts.
+fn add_two(line: &mut Vec<u8>, first: &[u8], second: &[u8]) -> Result<(), AllocError>
+    ensures { OnOk result (line.new.items ≡ line.old.items ++ first.now ++ second.now) }
+{
+    line.extend_from_slice(first)?;
+    line.extend_from_slice(second)?;
+    Ok(())
+}
+
+/// Adds a number, what stands after it, and a word.
+fn add_place(
+    alloc: Global,
+    line: &mut Vec<u8>,
+    at: usize,
+    between: &[u8],
+    word: &str,
+) -> Result<(), AllocError>
+    ensures { OnOk result (line.new.items ≡ line.old.items ++ decimal at ++ between.now ++ word.now) }
+{
+    let place = at.to_string(alloc)?;
+    line.extend_from_slice(place.as_bytes())?;
+    line.extend_from_slice(between)?;
+    line.extend_from_slice(word.as_bytes())?;
+    Ok(())
 }

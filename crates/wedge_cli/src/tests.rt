@@ -49,24 +49,24 @@ fn image_of(
 /// A run of the program: the bytes of its file `a`, the reads and writes that fail, and how
 /// many bytes `out` takes.
 #[derive(Drop)]
-struct Run {
-    bytes: Vec<u8>,
-    read_fails: u64,
-    out_room: usize,
-    write_fails: u64,
+pub(crate) struct Run {
+    pub bytes: Vec<u8>,
+    pub read_fails: u64,
+    pub out_room: usize,
+    pub write_fails: u64,
 }
 
 /// What a run has to leave.
 #[derive(Clone, Copy)]
-struct Left<'a> {
-    status: u8,
-    out: &'a str,
-    err: &'a str,
-    turns: Option<usize>,
+pub(crate) struct Left<'a> {
+    pub status: u8,
+    pub out: &'a str,
+    pub err: &'a str,
+    pub turns: Option<usize>,
 }
 
 /// The words as the program takes them.
-fn strings(alloc: Global, words: &[&str]) -> Result<Vec<String>, AllocError> {
+pub(crate) fn strings(alloc: Global, words: &[&str]) -> Result<Vec<String>, AllocError> {
     let mut strings = Vec::new(alloc);
     for word in words {
         strings.push(String::from_str(alloc, word)?)?;
@@ -75,7 +75,7 @@ fn strings(alloc: Global, words: &[&str]) -> Result<Vec<String>, AllocError> {
 }
 
 /// Runs the program and compares what it leaves.
-fn leaves<R: Threads + Wait + Abort + Sync>(
+pub(crate) fn leaves<R: Threads + Wait + Abort + Sync>(
     rt: &R,
     alloc: Global,
     words: &[&str],

@@ -15,7 +15,7 @@ use crate::refusal::Refusal;
 use crate::show::listing;
 use crate::words::{Command, asked};
 use host_io::{Files, Pace, Sink, write_whole};
-use image_form::Image;
+use image_form::{Image, write_image};
 use report_text::report;
 use std::alloc::Global;
 use std::sync::Wait;
@@ -45,11 +45,13 @@ pub(crate) struct Ready {
     text: Vec<u8>,
 }
 
-/// Does what the words ask of the image in the file of a name: `run NAME` runs it and writes its report on
-/// `out`, `show NAME` writes the listing of its text.
+/// Does what the words ask of the file of a name: `run NAME` runs the image and writes its report on `out`,
+/// `show NAME` writes the listing of its text, and `build NAME` makes an image of the partition and writes
+/// its bytes.
 ///
 /// The status is 0 where that was written; 2 where the words are no command; 3 where the file's bytes
-/// spell no image, or one to be run of a kind that the machine does not run yet; 4 where a read failed; 5 where a write
+/// spell no image, or one to be run of a kind that the machine does not run yet, or no partition; 4 where
+/// a read failed; 5 where a write
 /// failed; 6 where no memory was left. A refusal leaves `out` alone and says one line on `err`. A write
 /// that fails leaves a first part of the text on `out`.
 pub fn wedge<R: Threads + Wait + Sync, F: Files, O: Sink, E: Sink, P: Pace + Sync>(
@@ -151,6 +153,13 @@ fn text_for(alloc: Global, command: Command, image: &Image) -> Result<Ready, NoM
                 text,
             })
         }
+        Command::Build => {
+            let text = write_image(alloc, image)?;
+            Ok(Ready {
+                journal: None,
+                text,
+            })
+        }
     }
 }
 
@@ -175,13 +184,13 @@ fn say<E: Sink>(err: &mut E, status: u8, line: &[u8]) -> Ended
     }
 }
 
-/// Says why the file of a name is not run.
+/// Says why what is asked of the file of a name is not done.
 fn refuse<E: Sink>(alloc: Global, err: &mut E, name: &str, refusal: Refusal) -> Ended
     ensures journal { result.journal ≡ None }
     ensures cases { SaysRefusal name.now refusal result (device (E.written err.old) (E.faults err.old)) (device (E.written err.new) (E.faults err.new)) }
 {
-    match refusal_line(alloc, name, refusal) {
-        Ok(line) => say(err, status_of(refusal), line.as_bytes()),
+    match refusal_line(alloc, name, &refusal) {
+        Ok(line) => say(err, status_of(&refusal), line.as_slice()),
         Err(_) => say(err, NO_MEMORY, no_memory_line()),
     }
 }
@@ -203,12 +212,12 @@ fn finish<O: Sink, E: Sink>(out: &mut O, err: &mut E, ready: Ready) -> Ended
 }
 
 /// The status of a refusal.
-fn status_of(refusal: Refusal) -> u8
-    ensures { result ≡ lines.status_of refusal }
+fn status_of(refusal: &Refusal) -> u8
+    ensures { result ≡ lines.status_of refusal.now }
 {
     match refusal {
         Refusal::NoMemory => NO_MEMORY,
         Refusal::Read => 4,
-        Refusal::Image(_) | Refusal::Unbuilt => 3,
+        Refusal::Image(_) | Refusal::Unbuilt | Refusal::Partition(_) => 3,
     }
 }

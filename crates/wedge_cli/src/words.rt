@@ -3,16 +3,18 @@
 ghost use Rattle.std.specs.Prelude.{◌≡◌, option_map};
 ghost use Rattle.wedge_cli.specs.Words as asking;
 
-/// What is asked for the image of a name.
+/// What is asked of the file of a name.
 #[derive(Clone, Copy, Debug, PartialEq, Eq)]
 pub enum Command {
-    /// That it be run, and its report written.
+    /// That the image be run, and its report written.
     Run,
-    /// That its text be listed.
+    /// That the text of the image be listed.
     Show,
+    /// That an image be made of the partition, and written.
+    Build,
 }
 
-/// What the words ask, and the name of the image; none where they are no command.
+/// What the words ask, and the name of the file; none where they are no command.
 pub(crate) fn asked(words: &[String]) -> Option<(Command, &str)>
     ensures { option_map (λ a. (a.0, a.1.now)) result ≡ asking.asked (asking.texts words.now) }
 {
@@ -32,6 +34,7 @@ fn command_named(word: &str) -> Option<Command>
     match word {
         "run" => Some(Command::Run),
         "show" => Some(Command::Show),
+        "build" => Some(Command::Build),
         _ => None,
     }
 }
