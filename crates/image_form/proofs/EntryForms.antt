@@ -1,6 +1,6 @@
 -- The forms of words, procedures and data ranges.
-use Rattle.std.proofs.Common.{◌≡◌, ℕ, ◌+◌, ◌*◌, ◌%◌, ◌^◌, ◌<◌, ◌≤◌, Bool, true, ◌&&◌, not, leb, List, [], ◌∷◌, ◌++◌, length, map, Result, Ok, refl, sym, ap, ◌∙◌, arith}
-use Rattle.std.specs.List.{flat_map, sum_by, AllByRecursion}
+use Rattle.std.proofs.Common.{◌≡◌, ℕ, ◌+◌, ◌*◌, ◌^◌, ◌<◌, ◌≤◌, true, ◌&&◌, not, leb, List, [], ◌++◌, length, Ok, refl, ap, arith}
+use Rattle.std.specs.List.{sum_by, AllByRecursion}
 use Rattle.std.proofs.lemmas.List.{append-nil}
 use Rattle.wedge_base.specs.declared.image.Procedure.{Procedure}
 use Rattle.wedge_base.specs.declared.image.MemoryRange.{MemoryRange}
@@ -9,11 +9,11 @@ use Rattle.wedge_base.specs.Texts.{is_name}
 use Rattle.image_form.specs.Forms.{is_below}
 use Rattle.image_form.specs.Spelling.{number, string, content, table, procedure, range}
 use Rattle.image_form.specs.Rules.{high_end, most_procedures, most_ranges, most_range_bytes, is_among, addresses, begins_at, end_of, is_off_text, IsProcedure, AreProcedures, IsRange, AreRanges}
-use Rattle.image_form.specs.Reading.{◌>>=◌, Read, demand, last_of, bytes_at, number_at, checked_at, entries_at, table_at, is_base, is_word_count, words_at, is_address, address_at, procedure_at, procedures_at, is_range_length, range_length_at, range_at, ranges_at}
+use Rattle.image_form.specs.Reading.{◌>>=◌, demand, last_of, bytes_at, number_at, checked_at, is_base, is_word_count, words_at, is_address, address_at, procedure_at, procedures_at, is_range_length, range_length_at, range_at, ranges_at}
 use Rattle.image_form.proofs.Form.{IsForm, seq, ended, demanded, placed, tested, reworded}
 use Rattle.image_form.proofs.FieldForms.{bytes_form, number_form, checked_form, key_form}
-use Rattle.image_form.proofs.TableForms.{Each, table_form, list_form, scan_there, scan_back, plain_there, plain_back}
-use Rattle.image_form.proofs.Scans.{names_scan, addresses_scan, ranges_scan, size_of, sum_there, sum_back, base_there, base_back, word_count_there, word_count_back, address_there, address_back, range_length_there, range_length_back, leb_there, leb_back, name_short}
+use Rattle.image_form.proofs.TableForms.{table_form, list_form, scan_there, scan_back, plain_there, plain_back}
+use Rattle.image_form.proofs.Scans.{names_scan, addresses_scan, ranges_scan, size_of, sum_there, sum_back, base_there, base_back, word_count_there, word_count_back, address_there, address_back, range_length_there, range_length_back, name_short}
 
 -- ---- words
 

@@ -1,17 +1,17 @@
 -- The forms of single fields.
-use Rattle.std.proofs.Common.{◌≡◌, inl, inr, ℕ, zero, suc, ◌+◌, ◌*◌, ◌^◌, ◌<◌, ◌≤◌, Bool, true, false, cond, leb, List, [], ◌∷◌, ◌++◌, length, get_or, take, drop, Result, Ok, Err, refl, sym, ap, subst, ◌∙◌, append_assoc, length-append, arith}
+use Rattle.std.proofs.Common.{◌≡◌, ℕ, ◌^◌, ◌<◌, ◌≤◌, Bool, true, leb, List, ◌++◌, length, take, drop, Ok, refl, sym, ap, subst, ◌∙◌, length-append, arith}
 use Rattle.std.specs.Prelude.{min}
 use Rattle.std.specs.Int.{Width, w16, w32, byte_len, from_le_bytes, to_le_bytes}
 use Rattle.std.proofs.lemmas.Bool.{leb-true}
 use Rattle.std.proofs.lemmas.Bool.Decides.{nat_tests}
-use Rattle.std.proofs.lemmas.List.{append-nil, length-take, take-append-drop, take_at, drop_at}
+use Rattle.std.proofs.lemmas.List.{length-take, take-append-drop, take_at, drop_at}
 use Rattle.std.proofs.lemmas.Nat.{le_bytes_2, le_bytes_4, from_le_bytes-to_le_bytes_2, from_le_bytes-to_le_bytes_4}
 use Rattle.image_form.specs.declared.fault.Why.{Why}
 use Rattle.image_form.specs.declared.fault.Why.TheVariants.{Truncated, Range, Order}
 use Rattle.image_form.specs.Spelling.{number, string, content}
 use Rattle.image_form.specs.Forms.{is_below}
-use Rattle.image_form.specs.Reading.{◌>>=◌, Read, demand, place, bytes_at, number_at, short_at, checked_at, limited_at, string_at, formed_at, key_at, content_at}
-use Rattle.image_form.proofs.Form.{IsBytes, IsBytes-drop, IsBytes-take, bind_ok, ok_is, demand_ok, Takes, IsForm, seq, ended, demanded, reworded, tested}
+use Rattle.image_form.specs.Reading.{◌>>=◌, Read, place, bytes_at, number_at, short_at, checked_at, string_at, formed_at, key_at, content_at}
+use Rattle.image_form.proofs.Form.{IsBytes, IsBytes-drop, IsBytes-take, bind_ok, ok_is, demand_ok, Takes, IsForm, seq, reworded, tested}
 
 taken : (total n : ℕ) (bytes t rest : List ℕ) → IsBytes bytes → bytes_at total n bytes ≡ Ok (t, rest) → (n ≤ length bytes) × (take n bytes ≡ t) × (drop n bytes ≡ rest)
 unfolding bytes_at

@@ -1,9 +1,8 @@
 -- Parts are judged by their spelling.
-use Rattle.std.proofs.Common.{◌≡◌, ℕ, ◌≤◌, Bool, true, false, leb, List, length, Result, Ok, Err, refl, sym, ap, subst, ◌∙◌, arith}
+use Rattle.std.proofs.Common.{◌≡◌, ℕ, ◌≤◌, false, leb, List, length, Ok, refl, sym, subst, ◌∙◌, arith}
 use Rattle.std.proofs.lemmas.Bool.Decides.{nat_tests}
 use Rattle.wedge_base.specs.Images.{Image}
 use Rattle.image_form.specs.declared.fault.ImageError.{ImageError}
-use Rattle.image_form.specs.declared.fault.ImageError.TheVariants as error
 use Rattle.image_form.specs.declared.fault.Why.TheVariants.{Limit}
 use Rattle.image_form.specs.Spelling.{most_bytes, spelling}
 use Rattle.image_form.specs.Fitting.{PartsFit}

@@ -1,7 +1,7 @@
 -- The forms of tags, descriptors and files, and of a whole image.
-use Rattle.std.proofs.Common.{◌≡◌, ◌⊎◌, inl, inr, ℕ, zero, suc, ◌+◌, ◌*◌, ◌%◌, ◌^◌, ◌<◌, ◌≤◌, Bool, true, false, ◌&&◌, cond, eqb, leb, List, [], ◌∷◌, ◌++◌, length, map, Option, Some, None, Result, Ok, Err, refl, sym, ap, subst, ◌∙◌, append_assoc, arith}
+use Rattle.std.proofs.Common.{◌≡◌, inl, inr, ℕ, zero, suc, ◌+◌, ◌*◌, ◌^◌, ◌<◌, ◌≤◌, Bool, true, false, cond, eqb, leb, List, [], ◌∷◌, ◌++◌, length, map, Option, Some, None, Result, Ok, Err, refl, sym, ap, subst, ◌∙◌, append_assoc, arith}
 use Rattle.std.specs.Prelude.{IfOk}
-use Rattle.std.specs.List.{flat_map, AllByRecursion}
+use Rattle.std.specs.List.{AllByRecursion}
 use Rattle.std.proofs.lemmas.Bool.{eqb-true}
 use Rattle.std.proofs.lemmas.Bool.Decides.{nat_tests}
 use Rattle.std.proofs.lemmas.List.{append-nil, nil_from_length}
@@ -19,14 +19,14 @@ use Rattle.image_form.specs.declared.fault.Why.TheVariants.{Magic, Version, Rang
 use Rattle.image_form.specs.declared.fault.ImageError.{ImageError}
 use Rattle.wedge_base.specs.Texts.{is_name}
 use Rattle.image_form.specs.Forms.{is_path, is_root, is_below, ascend}
-use Rattle.image_form.specs.Spelling.{most_bytes, magic, version, number, string, content, table, procedure, range, right_code, tag, kind_code, bits_code, fd, file, spelling}
+use Rattle.image_form.specs.Spelling.{most_bytes, magic, version, number, table, right_code, tag, kind_code, bits_code, fd, file, spelling}
 use Rattle.image_form.specs.Rules.{most_fuel, most_tags, most_pages, most_fds, most_files, begins_at, may_hold, IsText, IsProcedure, AreProcedures, AreRanges, IsTag, AreTags, IsFd, AreFds, IsFile, AreFiles, IsImage, Spells}
-use Rattle.image_form.specs.Reading.{◌>>=◌, Read, last_of, number_at, checked_at, limited_at, formed_at, key_at, content_at, table_at, right_of, right_at, is_page_count, tag_at, tags_at, kind_of, kind_at, bits_of, bits_at, fd_at, fds_at, file_at, files_at, header_at, is_base, words_at, procedures_at, ranges_at, image_at, reading, place, Gives}
+use Rattle.image_form.specs.Reading.{◌>>=◌, Read, last_of, checked_at, table_at, right_of, right_at, is_page_count, tag_at, tags_at, kind_of, kind_at, bits_of, bits_at, fd_at, fds_at, file_at, files_at, header_at, is_base, image_at, reading, place, Gives}
 use Rattle.image_form.proofs.Form.{IsBytes, bind_ok, demand_ok, ok_is, IsForm, seq, ended, reworded}
 use Rattle.image_form.proofs.FieldForms.{number_form, checked_form, formed_form, key_form, content_form}
 use Rattle.image_form.proofs.TableForms.{table_form, either, scan_there, scan_back, plain_there, plain_back}
 use Rattle.image_form.proofs.Scans.{names_scan, base_there, base_back, leb_there, leb_back, name_short, path_short, root_short}
-use Rattle.image_form.proofs.EntryForms.{AreWords, words_form, procedures_form, ranges_form}
+use Rattle.image_form.proofs.EntryForms.{words_form, procedures_form, ranges_form}
 
 -- ---- codes
 

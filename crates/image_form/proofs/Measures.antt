@@ -1,5 +1,5 @@
 -- How many bytes a table takes.
-use Rattle.std.proofs.Common.{◌≡◌, ℕ, suc, ◌+◌, ◌*◌, ◌^◌, ◌<◌, ◌≤◌, List, [], ◌∷◌, ◌++◌, length, get_or, take, drop, refl, sym, ap, subst, ◌∙◌, length-append, add-one, drop-cons, arith}
+use Rattle.std.proofs.Common.{◌≡◌, ℕ, suc, ◌+◌, ◌*◌, ◌^◌, ◌<◌, ◌≤◌, List, [], ◌∷◌, ◌++◌, length, get_or, take, drop, refl, ap, subst, ◌∙◌, length-append, add-one, drop-cons, arith}
 use Rattle.std.specs.List.{flat_map, concat, AllByRecursion}
 use Rattle.std.proofs.lemmas.List.{append-nil, take_more, drop_all, take_all}
 use Rattle.std.proofs.lemmas.List.Concat.{flat_map-cons}
@@ -10,7 +10,7 @@ use Rattle.wedge_base.specs.declared.image.FdEntry.{FdEntry}
 use Rattle.wedge_base.specs.declared.image.FileEntry.{FileEntry}
 use Rattle.std.specs.Prelude.{Option, Some, None}
 use Rattle.image_form.specs.Fitting.{Leaves, TableFits, WordFits}
-use Rattle.image_form.specs.Spelling.{number, string, content, table, procedure, range, tag, fd, file, right_code, kind_code, bits_code}
+use Rattle.image_form.specs.Spelling.{number, string, table, procedure, range, tag, fd, file}
 
 pub number_long : (n : ℕ) → length (number n) ≡ 4
 unfolding number

@@ -1,12 +1,12 @@
 -- The forms of tables: entries one after the other, each in the light of those before it.
-use Rattle.std.proofs.Common.{◌≡◌, ◌⊎◌, inl, inr, ℕ, zero, suc, ◌+◌, ◌^◌, ◌<◌, ◌≤◌, Bool, true, false, ◌&&◌, ◌||◌, leb, List, [], ◌∷◌, ◌++◌, length, map, Result, Ok, Err, refl, sym, ap, subst, ◌∙◌, append_assoc, arith}
+use Rattle.std.proofs.Common.{◌≡◌, ◌⊎◌, inl, inr, ℕ, zero, suc, ◌^◌, ◌<◌, ◌≤◌, Bool, true, false, ◌&&◌, ◌||◌, leb, List, [], ◌∷◌, ◌++◌, length, Ok, refl, sym, ap, subst, ◌∙◌, append_assoc, arith}
 use Rattle.std.specs.List.{flat_map, AllByRecursion}
 use Rattle.std.proofs.lemmas.Bool.{leb-true}
 use Rattle.std.proofs.lemmas.Bool.Decides.{nat_tests}
 use Rattle.std.proofs.lemmas.List.Concat.{flat_map-cons}
-use Rattle.image_form.specs.Spelling.{number, table}
+use Rattle.image_form.specs.Spelling.{table}
 use Rattle.image_form.specs.declared.fault.Why.TheVariants.{Limit}
-use Rattle.image_form.specs.Reading.{◌>>=◌, Read, entries_at, table_at}
+use Rattle.image_form.specs.Reading.{Read, entries_at, table_at}
 use Rattle.image_form.proofs.Form.{IsBytes, bind_ok, ok_is, Takes, Takes-then, IsForm, seq, reworded}
 use Rattle.image_form.proofs.FieldForms.{checked_form}
 

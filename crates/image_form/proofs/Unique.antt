@@ -1,21 +1,14 @@
 -- Parts that fit, and are spelled as an image is, are that image.
-use Rattle.std.proofs.Common.{◌≡◌, ℕ, zero, suc, ◌+◌, ◌^◌, ◌<◌, ◌≤◌, Bool, true, List, [], ◌∷◌, ◌++◌, length, Result, Ok, refl, sym, ap, subst, ◌∙◌, append_assoc, arith}
+use Rattle.std.proofs.Common.{◌≡◌, ℕ, ◌^◌, ◌<◌, true, List, [], ◌∷◌, ◌++◌, length, refl, sym, ap, ◌∙◌, append_assoc, arith}
 use Rattle.std.specs.Prelude.{min}
 use Rattle.std.specs.Int.{w16, to_le_bytes}
 use Rattle.std.specs.List.{flat_map, AllByRecursion}
 use Rattle.std.proofs.lemmas.List.{append-nil}
 use Rattle.std.proofs.lemmas.List.Concat.{flat_map-cons}
 use Rattle.wedge_base.specs.Images.{Image}
-use Rattle.wedge_base.specs.declared.image.Procedure.{Procedure}
-use Rattle.wedge_base.specs.declared.image.MemoryRange.{MemoryRange}
-use Rattle.wedge_base.specs.declared.image.TagEntry.{TagEntry}
-use Rattle.wedge_base.specs.declared.image.FdEntry.{FdEntry}
-use Rattle.wedge_base.specs.declared.image.FileEntry.{FileEntry}
-use Rattle.wedge_base.specs.Texts.{is_name}
-use Rattle.image_form.specs.Forms.{is_path, is_root}
 use Rattle.image_form.specs.Spelling.{magic, version, number, string, content, table, procedure, range, right_code, tag, kind_code, bits_code, fd, file, spelling}
 use Rattle.image_form.specs.Fitting.{WordFits, ProcedureFits, RangeFits, TagFits, FdFits, FileFits, TableFits, PartsFit}
-use Rattle.image_form.specs.Rules.{high_end, IsProcedure, IsRange, IsTag, IsFd, IsFile, IsImage}
+use Rattle.image_form.specs.Rules.{IsProcedure, IsRange, IsTag, IsFd, IsFile, IsImage}
 use Rattle.image_form.specs.Reading.{Read}
 use Rattle.image_form.proofs.Form.{ok_is, IsForm}
 use Rattle.image_form.proofs.FieldForms.{bytes_form, short_form, number_form, content_form}

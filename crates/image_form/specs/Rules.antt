@@ -1,5 +1,5 @@
 -- What an image is: the rules that its parts meet.
-use Rattle.std.specs.Prelude.{◌≡◌, ℕ, ◌+◌, ◌*◌, ◌%◌, ◌^◌, ◌<◌, ◌≤◌, Bool, true, ◌==◌, ◌&&◌, ◌||◌, not, List, [], ◌∷◌, ◌++◌, length, map, IsTrue, nat_le, nat_lt}
+use Rattle.std.specs.Prelude.{◌≡◌, ℕ, ◌+◌, ◌*◌, ◌%◌, ◌^◌, ◌<◌, ◌≤◌, Bool, true, ◌==◌, ◌&&◌, ◌||◌, not, List, [], ◌∷◌, ◌++◌, length, map, IsTrue, nat_le}
 use Rattle.std.specs.List.{AllByRecursion, list_any, sum_by}
 use Rattle.wedge_base.specs.Images.{Image, page}
 use Rattle.wedge_base.specs.declared.image.Procedure.{Procedure}

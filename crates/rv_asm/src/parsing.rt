@@ -1,10 +1,10 @@
 //! From a line to its statement.
 
 ghost use Rattle.std.specs.Prelude.{◌≡◌, ◌<◌, option_map};
-ghost use Rattle.rv_isa.specs.declared.Op.TheVariants as op;
-ghost use Rattle.rv_asm.specs.Statements.{template};
+ghost use Rattle.rv_isa.specs.Ranges.{ranges};
 ghost use Rattle.rv_isa.specs.Table.{form_of};
 ghost use Rattle.rv_asm.specs.Parsing as parsing;
+ghost use Rattle.rv_asm.specs.Statements.{template};
 ghost use Rattle.rv_asm.specs.Views.{number_view, template_view, statement_view};
 
 use crate::fault::Why;
@@ -21,6 +21,27 @@ use crate::templates::{Register, Template};
 use rv_isa::{Form, Op};
 use wedge_base::is_name;
 
+/// The number of an operation that takes none from its text.
+const ZERO: Number<'static> = Number::Literal(0);
+
+impl<'a> Template<'a> {
+    /// An operation with these operands.
+    fn new(op: Op, rd: u8, rs1: u8, rs2: u8, imm: Number<'a>) -> Template<'a>
+        requires rd { rd < (ranges (form_of op)).rd }
+        requires rs1 { rs1 < (ranges (form_of op)).rs1 }
+        requires rs2 { rs2 < (ranges (form_of op)).rs2 }
+        ensures { template_view result ≡ template op rd rs1 rs2 (number_view imm.entry) }
+    {
+        Template {
+            op,
+            rd,
+            rs1,
+            rs2,
+            imm,
+        }
+    }
+}
+
 /// The operands of an instruction, by its form.
 #[tactic(auto, unfolding(crate::specs::Parsing::with_form))]
 fn with_form(op: Op, text: &[u8]) -> Option<Template<'_>>
@@ -29,76 +50,30 @@ fn with_form(op: Op, text: &[u8]) -> Option<Template<'_>>
     match op.form() {
         Form::Upper | Form::Jump => {
             let (rd, imm) = register_number(text)?;
-            Some(Template {
-                op,
-                rd,
-                rs1: 0,
-                rs2: 0,
-                imm,
-            })
+            Some(Template::new(op, rd, 0, 0, imm))
         }
         Form::Branch => {
             let (rs1, rs2, imm) = two_registers_number(text)?;
-            Some(Template {
-                op,
-                rd: 0,
-                rs1,
-                rs2,
-                imm,
-            })
+            Some(Template::new(op, 0, rs1, rs2, imm))
         }
         Form::Offset => {
             let (rd, imm, rs1) = register_base(text)?;
-            Some(Template {
-                op,
-                rd,
-                rs1,
-                rs2: 0,
-                imm,
-            })
+            Some(Template::new(op, rd, rs1, 0, imm))
         }
         Form::Store => {
             let (rs2, imm, rs1) = register_base(text)?;
-            Some(Template {
-                op,
-                rd: 0,
-                rs1,
-                rs2,
-                imm,
-            })
+            Some(Template::new(op, 0, rs1, rs2, imm))
         }
         Form::Immediate | Form::Shift => {
             let (rd, rs1, imm) = two_registers_number(text)?;
-            Some(Template {
-                op,
-                rd,
-                rs1,
-                rs2: 0,
-                imm,
-            })
+            Some(Template::new(op, rd, rs1, 0, imm))
         }
         Form::Register => {
             let (rd, rs1, rs2) = three_registers(text)?;
-            Some(Template {
-                op,
-                rd,
-                rs1,
-                rs2,
-                imm: Number::Literal(0),
-            })
+            Some(Template::new(op, rd, rs1, rs2, ZERO))
         }
-        Form::Whole => {
-            if !text.is_empty() {
-                return None;
-            }
-            Some(Template {
-                op,
-                rd: 0,
-                rs1: 0,
-                rs2: 0,
-                imm: Number::Literal(0),
-            })
-        }
+        Form::Whole if text.is_empty() => Some(Template::new(op, 0, 0, 0, ZERO)),
+        Form::Whole => None,
     }
 }
 
@@ -117,57 +92,9 @@ fn machine(op: Op, text: &[u8]) -> Option<Template<'_>>
     ensures { option_map template_view result ≡ parsing.machine op text.now }
 {
     if is_fence(op) && text.is_empty() {
-        return Some(Template {
-            op: Op::Fence,
-            rd: 0,
-            rs1: 0,
-            rs2: 0,
-            imm: Number::Literal(255),
-        });
+        return Some(Template::new(op, 0, 0, 0, Number::Literal(255)));
     }
     with_form(op, text)
-}
-
-/// A jump.
-fn jump(rd: u8, imm: Number<'_>) -> Template<'_>
-    requires { rd < 32 }
-    ensures { template_view result ≡ template op.Jal rd 0 0 (number_view imm.entry) }
-{
-    Template {
-        op: Op::Jal,
-        rd,
-        rs1: 0,
-        rs2: 0,
-        imm,
-    }
-}
-
-/// The sum of a register and 0.
-fn copied(rd: u8, rs1: u8) -> Template<'static>
-    requires to { rd < 32 }
-    requires from { rs1 < 32 }
-    ensures { template_view result ≡ template op.Addi rd rs1 0 parsing.zero }
-{
-    Template {
-        op: Op::Addi,
-        rd,
-        rs1,
-        rs2: 0,
-        imm: Number::Literal(0),
-    }
-}
-
-/// The jump back from a call.
-fn returned() -> Template<'static>
-    ensures { template_view result ≡ template op.Jalr 0 1 0 parsing.zero }
-{
-    Template {
-        op: Op::Jalr,
-        rd: 0,
-        rs1: 1,
-        rs2: 0,
-        imm: Number::Literal(0),
-    }
 }
 
 /// The instruction that a shorthand is another word for.
@@ -178,32 +105,20 @@ fn synonym(shorthand: Shorthand, text: &[u8]) -> Option<Template<'_>>
     match shorthand {
         Shorthand::Move => {
             let (rd, rs1) = two_registers(text)?;
-            Some(copied(rd, rs1))
+            Some(Template::new(Op::Addi, rd, rs1, 0, ZERO))
         }
-        Shorthand::Jump => Some(jump(0, one_number(text)?)),
-        Shorthand::Call => Some(jump(1, one_number(text)?)),
-        Shorthand::Return if text.is_empty() => Some(returned()),
+        Shorthand::Jump => Some(Template::new(Op::Jal, 0, 0, 0, one_number(text)?)),
+        Shorthand::Call => Some(Template::new(Op::Jal, 1, 0, 0, one_number(text)?)),
+        Shorthand::Return if text.is_empty() => Some(Template::new(Op::Jalr, 0, 1, 0, ZERO)),
         Shorthand::BranchZero => {
             let (rs1, imm) = register_number(text)?;
-            Some(Template {
-                op: Op::Beq,
-                rd: 0,
-                rs1,
-                rs2: 0,
-                imm,
-            })
+            Some(Template::new(Op::Beq, 0, rs1, 0, imm))
         }
         Shorthand::BranchNotZero => {
             let (rs1, imm) = register_number(text)?;
-            Some(Template {
-                op: Op::Bne,
-                rd: 0,
-                rs1,
-                rs2: 0,
-                imm,
-            })
+            Some(Template::new(Op::Bne, 0, rs1, 0, imm))
         }
-        Shorthand::Nothing if text.is_empty() => Some(copied(0, 0)),
+        Shorthand::Nothing if text.is_empty() => Some(Template::new(Op::Addi, 0, 0, 0, ZERO)),
         _ => None,
     }
 }

@@ -3,7 +3,7 @@
 
 ghost use Rattle.std.specs.Prelude.{ℕ, ◌≡◌, IfSome};
 ghost use Rattle.rv_isa.specs.Fields.{op_at};
-ghost use Rattle.rv_isa.specs.Table.{decode, form_of, operands, HasRegisters, IsOfRow};
+ghost use Rattle.rv_isa.specs.Table.{decode, form_of, instr, operands, HasRegisters, IsOfRow};
 
 use crate::immediates::{branch_imm, field, immediate, jump_imm, store_imm, upper_imm};
 use crate::{Form, Instr, Op};
@@ -125,63 +125,35 @@ fn op_at(opcode: u32, funct3: u32, funct7: u32, word: u32) -> Option<Op>
     }
 }
 
+/// An instruction of these parts.
+fn instr(op: Op, rd: u8, rs1: u8, rs2: u8, imm: i32) -> Instr
+    ensures { result ≡ instr op rd rs1 rs2 imm }
+{
+    Instr {
+        op,
+        rd,
+        rs1,
+        rs2,
+        imm,
+    }
+}
+
 /// The operands of an operation in a word.
 fn operands(op: Op, word: u32) -> Instr
     ensures { result ≡ operands (form_of op) op word }
 {
-    let form = op.form();
     let rd = field(word, 7, 5) as u8;
     let rs1 = field(word, 15, 5) as u8;
     let rs2 = field(word, 20, 5) as u8;
-    let none = Instr {
-        op,
-        rd: 0,
-        rs1: 0,
-        rs2: 0,
-        imm: 0,
-    };
-    match form {
-        Form::Upper => Instr {
-            rd,
-            imm: upper_imm(word),
-            ..none
-        },
-        Form::Jump => Instr {
-            rd,
-            imm: jump_imm(word),
-            ..none
-        },
-        Form::Branch => Instr {
-            rs1,
-            rs2,
-            imm: branch_imm(word),
-            ..none
-        },
-        Form::Store => Instr {
-            rs1,
-            rs2,
-            imm: store_imm(word),
-            ..none
-        },
-        Form::Offset | Form::Immediate => Instr {
-            rd,
-            rs1,
-            imm: immediate(word),
-            ..none
-        },
-        Form::Shift => Instr {
-            rd,
-            rs1,
-            imm: i32::from(rs2),
-            ..none
-        },
-        Form::Register => Instr {
-            rd,
-            rs1,
-            rs2,
-            ..none
-        },
-        Form::Whole => none,
+    match op.form() {
+        Form::Upper => instr(op, rd, 0, 0, upper_imm(word)),
+        Form::Jump => instr(op, rd, 0, 0, jump_imm(word)),
+        Form::Branch => instr(op, 0, rs1, rs2, branch_imm(word)),
+        Form::Offset | Form::Immediate => instr(op, rd, rs1, 0, immediate(word)),
+        Form::Store => instr(op, 0, rs1, rs2, store_imm(word)),
+        Form::Shift => instr(op, rd, rs1, 0, i32::from(rs2)),
+        Form::Register => instr(op, rd, rs1, rs2, 0),
+        Form::Whole => instr(op, 0, 0, 0, 0),
     }
 }
 

@@ -1,4 +1,4 @@
-use Rattle.std.proofs.Common.{◌≤◌, take}
+use Rattle.std.proofs.Common.{take}
 use Rattle.std.specs.List.{AllByRecursion}
 use Rattle.image_form.specs.Spelling.{procedure}
 use Rattle.image_form.specs.Fitting.{ProcedureFits}

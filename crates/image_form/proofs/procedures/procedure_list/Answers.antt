@@ -1,4 +1,3 @@
-use Rattle.std.proofs.Common.{[], refl, arith}
 use Rattle.std.specs.Ordering.{nat_cmp}
 use Rattle.std.specs.BTreeSet.{contains}
 use Rattle.std.proofs.lemmas.Result.{err_from_is_err_and}

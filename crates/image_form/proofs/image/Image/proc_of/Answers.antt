@@ -1,4 +1,4 @@
-use Rattle.std.proofs.Common.{◌≡◌, ◌<◌, ◌≤◌, true, All, ap, sym, subst, ◌∙◌, arith}
+use Rattle.std.proofs.Common.{◌≡◌, ◌<◌, ◌≤◌, All, ap, sym, subst, ◌∙◌, arith}
 use Rattle.image_form.specs.Rules.{addresses, begins_at}
 use Rattle.image_form.specs.Address.{greatest_from}
 use Rattle.image_form.proofs.Addresses.{greatest_bounded, greatest_covers, greatest_begins, base_not_above}

@@ -1,5 +1,4 @@
-use Rattle.std.proofs.Common.{◌≡◌, ◌+◌, ◌-◌, ◌++◌, ◌∷◌, [], append_assoc, ap, sym, ◌∙◌}
-use Rattle.wedge_base.specs.Images as images
+use Rattle.std.proofs.Common.{append_assoc}
 use Rattle.image_form.proofs.Addresses.{read_next}
 use Rattle.image_form.proofs.image.Image.text_bytes.Goals as goal
 

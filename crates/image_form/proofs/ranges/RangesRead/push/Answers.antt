@@ -1,8 +1,6 @@
-use Rattle.std.proofs.Common.{[], ◌∷◌, length, sym, ap, arith}
-use Rattle.std.specs.List.{sum_by}
+use Rattle.std.proofs.Common.{[], ◌∷◌, length, ap, arith}
 use Rattle.std.proofs.lemmas.List.Sums.{sum_by-append}
 use Rattle.image_form.specs.Rules.{end_of}
-use Rattle.image_form.specs.Reading.{last_of}
 use Rattle.image_form.proofs.Lasts.{last_of-push}
 use Rattle.image_form.proofs.ranges.RangesRead.push.Goals as goal
 
