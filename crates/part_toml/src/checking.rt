@@ -1,6 +1,7 @@
 //! What is wrong with the tables of a partition.
 
 ghost use Rattle.std.specs.Prelude.{◌≡◌, map, fold, option_copied, IfOk, if◌then◌else◌};
+ghost use Rattle.std.specs.Ordering.{is_lt};
 ghost use Rattle.toml.specs.View.{table_view};
 ghost use Rattle.image_form.specs.Forms as forms;
 ghost use Rattle.part_toml.specs.Faults as faults;
@@ -13,15 +14,23 @@ use crate::keys::{Field, Key, Part};
 use crate::tables::{at, has, tables_at};
 use crate::values::fits;
 use std::alloc::Global;
+use std::cmp::Ordering;
 use toml::Table;
 use wedge_base::{Bytes, Items, NoMemory};
 
-/// Whether the first text stands before the second in byte order.
+/// How two texts stand in byte order.
 #[tactic(auto, unfolding(image_form::specs::Forms::is_below))]
-pub(crate) fn is_below(a: &[u8], b: &[u8]) -> bool
+pub(crate) fn byte_order(a: &[u8], b: &[u8]) -> Ordering
+    ensures { is_lt result ≡ forms.is_below a.now b.now }
+{
+    a.cmp(b)
+}
+
+/// Whether the first text stands before the second in byte order.
+fn is_below(a: &[u8], b: &[u8]) -> bool
     ensures { result ≡ forms.is_below a.now b.now }
 {
-    a.cmp(b).is_lt()
+    byte_order(a, b).is_lt()
 }
 
 /// The lesser of two names.

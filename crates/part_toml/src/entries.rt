@@ -7,12 +7,13 @@ ghost use Rattle.part_toml.specs.Sorting as sorting;
 ghost use Rattle.part_toml.specs.Values as values;
 ghost use Rattle.part_toml.specs.Views.{AreEntries};
 
-use crate::checking::is_below;
+use crate::checking::byte_order;
 use crate::keys::Key;
-use crate::sorting::{Ranked, put};
+use crate::sorting::{Ranked, sort};
 use crate::tables::{has, number_at, tables_at, text_at};
 use crate::values::{bits_named, bytes_of, right_named, stream_named};
 use std::alloc::Global;
+use std::cmp::Ordering;
 use toml::Table;
 use wedge_base::{
     Bytes, FdBits, FdEntry, FileEntry, Items, MemoryRange, NoMemory, PathText, Procedure,
@@ -48,21 +49,25 @@ pub(crate) trait Entry: Ranked {
         ensures { IfOk result (λ e. e ≡ entry_of (table_view table.now)) };
 }
 
-/// The entries that the tables of the array at a key name, in their order.
-pub(crate) fn sorted_entries<T: Entry + Drop>(
-    alloc: Global,
-    top: &Table,
-    key: Key,
-) -> Result<Vec<T>, NoMemory>
-    ensures { IfOk result (λ v. v.items ≡ sorting.sorted T.comes_before (map T.entry_of (values.tables_at key (table_view top.now)))) }
+/// The entries that the tables of the array at a key name.
+fn entries_at<T: Entry + Drop>(alloc: Global, top: &Table, key: Key) -> Result<Vec<T>, NoMemory>
+    ensures { IfOk result (λ v. v.items ≡ map T.entry_of (values.tables_at key (table_view top.now))) }
 {
     let tables = tables_at(alloc, top, key)?;
-    let mut done = Vec::new(alloc);
+    let mut entries = Vec::new(alloc);
     for table in &tables {
-        let entry = T::read(alloc, table)?;
-        put(&mut done, entry)?;
+        entries.push(T::read(alloc, table)?)?;
     }
-    Ok(done)
+    Ok(entries)
+}
+
+/// The entries that the tables of the array at a key name, in their order.
+fn sorted_entries<T: Entry + Drop>(alloc: Global, top: &Table, key: Key) -> Result<Vec<T>, NoMemory>
+    ensures { IfOk result (λ v. v.items ≡ sorting.sorted T.comes_before (map T.entry_of (values.tables_at key (table_view top.now)))) }
+{
+    let mut entries = entries_at(alloc, top, key)?;
+    sort(&mut entries)?;
+    Ok(entries)
 }
 
 /// A copy of the string at a key.
@@ -119,12 +124,15 @@ pub(crate) fn all_entries(alloc: Global, top: &Table) -> Result<Entries, NoMemor
 
 impl Ranked for NamedRange {
     ghost use Rattle.part_toml.specs.Parts.{range_before};
+    ghost use Rattle.part_toml.specs.Orders.{range_order};
 
     ghost comes_before = { range_before };
 
-    fn comes_before(&self, other: &NamedRange) -> bool {
-        self.range.base < other.range.base
+    fn rank(&self, other: &NamedRange) -> Ordering {
+        self.range.base.cmp(&other.range.base)
     }
+
+    ghost is_order = { range_order };
 }
 
 impl Entry for NamedRange {
@@ -146,12 +154,15 @@ impl Entry for NamedRange {
 
 impl Ranked for TagEntry {
     ghost use Rattle.part_toml.specs.Parts.{tag_before};
+    ghost use Rattle.part_toml.specs.Orders.{tag_order};
 
     ghost comes_before = { tag_before };
 
-    fn comes_before(&self, other: &TagEntry) -> bool {
-        is_below(self.name.as_slice(), other.name.as_slice())
+    fn rank(&self, other: &TagEntry) -> Ordering {
+        byte_order(self.name.as_slice(), other.name.as_slice())
     }
+
+    ghost is_order = { tag_order };
 }
 
 impl Entry for TagEntry {
@@ -173,12 +184,15 @@ impl Entry for TagEntry {
 
 impl Ranked for FdEntry {
     ghost use Rattle.part_toml.specs.Parts.{fd_before};
+    ghost use Rattle.part_toml.specs.Orders.{fd_order};
 
     ghost comes_before = { fd_before };
 
-    fn comes_before(&self, other: &FdEntry) -> bool {
-        is_below(self.name.as_slice(), other.name.as_slice())
+    fn rank(&self, other: &FdEntry) -> Ordering {
+        byte_order(self.name.as_slice(), other.name.as_slice())
     }
+
+    ghost is_order = { fd_order };
 }
 
 impl Entry for FdEntry {
@@ -205,12 +219,15 @@ const NO_BITS: FdBits = FdBits {
 
 impl Ranked for FileEntry {
     ghost use Rattle.part_toml.specs.Parts.{file_before};
+    ghost use Rattle.part_toml.specs.Orders.{file_order};
 
     ghost comes_before = { file_before };
 
-    fn comes_before(&self, other: &FileEntry) -> bool {
-        is_below(self.path.as_slice(), other.path.as_slice())
+    fn rank(&self, other: &FileEntry) -> Ordering {
+        byte_order(self.path.as_slice(), other.path.as_slice())
     }
+
+    ghost is_order = { file_order };
 }
 
 impl Entry for FileEntry {
@@ -233,10 +250,13 @@ impl Entry for FileEntry {
 
 impl Ranked for Procedure {
     ghost use Rattle.part_toml.specs.Parts.{procedure_before};
+    ghost use Rattle.part_toml.specs.Orders.{procedure_order};
 
     ghost comes_before = { procedure_before };
 
-    fn comes_before(&self, other: &Procedure) -> bool {
-        is_below(self.name.as_slice(), other.name.as_slice())
+    fn rank(&self, other: &Procedure) -> Ordering {
+        byte_order(self.name.as_slice(), other.name.as_slice())
     }
+
+    ghost is_order = { procedure_order };
 }

@@ -16,7 +16,7 @@ use crate::entries::{Entries, NamedRange, all_entries, copy_at};
 use crate::equates::equates;
 use crate::fault::PartFault;
 use crate::keys::Key;
-use crate::sorting::sorted;
+use crate::sorting::sort;
 use crate::tables::{number_at, text_at};
 use image_form::{Image, ImageParts, finish_image};
 use rv_asm::{Assembled, Why, assemble};
@@ -72,14 +72,15 @@ fn image_parts(
     requires { AreEntries entries (table_view top.now) }
     ensures { IfOk result (λ p. image.image_of p ≡ partition.image_of (table_view top.now) text entry) }
 {
-    let procedures = sorted(alloc, text.procedures)?;
+    let mut procedures = text.procedures.into_vec();
+    sort(&mut procedures)?;
     let ranges = unnamed(alloc, entries.ranges)?;
     let root = copy_at(alloc, top, Key::Root)?;
     Ok(ImageParts {
         fuel: number_at(top, Key::Fuel, 0),
         base: number_at(top, Key::Base, BASE),
         words: text.words,
-        procedures,
+        procedures: Items::new(procedures),
         entry,
         ranges,
         tags: Items::new(entries.tags),

@@ -2,7 +2,7 @@ use Rattle.std.proofs.Common.{◌≡◌, List, [], ◌∷◌, ◌++◌, length, 
 use Rattle.std.specs.Vec.Iter.{into_iter_items}
 use Rattle.wedge_base.specs.declared.image.MemoryRange.{MemoryRange}
 use Rattle.part_toml.specs.declared.entries.NamedRange.{NamedRange}
-use Rattle.part_toml.proofs.Sorted.{nothing_left}
+use Rattle.part_toml.proofs.Lists.{nothing_left}
 use Rattle.part_toml.proofs.reading.unnamed.Goals as goal
 
 taken : (done new : List MemoryRange) (n : NamedRange) (left more : List NamedRange) → new ≡ done ++ n.range ∷ [] → left ≡ n ∷ more → new ++ map (λ x. x.range) more ≡ done ++ map (λ x. x.range) left
