@@ -18,7 +18,8 @@ pub enum Why {
     Order,
     /// A value, or the form of a text, that its field doesn't allow.
     Range,
-    /// Two procedures at one address, or data that shares memory with other data or the text.
+    /// Two procedures at one address, data that begins before the data in front of it ends, or that
+    /// shares memory with the text.
     Overlap,
     /// More than a limit allows.
     Limit,

@@ -78,7 +78,7 @@ fn string(total: usize, bytes: &[u8]) -> Result<(&[u8], &[u8]), ImageError>
     take(total, usize::from(count), rest)
 }
 
-/// A name.
+/// A name that stands after the one before it.
 #[tactic(auto, unfolding(crate::specs::Reading::formed_at, crate::specs::Reading::key_at))]
 pub(crate) fn name_after<'a>(
     before: &[u8],

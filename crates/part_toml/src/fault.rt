@@ -22,7 +22,7 @@ pub enum PartFault {
     },
     /// The assembler refuses a line of the text; or, at line 0, the entry is no procedure.
     Asm {
-        /// The number of the line, from 1.
+        /// The number of the line, from 1, or 0.
         line: usize,
         why: rv_asm::Why,
     },
