@@ -9,18 +9,18 @@ use crate::phase::Phase;
 use image_form::Image;
 use wedge_base::{Bytes, Code, End, FdNo, NoMemory, StreamAsk, Want};
 
-/// The registers of a call's arguments and of its number.
+/// The register of a call's first argument.
 const A0: u8 = 10;
-
+/// The register of its second argument.
 const A1: u8 = 11;
-
-const A2: u8 = 12;
-
+/// The register of its third argument: the length of an append.
+pub(crate) const A2: u8 = 12;
+/// The register of its number.
 const A7: u8 = 17;
 
-/// The numbers of the calls.
+/// The number of the call that ends its actor.
 const EXIT: u32 = 0;
-
+/// The number of the call that adds bytes to a stream.
 const FD_APPEND: u32 = 16;
 
 /// The most bytes of a buffer.

@@ -6,6 +6,7 @@ ghost use Rattle.rv_isa.specs.Table.{decode};
 ghost use Rattle.sthread_life.specs.Taking as taking;
 
 use crate::actor::Actor;
+use crate::calls::A2;
 use crate::phase::Phase;
 use image_form::Image;
 use rv_hart::{Need, Reply};
@@ -13,9 +14,6 @@ use rv_isa::decode;
 use wedge_base::{
     Code, Denial, End, Event, FdNo, LivesAsk, NoMemory, Right, SlotAsk, SlotReply, StreamReply,
 };
-
-/// The register of an append's length.
-const A2: u8 = 12;
 
 impl Actor {
     /// What the event that it wanted makes of the actor. After want of memory it has stopped.

@@ -1,6 +1,6 @@
 //! The state of a slot.
 
-ghost use Rattle.std.specs.Prelude.{◌≡◌, ◌%◌, ◌*◌, ◌-◌, ◌≤◌, ◌++◌, [], Some, None, IfOk, IfSome, OnErr, length, option_map};
+ghost use Rattle.std.specs.Prelude.{◌≡◌, ◌%◌, ◌*◌, ◌-◌, ◌≤◌, ◌++◌, [], Some, None, Ok, IfOk, IfSome, OnErr, length, option_map};
 ghost use Rattle.wedge_base.specs.Blocks.{AreBlocks};
 ghost use Rattle.wedge_base.specs.Bytes.{zeros};
 ghost use Rattle.wedge_base.specs.Images.{page, window, most_pages};
@@ -123,7 +123,9 @@ impl Object for SlotState {
         }
     }
 
-    fn copy_ask(ask: &SlotAsk) -> Result<SlotAsk, NoMemory> {
+    fn copy_ask(ask: &SlotAsk) -> Result<SlotAsk, NoMemory>
+        ensures { result ≡ Ok ask.now }
+    {
         Ok(*ask)
     }
 }
