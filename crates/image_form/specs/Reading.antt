@@ -3,7 +3,7 @@ use Rattle.std.specs.Prelude.{◌≡◌, ℕ, zero, suc, ◌+◌, ◌-◌, ◌*�
 use Rattle.std.specs.List.{sum_by}
 use Rattle.std.specs.Option.{option_map_or}
 use Rattle.std.specs.Int.{w16, w32, from_le_bytes}
-use Rattle.wedge_base.specs.Images.{Image, page}
+use Rattle.wedge_base.specs.Images.{Image, page, most_pages}
 use Rattle.wedge_base.specs.declared.image.Procedure.{Procedure}
 use Rattle.wedge_base.specs.declared.image.MemoryRange.{MemoryRange}
 use Rattle.wedge_base.specs.declared.image.TagEntry.{TagEntry}
@@ -22,7 +22,7 @@ use Rattle.image_form.specs.declared.fault.ImageError.TheVariants as error
 use Rattle.image_form.specs.Spelling.{most_bytes, magic, version}
 use Rattle.wedge_base.specs.Texts.{is_name}
 use Rattle.image_form.specs.Forms.{is_path, is_root, is_below}
-use Rattle.image_form.specs.Rules.{most_fuel, low_end, high_end, most_procedures, most_ranges, most_range_bytes, most_tags, most_pages, most_fds, most_files, is_among, addresses, begins_at, end_of, is_off_text, may_hold}
+use Rattle.image_form.specs.Rules.{most_fuel, low_end, high_end, most_procedures, most_ranges, most_range_bytes, most_tags, most_fds, most_files, is_among, addresses, begins_at, end_of, is_off_text, may_hold}
 
 -- ---- what reading gives
 
@@ -47,11 +47,12 @@ demand test at why next = if test then next else refuse at why
 abbrev pub place : ℕ → List ℕ → ℕ
 place total rest = total - length rest
 
--- What a function answered, seen by view, is what reading gives, unless memory ran out.
+-- the fault of an answer is the one that reading gives, unless memory ran out
 abbrev pub Fails : {Y : Type 0} → ImageError → Result Y Fault → Type 0
 Fails error.NoMemory read = Unit {0}
 Fails (error.Fault f) read = read ≡ Err f
 
+-- What a function answered, seen by view, is what reading gives, unless memory ran out.
 abbrev pub Gives : {X Y : Type 0} → (X → Y) → Result X ImageError → Result Y Fault → Type 0
 Gives view (Ok x) read = read ≡ Ok (view x)
 Gives view (Err e) read = Fails e read

@@ -1,7 +1,7 @@
 -- What an image is: the rules that its parts meet.
 use Rattle.std.specs.Prelude.{◌≡◌, ℕ, ◌+◌, ◌*◌, ◌%◌, ◌^◌, ◌<◌, ◌≤◌, Bool, true, ◌==◌, ◌&&◌, ◌||◌, not, List, [], ◌∷◌, ◌++◌, length, map, IsTrue, nat_le}
 use Rattle.std.specs.List.{AllByRecursion, list_any, sum_by}
-use Rattle.wedge_base.specs.Images.{Image, page}
+use Rattle.wedge_base.specs.Images.{Image, page, most_pages}
 use Rattle.wedge_base.specs.declared.image.Procedure.{Procedure}
 use Rattle.wedge_base.specs.declared.image.MemoryRange.{MemoryRange}
 use Rattle.wedge_base.specs.declared.image.TagEntry.{TagEntry}
@@ -37,9 +37,6 @@ most_range_bytes = 0x100000
 
 abbrev pub most_tags : ℕ
 most_tags = 256
-
-abbrev pub most_pages : ℕ
-most_pages = 16
 
 abbrev pub most_fds : ℕ
 most_fds = 64

@@ -237,6 +237,7 @@ impl Image {
         requires inside { images.in_text self.now address width ≡ true }
         ensures { result ≡ number_of (images.read_text self.now address width) }
     {
+        // The image is opened here, so that what its type keeps of the text is at hand.
         let _ = &self.pristine;
         let first = u32::from(self.text_byte(address));
         if width == 1 {
@@ -255,6 +256,7 @@ impl Image {
         requires { images.in_text self.now address size ≡ true }
         ensures { IfOk result (λ b. b ≡ images.read_text self.now address size) }
     {
+        // The image is opened here, so that what its type keeps of the text is at hand.
         let _ = &self.pristine;
         let mut bytes = Vec::with_capacity(alloc, size as usize)?;
         for k in 0..size {

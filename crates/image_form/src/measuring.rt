@@ -16,6 +16,7 @@ use wedge_base::{FdEntry, FileEntry, MemoryRange, Procedure, TagEntry};
 fn after_number(room: usize, n: u32) -> Option<usize>
     ensures { Leaves room (spelled.number n) result }
 {
+    // Each number takes four bytes; which one it is, the contract alone asks.
     let _ = n;
     room.checked_sub(4)
 }

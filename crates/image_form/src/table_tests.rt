@@ -51,10 +51,11 @@ fn image(alloc: Global, procedures: u16, last: u16, files: u16) -> Result<Vec<u8
     Ok(bytes)
 }
 
-fn fault_of(alloc: Global, bytes: &[u8]) -> Option<(usize, Why)> {
+fn fault_of(alloc: Global, bytes: &[u8]) -> Result<Option<(usize, Why)>, NoMemory> {
     match read_image(alloc, bytes) {
-        Ok(_) | Err(ImageError::NoMemory) => None,
-        Err(ImageError::Fault(fault)) => Some((fault.at, fault.why)),
+        Ok(_) => Ok(None),
+        Err(ImageError::NoMemory) => Err(NoMemory),
+        Err(ImageError::Fault(fault)) => Ok(Some((fault.at, fault.why))),
     }
 }
 
@@ -76,7 +77,7 @@ fn as_many_procedures_and_files_as_may_be(rt: HostRuntime) -> Result<(), Fail> {
 fn the_last_procedure_where_another_is(rt: HostRuntime) -> Result<(), Fail> {
     let bytes = image(rt.alloc(), 4096, 4094, 0)?;
     let at = 20 + 4 * 4096 + 4 + 12 * 4095 + 8;
-    assert_eq!(rt; fault_of(rt.alloc(), &bytes), Some((at, Why::Overlap)));
+    assert_eq!(rt; fault_of(rt.alloc(), &bytes)?, Some((at, Why::Overlap)));
     Ok(())
 }
 
@@ -84,7 +85,7 @@ fn the_last_procedure_where_another_is(rt: HostRuntime) -> Result<(), Fail> {
 fn one_procedure_too_many(rt: HostRuntime) -> Result<(), Fail> {
     let bytes = image(rt.alloc(), 4097, 4096, 0)?;
     let at = 20 + 4 * 4097;
-    assert_eq!(rt; fault_of(rt.alloc(), &bytes), Some((at, Why::Limit)));
+    assert_eq!(rt; fault_of(rt.alloc(), &bytes)?, Some((at, Why::Limit)));
     Ok(())
 }
 
@@ -92,6 +93,6 @@ fn one_procedure_too_many(rt: HostRuntime) -> Result<(), Fail> {
 #[test]
 fn one_file_too_many(rt: HostRuntime) -> Result<(), Fail> {
     let bytes = image(rt.alloc(), 1, 0, 1025)?;
-    assert_eq!(rt; fault_of(rt.alloc(), &bytes), Some((56, Why::Limit)));
+    assert_eq!(rt; fault_of(rt.alloc(), &bytes)?, Some((56, Why::Limit)));
     Ok(())
 }

@@ -14,6 +14,9 @@ use wedge_base::{Bytes, Right, TagEntry};
 /// The bytes of a page.
 const PAGE: u32 = 4096;
 
+/// The most pages of a tag.
+const MOST_PAGES: u32 = 16;
+
 /// The most tags of an image.
 const MOST_TAGS: u32 = 256;
 
@@ -34,7 +37,7 @@ fn pages(total: usize, bytes: &[u8]) -> Result<(u32, &[u8]), ImageError>
     ensures few { IfOk result (λ x. x.0 ≤ 16) }
 {
     let (pages, rest) = number(total, bytes)?;
-    if pages < 1 || 16 < pages {
+    if pages < 1 || MOST_PAGES < pages {
         return Err(refused(total, bytes, Why::Range));
     }
     Ok((pages, rest))

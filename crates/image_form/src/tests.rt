@@ -481,11 +481,11 @@ static ROOT_AND_END: [Case; 9] = [
     },
 ];
 
-fn fault_of(alloc: Global, bytes: &[u8]) -> Option<(usize, Why)> {
+fn fault_of(alloc: Global, bytes: &[u8]) -> Result<Option<(usize, Why)>, NoMemory> {
     match read_image(alloc, bytes) {
-        Ok(_) => None,
-        Err(ImageError::NoMemory) => None,
-        Err(ImageError::Fault(fault)) => Some((fault.at, fault.why)),
+        Ok(_) => Ok(None),
+        Err(ImageError::NoMemory) => Err(NoMemory),
+        Err(ImageError::Fault(fault)) => Ok(Some((fault.at, fault.why))),
     }
 }
 
@@ -505,19 +505,23 @@ fn edited(alloc: Global, case: &Case) -> Result<Vec<u8>, NoMemory> {
 fn check(rt: &impl Abort, alloc: Global, cases: &[Case]) -> Result<(), Fail> {
     for case in cases {
         let file = edited(alloc, case)?;
-        assert_eq!(rt; fault_of(alloc, &file), case.fault);
+        assert_eq!(rt; fault_of(alloc, &file)?, case.fault);
     }
     Ok(())
 }
 
 #[test]
-fn no_bytes(rt: HostRuntime) {
-    assert_eq!(rt; fault_of(rt.alloc(), &[]), Some((0, Why::Truncated)));
+fn no_bytes(rt: HostRuntime) -> Result<(), Fail> {
+    assert_eq!(rt; fault_of(rt.alloc(), &[])?, Some((0, Why::Truncated)));
+    Ok(())
 }
 
 /// The fault of the first bytes of `IMAGE`.
-fn prefix_fault(alloc: Global, length: usize) -> Option<(usize, Why)> {
-    fault_of(alloc, IMAGE.get(..length)?)
+fn prefix_fault(alloc: Global, length: usize) -> Result<Option<(usize, Why)>, NoMemory> {
+    match IMAGE.get(..length) {
+        Some(front) => fault_of(alloc, front),
+        None => Ok(None),
+    }
 }
 
 /// The last start of a field that is no later than a place.
@@ -532,25 +536,26 @@ fn last_start(place: usize) -> usize {
 }
 
 #[test]
-fn each_proper_prefix(rt: HostRuntime) {
+fn each_proper_prefix(rt: HostRuntime) -> Result<(), Fail> {
     for length in 0..139 {
-        let fault = prefix_fault(rt.alloc(), length);
+        let fault = prefix_fault(rt.alloc(), length)?;
         assert_eq!(rt; fault, Some((last_start(length), Why::Truncated)));
     }
+    Ok(())
 }
 
 #[test]
 fn one_byte_more(rt: HostRuntime) -> Result<(), Fail> {
     let mut file = IMAGE.to_vec(rt.alloc())?;
     file.push(0)?;
-    assert_eq!(rt; fault_of(rt.alloc(), &file), Some((139, Why::Trailing)));
+    assert_eq!(rt; fault_of(rt.alloc(), &file)?, Some((139, Why::Trailing)));
     Ok(())
 }
 
 #[test]
 fn more_than_a_file_may_have(rt: HostRuntime) -> Result<(), Fail> {
     let file = vec![in rt.alloc(); 0u8; 16777217]?;
-    assert_eq!(rt; fault_of(rt.alloc(), &file), Some((16777216, Why::Limit)));
+    assert_eq!(rt; fault_of(rt.alloc(), &file)?, Some((16777216, Why::Limit)));
     Ok(())
 }
 
@@ -623,21 +628,30 @@ fn parts(alloc: Global, name: Bytes, content: Bytes) -> Result<ImageParts, NoMem
     })
 }
 
-fn finish_fault(alloc: Global, parts: ImageParts) -> Option<(usize, Why)> {
+fn finish_fault(alloc: Global, parts: ImageParts) -> Result<Option<(usize, Why)>, NoMemory> {
     match finish_image(alloc, parts) {
-        Ok(_) => None,
-        Err(ImageError::NoMemory) => None,
-        Err(ImageError::Fault(fault)) => Some((fault.at, fault.why)),
+        Ok(_) => Ok(None),
+        Err(ImageError::NoMemory) => Err(NoMemory),
+        Err(ImageError::Fault(fault)) => Ok(Some((fault.at, fault.why))),
+    }
+}
+
+/// An image that is no refusal.
+fn accepted(answer: Result<Image, ImageError>) -> Result<Image, Fail> {
+    match answer {
+        Ok(image) => Ok(image),
+        Err(ImageError::NoMemory) => Err(NoMemory)?,
+        Err(ImageError::Fault(_)) => Err("refused")?,
     }
 }
 
 fn first_image(alloc: Global) -> Result<Image, Fail> {
-    Ok(read_image(alloc, &IMAGE).ok().ok_or("an image")?)
+    accepted(read_image(alloc, &IMAGE))
 }
 
 fn finished(alloc: Global, name: &[u8], content: Bytes) -> Result<Image, Fail> {
     let parts = parts(alloc, bytes(alloc, name)?, content)?;
-    Ok(finish_image(alloc, parts).ok().ok_or("an image")?)
+    accepted(finish_image(alloc, parts))
 }
 
 #[test]
@@ -751,7 +765,7 @@ fn finished_parts(rt: HostRuntime) -> Result<(), Fail> {
 fn finished_with_no_name(rt: HostRuntime) -> Result<(), Fail> {
     let alloc = rt.alloc();
     let no_name = parts(alloc, bytes(alloc, b"a b")?, bytes(alloc, b"hi")?)?;
-    assert_eq!(rt; finish_fault(alloc, no_name), Some((28, Why::Range)));
+    assert_eq!(rt; finish_fault(alloc, no_name)?, Some((28, Why::Range)));
     Ok(())
 }
 
@@ -760,7 +774,7 @@ fn finished_with_a_name_that_no_length_tells(rt: HostRuntime) -> Result<(), Fail
     let alloc = rt.alloc();
     let name = Items::new(vec![in alloc; 97u8; 70000]?);
     let long_name = parts(alloc, name, bytes(alloc, b"hi")?)?;
-    assert_eq!(rt; finish_fault(alloc, long_name), Some((28, Why::Range)));
+    assert_eq!(rt; finish_fault(alloc, long_name)?, Some((28, Why::Range)));
     Ok(())
 }
 
@@ -770,7 +784,7 @@ fn finished_with_a_file_that_is_too_large(rt: HostRuntime) -> Result<(), Fail> {
     let content = Items::new(vec![in alloc; 97u8; 16777216]?);
     let large_file = parts(alloc, bytes(alloc, b"a b")?, content)?;
     assert_eq!(rt;
-        finish_fault(alloc, large_file),
+        finish_fault(alloc, large_file)?,
         Some((16777216, Why::Limit))
     );
     Ok(())

@@ -10,9 +10,10 @@ use crate::fault::{ImageError, Why};
 use crate::fields::{number, refused};
 use std::alloc::Global;
 
-/// Where memory begins that text and data may use, and where it ends.
+/// The first address that text and data may use.
 pub(crate) const LOW_END: u32 = 0x10000;
 
+/// The address behind the last that they may use.
 pub(crate) const HIGH_END: u32 = 0x10000000;
 
 /// The address of the first word.

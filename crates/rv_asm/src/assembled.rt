@@ -5,7 +5,9 @@ use wedge_base::{Bytes, Items, Procedure};
 /// A name that stands for a number.
 #[derive(Clone, Debug, Drop)]
 pub struct Equate {
+    /// The name. One that has not the form of a name can't be used in a text.
     pub name: Bytes,
+    /// The number for which it stands.
     pub value: u32,
 }
 

@@ -8,7 +8,8 @@ use wedge_base::NoMemory;
 pub enum Why {
     /// The first word of the line is not known.
     Mnemonic,
-    /// The operands have not the number, the shape or the registers that the first word asks for.
+    /// The operands have not the number, the shape or the registers that the first word asks for; or a name
+    /// has not the form of one, something stands behind a label's colon, or no service call has the name.
     Operand,
     /// An integer, or the distance of a label, is out of range.
     Range,

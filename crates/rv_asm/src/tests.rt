@@ -49,7 +49,8 @@ fn refuses<R: Abort + AllocGlobal>(rt: &R, text: &str, line: usize, why: Why) ->
     let names = equates(rt.alloc(), &[("one", 1), ("far", 0x4000_0000), ("one", 2)])?;
     match assemble(rt.alloc(), text, BASE, &names) {
         Err(AsmError::Fault(fault)) => assert_eq!(rt; fault, Fault { line, why }, "{text}"),
-        _ => assert!(rt; false, "{text}"),
+        Err(AsmError::NoMemory) => return Err(NoMemory)?,
+        Ok(_) => assert!(rt; false, "{text}"),
     }
     Ok(())
 }

@@ -176,9 +176,6 @@ answered_with h value code (Some more) = record { pc = next_pc h.pc; regs = put 
 abbrev pub answered : HartState → ℕ → ℕ → HartState
 answered h value code = answered_with h value code None
 
-abbrev pub answered_more : HartState → ℕ → ℕ → HartState
-answered_more h value more = answered_with h value 0 (Some more)
-
 -- whether a reply is of the kind that was needed
 abbrev pub is_reply_to : Need → Reply → Bool
 is_reply_to (need.Load address width is_signed) (reply.Loaded value) = true

@@ -1,5 +1,5 @@
 -- A word that has the fixed fields of an operation is an instruction of that operation.
-use Rattle.std.proofs.Common.{◌≡◌, ℕ, ◌^◌, ◌<◌, bit_and, Bool, true, false, cond, eqb, List, [], ◌∷◌, Some, refl, ap, sym, ◌∙◌, lit<}
+use Rattle.std.proofs.Common.{◌≡◌, ℕ, ◌^◌, ◌<◌, bit_and, Bool, true, false, cond, eqb, List, [], ◌∷◌, Option, None, Some, refl, ap, sym, ◌∙◌, lit<}
 use Rattle.std.specs.List.{find, list_all}
 use Rattle.std.proofs.lemmas.Nat.{and_assoc, and_comm}
 use Rattle.std.proofs.lemmas.Bool.{and_parts, eqb-true, eq-eqb, false_from_ne_true}
@@ -83,3 +83,14 @@ pub IsInRange-of_row : (i : Instr) → IsOfRow i → IsInRange i
 IsInRange-of_row i h =
     let d : IsWord h.word i = IsWord-decode h.word i h.is in
     rw (d.is, operands_op (form_of d.op) d.op h.word) (operands_within (form_of d.op) d.op h.word h.fits)
+
+row_in : Row → Option Row → Row
+row_in d None = d
+row_in d (Some r) = r
+
+-- a word that has the fixed fields of two operations: they are one
+pub one_operation : (w : ℕ) (o p : Op) → has_fields w (row_for o) ≡ true → has_fields w (row_for p) ≡ true → o ≡ p
+unfolding row_in
+one_operation w o p h k =
+    let same : row_for o ≡ row_for p = ap (row_in (row_for o)) (sym (row_of-fixed o w h) ∙ row_of-fixed p w k) in
+    sym (op_is o) ∙ ap (λ r. r.op) same ∙ op_is p

@@ -9,8 +9,8 @@ mod immediates;
 mod tests;
 mod text;
 
-ghost use Rattle.std.specs.Prelude.{◌≡◌, ◌↔◌, true, Some};
-ghost use Rattle.rv_isa.specs.Table.{rows, row_for, row_of, each_apart, form_of, IsOfRow, HasRegisters};
+ghost use Rattle.std.specs.Prelude.{◌≡◌, ◌↔◌, ℕ, true, Some};
+ghost use Rattle.rv_isa.specs.Table.{row_for, row_of, has_fields, form_of, IsOfRow, HasRegisters};
 ghost use Rattle.rv_isa.specs.Ranges.{IsInRange};
 ghost use Rattle.rv_isa.specs.declared.Op.{Op};
 ghost use Rattle.rv_isa.specs.declared.Instr.{Instr};
@@ -175,7 +175,8 @@ pub struct Instr {
     pub rs1: u8,
     /// The second source register, below 32.
     pub rs2: u8,
-    /// The immediate, with its sign; a shift's is 0 to 31.
+    /// The immediate, with its sign. Of `Upper` it is the whole number, whose low twelve bits are 0; of
+    /// `Jump` and `Branch` a distance in bytes, even; of `Shift` 0 to 31.
     pub imm: i32,
 }
 
@@ -193,5 +194,5 @@ pub fn instructions_are_those_in_range()
 
 /// No word has the fixed fields of two rows: a word is at most one instruction.
 pub fn rows_are_apart()
-    ensures { each_apart rows ≡ true }
+    ensures { (word : ℕ) (o p : Op) → has_fields word (row_for o) ≡ true → has_fields word (row_for p) ≡ true → o ≡ p }
 {}
