@@ -3,3 +3,4 @@ pub mod Resting
 pub mod Between
 pub mod Judging
 pub mod Writing
+pub mod Opening

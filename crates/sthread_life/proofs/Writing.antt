@@ -1,5 +1,5 @@
 -- Bytes by the history of a run, and who wrote them.
-use Rattle.std.proofs.Common.{◌≡◌, ◌⊎◌, inl, inr, ℕ, zero, suc, ◌==◌, Bool, true, false, List, [], ◌∷◌, length, refl, sym, ap, subst, ◌∙◌}
+use Rattle.std.proofs.Common.{◌≡◌, ℕ, zero, suc, ◌==◌, Bool, true, false, true≢false, List, [], ◌∷◌, length, refl, sym, ap, subst, ◌∙◌}
 use Rattle.std.proofs.lemmas.Bool.{eqb-true, eq-eqb}
 use Rattle.std.specs.Prelude.{Option, Some, None, option_map, not, slice_get, slice_set, nat_lt, if◌then◌else◌}
 use Rattle.wedge_base.specs.Images.{Image}
@@ -10,6 +10,7 @@ use Rattle.wedge_base.specs.declared.rights.Right.TheVariants as right
 use Rattle.wedge_base.specs.declared.events.Want.{Want}
 use Rattle.wedge_base.specs.declared.events.Want.TheVariants as want
 use Rattle.wedge_base.specs.declared.events.Event.{Event}
+use Rattle.wedge_base.specs.declared.events.Event.TheVariants as event
 use Rattle.wedge_base.specs.declared.events.Turn.{Turn}
 use Rattle.wedge_base.specs.declared.cells.Live.{Live}
 use Rattle.wedge_base.specs.declared.cells.SlotAsk.TheVariants as slot_ask
@@ -18,7 +19,7 @@ use Rattle.sthread_life.specs.Actors.{ActorState}
 use Rattle.sthread_life.specs.Local.{rest, is_running}
 use Rattle.sthread_life.specs.Worlds.{Cells, WorldState, held, slot_in, opening, cells_after, event_for, turn_of, Runs}
 use Rattle.sthread_life.specs.Allowed.{allows, Stores, EachStep}
-use Rattle.sthread_life.specs.Written.{bytes_in, BytesFollow, StepWritesOwn}
+use Rattle.sthread_life.specs.Written.{bytes_in, BytesFollow, stores_in, StepWritesOwn}
 use Rattle.sthread_life.specs.Laws.{RunsWriteTheirOwn}
 use Rattle.sthread_life.proofs.Resting.{rests, rest-stays}
 use Rattle.sthread_life.proofs.Between.{turn_parts}
@@ -105,46 +106,44 @@ bytes_follow old [] new run slot = ap (λ (w : WorldState). bytes_in w.cells slo
 bytes_follow old (t ∷ ts) new run slot =
     bytes_follow run.0 ts new run.2 slot ∙ ap (λ bytes. bytes_after slot bytes ts) (turn_follows old t run.0 slot run.1)
 
--- what an event leaves of the bytes, or that the actor may store
-abbrev IsOwn : Cells → ActorState → ℕ → Segment → Event → Type 0
-IsOwn c b slot g e = (bytes_after_event slot (Some g.bytes) e ≡ Some g.bytes) ⊎ (allows b (Stores g.tag) ≡ true)
+-- a tag lives in a slot, and the actor may store to it
+abbrev IsOwned : Cells → ActorState → ℕ → Type 0
+IsOwned c b slot = (g : Segment) × (slot_in c slot ≡ Some g) × (allows b (Stores g.tag) ≡ true)
 
--- a store that is judged by the pair of the tag and the actor's right on it
-store_own : (b : ActorState) (g : Segment) (offset width value : ℕ) (live : Option Live) (within held : Bool) → at_least (right_on b.sheet g.tag) right.ReadWrite ≡ held
-    → (bytes_by (Some g.bytes) (slot_ask.Store offset width value live) (if not within then slot_reply.Unmapped else if held then slot_reply.Stored else slot_reply.Denied g.tag) ≡ Some g.bytes)
-    ⊎ (allows b (Stores g.tag) ≡ true)
-store_own b g offset width value live false held e = inl refl
-store_own b g offset width value live true false e = inl refl
-store_own b g offset width value live true true e = inr e
+-- a store that took place was judged to be allowed
+stored_by : (s slot offset width value : ℕ) (live : Option Live) (tag : ℕ) (within held : Bool)
+    → stores_in slot (event.Slot s (slot_ask.Store offset width value live) (if not within then slot_reply.Unmapped else if held then slot_reply.Stored else slot_reply.Denied tag)) ≡ true
+    → ((s == slot) ≡ true) × (held ≡ true)
+stored_by s slot offset width value live tag false held e = absurd (true≢false (sym e))
+stored_by s slot offset width value live tag true false e = absurd (true≢false (sym e))
+stored_by s slot offset width value live tag true true e = (e, refl)
 
-store_at : (c : Cells) (b : ActorState) (s offset width value slot : ℕ) (g : Segment) (t : Bool) → slot_in c slot ≡ Some g → (s == slot) ≡ t
-    → IsOwn c b slot g (event_for c b (want.Store s offset width value))
-store_at c b s offset width value slot g false there eq = inl (rw eq refl)
-store_at c b s offset width value slot g true there eq =
-    let here : slot_in c s ≡ Some g = subst (λ n. slot_in c n ≡ Some g) (sym (eqb-true s slot eq)) there in
-    rw (here, eq) (store_own b g offset width value (Some (record { tag = g.tag; right = right_on b.sheet g.tag })) (nat_lt offset (length g.bytes)) _ refl)
+store_owned : (c : Cells) (b : ActorState) (s offset width value slot : ℕ) (o : Option Segment) → slot_in c s ≡ o
+    → stores_in slot (event_for c b (want.Store s offset width value)) ≡ true → IsOwned c b slot
+store_owned c b s offset width value slot None there e = absurd (true≢false (sym (rw there at e)))
+store_owned c b s offset width value slot (Some g) there e =
+    let live = Some (record { tag = g.tag; right = right_on b.sheet g.tag }) in
+    let both = stored_by s slot offset width value live g.tag (nat_lt offset (length g.bytes)) (at_least (right_on b.sheet g.tag) right.ReadWrite) (rw there at e) in
+    (g, subst (λ n. slot_in c n ≡ Some g) (eqb-true s slot both.0) there, both.1)
 
-event_own : (c : Cells) (b : ActorState) (q : Want) (slot : ℕ) (g : Segment) → slot_in c slot ≡ Some g → IsOwn c b slot g (event_for c b q)
-event_own c b (want.Load s offset width) slot g there = inl (either_way (s == slot) (Some g.bytes))
-event_own c b (want.Store s offset width value) slot g there = store_at c b s offset width value slot g (s == slot) there refl
-event_own c b (want.Fd fd q) slot g there = inl refl
-event_own c b (want.Lives q) slot g there = inl refl
+event_owned : (c : Cells) (b : ActorState) (q : Want) (slot : ℕ) → stores_in slot (event_for c b q) ≡ true → IsOwned c b slot
+event_owned c b (want.Load s offset width) slot e = absurd (true≢false (sym e))
+event_owned c b (want.Store s offset width value) slot e = store_owned c b s offset width value slot (slot_in c s) refl e
+event_owned c b (want.Fd fd q) slot e = absurd (true≢false (sym e))
+event_owned c b (want.Lives q) slot e = absurd (true≢false (sym e))
 
 -- an actor keeps its sheet up to where it rests
 rest_sheet : (i : Image) (a : ActorState) (t : Bool) → is_running a.phase ≡ t → (rest i a).sheet ≡ a.sheet
 rest_sheet i a true e = (rests i a e).sheet
 rest_sheet i a false e = ap (λ (x : ActorState). x.sheet) (rest-stays i a e)
 
--- whoever changes the bytes of a tag in a step may store to it
+-- whoever stores into a slot in a step may store to the tag that lives there
 pub step_writes_own : (w : WorldState) (t : Turn) (new : WorldState) → turn_of w t.actor ≡ Some (record { event = t.event; world = new }) → StepWritesOwn w t new
-step_writes_own w t new e slot g there =
+step_writes_own w t new e slot stored =
     let p = turn_parts w t.actor t.event new e in
     let b = rest w.image p.actor in
-    let own : IsOwn w.cells b slot g t.event = subst (IsOwn w.cells b slot g) (sym p.event_is) (event_own w.cells b p.want slot g there) in
-    elim own [
-      | inl same ↦ inl same
-      | inr may ↦ inr (p.actor, p.named, ap (λ s. at_least (right_on s g.tag) right.ReadWrite) (sym (rest_sheet w.image p.actor _ refl)) ∙ may)
-    ]
+    let own : IsOwned w.cells b slot = event_owned w.cells b p.want slot (subst (λ x. stores_in slot x ≡ true) p.event_is stored) in
+    (own.0, own.1, (p.actor, p.named, ap (λ s. at_least (right_on s own.0.tag) right.ReadWrite) (sym (rest_sheet w.image p.actor _ refl)) ∙ own.2))
 
 each_writes_own : (old : WorldState) (turns : List Turn) (new : WorldState) → Runs old turns new → EachStep StepWritesOwn old turns
 each_writes_own old [] new run = tt

@@ -1,7 +1,11 @@
 -- The bytes of tags by the history of a run, and who wrote them.
-use Rattle.std.specs.Prelude.{◌≡◌, ◌⊎◌, ℕ, true, List, Option, Some, option_map}
-use Rattle.wedge_base.specs.Histories.{bytes_after_event, bytes_after}
+use Rattle.std.specs.Prelude.{◌≡◌, ◌==◌, ℕ, Bool, true, false, List, Option, Some, option_map}
+use Rattle.wedge_base.specs.Histories.{bytes_after}
 use Rattle.wedge_base.specs.Slots.{Segment}
+use Rattle.wedge_base.specs.declared.cells.SlotAsk.TheVariants as slot_ask
+use Rattle.wedge_base.specs.declared.cells.SlotReply.TheVariants as slot_reply
+use Rattle.wedge_base.specs.declared.events.Event.{Event}
+use Rattle.wedge_base.specs.declared.events.Event.TheVariants as event
 use Rattle.wedge_base.specs.declared.events.Turn.{Turn}
 use Rattle.sthread_life.specs.Actors.{ActorState}
 use Rattle.sthread_life.specs.Worlds.{Cells, WorldState, slot_in, actor_named}
@@ -19,7 +23,12 @@ BytesFollow old turns new = (slot : ℕ) → bytes_in new slot ≡ bytes_after s
 abbrev pub MayStore : List ActorState → List ℕ → ℕ → Type 0
 MayStore actors name tag = (a : ActorState) × (actor_named actors name ≡ Some a) × (allows a (Stores tag) ≡ true)
 
--- a step leaves the bytes in each slot alone, or its actor may store to the tag that lives there
+-- whether an event is a store that took place in a slot
+abbrev pub stores_in : ℕ → Event → Bool
+stores_in slot (event.Slot s (slot_ask.Store offset width value live) slot_reply.Stored) = s == slot
+stores_in slot e = false
+
+-- where a step stores into a slot, a tag lives there, and the step's actor may store to it
 abbrev pub StepWritesOwn : WorldState → Turn → WorldState → Type 0
-StepWritesOwn old t new = (slot : ℕ) (g : Segment) → slot_in old.cells slot ≡ Some g
-    → (bytes_after_event slot (Some g.bytes) t.event ≡ Some g.bytes) ⊎ MayStore old.actors t.actor g.tag
+StepWritesOwn old t new = (slot : ℕ) → stores_in slot t.event ≡ true
+    → (g : Segment) × (slot_in old.cells slot ≡ Some g) × MayStore old.actors t.actor g.tag

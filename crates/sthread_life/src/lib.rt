@@ -13,7 +13,7 @@ mod sheet;
 mod take;
 
 pub use actor::Actor;
-pub use laws::{runs_are_judged, runs_write_their_own};
+pub use laws::{cells_open_by_their_rules, runs_are_judged, runs_write_their_own};
 pub use local::Next;
 pub use memory::Memory;
 pub use phase::Phase;

@@ -1,0 +1,27 @@
+-- The cells of a run begin as the rules of the cells have it.
+use Rattle.std.proofs.Common.{◌≡◌, ℕ, zero, suc, ◌+◌, List, [], ◌∷◌, map, refl, ap, ◌∙◌, arith}
+use Rattle.std.specs.Prelude.{Option, Some, option_map, slice_get}
+use Rattle.wedge_base.specs.Images.{Image}
+use Rattle.wedge_base.specs.Slots.{declared_segment, declared_slots}
+use Rattle.wedge_base.specs.Streams.{declared_stream}
+use Rattle.wedge_base.specs.declared.image.TagEntry.{TagEntry}
+use Rattle.wedge_base.specs.declared.image.FdEntry.{FdEntry}
+use Rattle.sthread_life.specs.Worlds.{held}
+use Rattle.sthread_life.specs.Laws.{CellsOpen}
+
+slot_at : (n k m : ℕ) (ts : List TagEntry) → n + k ≡ m → held (slice_get (declared_slots n ts) k) ≡ option_map (declared_segment m) (slice_get ts k)
+slot_at n k m [] e = refl
+slot_at n zero m (t ∷ ts) e = let same : n ≡ m = omega arith in ap (λ x. Some (declared_segment x t)) same
+slot_at n (suc k) m (t ∷ ts) e = let next : n + 1 + k ≡ m = omega arith in slot_at (n + 1) k m ts next
+
+stream_at : (k : ℕ) (fs : List FdEntry) → held (slice_get (map (λ f. Some (declared_stream f)) fs) k) ≡ option_map declared_stream (slice_get fs k)
+stream_at k [] = refl
+stream_at zero (f ∷ fs) = refl
+stream_at (suc k) (f ∷ fs) = stream_at k fs
+
+pub cells_open : (i : Image) → CellsOpen i
+cells_open i = record {
+  slots = λ slot. let same : 0 + slot ≡ slot = omega arith in slot_at 0 slot slot i.tags same;
+  streams = λ fd. stream_at fd i.fds;
+  lives = refl;
+}
