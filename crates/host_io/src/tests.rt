@@ -204,16 +204,16 @@ fn a_text_of_no_bytes_is_not_written(rt: HostRuntime) -> Result<(), Fail> {
 }
 
 /// A name for a file that is this process's own.
-fn own_name(rt: &HostRuntime) -> io::Result<String> {
+fn own_name(rt: &HostRuntime, ending: &str) -> io::Result<String> {
     let folder = env::temp_dir(rt)?;
     let id = process::id(rt.process());
-    Ok(format!(in rt.alloc(); "{}/host_io-{id}", folder.display())?)
+    Ok(format!(in rt.alloc(); "{}/host_io-{id}{ending}", folder.display())?)
 }
 
 #[test]
 fn files_of_the_system_are_read(rt: HostRuntime) -> Result<(), Fail> {
     let alloc = rt.alloc();
-    let owned = own_name(&rt)?;
+    let owned = own_name(&rt, "")?;
     let name = owned.as_str();
     fs::write(&rt, name, b"abcdefg\n")?;
     let mut files = RealFiles::new(&rt, alloc);
@@ -232,6 +232,35 @@ fn files_of_the_system_are_read(rt: HostRuntime) -> Result<(), Fail> {
     fs::remove_file(&rt, name)?;
     let gone = read_whole(alloc, &mut files, name, 8).map(|b| b.len());
     assert_eq!(rt; gone, Err(ReadFault::Fault));
+    Ok(())
+}
+
+#[test]
+fn a_folder_is_no_file(rt: HostRuntime) -> Result<(), Fail> {
+    let folder = format!(in rt.alloc(); "{}", env::temp_dir(&rt)?.display())?;
+    let mut files = RealFiles::new(&rt, rt.alloc());
+    assert_eq!(rt; files.read(folder.as_str(), 0, &mut [0; 4]), Err(Failed));
+    let whole = read_whole(rt.alloc(), &mut files, folder.as_str(), 8).map(|b| b.len());
+    assert_eq!(rt; whole, Err(ReadFault::Fault));
+    Ok(())
+}
+
+#[test]
+fn two_files_of_the_system_are_told_apart(rt: HostRuntime) -> Result<(), Fail> {
+    let one = own_name(&rt, "-one")?;
+    let other = own_name(&rt, "-other")?;
+    fs::write(&rt, one.as_str(), b"abcdefgh")?;
+    fs::write(&rt, other.as_str(), b"ABCDEFGH")?;
+    let mut files = RealFiles::new(&rt, rt.alloc());
+    let mut buf = [0; 4];
+    assert_eq!(rt; files.read(one.as_str(), 0, &mut buf), Ok(4));
+    assert_eq!(rt; buf.as_slice(), b"abcd".as_slice());
+    assert_eq!(rt; files.read(other.as_str(), 4, &mut buf), Ok(4));
+    assert_eq!(rt; buf.as_slice(), b"EFGH".as_slice());
+    assert_eq!(rt; files.read(one.as_str(), 4, &mut buf), Ok(4));
+    assert_eq!(rt; buf.as_slice(), b"efgh".as_slice());
+    fs::remove_file(&rt, one.as_str())?;
+    fs::remove_file(&rt, other.as_str())?;
     Ok(())
 }
 

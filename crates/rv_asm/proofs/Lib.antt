@@ -13,3 +13,4 @@ pub mod Names
 pub mod Placing
 pub mod Reading
 pub mod ReadBack
+pub mod Counted

@@ -25,4 +25,4 @@ mod tests;
 pub use assembled::{Assembled, Equate};
 pub use assembly::assemble;
 pub use fault::{AsmError, Fault, Why};
-pub use laws::texts_are_read_back;
+pub use laws::{texts_are_read_back, words_are_counted};
