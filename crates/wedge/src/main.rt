@@ -2,22 +2,22 @@
 #![tactic(auto)]
 
 use host_io::{NoPace, RealErr, RealFiles, RealOut};
+use std::io::ErrorKind;
 use std::process::ExitCode;
 use std::{env, io};
-use wedge_cli::wedge;
-
-/// The exit status of want of memory.
-const NO_MEMORY: u8 = 6;
+use wedge_cli::{out_of_memory, wedge};
 
 /// Does what the words ask, with the files and the streams of the process.
 fn main(rt: HostRuntime) -> ExitCode {
-    let words = match words(&rt) {
-        Ok(words) => words,
-        Err(_) => return ExitCode::from(NO_MEMORY),
-    };
     let mut files = RealFiles::new(&rt, rt.alloc());
     let mut out = RealOut::new(rt.stdout());
     let mut err = RealErr::new(rt.stderr());
+    let words = match words(&rt) {
+        Ok(words) => words,
+        // Words of which one is no UTF-8 are no command.
+        Err(error) if error.kind() == ErrorKind::InvalidData => Vec::new(rt.alloc()),
+        Err(_) => return ExitCode::from(out_of_memory(&mut err).status),
+    };
     let ended = wedge(
         &rt,
         rt.alloc(),

@@ -1,24 +1,36 @@
 -- Which cause each status has.
-use Rattle.std.proofs.Common.{◌≡◌, ◌⊎◌, inl, inr, ℕ, ◌<◌, List, refl, sym, ◌∙◌, arith}
+use Rattle.std.proofs.Common.{◌≡◌, ◌⊎◌, inl, inr, ℕ, ◌<◌, ◌≤◌, List, refl, sym, ◌∙◌, arith}
 use Rattle.std.specs.Prelude.{Option, Some, None}
 use Rattle.host_io.specs.Told.{WhereTold}
 use Rattle.wedge_cli.specs.declared.top.Ended.{Ended}
 use Rattle.wedge_cli.specs.declared.refusal.Refusal.{Refusal}
 use Rattle.wedge_cli.specs.declared.refusal.Refusal.TheVariants as refusal
-use Rattle.wedge_cli.specs.Lines.{line, refusal_text, status_of}
+use Rattle.wedge_cli.specs.Lines.{line, usage_line, write_fault_line, refusal_text, status_of}
 use Rattle.wedge_cli.specs.Loading.{IsRefused}
 use Rattle.wedge_cli.specs.declared.words.Command.{Command}
 use Rattle.wedge_cli.specs.Words.{Asked}
-use Rattle.wedge_cli.specs.Ended.{Device, Rises, IsUsage, IsDone}
+use Rattle.wedge_cli.specs.Ended.{Device, Rises, Tried, FailsAndSays, IsUsage, IsDone}
 use Rattle.wedge_cli.specs.Causes.{Said, SaysRefusal, IsRefusal, IsUnfit}
 
 -- what was done with an image: it was refused, or it was run
 abbrev IsEither : Command → List ℕ → Option (List ℕ) → ℕ → ℕ → Ended → Device → Device → Device → Device → Type 0
 IsEither c name content before after ended o p e f = IsRefusal c name content before after ended o p e f ⊎ IsDone c content ended o p e f
 
+-- a sink that was tried has no fewer faults
+tried_rises : (text : List ℕ) (e f : Device) → Tried text e f → e.faults ≤ f.faults
+tried_rises text e f (inl took) = let same = took.1 in omega arith
+tried_rises text e f (inr fails) = let more = fails.rises in omega arith
+
+-- one that failed, and was tried again, has more
+says_rises : (text : List ℕ) (e f : Device) → FailsAndSays text e f → Rises e f
+says_rises text e f r =
+    let first = r.fails.rises in
+    let second = tried_rises write_fault_line r.between f r.says in
+    omega arith
+
 said_status : (status : ℕ) (text : List ℕ) (ended : Ended) (e f : Device) → Said status text ended e f → (ended.status ≡ status) ⊎ ((ended.status ≡ 5) × Rises e f)
 said_status status text ended e f (inl said) = inl said.1
-said_status status text ended e f (inr fault) = inr (fault.1, fault.0)
+said_status status text ended e f (inr fault) = inr (fault.1, says_rises text e f fault.0)
 
 refusal_status : (name : List ℕ) (r : Refusal) (ended : Ended) (e f : Device) → SaysRefusal name r ended e f → (ended.status ≡ status_of r) ⊎ (ended.status ≡ 6) ⊎ ((ended.status ≡ 5) × Rises e f)
 refusal_status name r ended e f (inl said) =
@@ -28,7 +40,7 @@ refusal_status name r ended e f (inr said) =
 
 -- a run has status 0, or 5 where the output's count of faults rose
 run_status : (c : Command) (content : Option (List ℕ)) (ended : Ended) (o p e f : Device) → IsDone c content ended o p e f → (ended.status ≡ 0) ⊎ ((ended.status ≡ 5) × Rises o p)
-run_status c content ended o p e f r = elim r.written.out [ inl done ↦ inl done.2 | inr fault ↦ inr (fault.3, fault.0) ]
+run_status c content ended o p e f r = elim r.written.out [ inl done ↦ inl done.2 | inr fault ↦ inr (fault.2, fault.0.rises) ]
 
 -- whether a status is another one
 abbrev Not : ℕ → ℕ → Type 0
@@ -119,7 +131,7 @@ done_5 c name content before after ended o p e f (inr r) is =
     ]
 
 usage_5 : (ended : Ended) (o p e f : Device) → IsUsage ended o p e f → ended.status ≡ 5 → Rises o p ⊎ Rises e f
-usage_5 ended o p e f u is = elim u.err [ inl said ↦ absurd (omega (arith, said.1, is)) | inr fault ↦ inr fault.0 ]
+usage_5 ended o p e f u is = elim u.err [ inl said ↦ absurd (omega (arith, said.1, is)) | inr fault ↦ inr (says_rises usage_line e f fault.0) ]
 
 -- what the whole program answers to what was asked
 pub record Answers (asked : Asked) (content : List ℕ → Option (List ℕ)) (before after : List ℕ → ℕ) (ended : Ended) (o p e f : Device) : Type 0 where

@@ -6,12 +6,13 @@ use Rattle.wedge_cli.specs.declared.top.Ended.{Ended}
 use Rattle.wedge_cli.specs.declared.refusal.Refusal.TheVariants as refusal
 use Rattle.wedge_cli.specs.Lines.{line, refusal_text, status_of}
 use Rattle.wedge_cli.specs.Loading.{IsRefused, accepted}
-use Rattle.wedge_cli.specs.Ended.{Device, Takes, Rises}
+use Rattle.wedge_cli.specs.Ended.{Device, Takes, FailsAndSays}
 
--- a refusal, or want of memory for its line: err takes the line, or its count of faults rises
+-- err takes a line; where it does not, the status is 5
 abbrev pub Said : ℕ → List ℕ → Ended → Device → Device → Type 0
-Said status text ended before after = (Takes text before after × (ended.status ≡ status)) ⊎ (Rises before after × (ended.status ≡ 5))
+Said status text ended before after = (Takes text before after × (ended.status ≡ status)) ⊎ (FailsAndSays text before after × (ended.status ≡ 5))
 
+-- the line of a refusal is said, or of want of memory for that line
 abbrev pub SaysRefusal : List ℕ → Refusal → Ended → Device → Device → Type 0
 SaysRefusal name r ended before after =
     Said (status_of r) (line (refusal_text name r)) ended before after

@@ -1,5 +1,5 @@
 -- What the program ends with.
-use Rattle.std.specs.Prelude.{◌≡◌, ℕ, ◌<◌, ◌≤◌, ◌⊎◌, List, take, Option, Some, None}
+use Rattle.std.specs.Prelude.{◌≡◌, ℕ, ◌<◌, ◌≤◌, ◌⊎◌, List, length, take, Option, Some, None}
 use Rattle.wedge_base.specs.Images.{Image}
 use Rattle.image_form.specs.Rules.{Spells}
 use Rattle.wedge_base.specs.declared.events.Journal.{Journal}
@@ -10,7 +10,7 @@ use Rattle.report_text.specs.Reports.{report_of}
 use Rattle.wedge_cli.specs.declared.words.Command.{Command}
 use Rattle.wedge_cli.specs.declared.words.Command.TheVariants.{Run, Show, Build}
 use Rattle.wedge_cli.specs.declared.top.Ended.{Ended}
-use Rattle.wedge_cli.specs.Lines.{usage_line}
+use Rattle.wedge_cli.specs.Lines.{usage_line, write_fault_line}
 use Rattle.wedge_cli.specs.Listing.{listing}
 use Rattle.wedge_cli.specs.Loading.{IsLoaded}
 
@@ -51,18 +51,34 @@ Takes bytes before after = (after.written ≡ grown_by before.written bytes) × 
 abbrev pub Rises : Device → Device → Type 0
 Rises before after = before.faults < after.faults
 
+-- it took a first part of these bytes and not all of them, and failed
+pub record Fails (bytes : List ℕ) (before after : Device) : Type 0 where
+  pub rises : Rises before after
+  pub part : (n : ℕ) × (n < length bytes) × (after.written ≡ grown_by before.written (take n bytes))
+
+-- it was given these bytes once, and took them or failed
+abbrev pub Tried : List ℕ → Device → Device → Type 0
+Tried bytes before after = Takes bytes before after ⊎ Fails bytes before after
+
+-- it failed over these bytes, and was then given the line of a write that failed, once
+pub record FailsAndSays (bytes : List ℕ) (before after : Device) : Type 0 where
+  pub between : Device
+  pub fails : Fails bytes before between
+  pub says : Tried write_fault_line between after
+
 -- words that are no command: out is left alone, and err takes the line of usage; where it does not, the
 -- status is 5
 pub record IsUsage (ended : Ended) (out_before out_after err_before err_after : Device) : Type 0 where
   pub journal : ended.journal ≡ None
   pub out : out_after ≡ out_before
-  pub err : (Takes usage_line err_before err_after × (ended.status ≡ 2)) ⊎ (Rises err_before err_after × (ended.status ≡ 5))
+  pub err : (Takes usage_line err_before err_after × (ended.status ≡ 2)) ⊎ (FailsAndSays usage_line err_before err_after × (ended.status ≡ 5))
 
--- a text: out takes it and err is left alone; where out does not, it has a part of it, and the status is 5
+-- a text: out takes it and err is left alone; where out does not, it has a part of it, err is given the line
+-- of a write that failed, once, and the status is 5
 pub record IsWritten (journal : Option Journal) (text : List ℕ) (ended : Ended) (out_before out_after err_before err_after : Device) : Type 0 where
   pub journal_is : ended.journal ≡ journal
   pub out : (Takes text out_before out_after × (err_after ≡ err_before) × (ended.status ≡ 0))
-      ⊎ (Rises out_before out_after × ((n : ℕ) × (out_after.written ≡ grown_by out_before.written (take n text))) × (err_before.faults ≤ err_after.faults) × (ended.status ≡ 5))
+      ⊎ (Fails text out_before out_after × Tried write_fault_line err_before err_after × (ended.status ≡ 5))
 
 -- what a command asks of the image of the file's bytes is written
 pub record IsDone (c : Command) (content : Option (List ℕ)) (ended : Ended) (out_before out_after err_before err_after : Device) : Type 0 where

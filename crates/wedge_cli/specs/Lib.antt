@@ -5,3 +5,4 @@ pub mod Loading
 pub mod Ended
 pub mod Causes
 pub mod Listing
+pub mod Headings

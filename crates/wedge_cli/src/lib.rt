@@ -3,6 +3,7 @@
 
 #[cfg(test)]
 mod build_tests;
+mod headings;
 mod lines;
 mod loading;
 mod refusal;
@@ -14,5 +15,5 @@ mod words;
 
 pub use refusal::Refusal;
 pub use show::listing;
-pub use top::{Ended, wedge};
+pub use top::{Ended, out_of_memory, wedge};
 pub use words::Command;

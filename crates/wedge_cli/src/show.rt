@@ -1,9 +1,9 @@
 //! The listing of an image's text.
 
 ghost use Rattle.std.specs.Prelude.{◌≡◌, ◌++◌, IfOk, OnOk};
-ghost use Rattle.wedge_base.specs.Images.{procedure_name};
 ghost use Rattle.wedge_cli.specs.Listing as listings;
 
+use crate::headings::Headings;
 use image_form::Image;
 use report_text::write_address;
 use rv_isa::{decode, text_of};
@@ -16,27 +16,15 @@ use wedge_base::NoMemory;
 pub fn listing(alloc: Global, image: &Image) -> Result<Vec<u8>, NoMemory>
     ensures { IfOk result (λ v. v.items ≡ listings.listing image.now) }
 {
+    let headings = Headings::new(alloc, image)?;
     let mut out = Vec::new(alloc);
     let mut address = image.base();
     for word in image.words() {
-        write_heading(alloc, image, address, &mut out)?;
+        write_name(headings.at(address), &mut out)?;
         write_word_line(alloc, address, *word, &mut out)?;
         address = address.wrapping_add(4);
     }
     Ok(out)
-}
-
-/// Adds the name of the procedure that begins at an address, if one does.
-fn write_heading(
-    alloc: Global,
-    image: &Image,
-    address: u32,
-    out: &mut Vec<u8>,
-) -> Result<(), NoMemory>
-    ensures { OnOk result (out.new.items ≡ out.old.items ++ listings.heading (procedure_name image.now address)) }
-{
-    let name = image.procedure_name(alloc, address)?;
-    write_name(name.as_slice(), out)
 }
 
 /// Adds a name on a line of its own; nothing where it is empty.

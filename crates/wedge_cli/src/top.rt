@@ -1,12 +1,12 @@
 //! The top call.
 
-ghost use Rattle.std.specs.Prelude.{◌≡◌, ◌≤◌, ◌<◌, ◌↔◌, ◌⊎◌, ℕ, List, Some, None, Err, IfOk, IfErr};
+ghost use Rattle.std.specs.Prelude.{◌≡◌, ◌≤◌, ◌<◌, ◌↔◌, ◌⊎◌, ℕ, List, codes, Some, None, Err, IfOk, IfErr};
 ghost use Rattle.wedge_cli.specs.Words as asking;
 ghost use Rattle.wedge_cli.specs.Lines as lines;
 ghost use Rattle.wedge_cli.specs.Loading.{IsRefused};
-ghost use Rattle.wedge_cli.specs.Ended.{IsTextFor, IsTextOf, device, Takes, IsWritten, IsUsage, IsDone};
+ghost use Rattle.wedge_cli.specs.Ended.{IsTextFor, IsTextOf, device, Takes, Tried, FailsAndSays, IsWritten, IsUsage, IsDone};
 ghost use Rattle.wedge_cli.specs.declared.words.Command.{Command as ACommand};
-ghost use Rattle.wedge_cli.specs.Causes.{SaysRefusal, IsRefusal, IsUnfit};
+ghost use Rattle.wedge_cli.specs.Causes.{Said, SaysRefusal, IsRefusal, IsUnfit};
 ghost use Rattle.host_io.specs.Told.{WhereTold};
 
 use crate::lines::{no_memory_line, refusal_line, usage_line, write_fault_line};
@@ -84,6 +84,15 @@ pub fn wedge<R: Threads + Wait + Sync, F: Files, O: Sink, E: Sink, P: Pace + Syn
     ensures write_only { result.status ≡ 5 → (O.faults out.old < O.faults out.new) ⊎ (E.faults err.old < E.faults err.new) }
 {
     does(alloc, words, files, out, err)
+}
+
+/// What the program ends with where there is no memory for its words: status 6, with the line of want of memory
+/// on `err`; 5 where that failed.
+pub fn out_of_memory<E: Sink>(err: &mut E) -> Ended
+    ensures journal { result.journal ≡ None }
+    ensures said { Said 6 (lines.line (codes "out of memory")) result (device (E.written err.old) (E.faults err.old)) (device (E.written err.new) (E.faults err.new)) }
+{
+    say(err, NO_MEMORY, no_memory_line())
 }
 
 /// Does what the words ask.
@@ -167,7 +176,7 @@ fn text_for(alloc: Global, command: Command, image: &Image) -> Result<Ready, NoM
 fn say<E: Sink>(err: &mut E, status: u8, line: &[u8]) -> Ended
     ensures journal { result.journal ≡ None }
     ensures cases { (Takes line.now (device (E.written err.old) (E.faults err.old)) (device (E.written err.new) (E.faults err.new)) × (result.status ≡ status))
-        ⊎ ((E.faults err.old < E.faults err.new) × (result.status ≡ 5)) }
+        ⊎ (FailsAndSays line.now (device (E.written err.old) (E.faults err.old)) (device (E.written err.new) (E.faults err.new)) × (result.status ≡ 5)) }
 {
     match write_whole(err, line) {
         Ok(()) => Ended {
@@ -175,13 +184,20 @@ fn say<E: Sink>(err: &mut E, status: u8, line: &[u8]) -> Ended
             journal: None,
         },
         Err(_) => {
-            let _ = write_whole(err, write_fault_line());
+            tell_write_fault(err);
             Ended {
                 status: 5,
                 journal: None,
             }
         }
     }
+}
+
+/// Gives the error stream the line of a write that failed, once. A failure there is dropped.
+fn tell_write_fault<E: Sink>(err: &mut E)
+    ensures { Tried lines.write_fault_line (device (E.written err.old) (E.faults err.old)) (device (E.written err.new) (E.faults err.new)) }
+{
+    let _ = write_whole(err, write_fault_line());
 }
 
 /// Says why what is asked of the file of a name is not done.
@@ -205,7 +221,7 @@ fn finish<O: Sink, E: Sink>(out: &mut O, err: &mut E, ready: Ready) -> Ended
     match write_whole(out, text.as_slice()) {
         Ok(()) => Ended { status: 0, journal },
         Err(_) => {
-            let _ = write_whole(err, write_fault_line());
+            tell_write_fault(err);
             Ended { status: 5, journal }
         }
     }
