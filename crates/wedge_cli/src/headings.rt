@@ -20,6 +20,7 @@ impl<'a> Headings<'a> {
     pub fn new(alloc: Global, image: &'a Image) -> Result<Headings<'a>, NoMemory>
         ensures { IfOk result (λ h. (address : ℕ) → heading_at h address ≡ procedure_name image.now address) }
     {
+        // From the last to the first: at an address that two have the first would hold, as for a search.
         let procedures = image.procedures();
         let mut names = HashMap::new(alloc);
         let mut left = procedures.len();

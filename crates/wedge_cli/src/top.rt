@@ -23,9 +23,16 @@ use std::thread::Threads;
 use wedge_base::{Journal, NoMemory};
 use wedge_core::serial;
 
+/// The status of what was done.
+const DONE: u8 = 0;
 /// The status of words that are no command.
 const USAGE: u8 = 2;
-
+/// The status of a file whose bytes are refused.
+const REFUSED: u8 = 3;
+/// The status of a read that failed.
+const READ_FAULT: u8 = 4;
+/// The status of a write that failed.
+const WRITE_FAULT: u8 = 5;
 /// The status of want of memory.
 const NO_MEMORY: u8 = 6;
 
@@ -51,9 +58,8 @@ pub(crate) struct Ready {
 ///
 /// The status is 0 where that was written; 2 where the words are no command; 3 where the file's bytes
 /// spell no image, or one to be run of a kind that the machine does not run yet, or no partition; 4 where
-/// a read failed; 5 where a write
-/// failed; 6 where no memory was left. A refusal leaves `out` alone and says one line on `err`. A write
-/// that fails leaves a first part of the text on `out`.
+/// a read failed; 5 where a write failed; 6 where no memory was left. A refusal leaves `out` alone and says
+/// one line on `err`. A write that fails leaves a first part of the text on `out`, and is told once on `err`.
 pub fn wedge<R: Threads + Wait + Sync, F: Files, O: Sink, E: Sink, P: Pace + Sync>(
     _rt: &R,
     alloc: Global,
@@ -186,7 +192,7 @@ fn say<E: Sink>(err: &mut E, status: u8, line: &[u8]) -> Ended
         Err(_) => {
             tell_write_fault(err);
             Ended {
-                status: 5,
+                status: WRITE_FAULT,
                 journal: None,
             }
         }
@@ -219,10 +225,16 @@ fn finish<O: Sink, E: Sink>(out: &mut O, err: &mut E, ready: Ready) -> Ended
 {
     let Ready { journal, text } = ready;
     match write_whole(out, text.as_slice()) {
-        Ok(()) => Ended { status: 0, journal },
+        Ok(()) => Ended {
+            status: DONE,
+            journal,
+        },
         Err(_) => {
             tell_write_fault(err);
-            Ended { status: 5, journal }
+            Ended {
+                status: WRITE_FAULT,
+                journal,
+            }
         }
     }
 }
@@ -233,7 +245,7 @@ fn status_of(refusal: &Refusal) -> u8
 {
     match refusal {
         Refusal::NoMemory => NO_MEMORY,
-        Refusal::Read => 4,
-        Refusal::Image(_) | Refusal::Unbuilt | Refusal::Partition(_) => 3,
+        Refusal::Read => READ_FAULT,
+        Refusal::Image(_) | Refusal::Unbuilt | Refusal::Partition(_) => REFUSED,
     }
 }

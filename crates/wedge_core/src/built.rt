@@ -41,6 +41,7 @@ fn are_append(fds: &[FdEntry]) -> bool
     fds.iter().all(|f| is_append(f.kind))
 }
 
+/// Whether a descriptor of this kind is an append stream.
 fn is_append(kind: StreamKind) -> bool
     ensures { result ≡ built.is_append kind }
 {

@@ -56,6 +56,7 @@ fn take_turn(world: &mut World<'_>, root: &ActorName) -> Result<(), NoMemory>
     ensures less { OnOk result (root_work world.new.state < root_work world.old.state) }
     ensures image { world.new.state.image ≡ world.old.state.image }
 {
+    // The world is opened here, so that what its type keeps is at hand.
     let _ = &world.turns;
     match turn(world, root) {
         Ok(_) => Ok(()),
