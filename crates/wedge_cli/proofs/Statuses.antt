@@ -10,7 +10,7 @@ use Rattle.wedge_cli.specs.Loading.{IsRefused}
 use Rattle.wedge_cli.specs.declared.words.Command.{Command}
 use Rattle.wedge_cli.specs.Words.{Asked}
 use Rattle.wedge_cli.specs.Ended.{Device, Rises, Tried, FailsAndSays, IsUsage, IsDone}
-use Rattle.wedge_cli.specs.Causes.{Said, SaysRefusal, IsRefusal, IsUnfit}
+use Rattle.wedge_cli.specs.Causes.{Said, SaysRefusal, IsRefusal, IsUnfit, IsAnswer}
 
 -- what was done with an image: it was refused, or it was run
 abbrev IsEither : Command → List ℕ → Option (List ℕ) → ℕ → ℕ → Ended → Device → Device → Device → Device → Type 0
@@ -133,19 +133,14 @@ done_5 c name content before after ended o p e f (inr r) is =
 usage_5 : (ended : Ended) (o p e f : Device) → IsUsage ended o p e f → ended.status ≡ 5 → Rises o p ⊎ Rises e f
 usage_5 ended o p e f u is = elim u.err [ inl said ↦ absurd (omega (arith, said.1, is)) | inr fault ↦ inr (says_rises usage_line e f fault.0) ]
 
--- what the whole program answers to what was asked
-pub record Answers (asked : Asked) (content : List ℕ → Option (List ℕ)) (before after : List ℕ → ℕ) (ended : Ended) (o p e f : Device) : Type 0 where
-  pub usage : asked ≡ None → IsUsage ended o p e f
-  pub image : (c : Command) (name : List ℕ) → asked ≡ Some (c, name) → IsEither c name (content name) (before name) (after name) ended o p e f
-
-pub usage_only : (asked : Asked) (content : List ℕ → Option (List ℕ)) (before after : List ℕ → ℕ) (ended : Ended) (o p e f : Device) → Answers asked content before after ended o p e f
+pub usage_only : (asked : Asked) (content : List ℕ → Option (List ℕ)) (before after : List ℕ → ℕ) (ended : Ended) (o p e f : Device) → IsAnswer asked content before after ended o p e f
     → ended.status ≡ 2 → asked ≡ None
-usage_only asked content before after ended o p e f a is = usage_by asked ended.status (λ c name h. done_not_2 c name (content name) (before name) (after name) ended o p e f (a.image c name h)) is
+usage_only asked content before after ended o p e f a is = usage_by asked ended.status (λ c name h. done_not_2 c name (content name) (before name) (after name) ended o p e f (a.file c name h)) is
 
 write_by : (asked : Asked) (ended : Ended) (o p e f : Device) → (asked ≡ None → IsUsage ended o p e f) → ((c : Command) (name : List ℕ) → asked ≡ Some (c, name) → Rises o p ⊎ Rises e f) → ended.status ≡ 5 → Rises o p ⊎ Rises e f
 write_by None ended o p e f usage image is = usage_5 ended o p e f (usage refl) is
 write_by (Some (c, name)) ended o p e f usage image is = image c name refl
 
-pub write_only : (asked : Asked) (content : List ℕ → Option (List ℕ)) (before after : List ℕ → ℕ) (ended : Ended) (o p e f : Device) → Answers asked content before after ended o p e f
+pub write_only : (asked : Asked) (content : List ℕ → Option (List ℕ)) (before after : List ℕ → ℕ) (ended : Ended) (o p e f : Device) → IsAnswer asked content before after ended o p e f
     → ended.status ≡ 5 → Rises o p ⊎ Rises e f
-write_only asked content before after ended o p e f a is = write_by asked ended o p e f a.usage (λ c name h. done_5 c name (content name) (before name) (after name) ended o p e f (a.image c name h) is) is
+write_only asked content before after ended o p e f a is = write_by asked ended o p e f a.usage (λ c name h. done_5 c name (content name) (before name) (after name) ended o p e f (a.file c name h) is) is

@@ -1,12 +1,13 @@
 -- When each status comes.
-use Rattle.std.specs.Prelude.{◌≡◌, ℕ, ◌⊎◌, List, Option, None, Err}
+use Rattle.std.specs.Prelude.{◌≡◌, ℕ, ◌⊎◌, List, Option, Some, None, Err}
 use Rattle.wedge_cli.specs.declared.words.Command.{Command}
 use Rattle.wedge_cli.specs.declared.refusal.Refusal.{Refusal}
 use Rattle.wedge_cli.specs.declared.top.Ended.{Ended}
 use Rattle.wedge_cli.specs.declared.refusal.Refusal.TheVariants as refusal
 use Rattle.wedge_cli.specs.Lines.{line, refusal_text, status_of}
 use Rattle.wedge_cli.specs.Loading.{IsRefused, accepted}
-use Rattle.wedge_cli.specs.Ended.{Device, Takes, FailsAndSays}
+use Rattle.wedge_cli.specs.Words.{Asked}
+use Rattle.wedge_cli.specs.Ended.{Device, Takes, FailsAndSays, IsUsage, IsDone}
 
 -- err takes a line; where it does not, the status is 5
 abbrev pub Said : ℕ → List ℕ → Ended → Device → Device → Type 0
@@ -29,3 +30,11 @@ pub record IsRefusal (c : Command) (name : List ℕ) (content : Option (List ℕ
 -- no image that is fit for the command
 abbrev pub IsUnfit : Command → List ℕ → Type 0
 IsUnfit c bytes = (why : Refusal) × (accepted c bytes ≡ Err why)
+
+-- what the program answers to what was asked, over its output and its error stream before and after: the words are no
+-- command, or what is asked of the file of a name is refused, or it is done
+pub record IsAnswer (asked : Asked) (content : List ℕ → Option (List ℕ)) (reads_before reads_after : List ℕ → ℕ) (ended : Ended) (out_before out_after err_before err_after : Device) : Type 0 where
+  pub usage : asked ≡ None → IsUsage ended out_before out_after err_before err_after
+  pub file : (c : Command) (name : List ℕ) → asked ≡ Some (c, name)
+      → IsRefusal c name (content name) (reads_before name) (reads_after name) ended out_before out_after err_before err_after
+      ⊎ IsDone c (content name) ended out_before out_after err_before err_after

@@ -4,9 +4,9 @@ ghost use Rattle.std.specs.Prelude.{◌≡◌, ◌≤◌, ◌<◌, ◌↔◌, �
 ghost use Rattle.wedge_cli.specs.Words as asking;
 ghost use Rattle.wedge_cli.specs.Lines as lines;
 ghost use Rattle.wedge_cli.specs.Loading.{IsRefused};
-ghost use Rattle.wedge_cli.specs.Ended.{IsTextFor, IsTextOf, device, Takes, Tried, FailsAndSays, IsWritten, IsUsage, IsDone};
+ghost use Rattle.wedge_cli.specs.Ended.{IsTextFor, IsTextOf, device, Takes, Tried, FailsAndSays, IsWritten};
 ghost use Rattle.wedge_cli.specs.declared.words.Command.{Command as ACommand};
-ghost use Rattle.wedge_cli.specs.Causes.{Said, SaysRefusal, IsRefusal, IsUnfit};
+ghost use Rattle.wedge_cli.specs.Causes.{Said, SaysRefusal, IsUnfit, IsAnswer};
 ghost use Rattle.host_io.specs.Told.{WhereTold};
 
 use crate::lines::{no_memory_line, refusal_line, usage_line, write_fault_line};
@@ -70,14 +70,7 @@ pub fn wedge<R: Threads + Wait + Sync, F: Files, O: Sink, E: Sink, P: Pace + Syn
     _pace: &P,
 ) -> Ended
     // what is done
-    ensures usage { asking.asked (asking.texts words.now) ≡ None → IsUsage result
-        (device (O.written out.old) (O.faults out.old)) (device (O.written out.new) (O.faults out.new))
-        (device (E.written err.old) (E.faults err.old)) (device (E.written err.new) (E.faults err.new)) }
-    ensures image { (c : ACommand) (name : List ℕ) → asking.asked (asking.texts words.now) ≡ Some (c, name) →
-        IsRefusal c name (F.content files.old name) (F.faults files.old name) (F.faults files.new name) result
-        (device (O.written out.old) (O.faults out.old)) (device (O.written out.new) (O.faults out.new))
-        (device (E.written err.old) (E.faults err.old)) (device (E.written err.new) (E.faults err.new))
-        ⊎ IsDone c (F.content files.old name) result
+    ensures answer { IsAnswer (asking.asked (asking.texts words.now)) (F.content files.old) (F.faults files.old) (F.faults files.new) result
         (device (O.written out.old) (O.faults out.old)) (device (O.written out.new) (O.faults out.new))
         (device (E.written err.old) (E.faults err.old)) (device (E.written err.new) (E.faults err.new)) }
     ensures content { (other : List ℕ) → F.content files.new other ≡ F.content files.old other }
@@ -109,14 +102,7 @@ fn does<F: Files, O: Sink, E: Sink>(
     out: &mut O,
     err: &mut E,
 ) -> Ended
-    ensures usage { asking.asked (asking.texts words.now) ≡ None → IsUsage result
-        (device (O.written out.old) (O.faults out.old)) (device (O.written out.new) (O.faults out.new))
-        (device (E.written err.old) (E.faults err.old)) (device (E.written err.new) (E.faults err.new)) }
-    ensures image { (c : ACommand) (name : List ℕ) → asking.asked (asking.texts words.now) ≡ Some (c, name) →
-        IsRefusal c name (F.content files.old name) (F.faults files.old name) (F.faults files.new name) result
-        (device (O.written out.old) (O.faults out.old)) (device (O.written out.new) (O.faults out.new))
-        (device (E.written err.old) (E.faults err.old)) (device (E.written err.new) (E.faults err.new))
-        ⊎ IsDone c (F.content files.old name) result
+    ensures answer { IsAnswer (asking.asked (asking.texts words.now)) (F.content files.old) (F.faults files.old) (F.faults files.new) result
         (device (O.written out.old) (O.faults out.old)) (device (O.written out.new) (O.faults out.new))
         (device (E.written err.old) (E.faults err.old)) (device (E.written err.new) (E.faults err.new)) }
     ensures content { (other : List ℕ) → F.content files.new other ≡ F.content files.old other }
