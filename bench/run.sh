@@ -1,6 +1,7 @@
 #!/bin/sh
 # Measures the program: local instructions, shared accesses, reading a large image, assembling a long text.
-# It prints the seconds that each takes. The program is the one that bin/wedge builds, or $WEDGE.
+# It prints the seconds that each takes and, where valgrind is there, the host instructions that an instruction
+# of the program costs, and fails where that is more than its bound. The program is the one that bin/wedge builds, or $WEDGE.
 root=$(cd "$(dirname "$(readlink -f "$0")")/.." && pwd) || exit 1
 wedge=${WEDGE:-$root/bin/wedge}
 work=$(mktemp -d) || exit 1
@@ -58,3 +59,42 @@ measure 'lines, assembled' 100000 "$wedge" build "$work/long.toml"
 awk 'BEGIN { print ".proc main"; print "ret"; for (k = 1; k < 4096; k++) { printf ".proc p%d\n", k; print "ret" } }' | partition 1 > "$work/many.toml"
 "$wedge" build "$work/many.toml" > "$work/many.wedge" || exit 1
 measure 'procedures, listed' 4096 "$wedge" show "$work/many.wedge"
+
+# Host instructions for each instruction of a loop: what a run with more fuel counts more than one with less, over
+# the instructions that it makes more. What is counted, the name of the loop, less and more fuel, how many
+# instructions that is, and the bound. The loop is read from the standard input.
+count() {
+    cat > "$work/loop"
+    for fuel in "$3" "$4"; do
+        partition "$fuel" < "$work/loop" > "$work/$2$fuel.toml"
+        "$wedge" build "$work/$2$fuel.toml" > "$work/$2$fuel.wedge" || exit 1
+        valgrind --tool=callgrind --callgrind-out-file=/dev/null "$wedge" run "$work/$2$fuel.wedge" \
+            2> "$work/$2$fuel.count" > /dev/null || exit 1
+    done
+    awk -v what="$1" -v made="$5" -v bound="$6" '
+        /Collected/ { counts[++n] = $NF }
+        END {
+            each = (counts[2] - counts[1]) / made
+            printf "%-28s %6.1f host instructions, at most %d\n", what, each, bound
+            exit n != 2 || each <= 0 || each > bound
+        }' "$work/$2$3.count" "$work/$2$4.count" || exit 1
+}
+
+command -v valgrind > /dev/null || exit 0
+
+# Register instructions alone.
+printf '.proc main\nagain:\naddi a0, a0, 1\nxor a1, a1, a0\nsub a2, a1, a0\nj again\n' |
+    count 'a local instruction' local 100000 200000 100000 40
+
+# A load and a store of private memory in ten instructions.
+{
+    printf '.proc main\nagain:\nlw a1, -8(sp)\naddi a0, a0, 1\nxor a2, a0, a1\nslli a3, a2, 3\nadd a4, a3, a0\n'
+    printf 'sw a4, -8(sp)\nandi a5, a4, 255\nsub a6, a4, a5\naddi a0, a0, 3\nj again\n'
+} | count 'the same, two in ten private' private 100000 200000 100000 55
+
+# Loads and stores of a tag, 32 of 33 instructions: each is counted with its part of the jump.
+{
+    printf '.proc main\nli t0, seg_box\nagain:\n'
+    awk 'BEGIN { for (k = 0; k < 16; k++) print "lw a0, 0(t0)\nsw a0, 4(t0)" }'
+    printf 'j again\n'
+} | count 'a shared access' shared 33000 66000 32000 350

@@ -5,7 +5,7 @@ use Rattle.wedge_base.specs.declared.cells.StreamReply.TheVariants as reply
 use Rattle.fd_table.specs.declared.fault.StreamFault.{StreamFault}
 use Rattle.fd_table.specs.declared.fault.StreamFault.TheVariants as fault
 
--- want of memory stands for none
+-- out of memory stands for none
 abbrev pub reply_of : StreamFault → Option StreamReply
 reply_of fault.NoMemory = None
 reply_of fault.NoSuch = Some reply.NoSuch

@@ -33,11 +33,10 @@ impl Object for Stream {
     {
         match ask {
             StreamAsk::Open { kind, bytes } => {
-                let bytes = bytes.clone()?.into_vec();
-                self.opened = Some(Opened::new(*kind, bytes));
+                self.begin(*kind, bytes)?;
                 Ok((StreamReply::Opened, StreamReply::Opened))
             }
-            StreamAsk::Read { bits, count } => match self.give(*bits, *count as usize) {
+            StreamAsk::Read { bits, count } => match self.give_twice(*bits, *count as usize) {
                 Ok((bytes, copy)) => Ok((
                     StreamReply::Given { bytes },
                     StreamReply::Given { bytes: copy },
@@ -55,8 +54,46 @@ impl Object for Stream {
         }
     }
 
+    fn act_once(&mut self, ask: &StreamAsk) -> Result<StreamReply, NoMemory>
+        ensures is { IfOk result (λ r. r ≡ stream_reply self.old ask.now) }
+        ensures after { IfOk result (λ r. self.new ≡ stream_next self.old ask.now) }
+        ensures err { OnErr result (self.new ≡ self.old) }
+    {
+        match ask {
+            StreamAsk::Open { kind, bytes } => {
+                self.begin(*kind, bytes)?;
+                Ok(StreamReply::Opened)
+            }
+            StreamAsk::Read { bits, count } => match self.give(*bits, *count as usize) {
+                Ok(bytes) => Ok(StreamReply::Given { bytes }),
+                Err(fault) => reply_to(fault),
+            },
+            StreamAsk::Append { bits, bytes } => match self.append(*bits, bytes.as_slice()) {
+                Ok(()) => Ok(StreamReply::Appended),
+                Err(fault) => reply_to(fault),
+            },
+            StreamAsk::Close { bits } => match self.close(*bits) {
+                Ok(()) => Ok(StreamReply::Closed),
+                Err(fault) => reply_to(fault),
+            },
+        }
+    }
+
     fn copy_ask(ask: &StreamAsk) -> Result<StreamAsk, NoMemory> {
-        Ok(ask.clone()?)
+        ask.copy()
+    }
+}
+
+/// The reply that a fault stands for.
+fn reply_to(fault: StreamFault) -> Result<StreamReply, NoMemory>
+    ensures ok { IfOk result (λ r. reply_of fault ≡ Some r) }
+    ensures err { OnErr result (fault ≡ StreamFault.NoMemory) }
+{
+    match fault {
+        StreamFault::NoMemory => Err(NoMemory),
+        StreamFault::NoSuch => Ok(StreamReply::NoSuch),
+        StreamFault::Denied { wants } => Ok(StreamReply::Denied { wants }),
+        StreamFault::Bad => Ok(StreamReply::Bad),
     }
 }
 

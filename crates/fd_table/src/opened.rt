@@ -63,7 +63,7 @@ impl Opened {
         self.kind
     }
 
-    /// Lends all its bytes.
+    /// Returns all its bytes.
     pub fn bytes(&self) -> &[u8]
         ensures { result.now ≡ self.now.bytes }
     {
@@ -99,7 +99,7 @@ impl Opened {
         }
     }
 
-    /// Lends the next bytes, so many at most.
+    /// Returns the next bytes, so many at most.
     pub fn next_bytes(&self, count: usize) -> &[u8]
         ensures bytes { result.now ≡ take count (drop self.now.position self.now.bytes) }
         ensures inside { self.now.position + length result.now ≤ length self.now.bytes }

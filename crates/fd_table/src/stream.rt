@@ -76,7 +76,7 @@ impl Stream {
         Some(opened.kind())
     }
 
-    /// Lends all its bytes, also once it is closed.
+    /// Returns all its bytes, also once it is closed.
     pub fn bytes(&self) -> &[u8]
         ensures { result.now ≡ unwrap_or (option_map (λ s. s.bytes) self.now) [] }
     {
@@ -96,7 +96,7 @@ impl Stream {
         }
     }
 
-    /// Reads the next bytes into a buffer, as many as it holds or as are left, and answers how many; 0 at
+    /// Reads the next bytes into a buffer, as many as it holds or as are left, and returns how many; 0 at
     /// the end. The rest of the buffer stays. `NoSuch` where it is not live, else `Denied` without the bit
     /// to read, else `Bad` where it is no source. It takes no memory.
     pub fn read(&mut self, bits: FdBits, buf: &mut [u8]) -> Result<usize, StreamFault>
@@ -119,12 +119,40 @@ impl Stream {
         Ok(count)
     }
 
-    /// Reads the next bytes, so many at most, in two copies.
-    pub(crate) fn give(&mut self, bits: FdBits, count: usize) -> Result<(Bytes, Bytes), StreamFault>
-        ensures first { IfOk result (λ r. streams.stream_reply self.old (ask.Read bits count) ≡ reply.Given r.0) }
-        ensures second { IfOk result (λ r. r.1 ≡ r.0) }
+    /// Begins a live stream with a copy of these bytes, whatever was there.
+    pub(crate) fn begin(&mut self, kind: StreamKind, bytes: &Bytes) -> Result<(), NoMemory>
+        ensures next { OnOk result (self.new ≡ Some (streams.opened kind bytes.now)) }
+        ensures err { OnErr result (self.new ≡ self.old) }
+    {
+        let bytes = bytes.copy()?.into_vec();
+        self.opened = Some(Opened::new(kind, bytes));
+        Ok(())
+    }
+
+    /// Copies the next bytes, so many at most, and stays where it is.
+    fn next_copied(&self, bits: FdBits, count: usize) -> Result<Bytes, StreamFault>
+        ensures ok { let q = ask.Read bits count
+            in IfOk result (λ b. streams.stream_reply self.now q ≡ reply.Given b) }
+        ensures fault { let q = ask.Read bits count
+            in let reply = streams.stream_reply self.now q
+            in IfErr result (λ e. e ≢ StreamFault.NoMemory → reply_of e ≡ Some reply) }
+    {
+        let Some(opened) = &self.opened else {
+            return Err(StreamFault::NoSuch);
+        };
+        opened.check_read(bits)?;
+        let next = opened.next_bytes(count);
+        Ok(Bytes::from_slice(opened.allocator(), next)?)
+    }
+
+    /// Reads the next bytes, so many at most.
+    pub(crate) fn give(&mut self, bits: FdBits, count: usize) -> Result<Bytes, StreamFault>
+        ensures ok { let q = ask.Read bits count
+            in IfOk result (λ b. streams.stream_reply self.old q ≡ reply.Given b) }
         ensures next { OnOk result (self.new ≡ streams.stream_next self.old (ask.Read bits count)) }
-        ensures fault { IfErr result (λ e. e ≢ StreamFault.NoMemory → reply_of e ≡ Some (streams.stream_reply self.old (ask.Read bits count))) }
+        ensures fault { let q = ask.Read bits count
+            in let reply = streams.stream_reply self.old q
+            in IfErr result (λ e. e ≢ StreamFault.NoMemory → reply_of e ≡ Some reply) }
         ensures err { OnErr result (self.new ≡ self.old) }
     {
         let Some(opened) = &mut self.opened else {
@@ -132,10 +160,29 @@ impl Stream {
         };
         opened.check_read(bits)?;
         let next = opened.next_bytes(count);
-        let first = Bytes::from_slice(opened.allocator(), next)?;
-        let second = Bytes::from_slice(opened.allocator(), next)?;
-        opened.go_on(first.as_slice().len());
-        Ok((first, second))
+        let given = Bytes::from_slice(opened.allocator(), next)?;
+        opened.go_on(given.as_slice().len());
+        Ok(given)
+    }
+
+    /// Reads the next bytes, so many at most, in two copies.
+    pub(crate) fn give_twice(
+        &mut self,
+        bits: FdBits,
+        count: usize,
+    ) -> Result<(Bytes, Bytes), StreamFault>
+        ensures first { let q = ask.Read bits count
+            in IfOk result (λ r. streams.stream_reply self.old q ≡ reply.Given r.0) }
+        ensures second { IfOk result (λ r. r.1 ≡ r.0) }
+        ensures next { OnOk result (self.new ≡ streams.stream_next self.old (ask.Read bits count)) }
+        ensures fault { let q = ask.Read bits count
+            in let reply = streams.stream_reply self.old q
+            in IfErr result (λ e. e ≢ StreamFault.NoMemory → reply_of e ≡ Some reply) }
+        ensures err { OnErr result (self.new ≡ self.old) }
+    {
+        let copy = self.next_copied(bits, count)?;
+        let given = self.give(bits, count)?;
+        Ok((given, copy))
     }
 
     /// Adds bytes at the end. `NoSuch` where it is not live, else `Denied` without the bit to append, else

@@ -71,9 +71,9 @@ fn append_stream_grows(rt: HostRuntime) {
     assert!(rt; matches!(stream.kind(), Some(StreamKind::Append)));
 }
 
-/// What lacks a bit is denied, and names it, before the kind is judged.
+/// What lacks a bit is denied, and names it, before the kind is checked.
 #[test]
-fn bits_are_judged_before_the_kind(rt: HostRuntime) -> Result<(), Fail> {
+fn bits_are_checked_before_the_kind(rt: HostRuntime) -> Result<(), Fail> {
     let mut buf = [0; 4];
     let mut source = Stream::source(rt.alloc(), b"ab")?;
     let mut growing = Stream::append_only(rt.alloc());
@@ -142,6 +142,26 @@ fn closes(stream: &mut Stream) -> Result<bool, NoMemory> {
     let ask = StreamAsk::Close { bits: READ };
     let (first, second) = stream.act(&ask)?;
     Ok(matches!(first, StreamReply::Closed) && matches!(second, StreamReply::Closed))
+}
+
+/// A cell does what it is asked with one reply.
+#[test]
+fn one_reply_is_enough(rt: HostRuntime) -> Result<(), Fail> {
+    let mut stream = Stream::unopened();
+    let read = StreamAsk::Read {
+        bits: READ,
+        count: 2,
+    };
+    let none = stream.act_once(&read)?;
+    assert!(rt; matches!(none, StreamReply::NoSuch));
+    opens(&rt, &mut stream, b"abc")?;
+    for wanted in ["ab", "c", ""] {
+        let reply = stream.act_once(&read)?;
+        assert!(rt;
+            matches!(&reply, StreamReply::Given { bytes } if bytes.as_slice() == wanted.as_bytes())
+        );
+    }
+    Ok(())
 }
 
 /// A cell is opened, read past its end, closed and opened again.

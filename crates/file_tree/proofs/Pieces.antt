@@ -68,7 +68,7 @@ append-nil : (p : List ℕ) → p ++ [] ≡ p
 append-nil [] = refl
 append-nil (b ∷ p) = ap (λ x. b ∷ x) (append-nil p)
 
-pieces-joined : (p : List ℕ) (ps : List (List ℕ)) → HasNoSlash p → AreParts ps → pieces (p ++ after_slashes ps) ≡ p ∷ ps
+pub pieces-joined : (p : List ℕ) (ps : List (List ℕ)) → HasNoSlash p → AreParts ps → pieces (p ++ after_slashes ps) ≡ p ∷ ps
 pieces-joined p [] h k = ap pieces (append-nil p) ∙ pieces-none p h
 pieces-joined p (q ∷ ps) h k = pieces-slash p (q ++ after_slashes ps) h ∙ ap (λ x. p ∷ x) (pieces-joined q ps k.0.1 k.1)
 

@@ -1,10 +1,9 @@
 -- The walk over pieces, a piece at a time, and what it keeps.
-use Rattle.std.proofs.Common.{◌≡◌, ℕ, zero, suc, ◌+◌, ◌-◌, ◌<◌, ◌≤◌, Bool, true, false, ◌||◌, List, [], ◌∷◌, ◌++◌, length, get_or, map, take, drop, if◌then◌else◌, refl, ap, sym, subst, ◌∙◌}
+use Rattle.std.proofs.Common.{◌≡◌, ℕ, zero, suc, ◌+◌, ◌-◌, ◌<◌, ◌≤◌, Bool, true, false, ◌||◌, List, [], ◌∷◌, ◌++◌, length, get_or, map, take, drop, if◌then◌else◌, refl, ap, sym, ◌∙◌}
 use Rattle.std.proofs.lemmas.Bool.{eq-eqb}
 use Rattle.std.proofs.lemmas.List.{drop_more, drop_all}
 use Rattle.wedge_base.specs.Names.{same}
 use Rattle.wedge_base.specs.Paths.{pieces, parts_of, text_of, walked, is_front, under}
-use Rattle.file_tree.specs.Canonical.{AreNames, IsCanonical}
 use Rattle.file_tree.proofs.Pieces.{HasNoSlash, ArePieces, AreParts, AreParts-append, ArePieces-pieces, AreParts-parts_of, parts_of-text_of}
 
 module _ {X : Type 0} (view : X → List ℕ) (xs : List X) where
@@ -44,27 +43,6 @@ AreParts-walked kept [] h k = h
 AreParts-walked kept (p ∷ ps) h k =
     AreParts-step kept p ps (same p []) (same p (46 ∷ [])) (same p (46 ∷ 46 ∷ [])) refl h k.0 (λ others o. AreParts-walked others ps o k.1)
 
-AreNames-take : (n : ℕ) (ps : List (List ℕ)) → AreNames ps → AreNames (take n ps)
-AreNames-take zero ps h = tt
-AreNames-take (suc n) [] h = tt
-AreNames-take (suc n) (p ∷ ps) h = (h.0, h.1, AreNames-take n ps h.2)
-
-AreNames-append : (ps qs : List (List ℕ)) → AreNames ps → AreNames qs → AreNames (ps ++ qs)
-AreNames-append [] qs h k = k
-AreNames-append (p ∷ ps) qs h k = (h.0, h.1, AreNames-append ps qs h.2 k)
-
-AreNames-step : (kept : List (List ℕ)) (p : List ℕ) (ps : List (List ℕ)) (empty here up : Bool) → same p (46 ∷ []) ≡ here → same p (46 ∷ 46 ∷ []) ≡ up → AreNames kept → ((others : List (List ℕ)) → AreNames others → AreNames (walked others ps))
-    → AreNames (if empty || here then walked kept ps else if up then walked (take (length kept - 1) kept) ps else walked (kept ++ p ∷ []) ps)
-AreNames-step kept p ps true here up e u h more = more kept h
-AreNames-step kept p ps false true up e u h more = more kept h
-AreNames-step kept p ps false false true e u h more = more (take (length kept - 1) kept) (AreNames-take (length kept - 1) kept h)
-AreNames-step kept p ps false false false e u h more = more (kept ++ p ∷ []) (AreNames-append kept (p ∷ []) h (e, u, tt))
-
-AreNames-walked : (kept ps : List (List ℕ)) → AreNames kept → AreNames (walked kept ps)
-AreNames-walked kept [] h = h
-AreNames-walked kept (p ∷ ps) h =
-    AreNames-step kept p ps (same p []) (same p (46 ∷ [])) (same p (46 ∷ 46 ∷ [])) refl refl h (λ others o. AreNames-walked others ps o)
-
 same-itself : (p : List ℕ) → same p p ≡ true
 same-itself [] = refl
 same-itself (b ∷ p) = rw (eq-eqb b b refl, same-itself p)
@@ -73,20 +51,15 @@ is_front-append : (ps qs : List (List ℕ)) → is_front ps (ps ++ qs) ≡ true
 is_front-append [] qs = refl
 is_front-append (p ∷ ps) qs = rw (same-itself p, is_front-append ps qs)
 
--- the parts of a root and those that a path adds are those of their text
+-- the parts of a root and those that a path adds
+pub AreParts-resolved : (root path : List ℕ) → AreParts (parts_of root ++ walked [] (pieces path))
+AreParts-resolved root path =
+    AreParts-append (parts_of root) (walked [] (pieces path)) (AreParts-parts_of root) (AreParts-walked [] (pieces path) tt (ArePieces-pieces path))
+
+-- they are those of their text
 parts_of-resolved : (root path : List ℕ) → parts_of (text_of (parts_of root ++ walked [] (pieces path))) ≡ parts_of root ++ walked [] (pieces path)
-parts_of-resolved root path =
-    parts_of-text_of (parts_of root ++ walked [] (pieces path)) (AreParts-append (parts_of root) (walked [] (pieces path)) (AreParts-parts_of root) (AreParts-walked [] (pieces path) tt (ArePieces-pieces path)))
+parts_of-resolved root path = parts_of-text_of (parts_of root ++ walked [] (pieces path)) (AreParts-resolved root path)
 
 -- what is put after a root lies under it
 pub under_resolved : (root path : List ℕ) → under root (text_of (parts_of root ++ walked [] (pieces path))) ≡ true
 under_resolved root path = ap (λ x. is_front (parts_of root) x) (parts_of-resolved root path) ∙ is_front-append (parts_of root) (walked [] (pieces path))
-
--- what is put after a canonical root is canonical
-pub canonical_resolved : (root path found : List ℕ) → found ≡ text_of (parts_of root ++ walked [] (pieces path)) → IsCanonical root → IsCanonical found
-canonical_resolved root path found is h =
-    let parts : parts_of found ≡ parts_of root ++ walked [] (pieces path) = ap parts_of is ∙ parts_of-resolved root path in
-    record {
-      spelled = is ∙ sym (ap text_of parts);
-      named = subst AreNames (sym parts) (AreNames-append (parts_of root) (walked [] (pieces path)) h.named (AreNames-walked [] (pieces path) tt));
-    }

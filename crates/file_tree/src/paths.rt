@@ -1,33 +1,31 @@
 //! Paths under a root.
 
-ghost use Rattle.std.specs.Prelude.{not, ◌≡◌, nat_le, ◌&&◌, ◌↔◌, Some, Err, true, false, [], ◌++◌, map, IfOk};
-ghost use Rattle.std.specs.List.{list_all};
+ghost use Rattle.std.specs.Prelude.{not, ◌≡◌, ◌↔◌, Some, Err, true, false, [], ◌++◌, map, IfOk};
 ghost use Rattle.wedge_base.specs.Names.{same};
 ghost use Rattle.wedge_base.specs.Paths as paths;
-ghost use Rattle.file_tree.specs.Canonical.{IsCanonical};
 
 use crate::fault::PathFault;
 use std::alloc::Global;
-use wedge_base::{Bytes, NoMemory, PathText};
+use wedge_base::{Bytes, NoMemory, PathText, are_printed};
 
 /// The most bytes of a path.
 const MOST_BYTES: usize = 256;
 
 /// The path that a text names under a root: the parts of the root, and then those of the text, which are
 /// its pieces between slashes but the empty ones and `.`, where `..` takes away the part added before it.
-/// So it lies under the root, and is canonical where the root is. `Bad` exactly where the text is not 1 to
-/// 256 bytes from 0x21 to 0x7E, the first of them a `/`.
-#[tactic(auto, using(crate::proofs::Walks::under_resolved))]
+/// So it lies under the root, and is canonical. `Bad` exactly where the text is not 1 to 256 bytes from 0x21
+/// to 0x7E, the first of them a `/`.
+#[tactic(auto, using(crate::proofs::Walks::under_resolved, crate::proofs::CanonicalPaths::canonical_resolved))]
 pub fn resolve(alloc: Global, root: &PathText, path: &[u8]) -> Result<PathText, PathFault>
     ensures ok { IfOk result (λ p. Some p ≡ paths.resolve root.now path.now) }
     ensures under { IfOk result (λ p. paths.under root.now p ≡ true) }
-    ensures canonical { IfOk result (λ p. IsCanonical root.now → IsCanonical p) }
     ensures bad { (result ≡ Err PathFault.Bad) ↔ (paths.is_path path.now ≡ false) }
 {
     if !is_path(path) {
         return Err(PathFault::Bad);
     }
-    Ok(PathText::new(under_root(alloc, root.as_slice(), path)?))
+    let text = under_root(alloc, root.as_slice(), path)?;
+    Ok(PathText::new(text))
 }
 
 /// The text of the parts of a root and those that a path adds to them.
@@ -50,13 +48,6 @@ fn is_path(path: &[u8]) -> bool
             *first == b'/' && others.len() < MOST_BYTES && are_printed(others)
         }
     }
-}
-
-/// Whether each byte is a printed one of ASCII, and not the blank.
-fn are_printed(bytes: &[u8]) -> bool
-    ensures { result ≡ list_all (λ x. nat_le 0x21 x && nat_le x 0x7e) bytes.now }
-{
-    bytes.iter().all(|b| 0x21 <= *b && *b <= 0x7e)
 }
 
 /// The pieces of a text between its slashes.

@@ -1,10 +1,13 @@
 use super::*;
 use std::alloc::Global;
 use std::test::Fail;
-use wedge_base::{Bytes, FdBits, FileEntry, PathText, StreamKind};
+use wedge_base::{Bytes, FdBits, FileEntry, PathText, StreamKind, is_canonical};
 
-/// A path that is given as bytes.
+/// The canonical path of this text.
 fn path(alloc: Global, text: &[u8]) -> Result<PathText, PathFault> {
+    if !is_canonical(text) {
+        return Err(PathFault::Bad);
+    }
     Ok(PathText::new(Bytes::from_slice(alloc, text)?))
 }
 
@@ -27,7 +30,7 @@ fn paths_resolve_under_their_roots(rt: HostRuntime) -> Result<(), Fail> {
         ("/", "/.a/a.", "/.a/a."),
         ("/", "/!~", "/!~"),
     ] {
-        let root = path(rt.alloc(), root.as_bytes()).map_err(|_| "memory")?;
+        let root = path(rt.alloc(), root.as_bytes()).map_err(|_| "a root")?;
         let found = resolve(rt.alloc(), &root, text.as_bytes()).map_err(|_| "a path")?;
         assert_eq!(rt; found.as_slice(), answer.as_bytes(), "at {text}");
     }
@@ -37,7 +40,7 @@ fn paths_resolve_under_their_roots(rt: HostRuntime) -> Result<(), Fail> {
 /// What is no path is refused: no slash in front, a byte that is not printed, too many bytes, none.
 #[test]
 fn texts_that_are_no_paths_are_bad(rt: HostRuntime) -> Result<(), Fail> {
-    let root = path(rt.alloc(), b"/a/b").map_err(|_| "memory")?;
+    let root = path(rt.alloc(), b"/a/b").map_err(|_| "a root")?;
     for text in ["", "a", "a/b", "/a b", "/a\tb", "/a\u{7f}", "/\u{e9}"] {
         let found = resolve(rt.alloc(), &root, text.as_bytes());
         assert!(rt; matches!(found, Err(PathFault::Bad)), "at {text}");
@@ -72,7 +75,7 @@ fn files_open_to_whom_their_mode_says(rt: HostRuntime) -> Result<(), Fail> {
         (8, 0b1100, true, true, true),
     ] {
         let file = FileEntry {
-            path: path(rt.alloc(), b"/f").map_err(|_| "memory")?,
+            path: Bytes::from_slice(rt.alloc(), b"/f")?,
             owner: 7,
             mode,
             kind: StreamKind::Source,

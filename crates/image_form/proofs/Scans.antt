@@ -1,12 +1,13 @@
 -- The tests that run along a table: ascending texts, addresses that differ, ranges apart.
-use Rattle.std.proofs.Common.{◌≡◌, ℕ, ◌+◌, ◌≤◌, ◌<◌, ◌*◌, ◌%◌, true, ◌&&◌, not, eqb, leb, List, [], ◌∷◌, ◌++◌, length, map, refl, sym, ap, ◌∙◌, arith}
-use Rattle.std.specs.List.{sum_by, list_all, slice_split}
+use Rattle.std.proofs.Common.{◌≡◌, ℕ, ◌+◌, ◌≤◌, ◌<◌, ◌*◌, ◌%◌, true, ◌&&◌, not, leb, List, [], ◌∷◌, ◌++◌, length, map, refl, sym, ap, ◌∙◌, arith}
+use Rattle.std.specs.List.{sum_by, list_all}
 use Rattle.std.proofs.lemmas.Bool.{leb-true}
 use Rattle.std.proofs.lemmas.Bool.Decides.{nat_tests}
 use Rattle.std.proofs.lemmas.List.{map-append}
 use Rattle.std.proofs.lemmas.List.Sums.{sum_by-append, sum_by-cons}
 use Rattle.wedge_base.specs.declared.image.MemoryRange.{MemoryRange}
-use Rattle.image_form.specs.Forms.{is_below, ascend_from, is_path, is_root, is_printed, is_part}
+use Rattle.image_form.specs.Forms.{is_below, ascend_from, is_path, is_root}
+use Rattle.wedge_base.specs.Paths.{is_canonical}
 use Rattle.wedge_base.specs.Texts.{is_name, starts_name, continues_name}
 use Rattle.image_form.specs.Rules.{high_end, low_end, most_range_bytes, is_among, addresses, differ_from, end_of, is_off_text, lie_apart}
 use Rattle.image_form.specs.Reading.{last_of, is_base, is_word_count, is_address, is_range_length}
@@ -100,18 +101,12 @@ name_short (c ∷ cs) h =
 
 pub path_short : (t : List ℕ) → is_path t ≡ true → length t < 65535
 unfolding is_path
-path_short [] h = absurd cc
-path_short (c ∷ cs) h =
-    let slash = eqb c 47 in
-    let short = leb (length cs) 254 in
-    let printed = list_all is_printed cs in
-    let parts = list_all is_part (slice_split (λ b. eqb b 47) cs) in
-    let a = both ((slash && short) && printed) parts h in
-    let b = both (slash && short) printed a.0 in
-    omega (arith, leb-true (length cs) 254 (both slash short b.0).1)
+path_short t h =
+    let sized = both (leb 2 (length t) && leb (length t) 255) (is_canonical t) h in
+    omega (arith, leb-true (length t) 255 (both (leb 2 (length t)) (leb (length t) 255) sized.0).1)
 
 pub root_short : (t : List ℕ) → is_root t ≡ true → length t < 65535
 unfolding is_root
-root_short [] h = absurd cc
-root_short (c ∷ []) h = omega arith
-root_short (c ∷ d ∷ cs) h = path_short (c ∷ d ∷ cs) h
+root_short t h =
+    let sized = both (leb 1 (length t) && leb (length t) 255) (is_canonical t) h in
+    omega (arith, leb-true (length t) 255 (both (leb 1 (length t)) (leb (length t) 255) sized.0).1)

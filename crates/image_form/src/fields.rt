@@ -13,7 +13,7 @@ ghost use Rattle.image_form.specs.Reading.{Gives, place};
 use crate::fault::{Fault, ImageError, Why};
 use crate::forms::{is_below, is_path, is_root};
 use std::alloc::Global;
-use wedge_base::{Bytes, PathText, StreamKind, is_name};
+use wedge_base::{Bytes, StreamKind, is_name};
 
 /// A fault at the first of the bytes that are left.
 pub(crate) fn refused(total: usize, rest: &[u8], why: Why) -> ImageError
@@ -118,18 +118,14 @@ pub(crate) fn path_after<'a>(
 
 /// A root directory.
 #[tactic(auto, unfolding(crate::specs::Reading::formed_at))]
-pub(crate) fn root(
-    alloc: Global,
-    total: usize,
-    bytes: &[u8],
-) -> Result<(PathText, &[u8]), ImageError>
+pub(crate) fn root(alloc: Global, total: usize, bytes: &[u8]) -> Result<(Bytes, &[u8]), ImageError>
     ensures { Gives (λ x. (x.0, x.1.now)) result (reading.formed_at forms.is_root total bytes.now) }
 {
     let (root, rest) = string(total, bytes)?;
     if !is_root(root) {
         return Err(refused(total, bytes, Why::Range));
     }
-    Ok((PathText::new(Bytes::from_slice(alloc, root)?), rest))
+    Ok((Bytes::from_slice(alloc, root)?, rest))
 }
 
 /// What a stream is.

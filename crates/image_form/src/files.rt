@@ -8,7 +8,7 @@ ghost use Rattle.image_form.specs.Reading.{Gives, last_of};
 use crate::fault::{ImageError, Why};
 use crate::fields::{kind, limited, number, path_after, refused, stream_content};
 use std::alloc::Global;
-use wedge_base::{Bytes, FileEntry, PathText};
+use wedge_base::{Bytes, FileEntry};
 
 /// The most files of an image.
 const MOST_FILES: u32 = 1024;
@@ -50,7 +50,7 @@ fn file<'a>(
     let (mode, rest) = mode(total, rest)?;
     let (kind, rest) = kind(total, rest)?;
     let (content, rest) = stream_content(alloc, kind, total, rest)?;
-    let path = PathText::new(Bytes::from_slice(alloc, path)?);
+    let path = Bytes::from_slice(alloc, path)?;
     Ok((
         FileEntry {
             path,

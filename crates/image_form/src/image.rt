@@ -11,17 +11,8 @@ use crate::parts::{ImageParts, LentParts};
 use std::alloc::Global;
 use std::marker::Model;
 use wedge_base::{
-    Bytes, FdEntry, FileEntry, Items, MemoryRange, NoMemory, PathText, Procedure, TagEntry,
+    Bytes, FdEntry, FileEntry, Items, MemoryRange, NoMemory, Pristine, Procedure, TagEntry,
 };
-
-/// The text of an image and its data ranges, as they are before the first instruction.
-#[derive(Debug, Drop)]
-pub struct Pristine {
-    /// The address of the first word of the text.
-    pub base: u32,
-    pub words: Items<u32>,
-    pub ranges: Items<MemoryRange>,
-}
 
 /// An image that meets every rule of its form.
 #[derive(Debug, Drop)]
@@ -34,7 +25,7 @@ pub struct Image {
     fds: Items<FdEntry>,
     files: Items<FileEntry>,
     user: u32,
-    root: PathText,
+    root: Bytes,
 }
 
 impl Model for Image {
@@ -178,7 +169,7 @@ impl Image {
     }
 
     /// Lends the root's directory.
-    pub fn root(&self) -> &PathText
+    pub fn root(&self) -> &Bytes
         ensures is { result.now ≡ self.now.root }
         ensures valid { IsImage self.now }
     {

@@ -19,7 +19,7 @@ mod writing;
 
 pub use fault::{Fault, ImageError, Why};
 pub use finishing::finish_image;
-pub use image::{Image, Pristine};
+pub use image::Image;
 pub use parts::ImageParts;
 pub use reading::read_image;
 pub use writing::write_image;

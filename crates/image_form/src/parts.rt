@@ -1,6 +1,6 @@
 //! The parts of an image, before they are judged.
 
-use wedge_base::{FdEntry, FileEntry, Items, MemoryRange, PathText, Procedure, TagEntry};
+use wedge_base::{Bytes, FdEntry, FileEntry, Items, MemoryRange, Procedure, TagEntry};
 
 /// The parts that an image is made of, in the order of its form. They need meet no rule.
 #[derive(Debug, Drop)]
@@ -20,7 +20,7 @@ pub struct ImageParts {
     /// The user as which the root runs.
     pub user: u32,
     /// The root's directory.
-    pub root: PathText,
+    pub root: Bytes,
 }
 
 /// The parts of an image, lent.

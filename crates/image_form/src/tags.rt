@@ -9,13 +9,7 @@ ghost use Rattle.image_form.specs.Reading.{Gives, last_of};
 use crate::fault::{ImageError, Why};
 use crate::fields::{limited, name_after, number, refused, take};
 use std::alloc::Global;
-use wedge_base::{Bytes, Right, TagEntry};
-
-/// The bytes of a page.
-const PAGE: u32 = 4096;
-
-/// The most pages of a tag.
-const MOST_PAGES: u32 = 16;
+use wedge_base::{Bytes, MOST_PAGES, PAGE, Right, TagEntry};
 
 /// The most tags of an image.
 const MOST_TAGS: u32 = 256;

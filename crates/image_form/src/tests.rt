@@ -2,9 +2,7 @@ use super::*;
 use std::alloc::Global;
 use std::process::Abort;
 use std::test::Fail;
-use wedge_base::{
-    Bytes, FdBits, FileEntry, Items, NoMemory, PathText, Procedure, Right, StreamKind,
-};
+use wedge_base::{Bytes, FdBits, FileEntry, Items, NoMemory, Procedure, Right, StreamKind};
 
 /// An image with a procedure `main`, a tag `box`, a descriptor `out` and no file.
 static IMAGE: [u8; 139] = [
@@ -607,7 +605,7 @@ fn parts(alloc: Global, name: Bytes, content: Bytes) -> Result<ImageParts, NoMem
     })?;
     let mut files = Vec::new(alloc);
     files.push(FileEntry {
-        path: PathText::new(bytes(alloc, b"/a")?),
+        path: bytes(alloc, b"/a")?,
         owner: 7,
         mode: 15,
         kind: StreamKind::Source,
@@ -624,7 +622,7 @@ fn parts(alloc: Global, name: Bytes, content: Bytes) -> Result<ImageParts, NoMem
         fds: Items::new(Vec::new(alloc)),
         files: Items::new(files),
         user: 0,
-        root: PathText::new(bytes(alloc, b"/")?),
+        root: bytes(alloc, b"/")?,
     })
 }
 

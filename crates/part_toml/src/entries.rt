@@ -16,8 +16,8 @@ use std::alloc::Global;
 use std::cmp::Ordering;
 use toml::Table;
 use wedge_base::{
-    Bytes, FdBits, FdEntry, FileEntry, Items, MemoryRange, NoMemory, PathText, Procedure,
-    StreamKind, TagEntry,
+    Bytes, FdBits, FdEntry, FileEntry, Items, MemoryRange, NoMemory, Procedure, StreamKind,
+    TagEntry,
 };
 
 /// A range of memory, and the name that the text may use for where it begins.
@@ -239,7 +239,7 @@ impl Entry for FileEntry {
         let path = copy_at(alloc, table, Key::Path)?;
         let content = content_at(alloc, table)?;
         Ok(FileEntry {
-            path: PathText::new(path),
+            path,
             owner: number_at(table, Key::Owner, 0),
             mode: number_at(table, Key::Mode, 0),
             kind: stream_at(table),

@@ -22,7 +22,7 @@ use image_form::{Image, ImageParts, finish_image};
 use rv_asm::{Assembled, Why, assemble};
 use std::alloc::Global;
 use toml::Table;
-use wedge_base::{Items, MemoryRange, NoMemory, PathText, Procedure};
+use wedge_base::{Items, MemoryRange, NoMemory, Procedure};
 
 /// The base of the text where a partition gives none.
 const BASE: u32 = 65536;
@@ -87,7 +87,7 @@ fn image_parts(
         fds: Items::new(entries.fds),
         files: Items::new(entries.files),
         user: number_at(top, Key::User, 0),
-        root: PathText::new(root),
+        root,
     })
 }
 

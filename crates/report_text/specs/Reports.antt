@@ -6,6 +6,8 @@ use Rattle.wedge_base.specs.declared.outcome.Outcome.{Outcome}
 use Rattle.wedge_base.specs.declared.outcome.ActorLine.{ActorLine}
 use Rattle.wedge_base.specs.declared.outcome.DenialAt.{DenialAt}
 use Rattle.wedge_base.specs.declared.outcome.StreamLine.{StreamLine}
+use Rattle.wedge_base.specs.declared.grants.Item.{Item}
+use Rattle.wedge_base.specs.declared.grants.Item.TheVariants as item
 use Rattle.wedge_base.specs.declared.rights.Denial.{Denial}
 use Rattle.wedge_base.specs.declared.rights.Denial.TheVariants as denial
 use Rattle.wedge_base.specs.declared.rights.End.{End}
@@ -58,10 +60,26 @@ bits_text bits =
     then (if bits.append then codes "read+append" else codes "read")
     else (if bits.append then codes "append" else [])
 
--- what a denied request wanted
+-- the gate at an entry
+unfoldable pub gate_text : ℕ → List ℕ
+gate_text entry = codes "gate " ++ address_text entry
+
+-- a grant of a draft
+unfoldable pub item_text : Item → List ℕ
+item_text (item.Tag tag right) = codes "tag " ++ decimal tag ++ codes " " ++ right_text right
+item_text (item.Fd fd bits) = codes "fd " ++ decimal fd ++ codes " " ++ bits_text bits
+item_text (item.Gate entry) = gate_text entry
+
+-- the grant that a denied request lacks
 unfoldable pub denial_text : Denial → List ℕ
 denial_text (denial.Tag tag wants) = codes "tag " ++ decimal tag ++ codes " wants " ++ right_text wants
 denial_text (denial.Fd fd wants) = codes "fd " ++ decimal fd ++ codes " wants " ++ bits_text wants
+denial_text (denial.Gate entry) = gate_text entry
+denial_text (denial.Grant given) = codes "grant " ++ item_text given
+denial_text denial.User = codes "user"
+denial_text denial.Root = codes "root"
+denial_text (denial.NotMaker tag) = codes "not-maker " ++ decimal tag
+denial_text (denial.File path) = codes "file " ++ path
 
 -- `"` and `\`
 abbrev pub quote : ℕ

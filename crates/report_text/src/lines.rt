@@ -16,7 +16,7 @@ pub fn write_denial_line(out: &mut Vec<u8>, name: &ActorName, at: &DenialAt) -> 
     write_name(out, name.parts())?;
     write_pc(out, at.pc)?;
     out.extend_from_slice(b" ")?;
-    write_denial(out, at.denial)?;
+    write_denial(out, &at.denial)?;
     out.extend_from_slice(b"\n")?;
     Ok(())
 }

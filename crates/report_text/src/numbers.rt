@@ -1,6 +1,6 @@
 //! Numbers, names and quoted bytes as text.
 
-ghost use Rattle.std.specs.Prelude.{◌≡◌, ◌<◌, ◌/◌, ◌%◌, ◌^◌, ◌++◌, OnOk};
+ghost use Rattle.std.specs.Prelude.{◌≡◌, ◌<◌, ◌/◌, ◌%◌, ◌^◌, ◌++◌, OnOk, OnErr};
 ghost use Rattle.std.specs.Fmt.{decimal};
 ghost use Rattle.report_text.specs.Reports.{hex_digit, address_text, pc_text, name_text, escaped, quoted};
 
@@ -9,7 +9,8 @@ use wedge_base::NoMemory;
 
 /// Adds a number in decimal.
 pub fn write_decimal(out: &mut Vec<u8>, number: u32) -> Result<(), NoMemory>
-    ensures { OnOk result (out.new.items ≡ out.old.items ++ decimal number) }
+    ensures ok { OnOk result (out.new.items ≡ out.old.items ++ decimal number) }
+    ensures err { OnErr result (out.new.items ≡ out.old.items) }
 {
     let text = number.to_string(*out.allocator())?;
     out.extend_from_slice(text.as_bytes())?;
@@ -31,7 +32,8 @@ fn hex_digit(number: u32) -> u8
 
 /// Adds an address in eight hexadecimal digits.
 pub fn write_address(out: &mut Vec<u8>, address: u32) -> Result<(), NoMemory>
-    ensures { OnOk result (out.new.items ≡ out.old.items ++ address_text address) }
+    ensures ok { OnOk result (out.new.items ≡ out.old.items ++ address_text address) }
+    ensures err { OnErr result (out.new.items ≡ out.old.items) }
 {
     out.extend_from_slice(&[
         hex_digit(address >> 28),
@@ -71,7 +73,8 @@ pub fn write_name(out: &mut Vec<u8>, parts: &[u32]) -> Result<(), NoMemory>
 /// Adds a byte as it stands in quotes.
 #[tactic(auto, unfolding(crate::specs::Reports::escaped))]
 fn write_escaped(out: &mut Vec<u8>, byte: u8) -> Result<(), NoMemory>
-    ensures { OnOk result (out.new.items ≡ out.old.items ++ escaped byte) }
+    ensures ok { OnOk result (out.new.items ≡ out.old.items ++ escaped byte) }
+    ensures err { OnErr result (out.new.items ≡ out.old.items) }
 {
     match byte {
         b'"' | b'\\' | 0..=0x1f | 0x7f..=0xff => {

@@ -5,8 +5,8 @@ use crate::report;
 use std::alloc::Global;
 use std::test::Fail;
 use wedge_base::{
-    ActorLine, ActorName, Bytes, Denial, DenialAt, End, FdBits, FdNo, Items, NoMemory, Outcome,
-    Right, StreamLine, TagNo,
+    ActorLine, ActorName, Bytes, Denial, DenialAt, End, FdBits, FdNo, Item, Items, NoMemory,
+    Outcome, PathText, Right, StreamLine, TagNo, is_canonical,
 };
 
 /// The line of the root, with the compartment `main`.
@@ -88,9 +88,16 @@ fn every_end(rt: HostRuntime) -> Result<(), Fail> {
     Ok(())
 }
 
-#[test]
-fn denials_follow_their_actor(rt: HostRuntime) -> Result<(), Fail> {
-    let alloc = rt.alloc();
+/// The path of this text.
+fn path(alloc: Global, text: &[u8]) -> Result<PathText, Fail> {
+    if !is_canonical(text) {
+        return Err("a canonical path".into());
+    }
+    Ok(PathText::new(Bytes::from_slice(alloc, text)?))
+}
+
+/// Each kind of denial, and its text.
+fn denial_texts(alloc: Global) -> Result<Vec<(Denial, &'static str)>, Fail> {
     let tag = |tag, wants| Denial::Tag {
         tag: TagNo(tag),
         wants,
@@ -99,34 +106,73 @@ fn denials_follow_their_actor(rt: HostRuntime) -> Result<(), Fail> {
         fd: FdNo(1023),
         wants: FdBits { read, append },
     };
+    let item = |item| Denial::Grant { item };
+    let path = path(alloc, b"/a/b.txt")?;
+    Ok(vec![in alloc;
+        (tag(0, Right::ReadWrite), "tag 0 wants ReadWrite"),
+        (tag(12, Right::Read), "tag 12 wants Read"),
+        (tag(4294967295, Right::Cow), "tag 4294967295 wants Cow"),
+        (fd(true, false), "fd 1023 wants read"),
+        (fd(false, true), "fd 1023 wants append"),
+        (fd(true, true), "fd 1023 wants read+append"),
+        (fd(false, false), "fd 1023 wants "),
+        (Denial::Gate { entry: 0x1234abcd }, "gate 1234abcd"),
+        (
+            item(Item::Tag {
+                tag: TagNo(7),
+                right: Right::Read
+            }),
+            "grant tag 7 Read"
+        ),
+        (
+            item(Item::Fd {
+                fd: FdNo(3),
+                bits: FdBits {
+                    read: true,
+                    append: true
+                }
+            }),
+            "grant fd 3 read+append"
+        ),
+        (item(Item::Gate { entry: 0x10000 }), "grant gate 00010000"),
+        (Denial::User, "user"),
+        (Denial::Root, "root"),
+        (Denial::NotMaker { tag: TagNo(300) }, "not-maker 300"),
+        (Denial::File { path }, "file /a/b.txt"),
+    ]?)
+}
+
+#[test]
+fn every_denial(rt: HostRuntime) -> Result<(), Fail> {
+    let alloc = rt.alloc();
+    for (denial, words) in denial_texts(alloc)? {
+        let pc = 0x1000c;
+        let denials = vec![in alloc; DenialAt { pc, denial }]?;
+        let line = root_line(alloc, End::Break, 4, 1, denials)?;
+        let outcome = Outcome {
+            actors: Items::new(vec![in alloc; line]?),
+            streams: Items::new(Vec::new(alloc)),
+        };
+        let text = report(alloc, &outcome)?;
+        let want = format!(in alloc;
+            "actor 0 main break pc 00000004 fuel 1\ndenied 0 pc 0001000c {words}\n"
+        )?;
+        assert_eq!(rt; text.as_slice(), want.as_bytes());
+    }
+    Ok(())
+}
+
+#[test]
+fn denials_follow_their_actor(rt: HostRuntime) -> Result<(), Fail> {
+    let alloc = rt.alloc();
     let denials = vec![in alloc;
         DenialAt {
             pc: 0x1000c,
-            denial: tag(0, Right::ReadWrite)
+            denial: Denial::User
         },
         DenialAt {
             pc: 0x10010,
-            denial: tag(12, Right::Read)
-        },
-        DenialAt {
-            pc: 0x10014,
-            denial: tag(4294967295, Right::Cow)
-        },
-        DenialAt {
-            pc: 0x10018,
-            denial: fd(true, false)
-        },
-        DenialAt {
-            pc: 0x1001c,
-            denial: fd(false, true)
-        },
-        DenialAt {
-            pc: 0x10020,
-            denial: fd(true, true)
-        },
-        DenialAt {
-            pc: 0x10024,
-            denial: fd(false, false)
+            denial: Denial::Root
         },
     ]?;
     let first = root_line(alloc, End::Denied, 0x1000c, 96, denials)?;
@@ -140,13 +186,9 @@ fn denials_follow_their_actor(rt: HostRuntime) -> Result<(), Fail> {
     };
     let text = report(alloc, &outcome)?;
     let want = b"actor 0 main denied pc 0001000c fuel 96
-denied 0 pc 0001000c tag 0 wants ReadWrite
-denied 0 pc 00010010 tag 12 wants Read
-denied 0 pc 00010014 tag 4294967295 wants Cow
-denied 0 pc 00010018 fd 1023 wants read
-denied 0 pc 0001001c fd 1023 wants append
-denied 0 pc 00010020 fd 1023 wants read+append
-denied 0 pc 00010024 fd 1023 wants \nactor 0 main break pc 00000004 fuel 1
+denied 0 pc 0001000c user
+denied 0 pc 00010010 root
+actor 0 main break pc 00000004 fuel 1
 stream 0 out \"\"
 stream 7 log \"x\"
 ";

@@ -4,7 +4,6 @@ use Rattle.std.specs.Prelude.{ℤ, Result, Ok, Err, if◌then◌else◌}
 use Rattle.rv_isa.specs.Table.{form_of}
 use Rattle.rv_asm.specs.Statements.{Statement, Template}
 use Rattle.rv_asm.specs.Statements as statement
-use Rattle.rv_asm.specs.Numbers.{Number}
 use Rattle.rv_asm.specs.Assembly.{Equates, Labels, ◌>>=◌, integer, address_of, wanted, immediate, instruction, demand, is_word, is_small, load_two, load_number, label_line, is_taken, words, number_size, size}
 use Rattle.rv_asm.specs.Laws.{WordsAreCounted}
 use Rattle.rv_asm.specs.declared.fault.Why.{Why}

@@ -1,3 +1,4 @@
+pub mod ServiceNumbers
 pub mod Commas
 pub mod Trims
 pub mod Digits

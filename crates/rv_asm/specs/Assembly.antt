@@ -16,7 +16,7 @@ use Rattle.rv_asm.specs.Numbers as number
 use Rattle.rv_asm.specs.Statements.{Statement, Template}
 use Rattle.rv_asm.specs.Statements as statement
 use Rattle.rv_asm.specs.Parsing.{statement_of}
-use Rattle.rv_asm.specs.Services.{service_number}
+use Rattle.wedge_base.specs.Services.{service_number}
 use Rattle.rv_asm.specs.declared.assembled.Equate.{Equate}
 use Rattle.rv_asm.specs.declared.assembled.Assembled.{Assembled}
 use Rattle.rv_asm.specs.declared.labels.Label.{Label}

@@ -1,5 +1,5 @@
 -- Integers, as they are written.
-use Rattle.std.specs.Prelude.{ℕ, ◌^◌, ◌==◌, min, ℤ, pos, Bool, false, ◌||◌, ◌&&◌, List, [], ◌∷◌, length, Option, Some, None, option_map, nat_lt, nat_le, ◌-ℤ◌, if◌then◌else◌}
+use Rattle.std.specs.Prelude.{ℕ, ◌^◌, ◌==◌, min, ℤ, pos, Bool, ◌&&◌, List, [], ◌∷◌, Option, Some, None, option_map, nat_lt, ◌-ℤ◌, if◌then◌else◌}
 use Rattle.std.specs.List.{list_all}
 use Rattle.std.specs.Char.{digit_value}
 use Rattle.std.specs.Str.Parse.{digits_value}

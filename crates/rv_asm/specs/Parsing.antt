@@ -15,8 +15,8 @@ use Rattle.rv_asm.specs.Numbers as number
 use Rattle.rv_asm.specs.Operands.{◌>>=◌, or_else, one_number, register_number, register_base, register_label, two_registers, two_registers_number, three_registers}
 use Rattle.rv_asm.specs.Statements.{Template, template, Statement}
 use Rattle.rv_asm.specs.Statements as statement
-use Rattle.rv_asm.specs.Services.{services, service_name}
-use Rattle.rv_asm.specs.declared.services.Service.{Service}
+use Rattle.wedge_base.specs.Services.{services, service_name}
+use Rattle.wedge_base.specs.declared.service.Service.{Service}
 use Rattle.rv_asm.specs.declared.fault.Why.TheVariants as why
 use Rattle.rv_asm.specs.declared.mnemonics.Shorthand.{Shorthand}
 use Rattle.rv_asm.specs.declared.mnemonics.Shorthand.TheVariants as short

@@ -2,7 +2,7 @@
 use Rattle.std.specs.Prelude.{ℕ, Bool, List}
 use Rattle.rv_isa.specs.declared.Op.{Op}
 use Rattle.rv_asm.specs.Numbers.{Number}
-use Rattle.rv_asm.specs.declared.services.Service as service
+use Rattle.wedge_base.specs.declared.service.Service as service
 use Rattle.rv_asm.specs.declared.fault.Why.{Why}
 
 -- an instruction whose number is not yet known; an operand that its form lacks is 0

@@ -10,6 +10,7 @@ use crate::fault::Why;
 use crate::labels::{Equates, Labels};
 use crate::numbers::Number;
 use crate::ranges::{immediate, is_small, is_word};
+use crate::services::service_immediate;
 use crate::statements::Statement;
 use crate::templates::{Register, Template};
 use rv_isa::{Form, Instr};
@@ -187,7 +188,7 @@ pub(crate) fn words(
         Statement::LoadNumber { rd, number } => number_loaded(equates, rd, number),
         Statement::LoadAddress { rd, label } => address_loaded(labels, rd, label),
         Statement::Service(service) => {
-            Ok(Code::Two(add_word(17, 0, service.number()), call_word()))
+            Ok(Code::Two(add_word(17, 0, service_immediate(service)), call_word()))
         }
         Statement::Faulty { why, .. } => Err(why),
     }

@@ -1,129 +1,10 @@
-//! The service calls: their names and their numbers.
+//! Service calls in an assembler text.
 
 ghost use Rattle.std.specs.Prelude.{◌≡◌, pos};
 ghost use Rattle.rv_asm.specs.Parsing.{service_named};
-ghost use Rattle.rv_asm.specs.Services as services;
+ghost use Rattle.wedge_base.specs.Services.{service_number};
 
-/// A service call.
-#[derive(Clone, Copy, Debug, PartialEq, Eq)]
-pub(crate) enum Service {
-    /// End the actor.
-    Exit,
-    /// Start an sthread.
-    SthreadCreate,
-    /// Wait for an sthread to end.
-    SthreadJoin,
-    /// Make a tag.
-    TagNew,
-    /// Delete a tag.
-    TagDelete,
-    /// Get memory of a tag.
-    Smalloc,
-    /// Give memory of a tag back.
-    Sfree,
-    /// Begin a draft of rights.
-    ScNew,
-    /// Add a right on a tag to a draft.
-    ScMemAdd,
-    /// Add bits on a descriptor to a draft.
-    ScFdAdd,
-    /// Add a gate to a draft.
-    ScCgateAdd,
-    /// Set the user of a draft.
-    ScUser,
-    /// Set the root directory of a draft.
-    ScRoot,
-    /// Make a gate.
-    CgateMake,
-    /// Call a gate.
-    Cgate,
-    /// Read from a descriptor.
-    FdRead,
-    /// Append to a descriptor.
-    FdAppend,
-    /// Close a descriptor.
-    FdClose,
-    /// Open a file.
-    FileOpen,
-}
-
-const SERVICES: [Service; 19] = [
-    Service::Exit,
-    Service::SthreadCreate,
-    Service::SthreadJoin,
-    Service::TagNew,
-    Service::TagDelete,
-    Service::Smalloc,
-    Service::Sfree,
-    Service::ScNew,
-    Service::ScMemAdd,
-    Service::ScFdAdd,
-    Service::ScCgateAdd,
-    Service::ScUser,
-    Service::ScRoot,
-    Service::CgateMake,
-    Service::Cgate,
-    Service::FdRead,
-    Service::FdAppend,
-    Service::FdClose,
-    Service::FileOpen,
-];
-
-impl Service {
-    /// The name in a text.
-    fn name(self) -> &'static str
-        ensures { result.now ≡ services.service_name self }
-    {
-        match self {
-            Service::Exit => "exit",
-            Service::SthreadCreate => "sthread_create",
-            Service::SthreadJoin => "sthread_join",
-            Service::TagNew => "tag_new",
-            Service::TagDelete => "tag_delete",
-            Service::Smalloc => "smalloc",
-            Service::Sfree => "sfree",
-            Service::ScNew => "sc_new",
-            Service::ScMemAdd => "sc_mem_add",
-            Service::ScFdAdd => "sc_fd_add",
-            Service::ScCgateAdd => "sc_cgate_add",
-            Service::ScUser => "sc_user",
-            Service::ScRoot => "sc_root",
-            Service::CgateMake => "cgate_make",
-            Service::Cgate => "cgate",
-            Service::FdRead => "fd_read",
-            Service::FdAppend => "fd_append",
-            Service::FdClose => "fd_close",
-            Service::FileOpen => "file_open",
-        }
-    }
-
-    /// The number in register a7.
-    pub fn number(self) -> i32
-        ensures { result ≡ pos (services.service_number self) }
-    {
-        match self {
-            Service::Exit => 0,
-            Service::SthreadCreate => 1,
-            Service::SthreadJoin => 2,
-            Service::TagNew => 3,
-            Service::TagDelete => 4,
-            Service::Smalloc => 5,
-            Service::Sfree => 6,
-            Service::ScNew => 7,
-            Service::ScMemAdd => 8,
-            Service::ScFdAdd => 9,
-            Service::ScCgateAdd => 10,
-            Service::ScUser => 11,
-            Service::ScRoot => 12,
-            Service::CgateMake => 13,
-            Service::Cgate => 14,
-            Service::FdRead => 15,
-            Service::FdAppend => 16,
-            Service::FdClose => 17,
-            Service::FileOpen => 18,
-        }
-    }
-}
+use wedge_base::{SERVICES, Service};
 
 /// The service call of a name.
 pub(crate) fn service_named(name: &[u8]) -> Option<Service>
@@ -133,4 +14,12 @@ pub(crate) fn service_named(name: &[u8]) -> Option<Service>
         .iter()
         .copied()
         .find(|service| service.name().as_bytes() == name)
+}
+
+/// The number of a service call, as the immediate of the instruction that puts it in a7.
+#[tactic(auto, using(crate::proofs::ServiceNumbers::service_number_small))]
+pub(crate) fn service_immediate(service: Service) -> i32
+    ensures { result ≡ pos (service_number service) }
+{
+    service.number() as i32
 }

@@ -2,8 +2,8 @@
 
 use crate::fault::Why;
 use crate::numbers::Number;
-use crate::services::Service;
 use crate::templates::{Register, Template};
+use wedge_base::Service;
 
 /// What a line says.
 #[derive(Clone, Copy, Debug)]

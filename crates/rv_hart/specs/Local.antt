@@ -151,6 +151,10 @@ HasWidth (need.Load address width is_signed) = (width ≡ 1) ⊎ (width ≡ 2) �
 HasWidth (need.Store address width value) = (width ≡ 1) ⊎ (width ≡ 2) ⊎ (width ≡ 4)
 HasWidth n = Unit {0}
 
+abbrev pub is_load : Need → Bool
+is_load (need.Load address width is_signed) = true
+is_load n = false
+
 -- a loaded value of so many bytes, with its sign or without
 abbrev pub extended : ℕ → Bool → ℕ → ℕ
 extended width is_signed value = if is_signed then alu.as_word (signed (8 * width) value) else value

@@ -4,6 +4,7 @@ ghost use Rattle.std.specs.Prelude.{◌≡◌, ◌^◌, pos, ◌+ℤ◌, ◌%◌
 ghost use Rattle.rv_hart.specs.Alu as alu;
 
 /// A word plus a signed number.
+#[inline(always)]
 pub fn offset(base: u32, by: i32) -> u32
     ensures { result ≡ alu.as_word (pos base +ℤ by) }
 {
@@ -11,6 +12,7 @@ pub fn offset(base: u32, by: i32) -> u32
 }
 
 /// 1 where the first word is less than the second, both signed; else 0.
+#[inline(always)]
 pub fn slt(a: u32, b: u32) -> u32
     ensures { result ≡ alu.slt a b }
 {
@@ -18,6 +20,7 @@ pub fn slt(a: u32, b: u32) -> u32
 }
 
 /// 1 where the first word is less than the second; else 0.
+#[inline(always)]
 pub fn sltu(a: u32, b: u32) -> u32
     ensures { result ≡ alu.sltu a b }
 {
@@ -25,6 +28,7 @@ pub fn sltu(a: u32, b: u32) -> u32
 }
 
 /// A shift right that fills with the sign, by the low five bits of the second word.
+#[inline(always)]
 pub fn sra(a: u32, b: u32) -> u32
     ensures { result ≡ alu.sra a b }
 {
@@ -32,6 +36,7 @@ pub fn sra(a: u32, b: u32) -> u32
 }
 
 /// Bits 63 to 32 of a product.
+#[inline(always)]
 fn high_word(product: i64) -> u32
     ensures { result ≡ alu.as_word (alu.floor_div product (2 ^ 32)) }
 {
@@ -39,6 +44,7 @@ fn high_word(product: i64) -> u32
 }
 
 /// The high word of the product of two signed words.
+#[inline(always)]
 pub fn mulh(a: u32, b: u32) -> u32
     ensures { result ≡ alu.mulh a b }
 {
@@ -46,6 +52,7 @@ pub fn mulh(a: u32, b: u32) -> u32
 }
 
 /// The high word of the product of a signed word and an unsigned one.
+#[inline(always)]
 pub fn mulhsu(a: u32, b: u32) -> u32
     ensures { result ≡ alu.mulhsu a b }
 {
@@ -53,6 +60,7 @@ pub fn mulhsu(a: u32, b: u32) -> u32
 }
 
 /// The high word of the product of two words.
+#[inline(always)]
 pub fn mulhu(a: u32, b: u32) -> u32
     ensures { result ≡ alu.mulhu a b }
 {
@@ -60,6 +68,7 @@ pub fn mulhu(a: u32, b: u32) -> u32
 }
 
 /// The quotient of signed words, towards zero; by zero, all bits are one.
+#[inline(always)]
 pub fn div(a: u32, b: u32) -> u32
     ensures { result ≡ alu.div a b }
 {
@@ -72,6 +81,7 @@ pub fn div(a: u32, b: u32) -> u32
 }
 
 /// The quotient of two words; by zero, all bits are one.
+#[inline(always)]
 pub fn divu(a: u32, b: u32) -> u32
     ensures { result ≡ alu.divu a b }
 {
@@ -79,6 +89,7 @@ pub fn divu(a: u32, b: u32) -> u32
 }
 
 /// The remainder of signed words, with the sign of the first; by zero, it is the first.
+#[inline(always)]
 pub fn rem(a: u32, b: u32) -> u32
     ensures { result ≡ alu.rem a b }
 {
@@ -91,6 +102,7 @@ pub fn rem(a: u32, b: u32) -> u32
 }
 
 /// The remainder of two words; by zero, it is the first.
+#[inline(always)]
 pub fn remu(a: u32, b: u32) -> u32
     ensures { result ≡ alu.remu a b }
 {

@@ -8,7 +8,7 @@ mod tests;
 
 ghost use Rattle.std.specs.Prelude.{◌≡◌, ◌≢◌, ◌<◌, ◌*◌, ◌^◌, replicate, IsTrue, nat_lt, pos, ◌-ℤ◌, if◌then◌else◌};
 ghost use Rattle.rv_isa.specs.Table.{HasRegisters};
-ghost use Rattle.rv_hart.specs.Local.{reg, put, local, sets, passes, goes, branches, computes, loaded, stored, answered_with, finished, is_reply_to, loaded_value, HasWidth};
+ghost use Rattle.rv_hart.specs.Local.{reg, put, a, b, address, local, sets, passes, goes, branches, loaded, stored, answered_with, finished, is_reply_to, is_load, loaded_value, HasWidth};
 ghost use Rattle.rv_hart.specs.Alu.{as_word};
 
 use alu::{div, divu, mulh, mulhsu, mulhu, offset, rem, remu, slt, sltu, sra};
@@ -71,6 +71,7 @@ impl Hart {
     }
 
     /// The value of a register.
+    #[inline(always)]
     pub fn reg(&self, n: u8) -> u32
         requires { n < 32 }
         ensures { result ≡ reg self.now.regs n }
@@ -79,6 +80,7 @@ impl Hart {
     }
 
     /// Sets a register; register 0 is never changed.
+    #[inline(always)]
     pub fn put(&mut self, n: u8, value: u32)
         requires { n < 32 }
         ensures { self.new ≡ record self.old { regs = put self.old.regs n value } }
@@ -89,6 +91,7 @@ impl Hart {
     }
 
     /// Goes on to the next instruction.
+    #[inline(always)]
     pub fn advance(&mut self)
         ensures { self.new ≡ stored self.old }
     {
@@ -96,9 +99,10 @@ impl Hart {
     }
 
     /// The step of an instruction that sets a register.
-    fn set(&mut self, instr: Instr, value: u32) -> Need
-        requires { HasRegisters instr }
-        ensures { record { hart = self.new; need = result } ≡ sets instr self.old value }
+    #[inline(always)]
+    fn set(&mut self, instr: &Instr, value: u32) -> Need
+        requires { HasRegisters instr.now }
+        ensures { record { hart = self.new; need = result } ≡ sets instr.now self.old value }
     {
         self.put(instr.rd, value);
         self.advance();
@@ -106,6 +110,7 @@ impl Hart {
     }
 
     /// The step that only goes on to the next instruction.
+    #[inline(always)]
     fn pass(&mut self) -> Need
         ensures { record { hart = self.new; need = result } ≡ passes self.old }
     {
@@ -114,9 +119,10 @@ impl Hart {
     }
 
     /// The step of a jump to a target, with a link.
-    fn jump(&mut self, instr: Instr, target: u32) -> Need
-        requires { HasRegisters instr }
-        ensures { record { hart = self.new; need = result } ≡ goes instr self.old target }
+    #[inline(always)]
+    fn jump(&mut self, instr: &Instr, target: u32) -> Need
+        requires { HasRegisters instr.now }
+        ensures { record { hart = self.new; need = result } ≡ goes instr.now self.old target }
     {
         if target % 4 != 0 {
             return Need::JumpMisaligned;
@@ -127,8 +133,9 @@ impl Hart {
     }
 
     /// The step of a branch that is taken or not.
-    fn branch(&mut self, instr: Instr, taken: bool) -> Need
-        ensures { record { hart = self.new; need = result } ≡ branches instr self.old taken }
+    #[inline(always)]
+    fn branch(&mut self, instr: &Instr, taken: bool) -> Need
+        ensures { record { hart = self.new; need = result } ≡ branches instr.now self.old taken }
     {
         if !taken {
             return self.pass();
@@ -142,88 +149,117 @@ impl Hart {
         }
     }
 
+    /// The value of the first source register.
+    #[inline(always)]
+    fn first(&self, instr: &Instr) -> u32
+        requires { HasRegisters instr.now }
+        ensures { result ≡ a instr.now self.now }
+    {
+        self.reg(instr.rs1)
+    }
+
+    /// The value of the second source register.
+    #[inline(always)]
+    fn second(&self, instr: &Instr) -> u32
+        requires { HasRegisters instr.now }
+        ensures { result ≡ b instr.now self.now }
+    {
+        self.reg(instr.rs2)
+    }
+
+    /// The first source register with the immediate added.
+    #[inline(always)]
+    fn address(&self, instr: &Instr) -> u32
+        requires { HasRegisters instr.now }
+        ensures { result ≡ address instr.now self.now }
+    {
+        offset(self.reg(instr.rs1), instr.imm)
+    }
+
     /// Begins the step of an instruction, by chapters 2 and 7 of the manual, and makes it where nothing
     /// is needed for it. Where something is needed, nothing is changed, and `finish` makes the step.
+    #[inline]
     #[tactic(auto, unfolding(crate::specs::Local::local))]
-    pub fn begin(&mut self, instr: Instr) -> Need
-        requires { HasRegisters instr }
-        ensures step { record { hart = self.new; need = result } ≡ local instr self.old }
+    pub fn begin(&mut self, instr: &Instr) -> Need
+        requires { HasRegisters instr.now }
+        ensures step { record { hart = self.new; need = result } ≡ local instr.now self.old }
         ensures kept { result ≢ Need.Done → self.new ≡ self.old }
         ensures width { HasWidth result }
     {
-        let a = self.reg(instr.rs1);
-        let b = self.reg(instr.rs2);
-        let address = offset(a, instr.imm);
+        let imm = instr.imm.cast_unsigned();
         match instr.op {
+            Op::Lui => self.set(instr, imm),
+            Op::Auipc => self.set(instr, self.pc.wrapping_add(imm)),
             Op::Jal => self.jump(instr, offset(self.pc, instr.imm)),
-            Op::Jalr => self.jump(instr, address & !1),
-            Op::Beq => self.branch(instr, a == b),
-            Op::Bne => self.branch(instr, a != b),
-            Op::Blt => self.branch(instr, a.cast_signed() < b.cast_signed()),
-            Op::Bge => self.branch(instr, a.cast_signed() >= b.cast_signed()),
-            Op::Bltu => self.branch(instr, a < b),
-            Op::Bgeu => self.branch(instr, a >= b),
-            Op::Lb => wants_load(address, 1, true),
-            Op::Lh => wants_load(address, 2, true),
-            Op::Lw => wants_load(address, 4, false),
-            Op::Lbu => wants_load(address, 1, false),
-            Op::Lhu => wants_load(address, 2, false),
-            Op::Sb => wants_store(address, 1, b),
-            Op::Sh => wants_store(address, 2, b),
-            Op::Sw => wants_store(address, 4, b),
+            Op::Jalr => self.jump(instr, self.address(instr) & !1),
+            Op::Beq => self.branch(instr, self.first(instr) == self.second(instr)),
+            Op::Bne => self.branch(instr, self.first(instr) != self.second(instr)),
+            Op::Blt => self.branch(
+                instr,
+                self.first(instr).cast_signed() < self.second(instr).cast_signed(),
+            ),
+            Op::Bge => self.branch(
+                instr,
+                self.first(instr).cast_signed() >= self.second(instr).cast_signed(),
+            ),
+            Op::Bltu => self.branch(instr, self.first(instr) < self.second(instr)),
+            Op::Bgeu => self.branch(instr, self.first(instr) >= self.second(instr)),
+            Op::Lb => wants_load(self.address(instr), 1, true),
+            Op::Lh => wants_load(self.address(instr), 2, true),
+            Op::Lw => wants_load(self.address(instr), 4, false),
+            Op::Lbu => wants_load(self.address(instr), 1, false),
+            Op::Lhu => wants_load(self.address(instr), 2, false),
+            Op::Sb => wants_store(self.address(instr), 1, self.second(instr)),
+            Op::Sh => wants_store(self.address(instr), 2, self.second(instr)),
+            Op::Sw => wants_store(self.address(instr), 4, self.second(instr)),
+            Op::Addi => self.set(instr, self.first(instr).wrapping_add(imm)),
+            Op::Slti => self.set(instr, slt(self.first(instr), imm)),
+            Op::Sltiu => self.set(instr, sltu(self.first(instr), imm)),
+            Op::Xori => self.set(instr, self.first(instr) ^ imm),
+            Op::Ori => self.set(instr, self.first(instr) | imm),
+            Op::Andi => self.set(instr, self.first(instr) & imm),
+            Op::Slli => self.set(instr, self.first(instr).wrapping_shl(imm)),
+            Op::Srli => self.set(instr, self.first(instr).wrapping_shr(imm)),
+            Op::Srai => self.set(instr, sra(self.first(instr), imm)),
+            Op::Add => self.set(instr, self.first(instr).wrapping_add(self.second(instr))),
+            Op::Sll => self.set(instr, self.first(instr).wrapping_shl(self.second(instr))),
+            Op::Slt => self.set(instr, slt(self.first(instr), self.second(instr))),
+            Op::Sltu => self.set(instr, sltu(self.first(instr), self.second(instr))),
+            Op::Xor => self.set(instr, self.first(instr) ^ self.second(instr)),
+            Op::Srl => self.set(instr, self.first(instr).wrapping_shr(self.second(instr))),
+            Op::Or => self.set(instr, self.first(instr) | self.second(instr)),
+            Op::And => self.set(instr, self.first(instr) & self.second(instr)),
+            Op::Sub => self.set(instr, self.first(instr).wrapping_sub(self.second(instr))),
+            Op::Sra => self.set(instr, sra(self.first(instr), self.second(instr))),
+            Op::Mul => self.set(instr, self.first(instr).wrapping_mul(self.second(instr))),
+            Op::Mulh => self.set(instr, mulh(self.first(instr), self.second(instr))),
+            Op::Mulhsu => self.set(instr, mulhsu(self.first(instr), self.second(instr))),
+            Op::Mulhu => self.set(instr, mulhu(self.first(instr), self.second(instr))),
+            Op::Div => self.set(instr, div(self.first(instr), self.second(instr))),
+            Op::Divu => self.set(instr, divu(self.first(instr), self.second(instr))),
+            Op::Rem => self.set(instr, rem(self.first(instr), self.second(instr))),
+            Op::Remu => self.set(instr, remu(self.first(instr), self.second(instr))),
             Op::Fence => self.pass(),
             Op::Ecall => Need::Call,
             Op::Ebreak => Need::Break,
-            _ => self.set(instr, self.value(instr)),
         }
     }
 
-    /// The value to which an operation that only computes sets its destination.
+    /// Whether the step of an instruction needs a load.
+    #[inline(always)]
     #[tactic(auto, unfolding(crate::specs::Local::local))]
-    fn value(&self, instr: Instr) -> u32
-        requires registers { HasRegisters instr }
-        requires computes { IsTrue (computes instr.op) }
-        ensures { local instr self.now ≡ sets instr self.now result }
+    pub fn needs_load(&self, instr: Instr) -> bool
+        ensures { result ≡ is_load (local instr self.now).need }
     {
-        let a = self.reg(instr.rs1);
-        let b = self.reg(instr.rs2);
-        let imm = instr.imm.cast_unsigned();
         match instr.op {
-            Op::Lui => imm,
-            Op::Auipc => self.pc.wrapping_add(imm),
-            Op::Addi => a.wrapping_add(imm),
-            Op::Slti => slt(a, imm),
-            Op::Sltiu => sltu(a, imm),
-            Op::Xori => a ^ imm,
-            Op::Ori => a | imm,
-            Op::Andi => a & imm,
-            Op::Slli => a.wrapping_shl(imm),
-            Op::Srli => a.wrapping_shr(imm),
-            Op::Srai => sra(a, imm),
-            Op::Add => a.wrapping_add(b),
-            Op::Sll => a.wrapping_shl(b),
-            Op::Slt => slt(a, b),
-            Op::Sltu => sltu(a, b),
-            Op::Xor => a ^ b,
-            Op::Srl => a.wrapping_shr(b),
-            Op::Or => a | b,
-            Op::And => a & b,
-            Op::Sub => a.wrapping_sub(b),
-            Op::Sra => sra(a, b),
-            Op::Mul => a.wrapping_mul(b),
-            Op::Mulh => mulh(a, b),
-            Op::Mulhsu => mulhsu(a, b),
-            Op::Mulhu => mulhu(a, b),
-            Op::Div => div(a, b),
-            Op::Divu => divu(a, b),
-            Op::Rem => rem(a, b),
-            Op::Remu => remu(a, b),
-            _ => unreachable!(),
+            Op::Lb | Op::Lh | Op::Lw | Op::Lbu | Op::Lhu => true,
+            _ => false,
         }
     }
 
     /// Makes the step that was begun, with the reply to what it needed: a load sets its register, a
     /// call's answer stands in a0, a1 and, where it has one, a2.
+    #[inline(always)]
     #[tactic(auto, unfolding(crate::specs::Local::local))]
     pub fn finish(&mut self, instr: Instr, reply: Reply)
         requires registers { HasRegisters instr }
@@ -238,6 +274,7 @@ impl Hart {
     }
 
     /// A load is done.
+    #[inline(always)]
     fn load(&mut self, instr: Instr, value: u32)
         requires { HasRegisters instr }
         ensures { self.new ≡ loaded instr self.old (loaded_value instr.op value) }
@@ -247,6 +284,7 @@ impl Hart {
     }
 
     /// A call is answered.
+    #[inline(never)]
     pub fn answer(&mut self, a0: u32, a1: u32, a2: Option<u32>)
         ensures { self.new ≡ answered_with self.old a0 a1 a2 }
     {
@@ -260,6 +298,7 @@ impl Hart {
 }
 
 /// The need of a load.
+#[inline(always)]
 fn wants_load(address: u32, width: u8, signed: bool) -> Need
     ensures { result ≡ Need.Load address width signed }
 {
@@ -271,6 +310,7 @@ fn wants_load(address: u32, width: u8, signed: bool) -> Need
 }
 
 /// The need of a store.
+#[inline(always)]
 fn wants_store(address: u32, width: u8, value: u32) -> Need
     ensures { result ≡ Need.Store address width value }
 {
@@ -282,6 +322,7 @@ fn wants_store(address: u32, width: u8, value: u32) -> Need
 }
 
 /// The value that a load of these bytes gives: those of a signed load with their sign.
+#[inline(always)]
 fn loaded_value(op: Op, value: u32) -> u32
     ensures { result ≡ loaded_value op value }
 {
@@ -293,6 +334,7 @@ fn loaded_value(op: Op, value: u32) -> u32
 }
 
 /// A number whose highest bit, of the weight `sign`, makes it negative.
+#[inline(always)]
 fn extended(number: u32, sign: u32) -> u32
     requires { sign < 2 ^ 31 }
     ensures { result ≡ as_word (if nat_lt number sign then pos number else pos number -ℤ pos (2 * sign)) }

@@ -25,7 +25,7 @@ fn instr(op: Op, rd: u8, rs1: u8, rs2: u8, imm: i32) -> Instr
 fn step(hart: &mut Hart, instr: Instr, reply: Reply) -> Need
     requires { HasRegisters instr }
 {
-    let need = hart.begin(instr);
+    let need = hart.begin(&instr);
     match (need, reply) {
         (Need::Load { .. }, Reply::Loaded(_)) => hart.finish(instr, reply),
         (Need::Store { .. }, Reply::Stored) => hart.finish(instr, reply),
@@ -40,7 +40,7 @@ fn of_two(op: Op, a: u32, b: u32) -> u32 {
     let mut hart = Hart::new(0x1000);
     hart.put(5, a);
     hart.put(6, b);
-    let _need = hart.begin(instr(op, 7, 5, 6, 0));
+    let _need = hart.begin(&instr(op, 7, 5, 6, 0));
     hart.reg(7)
 }
 
@@ -95,7 +95,7 @@ fn results_of_an_immediate(rt: HostRuntime) {
         let mut hart = Hart::new(0x1000);
         hart.put(5, a);
         hart.put(7, 9);
-        assert_eq!(rt; hart.begin(instr(op, 7, 5, 0, imm)), Need::Done);
+        assert_eq!(rt; hart.begin(&instr(op, 7, 5, 0, imm)), Need::Done);
         assert_eq!(rt; hart.reg(7), want, "{op:?} of {a:x} and {imm}");
         assert_eq!(rt; hart.pc, 0x1004);
     }
@@ -120,7 +120,7 @@ fn branches_by_their_condition(rt: HostRuntime) {
         let mut hart = Hart::new(0x1000);
         hart.put(5, a);
         hart.put(6, b);
-        assert_eq!(rt; hart.begin(instr(op, 0, 5, 6, -8)), Need::Done);
+        assert_eq!(rt; hart.begin(&instr(op, 0, 5, 6, -8)), Need::Done);
         assert_eq!(rt; hart.pc, if taken { 0xff8 } else { 0x1004 }, "{op:?}");
     }
 }
@@ -128,31 +128,31 @@ fn branches_by_their_condition(rt: HostRuntime) {
 #[test]
 fn jumps_and_their_links(rt: HostRuntime) {
     let mut hart = Hart::new(0x1000);
-    assert_eq!(rt; hart.begin(instr(Op::Jal, 1, 0, 0, -0x1004)), Need::Done);
+    assert_eq!(rt; hart.begin(&instr(Op::Jal, 1, 0, 0, -0x1004)), Need::Done);
     assert_eq!(rt; hart.pc, 0xffff_fffc);
     assert_eq!(rt; hart.reg(1), 0x1004);
 
     // Bit 0 of the target is cleared, and the target is taken before the link is written.
     hart.put(5, 0x2004);
-    assert_eq!(rt; hart.begin(instr(Op::Jalr, 5, 5, 0, 1)), Need::Done);
+    assert_eq!(rt; hart.begin(&instr(Op::Jalr, 5, 5, 0, 1)), Need::Done);
     assert_eq!(rt; hart.pc, 0x2004);
     assert_eq!(rt; hart.reg(5), 0);
 
     // A target that is no multiple of 4 writes no register.
     let before = hart;
     assert_eq!(rt;
-        hart.begin(instr(Op::Jal, 1, 0, 0, 6)),
+        hart.begin(&instr(Op::Jal, 1, 0, 0, 6)),
         Need::JumpMisaligned
     );
     assert_eq!(rt;
-        hart.begin(instr(Op::Jalr, 1, 0, 0, 2)),
+        hart.begin(&instr(Op::Jalr, 1, 0, 0, 2)),
         Need::JumpMisaligned
     );
     assert_eq!(rt;
-        hart.begin(instr(Op::Beq, 0, 0, 0, 2)),
+        hart.begin(&instr(Op::Beq, 0, 0, 0, 2)),
         Need::JumpMisaligned
     );
-    assert_eq!(rt; hart.begin(instr(Op::Bne, 0, 0, 0, 2)), Need::Done);
+    assert_eq!(rt; hart.begin(&instr(Op::Bne, 0, 0, 0, 2)), Need::Done);
     assert_eq!(rt; hart.regs, before.regs);
     assert_eq!(rt; hart.pc, before.pc + 4);
 }
@@ -231,7 +231,7 @@ fn stores_and_calls(rt: HostRuntime) {
 fn register_0_reads_0(rt: HostRuntime) {
     let mut hart = Hart::new(0x1000);
     hart.put(0, 5);
-    assert_eq!(rt; hart.begin(instr(Op::Addi, 0, 0, 0, 5)), Need::Done);
+    assert_eq!(rt; hart.begin(&instr(Op::Addi, 0, 0, 0, 5)), Need::Done);
     assert_eq!(rt; hart.reg(0), 0);
     assert_eq!(rt; of_two(Op::Add, 0, 0), 0);
 }

@@ -1,9 +1,10 @@
 -- In a world of a run every actor is between instructions.
-use Rattle.std.proofs.Common.{◌≡◌, ℕ, Bool, true, false, List, [], ◌∷◌, refl, sym, ap, subst}
-use Rattle.std.specs.Prelude.{Option, Some, None, option_and_then, if◌then◌else◌}
+use Rattle.std.proofs.Common.{◌≡◌, ℕ, Bool, true, false, List, [], ◌∷◌, refl, sym, ap, subst, ◌∙◌}
+use Rattle.std.specs.Prelude.{Option, Some, None, option_map, option_and_then, if◌then◌else◌}
 use Rattle.wedge_base.specs.Names.{same}
 use Rattle.wedge_base.specs.Images.{Image, fetch}
 use Rattle.wedge_base.specs.declared.events.Want.{Want}
+use Rattle.wedge_base.specs.declared.events.Want.TheVariants as want
 use Rattle.wedge_base.specs.declared.events.Event.{Event}
 use Rattle.wedge_base.specs.declared.events.Event.TheVariants as event
 use Rattle.wedge_base.specs.declared.events.Turn.{Turn}
@@ -18,8 +19,16 @@ use Rattle.wedge_base.specs.declared.cells.LivesAsk.TheVariants as lives_ask
 use Rattle.sthread_life.specs.declared.phase.Phase.TheVariants as phase
 use Rattle.sthread_life.specs.Actors.{ActorState, root}
 use Rattle.sthread_life.specs.Local.{rest}
-use Rattle.sthread_life.specs.Taking.{wanted, runs, loads_by, loads_at, takes}
-use Rattle.sthread_life.specs.Worlds.{WorldState, opening, actor_named, put_actor, event_for, happened, wanting, turn_with, turn_of, Taken, Runs}
+use Rattle.sthread_life.specs.Taking.{wanted, pair, runs, loads_by, loads_at, takes}
+use Rattle.wedge_base.specs.Directories.{directory_reply}
+use Rattle.wedge_base.specs.Gates.{gate_reply}
+use Rattle.wedge_base.specs.Lives.{lives_reply}
+use Rattle.wedge_base.specs.Slots.{slot_reply as slot_reply_of}
+use Rattle.wedge_base.specs.Streams.{stream_reply as stream_reply_of}
+use Rattle.wedge_base.specs.Wants.{slot_ask_with}
+use Rattle.wedge_base.specs.declared.rights.End.TheVariants as end_
+use Rattle.sthread_life.specs.Cells.{Cells, slot_in, stream_in, kept_in, tag_in}
+use Rattle.sthread_life.specs.Worlds.{WorldState, opening, actor_named, put_actor, event_at, happened, wanting, turn_with, turn_of, Taken, Runs}
 use Rattle.sthread_life.specs.Between.{IsBetween}
 
 abbrev pub AllBetween : List ActorState → Type 0
@@ -40,7 +49,7 @@ put_or b a bs others true h k all rest = (h, all)
 put_or b a bs others false h k all rest = (k, rest)
 
 put_between : (actors : List ActorState) (a : ActorState) → AllBetween actors → IsBetween a.phase → AllBetween (put_actor actors a)
-put_between [] a all h = tt
+put_between [] a all h = (h, tt)
 put_between (b ∷ bs) a all h = put_or b a bs (put_actor bs a) (same b.name a.name) h all.0 all.1 (put_between bs a all.1 h)
 
 -- a load that has its value leaves the actor running
@@ -63,18 +72,7 @@ loaded_between a ins value e = subst IsBetween (sym (loaded_runs a ins value e))
 pub takes_between : (i : Image) (a : ActorState) (e : Event) → IsBetween (takes i a e).phase
 unfolding takes
 takes_between i a (event.Slot slot q (slot_reply.Loaded value)) = loaded_between (runs a) (option_and_then decode (fetch i a.hart.pc)) value refl
-takes_between i a (event.Slot slot q slot_reply.Opened) = tt
-takes_between i a (event.Slot slot q slot_reply.Closed) = tt
-takes_between i a (event.Slot slot q slot_reply.Stored) = tt
-takes_between i a (event.Slot slot q (slot_reply.Placed offset)) = tt
-takes_between i a (event.Slot slot q slot_reply.Freed) = tt
-takes_between i a (event.Slot slot q (slot_reply.Snapped bytes)) = tt
-takes_between i a (event.Slot slot q slot_reply.Unmapped) = tt
-takes_between i a (event.Slot slot q (slot_reply.Denied tag)) = tt
-takes_between i a (event.Slot slot q slot_reply.NoSuch) = tt
-takes_between i a (event.Slot slot q slot_reply.Full) = tt
-takes_between i a (event.Slot slot q slot_reply.Bad) = tt
-takes_between i a (event.Slot slot q slot_reply.Gone) = tt
+takes_between i a (event.Slot slot q r) = tt
 takes_between i a (event.Fd fd q stream_reply.Opened) = tt
 takes_between i a (event.Fd fd q (stream_reply.Given bytes)) = tt
 takes_between i a (event.Fd fd q stream_reply.Appended) = tt
@@ -84,27 +82,64 @@ takes_between i a (event.Fd fd q (stream_reply.Denied wants)) = tt
 takes_between i a (event.Fd fd q stream_reply.Bad) = tt
 takes_between i a (event.Lives lives_ask.Claim r) = tt
 takes_between i a (event.Lives (lives_ask.Release e) r) = tt
+takes_between i a e = tt
+
+-- the event of a want that is of a cell; of the others there is none
+abbrev pub event_for : Cells → ActorState → Want → Event
+event_for c b (want.Slots q) = event.Slots q (directory_reply c.places q)
+event_for c b (want.Slot slot q) = event.Slot slot (slot_ask_with q (pair b (tag_in c slot))) (slot_reply_of (slot_in c slot) (slot_ask_with q (pair b (tag_in c slot))))
+event_for c b (want.Fds q) = event.Fds q (directory_reply c.numbers q)
+event_for c b (want.Fd fd q) = event.Fd fd q (stream_reply_of (stream_in c fd) q)
+event_for c b (want.Lives q) = event.Lives q (lives_reply c.lives q)
+event_for c b (want.Gate id q) = event.Gate id q (gate_reply (kept_in c id) q)
+event_for c b q = event.Leave end_.Break
+
+event_is_for : (c : Cells) (b : ActorState) (q : Want) (e : Event) → event_at c b q ≡ Some e → e ≡ event_for c b q
+event_is_for c b (want.Slots q) e at = cc
+event_is_for c b (want.Slot slot q) e at = cc
+event_is_for c b (want.Fds q) e at = cc
+event_is_for c b (want.Fd fd q) e at = cc
+event_is_for c b (want.Lives q) e at = cc
+event_is_for c b (want.Gate id q) e at = cc
+event_is_for c b (want.Start child) e at = absurd cc
+event_is_for c b (want.Join child) e at = absurd cc
+event_is_for c b (want.Enter run) e at = absurd cc
+event_is_for c b (want.Leave end) e at = absurd cc
 
 -- what a turn is made of: the actor of the name, what it wants at rest, and the event of that ask
 pub record TurnParts (w : WorldState) (name : List ℕ) (e : Event) (new : WorldState) : Type 0 where
   pub actor : ActorState
   pub named : actor_named w.actors name ≡ Some actor
   pub want : Want
-  pub wants : wanted (rest w.image actor).phase ≡ Some want
-  pub event_is : e ≡ event_for w.cells (rest w.image actor) want
-  pub new_is : new ≡ (happened w (rest w.image actor) (event_for w.cells (rest w.image actor) want)).world
+  pub wants : wanted (rest w.image actor) ≡ Some want
+  pub comes : event_at w.cells (rest w.image actor) want ≡ Some e
+  pub new_is : new ≡ (happened w (rest w.image actor) e).world
+
+parts_event : (w : WorldState) (name : List ℕ) (a : ActorState) (q : Want) (o : Option Event) (e : Event) (new : WorldState)
+    → actor_named w.actors name ≡ Some a → wanted (rest w.image a) ≡ Some q → event_at w.cells (rest w.image a) q ≡ o
+    → option_map (happened w (rest w.image a)) o ≡ Some (record { event = e; world = new }) → TurnParts w name e new
+parts_event w name a q None e new named wants at t = absurd cc
+parts_event w name a q (Some f) e new named wants at t =
+    let is : happened w (rest w.image a) f ≡ record { event = e; world = new } = cc in
+    let same : f ≡ e = ap (λ (x : Taken). x.event) is in
+    record {
+      actor = a;
+      named = named;
+      want = q;
+      wants = wants;
+      comes = at ∙ ap (λ (x : Event). Some x) same;
+      new_is = ap (λ (x : Taken). x.world) (sym is) ∙ ap (λ (x : Event). (happened w (rest w.image a) x).world) same;
+    }
 
 parts_wanting : (w : WorldState) (name : List ℕ) (a : ActorState) (q : Option Want) (e : Event) (new : WorldState)
-    → actor_named w.actors name ≡ Some a → wanted (rest w.image a).phase ≡ q → wanting w (rest w.image a) q ≡ Some (record { event = e; world = new }) → TurnParts w name e new
+    → actor_named w.actors name ≡ Some a → wanted (rest w.image a) ≡ q → wanting w (rest w.image a) q ≡ Some (record { event = e; world = new }) → TurnParts w name e new
 parts_wanting w name a None e new named wants t = absurd cc
-parts_wanting w name a (Some q) e new named wants t =
-    let is : happened w (rest w.image a) (event_for w.cells (rest w.image a) q) ≡ record { event = e; world = new } = cc in
-    record { actor = a; named = named; want = q; wants = wants; event_is = ap (λ (x : Taken). x.event) (sym is); new_is = ap (λ (x : Taken). x.world) (sym is) }
+parts_wanting w name a (Some q) e new named wants t = parts_event w name a q (event_at w.cells (rest w.image a) q) e new named wants refl t
 
 parts_named : (w : WorldState) (name : List ℕ) (a : Option ActorState) (e : Event) (new : WorldState)
     → actor_named w.actors name ≡ a → turn_with w a ≡ Some (record { event = e; world = new }) → TurnParts w name e new
 parts_named w name None e new named t = absurd cc
-parts_named w name (Some a) e new named t = parts_wanting w name a (wanted (rest w.image a).phase) e new named refl t
+parts_named w name (Some a) e new named t = parts_wanting w name a (wanted (rest w.image a)) e new named refl t
 
 pub turn_parts : (w : WorldState) (name : List ℕ) (e : Event) (new : WorldState) → turn_of w name ≡ Some (record { event = e; world = new }) → TurnParts w name e new
 unfolding turn_of
@@ -114,7 +149,11 @@ pub turn_between : (w : WorldState) (name : List ℕ) (e : Event) (new : WorldSt
 turn_between w name e new all t =
     let p = turn_parts w name e new t in
     let b = rest w.image p.actor in
-    subst (λ (x : WorldState). AllBetween x.actors) (sym p.new_is) (put_between w.actors (takes w.image b (event_for w.cells b p.want)) all (takes_between w.image b (event_for w.cells b p.want)))
+    subst (λ (x : WorldState). AllBetween x.actors) (sym p.new_is) (put_between w.actors (takes w.image b e) all (takes_between w.image b e))
+
+-- and its event is the one of its want
+pub parts_event_is : (w : WorldState) (name : List ℕ) (e : Event) (new : WorldState) (p : TurnParts w name e new) → e ≡ event_for w.cells (rest w.image p.actor) p.want
+parts_event_is w name e new p = event_is_for w.cells (rest w.image p.actor) p.want e p.comes
 
 pub opening_between : (i : Image) → AllBetween (opening i).actors
 unfolding root

@@ -1,6 +1,13 @@
 pub mod WritingRanges
 pub mod Resting
 pub mod Between
-pub mod Judging
+pub mod Named
+pub mod Meeting
+pub mod Going
+pub mod Keeping
+pub mod Mediating
 pub mod Writing
 pub mod Opening
+pub mod Distinct
+pub mod Canonical
+pub mod LyingBelow

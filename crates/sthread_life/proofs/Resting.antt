@@ -1,12 +1,11 @@
--- An actor at rest: it asks with its own rights, it keeps its name and sheet, it has paid for what it
--- asks, and it does not run.
+-- An actor at rest: it keeps its name, its sheet and what it made, it has paid for what it asks, and it does
+-- not run.
 use Rattle.std.proofs.Common.{◌≡◌, ℕ, zero, suc, ◌+◌, ◌<◌, ◌≤◌, Bool, true, false, refl, sym, ap, subst, ◌∙◌, arith}
 use Rattle.std.specs.Prelude.{Option, Some, None, not, ◌⊎◌, if◌then◌else◌, ◌==◌, nat_lt, nat_le}
 use Rattle.std.proofs.Common.{inl, inr}
 use Rattle.wedge_base.specs.Images.{Image, fetch, in_text, read_text, slot_of}
 use Rattle.wedge_base.specs.Bytes.{number_of}
 use Rattle.wedge_base.specs.Memory.{range_at, read_range}
-use Rattle.wedge_base.specs.Rights.{Sheet}
 use Rattle.wedge_base.specs.Streams.{most_fds}
 use Rattle.wedge_base.specs.declared.image.MemoryRange.{MemoryRange}
 use Rattle.wedge_base.specs.declared.rights.End.{End}
@@ -26,7 +25,6 @@ use Rattle.sthread_life.specs.Actors.{ActorState, ends, refuses, spends}
 use Rattle.sthread_life.specs.Private.{loads, stores, load_window, load_range, store_window, store_range, has_loaded, fits_read}
 use Rattle.sthread_life.specs.Calls.{serves, exit, fd_append, a0, a1, a2, a7}
 use Rattle.sthread_life.specs.Local.{needed, executed, fuelled, fetched, step, is_running, has_ended, run_local, rest}
-use Rattle.sthread_life.specs.Between.{AsksItsOwn}
 
 -- what the work of an instruction keeps, and how it leaves the actor
 pub record Goes (a b : ActorState) : Type 0 where
@@ -34,7 +32,7 @@ pub record Goes (a b : ActorState) : Type 0 where
   pub compartment : b.compartment ≡ a.compartment
   pub sheet : b.sheet ≡ a.sheet
   pub fuel : b.fuel ≡ a.fuel
-  pub own : AsksItsOwn a.sheet a.phase → AsksItsOwn b.sheet b.phase
+  pub made : b.made ≡ a.made
   pub live : has_ended a.phase ≡ false → has_ended b.phase ≡ false
 
 goes_if : (a x y : ActorState) (b : Bool) → Goes a x → Goes a y → Goes a (if b then x else y)
@@ -42,17 +40,17 @@ goes_if a x y true p q = p
 goes_if a x y false p q = q
 
 goes_end : (a : ActorState) (e : End) → Goes a (ends a e)
-goes_end a e = record { name = refl; compartment = refl; sheet = refl; fuel = refl; own = λ h. tt; live = λ h. refl }
+goes_end a e = record { name = refl; compartment = refl; sheet = refl; fuel = refl; made = refl; live = λ h. refl }
 
 goes_refused : (a : ActorState) (c : Code) → Goes a (refuses a c)
-goes_refused a c = record { name = refl; compartment = refl; sheet = refl; fuel = refl; own = λ h. tt; live = λ h. refl }
+goes_refused a c = record { name = refl; compartment = refl; sheet = refl; fuel = refl; made = refl; live = λ h. refl }
 
 goes_loaded : (ins : Instr) (s : Bool) (a : ActorState) (width value : ℕ) → Goes a (has_loaded ins s a width value)
-goes_loaded ins s a width value = record { name = refl; compartment = refl; sheet = refl; fuel = refl; own = λ h. h; live = λ h. h }
+goes_loaded ins s a width value = record { name = refl; compartment = refl; sheet = refl; fuel = refl; made = refl; live = λ h. h }
 
 goes_load_window : (a : ActorState) (width : ℕ) (p : Option Place) → Goes a (load_window a width p)
 goes_load_window a width None = goes_end a end_.Unmapped
-goes_load_window a width (Some p) = record { name = refl; compartment = refl; sheet = refl; fuel = refl; own = λ h. tt; live = λ h. refl }
+goes_load_window a width (Some p) = record { name = refl; compartment = refl; sheet = refl; fuel = refl; made = refl; live = λ h. refl }
 
 goes_load_range : (ins : Instr) (s : Bool) (a : ActorState) (address width : ℕ) (r : Option MemoryRange) → Goes a (load_range ins s a address width r)
 goes_load_range ins s a address width (Some r) = goes_loaded ins s a width (number_of (read_range r address width))
@@ -66,10 +64,10 @@ goes_load i ins s a address width =
 
 goes_store_window : (a : ActorState) (width value : ℕ) (p : Option Place) → Goes a (store_window a width value p)
 goes_store_window a width value None = goes_end a end_.Unmapped
-goes_store_window a width value (Some p) = record { name = refl; compartment = refl; sheet = refl; fuel = refl; own = λ h. tt; live = λ h. refl }
+goes_store_window a width value (Some p) = record { name = refl; compartment = refl; sheet = refl; fuel = refl; made = refl; live = λ h. refl }
 
 goes_store_range : (a : ActorState) (address width value : ℕ) (r : Option MemoryRange) → Goes a (store_range a address width value r)
-goes_store_range a address width value (Some r) = record { name = refl; compartment = refl; sheet = refl; fuel = refl; own = λ h. h; live = λ h. h }
+goes_store_range a address width value (Some r) = record { name = refl; compartment = refl; sheet = refl; fuel = refl; made = refl; live = λ h. h }
 goes_store_range a address width value None = goes_store_window a width value (slot_of address)
 
 goes_store : (i : Image) (a : ActorState) (address width value : ℕ) → Goes a (stores i a address width value)
@@ -83,7 +81,7 @@ goes_append i a =
     goes_if a (refuses a code.Bad) _ (not (fits_read i a (a1 a) (a2 a))) (goes_refused a code.Bad)
     (goes_if a (refuses a code.FuelShort) _ (nat_lt a.fuel (a2 a)) (goes_refused a code.FuelShort)
     (goes_if a (refuses a code.NoSuch) _ (nat_le most_fds (a0 a)) (goes_refused a code.NoSuch)
-    (record { name = refl; compartment = refl; sheet = refl; fuel = refl; own = λ h. refl; live = λ h. refl })))
+    (record { name = refl; compartment = refl; sheet = refl; fuel = refl; made = refl; live = λ h. refl })))
 
 goes_call : (i : Image) (a : ActorState) (n : ℕ) → Goes a (serves i a n)
 unfolding serves
@@ -92,7 +90,7 @@ goes_call i a n =
     (goes_if a (fd_append i a) _ (n == 16) (goes_append i a) (goes_refused a code.Bad))
 
 goes_needed : (i : Image) (ins : Instr) (a : ActorState) (h : Hart) (n : Need) → Goes a (needed i ins a h n)
-goes_needed i ins a h need.Done = record { name = refl; compartment = refl; sheet = refl; fuel = refl; own = λ h. h; live = λ h. h }
+goes_needed i ins a h need.Done = record { name = refl; compartment = refl; sheet = refl; fuel = refl; made = refl; live = λ h. h }
 goes_needed i ins a h (need.Load address width s) = goes_load i ins s a address width
 goes_needed i ins a h (need.Store address width value) = goes_store i a address width value
 goes_needed i ins a h need.Call = goes_call i a (a7 a)
@@ -116,17 +114,17 @@ pub record Steps (a b : ActorState) : Type 0 where
   pub compartment : b.compartment ≡ a.compartment
   pub sheet : b.sheet ≡ a.sheet
   pub spent : (b.fuel < a.fuel) ⊎ ((b.fuel ≡ a.fuel) × IsEnding b.phase)
-  pub own : AsksItsOwn a.sheet a.phase → AsksItsOwn b.sheet b.phase
+  pub made : b.made ≡ a.made
   pub live : has_ended a.phase ≡ false → has_ended b.phase ≡ false
 
 steps_fuelled : (i : Image) (a : ActorState) (word n : ℕ) → a.fuel ≡ n → Steps a (fuelled i a word n)
-steps_fuelled i a word zero e = record { name = refl; compartment = refl; sheet = refl; spent = inr (refl, tt); own = λ h. tt; live = λ h. refl }
+steps_fuelled i a word zero e = record { name = refl; compartment = refl; sheet = refl; spent = inr (refl, tt); made = refl; live = λ h. refl }
 steps_fuelled i a word (suc n) e =
     let g = goes_executed i (spends a 1) (decode word) in
-    record { name = g.name; compartment = g.compartment; sheet = g.sheet; spent = inl (omega (arith, g.fuel)); own = g.own; live = g.live }
+    record { name = g.name; compartment = g.compartment; sheet = g.sheet; spent = inl (omega (arith, g.fuel)); made = g.made; live = g.live }
 
 steps_fetched : (i : Image) (a : ActorState) (word : Option ℕ) → Steps a (fetched i a word)
-steps_fetched i a None = record { name = refl; compartment = refl; sheet = refl; spent = inr (refl, tt); own = λ h. tt; live = λ h. refl }
+steps_fetched i a None = record { name = refl; compartment = refl; sheet = refl; spent = inr (refl, tt); made = refl; live = λ h. refl }
 steps_fetched i a (Some word) = steps_fuelled i a word a.fuel refl
 
 pub steps_step : (i : Image) (a : ActorState) → Steps a (step i a)
@@ -146,7 +144,7 @@ pub record Rests (a b : ActorState) : Type 0 where
   pub compartment : b.compartment ≡ a.compartment
   pub sheet : b.sheet ≡ a.sheet
   pub paid : HasPaid a.fuel b.fuel b.phase
-  pub own : AsksItsOwn b.sheet b.phase
+  pub made : b.made ≡ a.made
   pub live : has_ended b.phase ≡ false
 
 paid_less : (before mid after : ℕ) (p : Phase) → mid ≤ before → HasPaid mid after p → HasPaid before after p
@@ -179,18 +177,11 @@ pub goes_on : (i : Image) (n : ℕ) (a : ActorState) → is_running a.phase ≡ 
 unfolding run_local
 goes_on i n a e = ap (λ b. elim b [ true ↦ run_local i n (step i a) | false ↦ a ]) e
 
-running_is : (p : Phase) → is_running p ≡ true → p ≡ phase.Running
+pub running_is : (p : Phase) → is_running p ≡ true → p ≡ phase.Running
 running_is phase.Running e = refl
 running_is (phase.Within q) e = cc
 running_is (phase.Ending x) e = cc
 running_is (phase.Ended x) e = cc
-
--- an actor that runs asks nothing yet
-runs_own : (s : Sheet) (p : Phase) → is_running p ≡ true → AsksItsOwn s p
-runs_own s phase.Running e = tt
-runs_own s (phase.Within q) e = cc
-runs_own s (phase.Ending x) e = tt
-runs_own s (phase.Ended x) e = tt
 
 running_live : (p : Phase) → is_running p ≡ true → has_ended p ≡ false
 running_live phase.Running e = refl
@@ -198,21 +189,20 @@ running_live (phase.Within q) e = refl
 running_live (phase.Ending x) e = refl
 running_live (phase.Ended x) e = cc
 
-rests_from : (i : Image) (n : ℕ) (a : ActorState) (b : Bool) → is_running a.phase ≡ b → AsksItsOwn a.sheet a.phase → Rests a (run_local i n a) ⊎ (a ≡ run_local i n a)
-rests_from i n a false e own = inr (sym (stays i n a e))
-rests_from i zero a true e own = inr (unfold run_local in refl)
-rests_from i (suc n) a true e own =
+rests_from : (i : Image) (n : ℕ) (a : ActorState) (b : Bool) → is_running a.phase ≡ b → Rests a (run_local i n a) ⊎ (a ≡ run_local i n a)
+rests_from i n a false e = inr (sym (stays i n a e))
+rests_from i zero a true e = inr (unfold run_local in refl)
+rests_from i (suc n) a true e =
     let s = steps_step i a in
-    let own2 = s.own own in
     let b = step i a in
     let le : b.fuel ≤ a.fuel = spent_le a.fuel b.fuel b.phase s.spent in
     rw (goes_on i n a e) (inl (
-    elim (rests_from i n b _ refl own2) [
-      | inl r ↦ record { name = r.name ∙ s.name; compartment = r.compartment ∙ s.compartment; sheet = r.sheet ∙ s.sheet; paid = paid_less a.fuel b.fuel _ _ le r.paid; own = r.own; live = r.live }
-      | inr same ↦ subst (Rests a) same (record { name = s.name; compartment = s.compartment; sheet = s.sheet; paid = paid_step a.fuel b.fuel b.phase s.spent; own = own2; live = s.live (running_live a.phase e) })
+    elim (rests_from i n b _ refl) [
+      | inl r ↦ record { name = r.name ∙ s.name; compartment = r.compartment ∙ s.compartment; sheet = r.sheet ∙ s.sheet; made = r.made ∙ s.made; paid = paid_less a.fuel b.fuel _ _ le r.paid; live = r.live }
+      | inr same ↦ subst (Rests a) same (record { name = s.name; compartment = s.compartment; sheet = s.sheet; made = s.made; paid = paid_step a.fuel b.fuel b.phase s.spent; live = s.live (running_live a.phase e) })
     ]))
 
--- an actor that runs rests paid, and asks with its own rights
+-- an actor that runs rests paid
 paid_running : (f : ℕ) (p : Phase) → is_running p ≡ true → HasPaid f f p
 paid_running f phase.Running e = omega arith
 paid_running f (phase.Within q) e = cc
@@ -222,9 +212,9 @@ paid_running f (phase.Ended x) e = omega arith
 pub rests : (i : Image) (a : ActorState) → is_running a.phase ≡ true → Rests a (rest i a)
 unfolding rest
 rests i a e =
-    elim (rests_from i (a.fuel + 1) a true e (runs_own a.sheet a.phase e)) [
+    elim (rests_from i (a.fuel + 1) a true e) [
       | inl r ↦ r
-      | inr same ↦ subst (Rests a) same (record { name = refl; compartment = refl; sheet = refl; paid = paid_running a.fuel a.phase e; own = runs_own a.sheet a.phase e; live = running_live a.phase e })
+      | inr same ↦ subst (Rests a) same (record { name = refl; compartment = refl; sheet = refl; made = refl; paid = paid_running a.fuel a.phase e; live = running_live a.phase e })
     ]
 
 pub rest-stays : (i : Image) (a : ActorState) → is_running a.phase ≡ false → rest i a ≡ a
@@ -272,3 +262,63 @@ ended_stops (phase.Ended x) e = refl
 -- an actor that has ended does nothing more
 pub ended-stays : (i : Image) (a : ActorState) → has_ended a.phase ≡ true → rest i a ≡ a
 ended-stays i a e = rest-stays i a (ended_stops a.phase e)
+
+-- a step more or less, of those that are left, changes nothing
+enough : (i : Image) (n m : ℕ) (a : ActorState) (b : Bool) → is_running a.phase ≡ b → a.fuel < n → a.fuel < m → run_local i n a ≡ run_local i m a
+enough i n m a false e ln lm = stays i n a e ∙ sym (stays i m a e)
+enough i zero m a true e ln lm = absurd (omega arith)
+enough i (suc n) zero a true e ln lm = absurd (omega arith)
+enough i (suc n) (suc m) a true e ln lm =
+    let s = steps_step i a in
+    let next : run_local i n (step i a) ≡ run_local i m (step i a) = elim s.spent [
+      | inl less ↦ enough i n m (step i a) _ refl (omega arith) (omega arith)
+      | inr h ↦ stays i n (step i a) (ending_stops _ h.1) ∙ sym (stays i m (step i a) (ending_stops _ h.1))
+    ] in
+    goes_on i n a e ∙ next ∙ sym (goes_on i m a e)
+
+-- an actor that runs comes to rest where it does after its next step
+pub rest-step : (i : Image) (a : ActorState) → is_running a.phase ≡ true → rest i (step i a) ≡ rest i a
+unfolding rest
+rest-step i a e =
+    let s = steps_step i a in
+    let next : run_local i ((step i a).fuel + 1) (step i a) ≡ run_local i a.fuel (step i a) = elim s.spent [
+      | inl less ↦ enough i ((step i a).fuel + 1) a.fuel (step i a) _ refl (omega arith) (omega arith)
+      | inr h ↦ stays i ((step i a).fuel + 1) (step i a) (ending_stops _ h.1) ∙ sym (stays i a.fuel (step i a) (ending_stops _ h.1))
+    ] in
+    let one : a.fuel + 1 ≡ suc a.fuel = omega arith in
+    next ∙ sym (ap (λ n. run_local i n a) one ∙ goes_on i a.fuel a e)
+
+-- what an actor that runs has left to do
+abbrev pub left : Phase → ℕ → ℕ
+left phase.Running n = n + 1
+left (phase.Within q) n = 0
+left (phase.Ending e) n = 0
+left (phase.Ended e) n = 0
+
+left_ending : (p : Phase) (n : ℕ) → IsEnding p → left p n ≡ 0
+left_ending phase.Running n h = absurd h
+left_ending (phase.Within q) n h = refl
+left_ending (phase.Ending e) n h = refl
+left_ending (phase.Ended e) n h = refl
+
+left_le : (p : Phase) (n : ℕ) → left p n ≤ n + 1
+left_le phase.Running n = omega arith
+left_le (phase.Within q) n = omega arith
+left_le (phase.Ending e) n = omega arith
+left_le (phase.Ended e) n = omega arith
+
+left_running : (p : Phase) (n : ℕ) → is_running p ≡ true → left p n ≡ n + 1
+left_running p n e = ap (λ q. left q n) (running_is p e)
+
+pub step_less : (i : Image) (a : ActorState) → is_running a.phase ≡ true → left (step i a).phase (step i a).fuel < left a.phase a.fuel
+step_less i a e =
+    let s = steps_step i a in
+    let before = left_running a.phase a.fuel e in
+    elim s.spent [
+      | inl less ↦ omega (arith, before, left_le (step i a).phase (step i a).fuel)
+      | inr h ↦ omega (arith, before, left_ending (step i a).phase (step i a).fuel h.1)
+    ]
+
+-- coming to rest twice is coming to rest once
+pub rest_rest : (i : Image) (a : ActorState) → rest i (rest i a) ≡ rest i a
+rest_rest i a = rest-stays i (rest i a) (rest-stops i a)

@@ -1,153 +1,300 @@
--- Bytes by the history of a run, and who wrote them.
-use Rattle.std.proofs.Common.{◌≡◌, ℕ, zero, suc, ◌==◌, Bool, true, false, true≢false, List, [], ◌∷◌, length, refl, sym, ap, subst, ◌∙◌}
+-- Bytes of tags and of streams by the history of a run, and who wrote them.
+use Rattle.std.proofs.Common.{◌≡◌, ℕ, zero, suc, ◌==◌, Bool, true, false, true≢false, List, [], ◌∷◌, ◌++◌, ◌+◌, length, refl, sym, ap, subst, ◌∙◌}
 use Rattle.std.proofs.lemmas.Bool.{eqb-true, eq-eqb}
 use Rattle.std.specs.Prelude.{Option, Some, None, option_map, not, slice_get, slice_set, nat_lt, if◌then◌else◌}
+use Rattle.wedge_base.specs.Bytes.{written, bytes_of}
 use Rattle.wedge_base.specs.Images.{Image}
-use Rattle.wedge_base.specs.Rights.{at_least, right_on}
-use Rattle.wedge_base.specs.Slots.{Segment, slot_after, live_reply}
-use Rattle.wedge_base.specs.Histories.{bytes_by, bytes_after_event, bytes_after}
+use Rattle.wedge_base.specs.Rights.{at_least, append_bit}
+use Rattle.wedge_base.specs.Sheets.{right_on, bits_on}
+use Rattle.wedge_base.specs.Slots.{Segment, slot_reply as slot_reply_of, slot_after, stored}
+use Rattle.wedge_base.specs.Streams.{Stream, stream_reply as stream_reply_of, stream_after, append_reply, grown}
+use Rattle.wedge_base.specs.Histories.{Flow, flow, bytes_by, bytes_after_event, bytes_after, flow_by, flow_after_event, flow_after}
 use Rattle.wedge_base.specs.declared.rights.Right.TheVariants as right
+use Rattle.wedge_base.specs.declared.rights.StreamKind.{StreamKind}
+use Rattle.wedge_base.specs.declared.rights.StreamKind.TheVariants as kind
+use Rattle.wedge_base.specs.declared.events.SlotWant.TheVariants as slot_want
 use Rattle.wedge_base.specs.declared.events.Want.{Want}
 use Rattle.wedge_base.specs.declared.events.Want.TheVariants as want
 use Rattle.wedge_base.specs.declared.events.Event.{Event}
 use Rattle.wedge_base.specs.declared.events.Event.TheVariants as event
 use Rattle.wedge_base.specs.declared.events.Turn.{Turn}
 use Rattle.wedge_base.specs.declared.cells.Live.{Live}
+use Rattle.wedge_base.specs.declared.cells.LivesAsk.TheVariants as lives_ask
+use Rattle.wedge_base.specs.declared.cells.SlotAsk.{SlotAsk}
 use Rattle.wedge_base.specs.declared.cells.SlotAsk.TheVariants as slot_ask
+use Rattle.wedge_base.specs.declared.cells.SlotReply.{SlotReply}
 use Rattle.wedge_base.specs.declared.cells.SlotReply.TheVariants as slot_reply
-use Rattle.sthread_life.specs.Actors.{ActorState}
+use Rattle.wedge_base.specs.declared.cells.StreamAsk.{StreamAsk}
+use Rattle.wedge_base.specs.declared.cells.StreamAsk.TheVariants as stream_ask
+use Rattle.wedge_base.specs.declared.cells.StreamReply.{StreamReply}
+use Rattle.wedge_base.specs.declared.cells.StreamReply.TheVariants as reply
+use Rattle.wedge_base.specs.declared.rights.FdBits.{FdBits}
+use Rattle.sthread_life.specs.declared.phase.Phase.{Phase}
+use Rattle.sthread_life.specs.declared.phase.Phase.TheVariants as phase
+use Rattle.sthread_life.specs.Actors.{ActorState, right_of, bits_of}
 use Rattle.sthread_life.specs.Local.{rest, is_running}
-use Rattle.sthread_life.specs.Worlds.{Cells, WorldState, held, slot_in, opening, cells_after, event_for, turn_of, Runs}
-use Rattle.sthread_life.specs.Allowed.{allows, Stores, EachStep}
-use Rattle.sthread_life.specs.Written.{bytes_in, BytesFollow, stores_in, StepWritesOwn}
+use Rattle.sthread_life.specs.Taking.{wanted_at, pair}
+use Rattle.sthread_life.specs.Cells.{Cells, held, slot_in, stream_in, cells_after}
+use Rattle.sthread_life.specs.Worlds.{WorldState, opening, turn_of, Runs}
+use Rattle.sthread_life.specs.Allowed.{may_use}
+use Rattle.sthread_life.specs.Moments.{EachStep}
+use Rattle.sthread_life.specs.Written.{bytes_in, BytesFollow, stores_in, StepWritesOwn, flow_in, FlowsFollow, appends_to, StepAppendsOwn}
 use Rattle.sthread_life.specs.Laws.{RunsWriteTheirOwn}
 use Rattle.sthread_life.proofs.Resting.{rests, rest-stays}
-use Rattle.sthread_life.proofs.Between.{turn_parts}
-use Rattle.sthread_life.proofs.Judging.{set_held}
+use Rattle.sthread_life.proofs.Between.{AllBetween, named_between, turn_between, opening_between, event_for, parts_event_is, turn_parts}
+use Rattle.sthread_life.proofs.Meeting.{IsRequest, ReadsAs, LoadsAt, rest_reads}
+use Rattle.sthread_life.proofs.Mediating.{set_held}
 
--- the bytes where a tag lives
-abbrev bytes_of_tag : Option Segment → Option (List ℕ)
-bytes_of_tag o = option_map (λ g. g.bytes) o
+-- ---- one cell among others: what is put there, and what it shows
 
--- what is put in a place is what is there, and each other place stays
-get_put_same : (xs : List (Option Segment)) (s : ℕ) (old : Segment) (new : Option Segment) → held (slice_get xs s) ≡ Some old → held (slice_get (slice_set xs s new) s) ≡ new
+get_put_same : {X : Type 0} (xs : List (Option X)) (s : ℕ) (old : X) (new : Option X) → held (slice_get xs s) ≡ Some old → held (slice_get (slice_set xs s new) s) ≡ new
 get_put_same [] s old new e = absurd cc
 get_put_same (y ∷ ys) zero old new e = refl
 get_put_same (y ∷ ys) (suc m) old new e = get_put_same ys m old new e
 
-get_put_other : (xs : List (Option Segment)) (s slot : ℕ) (new : Option Segment) → (s ≡ slot → ⊥) → slice_get (slice_set xs s new) slot ≡ slice_get xs slot
-get_put_other [] s slot new ne = refl
+get_put_other : {X : Type 0} (xs : List (Option X)) (s n : ℕ) (new : Option X) → (s ≡ n → ⊥) → slice_get (slice_set xs s new) n ≡ slice_get xs n
+get_put_other [] s n new ne = refl
 get_put_other (y ∷ ys) zero zero new ne = absurd (ne refl)
 get_put_other (y ∷ ys) zero (suc n) new ne = refl
 get_put_other (y ∷ ys) (suc m) zero new ne = refl
 get_put_other (y ∷ ys) (suc m) (suc n) new ne = get_put_other ys m n new (λ e. ne (ap suc e))
 
-not_equal : (s slot : ℕ) → (s == slot) ≡ false → s ≡ slot → ⊥
-not_equal s slot eq e = let both : true ≡ false = sym (eq-eqb s slot e) ∙ eq in cc
+not_equal : (s n : ℕ) → (s == n) ≡ false → s ≡ n → ⊥
+not_equal s n eq e = let both : true ≡ false = sym (eq-eqb s n e) ∙ eq in cc
 
-either_way : {X : Type 0} (t : Bool) (x : X) → (if t then x else x) ≡ x
-either_way true x = refl
-either_way false x = refl
+-- The cell s goes on to new, and shows f of what it showed; each other cell shows what it did. A cell with
+-- nothing in it stays so.
+follows : {X F : Type 0} (view : Option X → F) (f : F → F) (xs : List (Option X)) (s n : ℕ) (old new : Option X) (t : Bool)
+    → held (slice_get xs s) ≡ old → (s == n) ≡ t → (old ≡ None → new ≡ None) → view new ≡ f (view old)
+    → view (held (slice_get (slice_set xs s new) n)) ≡ (if t then f (view (held (slice_get xs n))) else view (held (slice_get xs n)))
+follows view f xs s n None new true there eq stays shows =
+    let same : s ≡ n = eqb-true s n eq in
+    let here : held (slice_get xs n) ≡ None = subst (λ m. held (slice_get xs m) ≡ None) same there in
+    ap (λ x. view (held (slice_get (slice_set xs s x) n))) (stays refl) ∙ ap (λ ys. view (held (slice_get ys n))) (set_held xs s None there)
+    ∙ ap view here ∙ (sym (ap view (stays refl)) ∙ (shows ∙ ap (λ x. f (view x)) (sym here)))
+follows view f xs s n None new false there eq stays shows =
+    ap (λ x. view (held (slice_get (slice_set xs s x) n))) (stays refl) ∙ ap (λ ys. view (held (slice_get ys n))) (set_held xs s None there)
+follows view f xs s n (Some old) new true there eq stays shows =
+    let same : s ≡ n = eqb-true s n eq in
+    let here : held (slice_get xs n) ≡ Some old = subst (λ m. held (slice_get xs m) ≡ Some old) same there in
+    let put : held (slice_get (slice_set xs s new) n) ≡ new = subst (λ m. held (slice_get (slice_set xs s new) m) ≡ new) same (get_put_same xs s old new there) in
+    ap view put ∙ (shows ∙ ap (λ x. f (view x)) (sym here))
+follows view f xs s n (Some old) new false there eq stays shows = ap (λ x. view (held x)) (get_put_other xs s n new (not_equal s n eq))
 
--- what the reply to a store makes of the bytes
-store_bytes : (g : Segment) (offset width value : ℕ) (live : Option Live) (within held : Bool)
-    → bytes_of_tag (slot_after (Some g) (slot_ask.Store offset width value live) (if not within then slot_reply.Unmapped else if held then slot_reply.Stored else slot_reply.Denied g.tag))
-    ≡ bytes_by (Some g.bytes) (slot_ask.Store offset width value live) (if not within then slot_reply.Unmapped else if held then slot_reply.Stored else slot_reply.Denied g.tag)
-store_bytes g offset width value live false held = refl
-store_bytes g offset width value live true false = refl
-store_bytes g offset width value live true true = refl
+-- ---- what a reply makes of the bytes of a tag, and of a stream
 
--- the bytes in a slot after a load and after a store, there or in another slot
-abbrev IsFollowed : Cells → ActorState → ℕ → Want → Type 0
-IsFollowed c b slot q = bytes_in (cells_after c (event_for c b q)) slot ≡ bytes_after_event slot (bytes_in c slot) (event_for c b q)
+abbrev bytes_of_tag : Option Segment → Option (List ℕ)
+bytes_of_tag g = option_map (λ x. x.bytes) g
 
-load_follows : (c : Cells) (b : ActorState) (s offset width slot : ℕ) → IsFollowed c b slot (want.Load s offset width)
-load_follows c b s offset width slot =
-    ap (λ (xs : List (Option Segment)). bytes_of_tag (held (slice_get xs slot))) (set_held c.slots s (slot_in c s) refl) ∙ sym (either_way (s == slot) (bytes_in c slot))
+stored_bytes : (offset width value : ℕ) (g : Option Segment) → bytes_of_tag (option_map (stored offset width value) g) ≡ option_map (λ b. written b offset (bytes_of width value)) (bytes_of_tag g)
+stored_bytes offset width value None = refl
+stored_bytes offset width value (Some g) = refl
 
-store_follows : (c : Cells) (b : ActorState) (s offset width value slot : ℕ) (o : Option Segment) (t : Bool) → slot_in c s ≡ o → (s == slot) ≡ t
-    → IsFollowed c b slot (want.Store s offset width value)
-store_follows c b s offset width value slot None t there eq =
-    rw there (ap (λ (xs : List (Option Segment)). bytes_of_tag (held (slice_get xs slot))) (set_held c.slots s None there) ∙ sym (either_way (s == slot) (bytes_in c slot)))
-store_follows c b s offset width value slot (Some g) false there eq =
-    rw (there, eq) (ap (λ o. bytes_of_tag (held o)) (get_put_other c.slots s slot _ (not_equal s slot eq)))
-store_follows c b s offset width value slot (Some g) true there eq =
-    let same : s ≡ slot = eqb-true s slot eq in
-    let here : slot_in c slot ≡ Some g = subst (λ n. slot_in c n ≡ Some g) same there in
-    let live = Some (record { tag = g.tag; right = right_on b.sheet g.tag }) in
+-- a load or a store
+abbrev IsAccess : SlotAsk → Type 0
+IsAccess (slot_ask.Load offset width live) = Unit {0}
+IsAccess (slot_ask.Store offset width value live) = Unit {0}
+IsAccess q = ⊥
+
+tag_shows : (g : Option Segment) (q : SlotAsk) (r : SlotReply) → IsAccess q → bytes_of_tag (slot_after g q r) ≡ bytes_by (bytes_of_tag g) q r
+tag_shows g (slot_ask.Load offset width live) r k = refl
+tag_shows g (slot_ask.Store offset width value live) slot_reply.Stored k = stored_bytes offset width value g
+tag_shows g (slot_ask.Store offset width value live) r k = refl
+tag_shows g q r k = absurd k
+
+abbrev flow_of : Option Stream → Option Flow
+flow_of s = option_map (λ x. flow x.bytes x.position) s
+
+grown_flow : (bytes : List ℕ) (s : Option Stream) → flow_of (option_map (grown bytes) s) ≡ option_map (λ g. flow (g.bytes ++ bytes) g.taken) (flow_of s)
+grown_flow bytes None = refl
+grown_flow bytes (Some s) = refl
+
+stream_shows : (s : Option Stream) (bits : FdBits) (bytes : List ℕ) (r : StreamReply) → flow_of (stream_after s (stream_ask.Append bits bytes) r) ≡ flow_by (flow_of s) (stream_ask.Append bits bytes) r
+stream_shows s bits bytes reply.Appended = grown_flow bytes s
+stream_shows s bits bytes r = refl
+
+-- ---- what an event that an actor comes to makes of each tag and of each stream
+
+record IsFollowed (c : Cells) (b : ActorState) (q : Want) : Type 0 where
+  tags : (slot : ℕ) → bytes_in (cells_after c (event_for c b q)) slot ≡ bytes_after_event slot (bytes_in c slot) (event_for c b q)
+  streams : (fd : ℕ) → flow_in (cells_after c (event_for c b q)) fd ≡ flow_after_event fd (flow_in c fd) (event_for c b q)
+
+-- an access to a slot in which no tag lives leaves it so
+store_stays : (g : Option Segment) (offset width value : ℕ) (live : Option Live) → g ≡ None → slot_after g (slot_ask.Store offset width value live) (slot_reply_of g (slot_ask.Store offset width value live)) ≡ None
+store_stays g offset width value live e = subst (λ x. slot_after x (slot_ask.Store offset width value live) (slot_reply_of x (slot_ask.Store offset width value live)) ≡ None) (sym e) refl
+
+append_stays : (s : Option Stream) (bits : FdBits) (bytes : List ℕ) → s ≡ None → stream_after s (stream_ask.Append bits bytes) (stream_reply_of s (stream_ask.Append bits bytes)) ≡ None
+append_stays s bits bytes e = subst (λ x. stream_after x (stream_ask.Append bits bytes) (stream_reply_of x (stream_ask.Append bits bytes)) ≡ None) (sym e) refl
+
+want_follows : (N : ℕ → Type 0) (c : Cells) (b : ActorState) (q : Want) → IsRequest N b q → IsFollowed c b q
+want_follows N c b (want.Slot s (slot_want.Load offset width)) own =
+    let q = slot_ask.Load offset width (pair b (option_map (λ g. g.tag) (slot_in c s))) in
+    let r = slot_reply_of (slot_in c s) q in
+    record {
+      tags = λ slot. follows bytes_of_tag (λ x. bytes_by x q r) c.slots s slot (slot_in c s) (slot_after (slot_in c s) q r) _ refl refl (λ e. e) (tag_shows (slot_in c s) q r tt);
+      streams = λ fd. refl;
+    }
+want_follows N c b (want.Slot s (slot_want.Store offset width value)) own =
+    let live = pair b (option_map (λ g. g.tag) (slot_in c s)) in
     let q = slot_ask.Store offset width value live in
-    let new = slot_after (Some g) q (live_reply g q) in
-    let put : held (slice_get (slice_set c.slots s new) slot) ≡ new = subst (λ n. held (slice_get (slice_set c.slots s new) n) ≡ new) same (get_put_same c.slots s g new there) in
-    rw (there, eq, here) (ap bytes_of_tag put ∙ store_bytes g offset width value live (nat_lt offset (length g.bytes)) (at_least (right_on b.sheet g.tag) right.ReadWrite))
+    let r = slot_reply_of (slot_in c s) q in
+    record {
+      tags = λ slot. follows bytes_of_tag (λ x. bytes_by x q r) c.slots s slot (slot_in c s) (slot_after (slot_in c s) q r) _ refl refl (store_stays (slot_in c s) offset width value live) (tag_shows (slot_in c s) q r tt);
+      streams = λ fd. refl;
+    }
+want_follows N c b (want.Fd fd (stream_ask.Append bits bytes)) own =
+    let q = stream_ask.Append bits bytes in
+    let r = stream_reply_of (stream_in c fd) q in
+    record {
+      tags = λ slot. refl;
+      streams = λ n. follows flow_of (λ x. flow_by x q r) c.streams fd n (stream_in c fd) (stream_after (stream_in c fd) q r) _ refl refl (append_stays (stream_in c fd) bits bytes) (stream_shows (stream_in c fd) bits bytes r);
+    }
+want_follows N c b q own = absurd own
 
--- an event that an actor comes to makes of the bytes in a slot what the history says
-want_follows : (c : Cells) (b : ActorState) (q : Want) (slot : ℕ) → IsFollowed c b slot q
-want_follows c b (want.Load s offset width) slot = load_follows c b s offset width slot
-want_follows c b (want.Store s offset width value) slot = store_follows c b s offset width value slot (slot_in c s) (s == slot) refl refl
-want_follows c b (want.Fd fd q) slot = refl
-want_follows c b (want.Lives q) slot = refl
+rest_follows : (i : Image) (c : Cells) (b : ActorState) (ph : Phase) (q : Want) → ReadsAs i b ph → wanted_at ph ≡ Some q → IsFollowed c b q
+rest_follows i c b phase.Running q reads e = absurd cc
+rest_follows i c b (phase.Within x) q reads e = let is : x ≡ q = cc in subst (IsFollowed c b) is (want_follows (LoadsAt i b.hart reads.0 reads.1) c b x reads.3)
+rest_follows i c b (phase.Ending x) q reads e = let is : want.Lives (lives_ask.Release x) ≡ q = cc in subst (IsFollowed c b) is (record { tags = λ slot. refl; streams = λ fd. refl })
+rest_follows i c b (phase.Ended x) q reads e = absurd cc
 
 -- a turn's event makes the cells
 turn_cells : (w : WorldState) (t : Turn) (new : WorldState) → turn_of w t.actor ≡ Some (record { event = t.event; world = new }) → new.cells ≡ cells_after w.cells t.event
-turn_cells w t new e =
-    let p = turn_parts w t.actor t.event new e in
-    ap (λ (x : WorldState). x.cells) p.new_is ∙ ap (cells_after w.cells) (sym p.event_is)
+turn_cells w t new e = let p = turn_parts w t.actor t.event new e in ap (λ (x : WorldState). x.cells) p.new_is
 
-turn_follows : (w : WorldState) (t : Turn) (new : WorldState) (slot : ℕ) → turn_of w t.actor ≡ Some (record { event = t.event; world = new })
-    → bytes_in new.cells slot ≡ bytes_after_event slot (bytes_in w.cells slot) t.event
-turn_follows w t new slot e =
+record TurnFollows (w : WorldState) (e : Event) (new : WorldState) : Type 0 where
+  tags : (slot : ℕ) → bytes_in new.cells slot ≡ bytes_after_event slot (bytes_in w.cells slot) e
+  streams : (fd : ℕ) → flow_in new.cells fd ≡ flow_after_event fd (flow_in w.cells fd) e
+
+turn_follows : (w : WorldState) (t : Turn) (new : WorldState) → AllBetween w.actors → turn_of w t.actor ≡ Some (record { event = t.event; world = new }) → TurnFollows w t.event new
+turn_follows w t new all e =
     let p = turn_parts w t.actor t.event new e in
     let b = rest w.image p.actor in
-    ap (λ (c : Cells). bytes_in c slot) (turn_cells w t new e)
-    ∙ subst (λ x. bytes_in (cells_after w.cells x) slot ≡ bytes_after_event slot (bytes_in w.cells slot) x) (sym p.event_is) (want_follows w.cells b p.want slot)
+    let is = parts_event_is w t.actor t.event new p in
+    let cells = turn_cells w t new e in
+    let f = rest_follows w.image w.cells b b.phase p.want (rest_reads w.image p.actor (named_between w.actors t.actor p.actor all p.named)) p.wants in
+    record {
+      tags = λ slot. ap (λ (c : Cells). bytes_in c slot) cells ∙ subst (λ x. bytes_in (cells_after w.cells x) slot ≡ bytes_after_event slot (bytes_in w.cells slot) x) (sym is) (f.tags slot);
+      streams = λ fd. ap (λ (c : Cells). flow_in c fd) cells ∙ subst (λ x. flow_in (cells_after w.cells x) fd ≡ flow_after_event fd (flow_in w.cells fd) x) (sym is) (f.streams fd);
+    }
 
-bytes_follow : (old : WorldState) (turns : List Turn) (new : WorldState) → Runs old turns new → BytesFollow old.cells turns new.cells
-bytes_follow old [] new run slot = ap (λ (w : WorldState). bytes_in w.cells slot) run
-bytes_follow old (t ∷ ts) new run slot =
-    bytes_follow run.0 ts new run.2 slot ∙ ap (λ bytes. bytes_after slot bytes ts) (turn_follows old t run.0 slot run.1)
+bytes_follow : (old : WorldState) (turns : List Turn) (new : WorldState) → AllBetween old.actors → Runs old turns new → BytesFollow old.cells turns new.cells
+bytes_follow old [] new all run slot = ap (λ (w : WorldState). bytes_in w.cells slot) run
+bytes_follow old (t ∷ ts) new all run slot =
+    bytes_follow run.0 ts new (turn_between old t.actor t.event run.0 all run.1) run.2 slot ∙ ap (λ bytes. bytes_after slot bytes ts) ((turn_follows old t run.0 all run.1).tags slot)
+
+flows_follow : (old : WorldState) (turns : List Turn) (new : WorldState) → AllBetween old.actors → Runs old turns new → FlowsFollow old.cells turns new.cells
+flows_follow old [] new all run fd = ap (λ (w : WorldState). flow_in w.cells fd) run
+flows_follow old (t ∷ ts) new all run fd =
+    flows_follow run.0 ts new (turn_between old t.actor t.event run.0 all run.1) run.2 fd ∙ ap (λ f. flow_after fd f ts) ((turn_follows old t run.0 all run.1).streams fd)
+
+-- ---- who writes
 
 -- a tag lives in a slot, and the actor may store to it
 abbrev IsOwned : Cells → ActorState → ℕ → Type 0
-IsOwned c b slot = (g : Segment) × (slot_in c slot ≡ Some g) × (allows b (Stores g.tag) ≡ true)
+IsOwned c b slot = (g : Segment) × (slot_in c slot ≡ Some g) × (may_use b g.tag right.ReadWrite ≡ true)
 
--- a store that took place was judged to be allowed
+-- a store that took place was allowed
 stored_by : (s slot offset width value : ℕ) (live : Option Live) (tag : ℕ) (within held : Bool)
-    → stores_in slot (event.Slot s (slot_ask.Store offset width value live) (if not within then slot_reply.Unmapped else if held then slot_reply.Stored else slot_reply.Denied tag)) ≡ true
+    → stores_in slot (event.Slot s (slot_ask.Store offset width value live) (if not within then slot_reply.Unmapped else if held then slot_reply.Stored else slot_reply.Denied tag right.ReadWrite)) ≡ true
     → ((s == slot) ≡ true) × (held ≡ true)
 stored_by s slot offset width value live tag false held e = absurd (true≢false (sym e))
 stored_by s slot offset width value live tag true false e = absurd (true≢false (sym e))
 stored_by s slot offset width value live tag true true e = (e, refl)
 
 store_owned : (c : Cells) (b : ActorState) (s offset width value slot : ℕ) (o : Option Segment) → slot_in c s ≡ o
-    → stores_in slot (event_for c b (want.Store s offset width value)) ≡ true → IsOwned c b slot
-store_owned c b s offset width value slot None there e = absurd (true≢false (sym (rw there at e)))
+    → stores_in slot (event.Slot s (slot_ask.Store offset width value (pair b (option_map (λ g. g.tag) o))) (slot_reply_of o (slot_ask.Store offset width value (pair b (option_map (λ g. g.tag) o))))) ≡ true → IsOwned c b slot
+store_owned c b s offset width value slot None there e = absurd (true≢false (sym e))
 store_owned c b s offset width value slot (Some g) there e =
-    let live = Some (record { tag = g.tag; right = right_on b.sheet g.tag }) in
-    let both = stored_by s slot offset width value live g.tag (nat_lt offset (length g.bytes)) (at_least (right_on b.sheet g.tag) right.ReadWrite) (rw there at e) in
+    let live = Some (record { tag = g.tag; right = right_of b g.tag }) in
+    let both = stored_by s slot offset width value live g.tag (nat_lt offset (length g.bytes)) (at_least (right_of b g.tag) right.ReadWrite) e in
     (g, subst (λ n. slot_in c n ≡ Some g) (eqb-true s slot both.0) there, both.1)
 
-event_owned : (c : Cells) (b : ActorState) (q : Want) (slot : ℕ) → stores_in slot (event_for c b q) ≡ true → IsOwned c b slot
-event_owned c b (want.Load s offset width) slot e = absurd (true≢false (sym e))
-event_owned c b (want.Store s offset width value) slot e = store_owned c b s offset width value slot (slot_in c s) refl e
-event_owned c b (want.Fd fd q) slot e = absurd (true≢false (sym e))
-event_owned c b (want.Lives q) slot e = absurd (true≢false (sym e))
+-- an append that took place had its bit
+appended_by : (n fd : ℕ) (bits : FdBits) (bytes : List ℕ) (v t : Bool) (k : StreamKind)
+    → appends_to fd (event.Fd n (stream_ask.Append bits bytes) (if v then (if t then append_reply k else reply.Denied append_bit) else reply.NoSuch)) ≡ true → ((n == fd) ≡ true) × (t ≡ true)
+appended_by n fd bits bytes false t k e = absurd (true≢false (sym e))
+appended_by n fd bits bytes true false k e = absurd (true≢false (sym e))
+appended_by n fd bits bytes true true kind.Append e = (e, refl)
+appended_by n fd bits bytes true true kind.Source e = absurd (true≢false (sym e))
 
--- an actor keeps its sheet up to where it rests
-rest_sheet : (i : Image) (a : ActorState) (t : Bool) → is_running a.phase ≡ t → (rest i a).sheet ≡ a.sheet
-rest_sheet i a true e = (rests i a e).sheet
-rest_sheet i a false e = ap (λ (x : ActorState). x.sheet) (rest-stays i a e)
+append_owned : (b : ActorState) (n fd : ℕ) (bits : FdBits) (bytes : List ℕ) (s : Option Stream) → bits ≡ bits_of b n
+    → appends_to fd (event.Fd n (stream_ask.Append bits bytes) (stream_reply_of s (stream_ask.Append bits bytes))) ≡ true → (bits_of b fd).append ≡ true
+append_owned b n fd bits bytes None own e = absurd (true≢false (sym e))
+append_owned b n fd bits bytes (Some s) own e =
+    let both = appended_by n fd bits bytes s.live bits.append s.kind e in
+    subst (λ m. (bits_of b m).append ≡ true) (eqb-true n fd both.0) (subst (λ x. x.append ≡ true) own both.1)
 
--- whoever stores into a slot in a step may store to the tag that lives there
-pub step_writes_own : (w : WorldState) (t : Turn) (new : WorldState) → turn_of w t.actor ≡ Some (record { event = t.event; world = new }) → StepWritesOwn w t new
-step_writes_own w t new e slot stored =
+record IsOwn (c : Cells) (b : ActorState) (q : Want) : Type 0 where
+  stores : (slot : ℕ) → stores_in slot (event_for c b q) ≡ true → IsOwned c b slot
+  appends : (fd : ℕ) → appends_to fd (event_for c b q) ≡ true → (bits_of b fd).append ≡ true
+
+want_own : (N : ℕ → Type 0) (c : Cells) (b : ActorState) (q : Want) → IsRequest N b q → IsOwn c b q
+want_own N c b (want.Slot s (slot_want.Load offset width)) own = record { stores = λ slot e. absurd (true≢false (sym e)); appends = λ fd e. absurd (true≢false (sym e)) }
+want_own N c b (want.Slot s (slot_want.Store offset width value)) own = record { stores = λ slot e. store_owned c b s offset width value slot (slot_in c s) refl e; appends = λ fd e. absurd (true≢false (sym e)) }
+want_own N c b (want.Fd n (stream_ask.Append bits bytes)) own = record { stores = λ slot e. absurd (true≢false (sym e)); appends = λ fd e. append_owned b n fd bits bytes (stream_in c n) own e }
+want_own N c b q own = absurd own
+
+rest_own : (i : Image) (c : Cells) (b : ActorState) (ph : Phase) (q : Want) → ReadsAs i b ph → wanted_at ph ≡ Some q → IsOwn c b q
+rest_own i c b phase.Running q reads e = absurd cc
+rest_own i c b (phase.Within x) q reads e = let is : x ≡ q = cc in subst (IsOwn c b) is (want_own (LoadsAt i b.hart reads.0 reads.1) c b x reads.3)
+rest_own i c b (phase.Ending x) q reads e =
+    let is : want.Lives (lives_ask.Release x) ≡ q = cc in
+    subst (IsOwn c b) is (record { stores = λ slot h. absurd (true≢false (sym h)); appends = λ fd h. absurd (true≢false (sym h)) })
+rest_own i c b (phase.Ended x) q reads e = absurd cc
+
+-- an actor keeps its rights up to where it rests
+record SameRights (a b : ActorState) : Type 0 where
+  rights : (tag : ℕ) → right_of b tag ≡ right_of a tag
+  bits : (fd : ℕ) → bits_of b fd ≡ bits_of a fd
+
+rest_rights : (i : Image) (a : ActorState) (t : Bool) → is_running a.phase ≡ t → SameRights a (rest i a)
+rest_rights i a true e =
+    let r = rests i a e in
+    record {
+      rights = λ tag. ap (λ s. right_on s (rest i a).made tag) r.sheet ∙ ap (λ m. right_on a.sheet m tag) r.made;
+      bits = λ fd. ap (λ s. bits_on s (rest i a).made fd) r.sheet ∙ ap (λ m. bits_on a.sheet m fd) r.made;
+    }
+rest_rights i a false e = subst (SameRights a) (sym (rest-stays i a e)) (record { rights = λ tag. refl; bits = λ fd. refl })
+
+-- whoever stores into a slot in a step may store to the tag that lives there, and whoever appends may append
+record StepOwns (w : WorldState) (t : Turn) (new : WorldState) : Type 0 where
+  stores : StepWritesOwn w t new
+  appends : StepAppendsOwn w t new
+
+step_owns : (w : WorldState) (t : Turn) (new : WorldState) → AllBetween w.actors → turn_of w t.actor ≡ Some (record { event = t.event; world = new }) → StepOwns w t new
+step_owns w t new all e =
     let p = turn_parts w t.actor t.event new e in
     let b = rest w.image p.actor in
-    let own : IsOwned w.cells b slot = event_owned w.cells b p.want slot (subst (λ x. stores_in slot x ≡ true) p.event_is stored) in
-    (own.0, own.1, (p.actor, p.named, ap (λ s. at_least (right_on s own.0.tag) right.ReadWrite) (sym (rest_sheet w.image p.actor _ refl)) ∙ own.2))
+    let is = parts_event_is w t.actor t.event new p in
+    let own = rest_own w.image w.cells b b.phase p.want (rest_reads w.image p.actor (named_between w.actors t.actor p.actor all p.named)) p.wants in
+    let same = rest_rights w.image p.actor _ refl in
+    record {
+      stores = λ slot stored.
+          let o = own.stores slot (subst (λ x. stores_in slot x ≡ true) is stored) in
+          (o.0, o.1, (p.actor, p.named, ap (λ r. at_least r right.ReadWrite) (sym (same.rights o.0.tag)) ∙ o.2));
+      appends = λ fd appended.
+          let o = own.appends fd (subst (λ x. appends_to fd x ≡ true) is appended) in
+          (p.actor, p.named, ap (λ x. x.append) (sym (same.bits fd)) ∙ o);
+    }
 
-each_writes_own : (old : WorldState) (turns : List Turn) (new : WorldState) → Runs old turns new → EachStep StepWritesOwn old turns
-each_writes_own old [] new run = tt
-each_writes_own old (t ∷ ts) new run = (run.0, run.1, step_writes_own old t run.0 run.1, each_writes_own run.0 ts new run.2)
+pub step_writes_own : (w : WorldState) (t : Turn) (new : WorldState) → AllBetween w.actors → turn_of w t.actor ≡ Some (record { event = t.event; world = new }) → StepWritesOwn w t new
+step_writes_own w t new all e = (step_owns w t new all e).stores
+
+pub step_appends_own : (w : WorldState) (t : Turn) (new : WorldState) → AllBetween w.actors → turn_of w t.actor ≡ Some (record { event = t.event; world = new }) → StepAppendsOwn w t new
+step_appends_own w t new all e = (step_owns w t new all e).appends
+
+each_writes_own : (old : WorldState) (turns : List Turn) (new : WorldState) → AllBetween old.actors → Runs old turns new → EachStep StepWritesOwn old turns
+each_writes_own old [] new all run = tt
+each_writes_own old (t ∷ ts) new all run = (run.0, run.1, step_writes_own old t run.0 all run.1, each_writes_own run.0 ts new (turn_between old t.actor t.event run.0 all run.1) run.2)
+
+each_appends_own : (old : WorldState) (turns : List Turn) (new : WorldState) → AllBetween old.actors → Runs old turns new → EachStep StepAppendsOwn old turns
+each_appends_own old [] new all run = tt
+each_appends_own old (t ∷ ts) new all run = (run.0, run.1, step_appends_own old t run.0 all run.1, each_appends_own run.0 ts new (turn_between old t.actor t.event run.0 all run.1) run.2)
 
 pub runs_write_their_own : RunsWriteTheirOwn
-runs_write_their_own i turns new run = record { follow = bytes_follow (opening i) turns new run; writers = each_writes_own (opening i) turns new run }
+runs_write_their_own i turns new run = record {
+  follow = bytes_follow (opening i) turns new (opening_between i) run;
+  writers = each_writes_own (opening i) turns new (opening_between i) run;
+  flows = flows_follow (opening i) turns new (opening_between i) run;
+  appenders = each_appends_own (opening i) turns new (opening_between i) run;
+}

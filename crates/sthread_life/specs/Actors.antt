@@ -1,17 +1,13 @@
 -- Actors: their records, what the root begins as, and how an answer, a refusal or an end changes one.
-use Rattle.std.specs.Prelude.{ℕ, ◌+◌, ◌-◌, List, [], ◌∷◌, ◌++◌, replicate, Option, Some, None}
+use Rattle.std.specs.Prelude.{ℕ, ◌+◌, ◌-◌, Bool, List, [], ◌∷◌, ◌++◌, replicate, Option}
 use Rattle.wedge_base.specs.Bytes.{zeros}
 use Rattle.wedge_base.specs.Names.{root_name}
-use Rattle.wedge_base.specs.Maps.{Map}
 use Rattle.wedge_base.specs.Images.{Image, private_base, private_size}
-use Rattle.wedge_base.specs.Rights.{Sheet}
+use Rattle.wedge_base.specs.Sheets.{Sheet, Made, nothing_made, root_sheet, right_on, bits_on}
 use Rattle.wedge_base.specs.declared.image.MemoryRange.{MemoryRange}
-use Rattle.wedge_base.specs.declared.image.TagEntry.{TagEntry}
-use Rattle.wedge_base.specs.declared.image.FdEntry.{FdEntry}
 use Rattle.wedge_base.specs.declared.outcome.DenialAt.{DenialAt}
 use Rattle.wedge_base.specs.declared.rights.FdBits.{FdBits}
 use Rattle.wedge_base.specs.declared.rights.Right.{Right}
-use Rattle.wedge_base.specs.declared.rights.Grant.{Grant}
 use Rattle.wedge_base.specs.declared.rights.Denial.{Denial}
 use Rattle.wedge_base.specs.declared.rights.Code.{Code}
 use Rattle.wedge_base.specs.declared.rights.Code.TheVariants as code
@@ -22,10 +18,12 @@ use Rattle.rv_hart.specs.Local.{put, answered}
 use Rattle.sthread_life.specs.declared.phase.Phase.{Phase}
 use Rattle.sthread_life.specs.declared.phase.Phase.TheVariants as phase
 
+-- an actor: its sheet, what it made, its registers and private memory, its fuel, and what it is at
 pub record ActorState : Type 0 where
   pub name : List ℕ
   pub compartment : ℕ
   pub sheet : Sheet
+  pub made : Made
   pub hart : Hart
   pub memory : List MemoryRange
   pub fuel : ℕ
@@ -40,34 +38,29 @@ pristine i = record { base = private_base; bytes = zeros private_size } ∷ i.ra
 abbrev pub opening_hart : ℕ → Hart
 opening_hart entry = record { pc = entry; regs = put (replicate 32 0) 2 (private_base + private_size) }
 
--- the root's grants: the declared tags with a right, and the declared descriptors
-abbrev pub with_grant : ℕ → Option Right → Map Grant → Map Grant
-with_grant n None gs = gs
-with_grant n (Some r) gs = (n, record { right = r; slot = n }) ∷ gs
-
-abbrev pub root_tags : ℕ → List TagEntry → Map Grant
-root_tags n [] = []
-root_tags n (t ∷ ts) = with_grant n t.right (root_tags (n + 1) ts)
-
-abbrev pub root_fds : ℕ → List FdEntry → Map FdBits
-root_fds n [] = []
-root_fds n (f ∷ fs) = (n, f.bits) ∷ root_fds (n + 1) fs
-
-abbrev pub root_sheet : Image → Sheet
-root_sheet i = record { tags = root_tags 0 i.tags; fds = root_fds 0 i.fds }
-
 -- the root as a run begins
 unfoldable pub root : Image → ActorState
 root i = record {
   name = root_name;
   compartment = i.entry;
-  sheet = root_sheet i;
+  sheet = root_sheet i.tags i.fds i.user i.root;
+  made = nothing_made;
   hart = opening_hart i.entry;
   memory = pristine i;
   fuel = i.fuel;
   denials = [];
   phase = phase.Running;
 }
+
+-- ---- its rights: what its sheet gives, and what it made
+
+abbrev pub right_of : ActorState → ℕ → Option Right
+right_of a tag = right_on a.sheet a.made tag
+
+abbrev pub bits_of : ActorState → ℕ → FdBits
+bits_of a fd = bits_on a.sheet a.made fd
+
+-- ---- how answers, refusals and ends change it
 
 -- the number of a code
 abbrev pub code_number : Code → ℕ
@@ -104,3 +97,31 @@ wants a w = record a { phase = phase.Within w }
 -- so many units of fuel taken
 abbrev pub spends : ActorState → ℕ → ActorState
 spends a n = record a { fuel = a.fuel - n }
+
+-- ---- an actor as the code keeps it: its private memory stands beside it
+
+-- an actor but for its private memory, and whether it has stopped because it ran out of memory
+pub record ActorRecord : Type 0 where
+  pub name : List ℕ
+  pub compartment : ℕ
+  pub sheet : Sheet
+  pub made : Made
+  pub hart : Hart
+  pub fuel : ℕ
+  pub denials : List DenialAt
+  pub phase : Phase
+  pub stopped : Bool
+
+-- an actor with its private memory
+abbrev pub whole : ActorRecord → List MemoryRange → ActorState
+whole r memory = record {
+  name = r.name;
+  compartment = r.compartment;
+  sheet = r.sheet;
+  made = r.made;
+  hart = r.hart;
+  memory = memory;
+  fuel = r.fuel;
+  denials = r.denials;
+  phase = r.phase;
+}

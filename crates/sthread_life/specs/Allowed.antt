@@ -1,118 +1,92 @@
--- What a sheet allows: the requests that may be denied, when each is in question, what allows it, and
--- what a denial names. Apart from the step, so that the step's denials are a theorem.
-use Rattle.std.specs.Prelude.{◌≡◌, ℕ, Bool, true, false, not, ◌&&◌, List, [], ◌∷◌, length, Option, Some, None, nat_lt, if◌then◌else◌}
-use Rattle.wedge_base.specs.Rights.{at_least, right_on, bits_on, append_bit}
-use Rattle.wedge_base.specs.Slots.{Segment}
-use Rattle.wedge_base.specs.Streams.{Stream}
+-- What a sheet allows: the grant that a request lacks, what refuses it besides, and what it leaves where it
+-- is done and where it is denied. Nothing here calls the step.
+use Rattle.std.specs.Prelude.{◌≡◌, ℕ, ◌+◌, ◌-◌, ◌%◌, ◌^◌, Bool, true, false, List, [], ◌∷◌, ◌++◌, slice_range, slice_set, Option, Some, None, if◌then◌else◌}
+use Rattle.wedge_base.specs.Bytes.{number_of}
+use Rattle.wedge_base.specs.Rights.{at_least, append_bit}
 use Rattle.wedge_base.specs.declared.rights.Denial.{Denial}
 use Rattle.wedge_base.specs.declared.rights.Denial.TheVariants as denial
 use Rattle.wedge_base.specs.declared.rights.StreamKind.{StreamKind}
 use Rattle.wedge_base.specs.declared.rights.StreamKind.TheVariants as kind
-use Rattle.wedge_base.specs.declared.cells.StreamAsk.{StreamAsk}
-use Rattle.wedge_base.specs.declared.cells.StreamAsk.TheVariants as stream_ask
-use Rattle.wedge_base.specs.declared.cells.StreamReply.{StreamReply}
-use Rattle.wedge_base.specs.declared.cells.StreamReply.TheVariants as stream_reply
-use Rattle.wedge_base.specs.declared.cells.SlotReply.{SlotReply}
-use Rattle.wedge_base.specs.declared.cells.SlotReply.TheVariants as slot_reply
+use Rattle.wedge_base.specs.declared.rights.Right.{Right}
 use Rattle.wedge_base.specs.declared.rights.Right.TheVariants as right
 use Rattle.wedge_base.specs.declared.rights.End.TheVariants as end_
-use Rattle.wedge_base.specs.declared.events.Want.{Want}
-use Rattle.wedge_base.specs.declared.events.Want.TheVariants as want
+use Rattle.wedge_base.specs.declared.outcome.DenialAt.{DenialAt}
 use Rattle.wedge_base.specs.declared.events.Event.{Event}
 use Rattle.wedge_base.specs.declared.events.Event.TheVariants as event
-use Rattle.wedge_base.specs.declared.events.Turn.{Turn}
-use Rattle.sthread_life.specs.Actors.{ActorState, notes, ends, denies}
-use Rattle.sthread_life.specs.Local.{rest}
-use Rattle.sthread_life.specs.Taking.{wanted, takes}
-use Rattle.sthread_life.specs.Worlds.{Cells, WorldState, slot_in, stream_in, actor_named, put_actor, turn_of}
+use Rattle.wedge_base.specs.declared.cells.Live.{Live}
+use Rattle.wedge_base.specs.declared.cells.SlotAsk.TheVariants as slot_ask
+use Rattle.wedge_base.specs.declared.cells.SlotReply.TheVariants as slot_reply
+use Rattle.wedge_base.specs.declared.cells.StreamAsk.TheVariants as stream_ask
+use Rattle.wedge_base.specs.declared.cells.StreamReply.TheVariants as stream_reply
+use Rattle.rv_hart.specs.declared.Hart.{Hart}
+use Rattle.rv_hart.specs.Local.{reg, put, extended}
+use Rattle.sthread_life.specs.declared.phase.Phase.TheVariants as phase
+use Rattle.sthread_life.specs.Actors.{ActorState, right_of, bits_of}
+use Rattle.sthread_life.specs.Requests.{Access, Request, Loads, Stores, Appends}
 
--- a request that a sheet may forbid: to load from or store to the tag that lives in a slot, or to append
--- to a descriptor
-pub data Request : Type 0 where
-  Loads Stores Appends : ℕ → Request
+-- whether a tag may be used as asked: a copy is never enough for the tag itself
+abbrev pub may_use : ActorState → ℕ → Right → Bool
+may_use a tag wants = at_least (right_of a tag) wants
 
--- what allows each request: a copy is never enough for the tag itself
-abbrev pub allows : ActorState → Request → Bool
-allows a (Loads tag) = at_least (right_on a.sheet tag) right.Read
-allows a (Stores tag) = at_least (right_on a.sheet tag) right.ReadWrite
-allows a (Appends fd) = (bits_on a.sheet fd).append
+-- the grant that a request lacks; one that is allowed lacks none
+abbrev pub lacks : ActorState → Request → Option Denial
+lacks a (Loads x rd s) = if may_use a x.living.tag right.Read then None else Some (denial.Tag x.living.tag right.Read)
+lacks a (Stores x value) = if may_use a x.living.tag right.ReadWrite then None else Some (denial.Tag x.living.tag right.ReadWrite)
+lacks a (Appends fd s bytes) = if (bits_of a fd).append then None else Some (denial.Fd fd append_bit)
 
--- the grant that is missing where it is not allowed
-abbrev pub missing : Request → Denial
-missing (Loads tag) = denial.Tag tag right.Read
-missing (Stores tag) = denial.Tag tag right.ReadWrite
-missing (Appends fd) = denial.Fd fd append_bit
-
--- in question at a slot: a live tag, and an offset inside its bytes
-abbrev pub slot_request : (ℕ → Request) → Option Segment → ℕ → Option Request
-slot_request of_tag None offset = None
-slot_request of_tag (Some g) offset = if nat_lt offset (length g.bytes) then Some (of_tag g.tag) else None
-
--- in question at a descriptor: a live stream
-abbrev pub stream_request : ℕ → Option Stream → StreamAsk → Option Request
-stream_request fd None q = None
-stream_request fd (Some s) (stream_ask.Append bits bytes) = if s.live then Some (Appends fd) else None
-stream_request fd (Some s) q = None
-
--- the request that is in question in what is wanted
-abbrev pub request_of : Cells → Want → Option Request
-request_of c (want.Load slot offset width) = slot_request Loads (slot_in c slot) offset
-request_of c (want.Store slot offset width value) = slot_request Stores (slot_in c slot) offset
-request_of c (want.Fd fd q) = stream_request fd (stream_in c fd) q
-request_of c (want.Lives q) = None
-
--- whether it is refused for a cause that stands behind the denial: a source takes no bytes
+-- whether one that is allowed is refused for a cause that stands behind the denial: a source takes no bytes
 abbrev pub is_source : StreamKind → Bool
 is_source kind.Source = true
 is_source kind.Append = false
 
-abbrev pub stream_otherwise : Option Stream → StreamAsk → Bool
-stream_otherwise None q = false
-stream_otherwise (Some s) (stream_ask.Append bits bytes) = is_source s.kind
-stream_otherwise (Some s) q = false
+abbrev pub is_refused : ActorState → Request → Bool
+is_refused a (Loads x rd s) = false
+is_refused a (Stores x value) = false
+is_refused a (Appends fd s bytes) = is_source s.kind
 
-abbrev pub otherwise : Cells → Want → Bool
-otherwise c (want.Load slot offset width) = false
-otherwise c (want.Store slot offset width value) = false
-otherwise c (want.Fd fd q) = stream_otherwise (stream_in c fd) q
-otherwise c (want.Lives q) = false
+-- Where a request is checked: at the event to which its instruction comes, or in the instruction itself.
+abbrev pub is_checked_at_event : Request → Bool
+is_checked_at_event (Loads x rd s) = true
+is_checked_at_event (Stores x value) = true
+is_checked_at_event (Appends fd s bytes) = true
 
--- whether an event is a request that took place
-abbrev pub slot_done : SlotReply → Bool
-slot_done (slot_reply.Loaded value) = true
-slot_done slot_reply.Stored = true
-slot_done r = false
+-- What a request leaves that is done: its event, and its actor at the next word, with what was loaded or
+-- with the call's answer and code 0.
+abbrev pub next_word : ActorState → ℕ
+next_word a = (a.hart.pc + 4) % 2 ^ 32
 
-abbrev pub stream_done : StreamReply → Bool
-stream_done stream_reply.Appended = true
-stream_done r = false
+abbrev pub value_in : Access → ℕ
+value_in x = number_of (slice_range x.living.bytes x.place.offset (x.place.offset + x.width))
 
-abbrev pub is_done : Event → Bool
-is_done (event.Slot slot q r) = slot_done r
-is_done (event.Fd fd q r) = stream_done r
-is_done (event.Lives q r) = false
+abbrev pub living_for : ActorState → Access → Option Live
+living_for a x = Some (record { tag = x.living.tag; right = right_of a x.living.tag })
 
--- what a denial makes of the actor: it is noted, and the call is answered; a load or store ends its actor
-abbrev pub denied_by : ActorState → Request → ActorState
-denied_by a (Loads tag) = ends (notes a (missing (Loads tag))) end_.Denied
-denied_by a (Stores tag) = ends (notes a (missing (Stores tag))) end_.Denied
-denied_by a (Appends fd) = denies a (missing (Appends fd))
+abbrev pub answered : ActorState → ℕ → ℕ → Hart
+answered a value code = record { pc = next_word a; regs = slice_set (slice_set a.hart.regs 10 value) 11 code }
 
--- A step from old by the actor a at rest, in which the request r is in question: it takes place exactly
--- where the sheet allows it and nothing else refuses it; where the sheet does not allow it, the world is
--- as before, but that the actor is denied, with the missing grant noted; where it does, nothing is noted.
-pub record IsJudged (old : WorldState) (a : ActorState) (r : Request) (refused : Bool) (event : Event) (new : WorldState) : Type 0 where
-  pub done : is_done event ≡ (allows a r && not refused)
-  pub denied : allows a r ≡ false → new ≡ record old { actors = put_actor old.actors (denied_by a r) }
-  pub allowed : allows a r ≡ true → (takes old.image a event).denials ≡ a.denials
+abbrev pub IsDone : ActorState → Request → Option Event → Option ActorState → Type 0
+IsDone a (Loads x rd s) e now =
+    (e ≡ Some (event.Slot x.place.slot (slot_ask.Load x.place.offset x.width (living_for a x)) (slot_reply.Loaded (value_in x))))
+    × (now ≡ Some (record a { hart = record { pc = next_word a; regs = put a.hart.regs rd (extended x.width s (value_in x)) }; phase = phase.Running }))
+IsDone a (Stores x value) e now =
+    (e ≡ Some (event.Slot x.place.slot (slot_ask.Store x.place.offset x.width value (living_for a x)) slot_reply.Stored))
+    × (now ≡ Some (record a { hart = record a.hart { pc = next_word a }; phase = phase.Running }))
+IsDone a (Appends fd s bytes) e now =
+    (e ≡ Some (event.Fd fd (stream_ask.Append (bits_of a fd) bytes) stream_reply.Appended))
+    × (now ≡ Some (record a { hart = answered a (reg a.hart.regs 12) 0; fuel = a.fuel - reg a.hart.regs 12; phase = phase.Running }))
 
--- each request in question in a step is judged
-abbrev pub StepIsJudged : WorldState → Turn → WorldState → Type 0
-StepIsJudged old t new = (a : ActorState) (q : Want) (r : Request)
-    → actor_named old.actors t.actor ≡ Some a → wanted (rest old.image a).phase ≡ Some q → request_of old.cells q ≡ Some r
-    → IsJudged old (rest old.image a) r (otherwise old.cells q) t.event new
+-- What a denial leaves: it stands last among the actor's, with the pc of the instruction; a load or store
+-- ends its actor, and a call answers 0 with the code 1.
+abbrev pub with_denial : ActorState → Denial → List DenialAt
+with_denial a d = a.denials ++ record { pc = a.hart.pc; denial = d } ∷ []
 
--- of each step of a run
-abbrev pub EachStep : (WorldState → Turn → WorldState → Type 0) → WorldState → List Turn → Type 0
-EachStep P old [] = Unit {0}
-EachStep P old (t ∷ ts) = (mid : WorldState) × (turn_of old t.actor ≡ Some (record { event = t.event; world = mid })) × P old t mid × EachStep P mid ts
+abbrev pub ended_denied : ActorState → Denial → ActorState
+ended_denied a d = record a { denials = with_denial a d; phase = phase.Ending end_.Denied }
+
+abbrev pub answered_denied : ActorState → Denial → ActorState
+answered_denied a d = record a { denials = with_denial a d; hart = answered a 0 1; phase = phase.Running }
+
+abbrev pub denied : ActorState → Request → Denial → ActorState
+denied a (Loads x rd s) d = ended_denied a d
+denied a (Stores x value) d = ended_denied a d
+denied a (Appends fd s bytes) d = answered_denied a d

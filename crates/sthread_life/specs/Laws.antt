@@ -1,29 +1,64 @@
 -- What holds of every run.
-use Rattle.std.specs.Prelude.{◌≡◌, ℕ, List}
+use Rattle.std.specs.Prelude.{◌≡◌, ℕ, false, List, [], ◌∷◌, Option}
 use Rattle.wedge_base.specs.Images.{Image}
 use Rattle.wedge_base.specs.Slots.{slot_opening}
 use Rattle.wedge_base.specs.Streams.{stream_opening}
 use Rattle.wedge_base.specs.Lives.{lives_opening}
+use Rattle.wedge_base.specs.declared.events.Event.{Event}
 use Rattle.wedge_base.specs.declared.events.Turn.{Turn}
-use Rattle.sthread_life.specs.Worlds.{WorldState, opening_cells, slot_in, stream_in, opening, Runs}
-use Rattle.sthread_life.specs.Written.{BytesFollow, StepWritesOwn}
-use Rattle.sthread_life.specs.Allowed.{StepIsJudged, EachStep}
+use Rattle.sthread_life.specs.Actors.{ActorState}
+use Rattle.sthread_life.specs.Cells.{opening_cells, slot_in, stream_in}
+use Rattle.sthread_life.specs.Worlds.{WorldState, opening, Runs}
+use Rattle.sthread_life.specs.Written.{BytesFollow, StepWritesOwn, FlowsFollow, StepAppendsOwn}
+use Rattle.sthread_life.specs.Moments.{EachStep, EachMoment, IsMediated}
+use Rattle.sthread_life.specs.Ends.{EndsByCause, GoesOn}
+use Rattle.sthread_life.specs.Refusals.{RefusesByRow}
+use Rattle.sthread_life.specs.Remembering.{Remembers}
+use Rattle.wedge_base.specs.Names.{same}
+use Rattle.wedge_base.specs.Directories.{slots_opening, fds_opening}
 
--- in each step of each run, each request that is in question takes place exactly where the sheet allows it
-abbrev pub RunsAreJudged : Type 0
-RunsAreJudged = (i : Image) (turns : List Turn) (new : WorldState) → Runs (opening i) turns new → EachStep StepIsJudged (opening i) turns
+-- what holds of a moment: its request is mediated, a call is refused by its row, an actor ends by its cause, it
+-- goes on as it should, and its private bytes are those that it stored
+pub record IsLawful (old : WorldState) (a : ActorState) (e : Option Event) (new : WorldState) : Type 0 where
+  pub mediated : IsMediated old a e new
+  pub ends : EndsByCause old a e new
+  pub goes : GoesOn old a e new
+  pub refuses : RefusesByRow old a e new
+  pub remembers : Remembers old a e new
+
+-- each moment of each run is lawful
+abbrev pub MomentsAreLawful : Type 0
+MomentsAreLawful = (i : Image) (turns : List Turn) (new : WorldState) → Runs (opening i) turns new → EachMoment IsLawful (opening i) turns
 
 -- after each run the bytes in each slot are those that the image declares, with what the run wrote over
--- them in order; and in each step of it whoever stores into a slot may store to the tag that lives there
+-- them in order, and in each step of it whoever stores into a slot may store to the tag that lives there; each
+-- stream is as the image declares it, with what the run added and took, and whoever appends to it may
 pub record IsWrittenByOwners (i : Image) (turns : List Turn) (new : WorldState) : Type 0 where
   pub follow : BytesFollow (opening i).cells turns new.cells
   pub writers : EachStep StepWritesOwn (opening i) turns
+  pub flows : FlowsFollow (opening i).cells turns new.cells
+  pub appenders : EachStep StepAppendsOwn (opening i) turns
 
 abbrev pub RunsWriteTheirOwn : Type 0
 RunsWriteTheirOwn = (i : Image) (turns : List Turn) (new : WorldState) → Runs (opening i) turns new → IsWrittenByOwners i turns new
 
--- as a run begins, each slot and each stream is as the rule of its own kind of cell has it
+-- as a run begins, each cell is as the rule of its own kind has it; there are 4,096 slots and 1,024
+-- descriptors
 pub record CellsOpen (i : Image) : Type 0 where
+  pub places : (opening_cells i).places ≡ slots_opening i
   pub slots : (slot : ℕ) → slot_in (opening_cells i) slot ≡ slot_opening i slot
+  pub numbers : (opening_cells i).numbers ≡ fds_opening i
   pub streams : (fd : ℕ) → stream_in (opening_cells i) fd ≡ stream_opening i fd
   pub lives : (opening_cells i).lives ≡ lives_opening
+
+-- no two actors of a world have one name
+abbrev pub IsNew : List ℕ → List ActorState → Type 0
+IsNew name [] = Unit {0}
+IsNew name (a ∷ as_) = (same a.name name ≡ false) × IsNew name as_
+
+abbrev pub AreDistinct : List ActorState → Type 0
+AreDistinct [] = Unit {0}
+AreDistinct (a ∷ as_) = IsNew a.name as_ × AreDistinct as_
+
+abbrev pub NamesAreDistinct : Type 0
+NamesAreDistinct = (i : Image) (turns : List Turn) (new : WorldState) → Runs (opening i) turns new → AreDistinct new.actors

@@ -5,6 +5,7 @@ use Rattle.wedge_base.specs.Memory.{range_at, read_range, write_at}
 use Rattle.wedge_base.specs.Images.{Image, in_text, read_text, slot_of}
 use Rattle.wedge_base.specs.declared.address.Place.{Place}
 use Rattle.wedge_base.specs.declared.image.MemoryRange.{MemoryRange}
+use Rattle.wedge_base.specs.declared.events.SlotWant.TheVariants as slot_want
 use Rattle.wedge_base.specs.declared.events.Want.TheVariants as want
 use Rattle.wedge_base.specs.declared.rights.End.TheVariants as end_
 use Rattle.rv_isa.specs.declared.Instr.{Instr}
@@ -26,7 +27,7 @@ has_stored a = record a { hart = stored a.hart }
 -- a load in a window is a shared event
 abbrev pub load_window : ActorState → ℕ → Option Place → ActorState
 load_window a width None = ends a end_.Unmapped
-load_window a width (Some p) = wants a (want.Load p.slot p.offset width)
+load_window a width (Some p) = wants a (want.Slot p.slot (slot_want.Load p.offset width))
 
 -- a load of private memory
 abbrev pub load_range : Instr → Bool → ActorState → ℕ → ℕ → Option MemoryRange → ActorState
@@ -43,7 +44,7 @@ loads i ins is_signed a address width =
 -- a store in a window is a shared event
 abbrev pub store_window : ActorState → ℕ → ℕ → Option Place → ActorState
 store_window a width value None = ends a end_.Unmapped
-store_window a width value (Some p) = wants a (want.Store p.slot p.offset width value)
+store_window a width value (Some p) = wants a (want.Slot p.slot (slot_want.Store p.offset width value))
 
 -- a store into private memory
 abbrev pub store_range : ActorState → ℕ → ℕ → ℕ → Option MemoryRange → ActorState

@@ -1,15 +1,19 @@
--- The bytes of tags by the history of a run, and who wrote them.
+-- The bytes of tags and of streams by the history of a run, and who wrote them.
 use Rattle.std.specs.Prelude.{◌≡◌, ◌==◌, ℕ, Bool, true, false, List, Option, Some, option_map}
-use Rattle.wedge_base.specs.Histories.{bytes_after}
+use Rattle.wedge_base.specs.Histories.{bytes_after, Flow, flow, flow_after}
 use Rattle.wedge_base.specs.Slots.{Segment}
 use Rattle.wedge_base.specs.declared.cells.SlotAsk.TheVariants as slot_ask
 use Rattle.wedge_base.specs.declared.cells.SlotReply.TheVariants as slot_reply
 use Rattle.wedge_base.specs.declared.events.Event.{Event}
 use Rattle.wedge_base.specs.declared.events.Event.TheVariants as event
 use Rattle.wedge_base.specs.declared.events.Turn.{Turn}
-use Rattle.sthread_life.specs.Actors.{ActorState}
-use Rattle.sthread_life.specs.Worlds.{Cells, WorldState, slot_in, actor_named}
-use Rattle.sthread_life.specs.Allowed.{allows, Stores}
+use Rattle.wedge_base.specs.declared.cells.StreamAsk.TheVariants as stream_ask
+use Rattle.wedge_base.specs.declared.cells.StreamReply.TheVariants as stream_reply
+use Rattle.sthread_life.specs.Actors.{ActorState, bits_of}
+use Rattle.sthread_life.specs.Cells.{Cells, slot_in, stream_in}
+use Rattle.sthread_life.specs.Worlds.{WorldState, actor_named}
+use Rattle.wedge_base.specs.declared.rights.Right.TheVariants as right
+use Rattle.sthread_life.specs.Allowed.{may_use}
 
 -- the bytes of the tag that lives in a slot
 abbrev pub bytes_in : Cells → ℕ → Option (List ℕ)
@@ -21,7 +25,7 @@ BytesFollow old turns new = (slot : ℕ) → bytes_in new slot ≡ bytes_after s
 
 -- the actor of a name may store to a tag
 abbrev pub MayStore : List ActorState → List ℕ → ℕ → Type 0
-MayStore actors name tag = (a : ActorState) × (actor_named actors name ≡ Some a) × (allows a (Stores tag) ≡ true)
+MayStore actors name tag = (a : ActorState) × (actor_named actors name ≡ Some a) × (may_use a tag right.ReadWrite ≡ true)
 
 -- whether an event is a store that took place in a slot
 abbrev pub stores_in : ℕ → Event → Bool
@@ -32,3 +36,24 @@ stores_in slot e = false
 abbrev pub StepWritesOwn : WorldState → Turn → WorldState → Type 0
 StepWritesOwn old t new = (slot : ℕ) → stores_in slot t.event ≡ true
     → (g : Segment) × (slot_in old.cells slot ≡ Some g) × MayStore old.actors t.actor g.tag
+
+-- the stream behind a descriptor: its bytes, and how many of them were read
+abbrev pub flow_in : Cells → ℕ → Option Flow
+flow_in c fd = option_map (λ s. flow s.bytes s.position) (stream_in c fd)
+
+-- each stream is what it was before, with what these turns added to it and took of it in order
+abbrev pub FlowsFollow : Cells → List Turn → Cells → Type 0
+FlowsFollow old turns new = (fd : ℕ) → flow_in new fd ≡ flow_after fd (flow_in old fd) turns
+
+-- the actor of a name may append to a descriptor
+abbrev pub MayAppend : List ActorState → List ℕ → ℕ → Type 0
+MayAppend actors name fd = (a : ActorState) × (actor_named actors name ≡ Some a) × ((bits_of a fd).append ≡ true)
+
+-- whether an event is an append that took place on a descriptor
+abbrev pub appends_to : ℕ → Event → Bool
+appends_to fd (event.Fd n (stream_ask.Append bits bytes) stream_reply.Appended) = n == fd
+appends_to fd e = false
+
+-- where a step appends to a descriptor, the step's actor may
+abbrev pub StepAppendsOwn : WorldState → Turn → WorldState → Type 0
+StepAppendsOwn old t new = (fd : ℕ) → appends_to fd t.event ≡ true → MayAppend old.actors t.actor fd

@@ -1,82 +1,101 @@
 //! An actor: the root of a run.
 
-ghost use Rattle.std.specs.Prelude.{◌≡◌, IfOk, OnOk, OnErr};
+ghost use Rattle.std.specs.Prelude.{◌≡◌, ◌++◌, ◌∷◌, [], List, IfOk, OnOk, OnErr, false};
+ghost use Rattle.wedge_base.specs.declared.image.MemoryRange.{MemoryRange as ARange};
 ghost use Rattle.rv_hart.specs.Local.{answered};
 ghost use Rattle.sthread_life.specs.declared.phase.Phase.TheVariants as phase;
 ghost use Rattle.sthread_life.specs.Actors as actors;
+ghost use Rattle.sthread_life.specs.Actors.{whole};
 ghost use Rattle.sthread_life.specs.Local.{has_ended};
 ghost use Rattle.sthread_life.specs.Taking.{pair, asks};
 
 use crate::memory::Memory;
 use crate::phase::Phase;
-use crate::sheet::Sheet;
+use grant_sheet::{Made, Sheet, right_on};
 use image_form::Image;
 use rv_hart::Hart;
 use std::alloc::Global;
 use std::marker::Model;
-use wedge_base::{ActorName, Ask, Code, Denial, DenialAt, End, Items, Live, NoMemory, TagNo, Want};
+use wedge_base::{
+    ActorName, Ask, Code, Denial, DenialAt, End, Items, Live, NoMemory, PRIVATE_BASE, PRIVATE_SIZE,
+    PathText, TagNo, Want,
+};
 
-/// The top of the private range, at which the stack begins.
-const STACK_TOP: u32 = 0x2002_0000;
 /// The register of the stack pointer.
 const SP: u8 = 2;
 
-/// An actor: its sheet, its registers and private memory, its fuel, and what it is at.
+/// An actor: its sheet, its registers, its fuel, and what it is at. Its private memory stands beside it. Once
+/// it ran out of memory it has stopped, and takes no further part in a run.
 #[derive(Debug, Drop)]
 pub struct Actor {
     pub(crate) alloc: Global,
     pub(crate) name: ActorName,
     pub(crate) compartment: u32,
     pub(crate) sheet: Sheet,
+    pub(crate) made: Made,
     pub(crate) hart: Hart,
-    pub(crate) memory: Memory,
     pub(crate) fuel: u32,
     pub(crate) denials: Items<DenialAt>,
     pub(crate) phase: Phase,
+    pub(crate) stopped: bool,
 }
 
 impl Model for Actor {
-    ghost use Rattle.sthread_life.specs.Actors.{ActorState};
+    ghost use Rattle.sthread_life.specs.Actors.{ActorRecord};
     ghost use Rattle.sthread_life.specs.Between.{PhaseFits};
 
-    ghost Value = { ActorState };
+    ghost Value = { ActorRecord };
 
     ghost view = { λ a. record {
       name = a.name;
       compartment = a.compartment;
       sheet = a.sheet;
+      made = a.made;
       hart = a.hart;
-      memory = a.memory;
       fuel = a.fuel;
       denials = a.denials;
       phase = a.phase;
+      stopped = a.stopped;
     } };
 
     ghost invariant = { λ a. PhaseFits a.phase };
 }
 
 impl Actor {
-    /// The root of an image's run, as it begins.
+    /// The root of an image's run as it begins, and its private memory.
+    pub fn root(alloc: Global, image: &Image) -> Result<(Actor, Memory), NoMemory>
+        ensures is { IfOk result (λ r. whole r.0 r.1 ≡ actors.root image.now) }
+        ensures going { IfOk result (λ r. r.0.stopped ≡ false) }
+    {
+        let memory = Memory::pristine(alloc, image)?;
+        let actor = Actor::root_record(alloc, image)?;
+        Ok((actor, memory))
+    }
+
+    /// The root but for its private memory.
     #[tactic(auto, unfolding(crate::specs::Actors::root))]
-    pub fn root(alloc: Global, image: &Image) -> Result<Actor, NoMemory>
-        ensures { IfOk result (λ a. a ≡ actors.root image.now) }
+    fn root_record(alloc: Global, image: &Image) -> Result<Actor, NoMemory>
+        ensures is { IfOk result (λ a. whole a (actors.pristine image.now) ≡ actors.root image.now) }
+        ensures going { IfOk result (λ a. a.stopped ≡ false) }
     {
         let mut hart = Hart::new(image.entry());
-        hart.put(SP, STACK_TOP);
+        hart.put(SP, PRIVATE_BASE + PRIVATE_SIZE);
+        let root = root_path(image)?;
         Ok(Actor {
             alloc,
             name: ActorName::root(alloc)?,
             compartment: image.entry(),
-            sheet: Sheet::root(alloc, image.tags(), image.fds())?,
+            sheet: Sheet::root(alloc, image.tags(), image.fds(), image.user(), root)?,
+            made: Made::new(alloc),
             hart,
-            memory: Memory::pristine(alloc, image.ranges())?,
             fuel: image.fuel(),
             denials: Items::new(Vec::new(alloc)),
             phase: Phase::Running,
+            stopped: false,
         })
     }
 
-    /// Lends its name.
+    /// Returns its name.
     pub fn name(&self) -> &ActorName
         ensures { result.now ≡ self.now.name }
     {
@@ -104,14 +123,14 @@ impl Actor {
         self.fuel
     }
 
-    /// Lends its denials, in order.
+    /// Returns its denials, in order.
     pub fn denials(&self) -> &Items<DenialAt>
         ensures { result.now ≡ self.now.denials }
     {
         &self.denials
     }
 
-    /// Lends what it is at.
+    /// Returns what it is at.
     pub fn phase(&self) -> &Phase
         ensures { result.now ≡ self.now.phase }
     {
@@ -119,6 +138,7 @@ impl Actor {
     }
 
     /// Whether it has ended.
+    #[inline(always)]
     pub fn has_ended(&self) -> bool
         ensures { result ≡ has_ended self.now.phase }
     {
@@ -126,18 +146,20 @@ impl Actor {
     }
 
     /// What it asks for what it wants, where this tag lives in the slot.
+    #[inline(always)]
     pub fn ask(&self, want: Want, live: Option<TagNo>) -> Ask
-        ensures { result ≡ asks self.now live want }
+        ensures { (m : List ARange) → result ≡ asks (whole self.now m) live want }
     {
         want.with(self.pair(live))
     }
 
     /// The tag that lives in a slot, with its right on it.
-    fn pair(&self, live: Option<TagNo>) -> Option<Live>
-        ensures { result ≡ pair self.now live }
+    #[inline(always)]
+    pub(crate) fn pair(&self, live: Option<TagNo>) -> Option<Live>
+        ensures { (m : List ARange) → result ≡ pair (whole self.now m) live }
     {
         let tag = live?;
-        let right = self.sheet.right_on(tag);
+        let right = right_on(&self.sheet, &self.made, tag);
         Some(Live { tag, right })
     }
 
@@ -151,26 +173,34 @@ impl Actor {
 
     /// Refuses a service call.
     pub(crate) fn refuse(&mut self, code: Code)
-        ensures { self.new ≡ actors.refuses self.old code }
+        ensures { self.new ≡ record self.old { hart = answered self.old.hart 0 (actors.code_number code); phase = phase.Running } }
     {
         self.answer(0, code_number(code));
     }
 
     /// Decides its end.
     pub(crate) fn end(&mut self, end: End)
-        ensures { self.new ≡ actors.ends self.old end }
+        ensures { self.new ≡ record self.old { phase = phase.Ending end } }
     {
         self.phase = Phase::Ending(end);
     }
 
     /// Notes a denial of the instruction at hand.
+    #[inline(never)]
     pub(crate) fn note(&mut self, denial: Denial) -> Result<(), NoMemory>
-        ensures ok { OnOk result (self.new ≡ actors.notes self.old denial) }
+        ensures ok { OnOk result (self.new ≡ record self.old { denials = self.old.denials ++ record { pc = self.old.hart.pc; denial = denial } ∷ [] }) }
         ensures err { OnErr result (self.new ≡ self.old) }
     {
         let pc = self.hart.pc;
         self.denials.push(DenialAt { pc, denial })
     }
+}
+
+/// The root directory of an image.
+fn root_path(image: &Image) -> Result<PathText, NoMemory>
+    ensures { IfOk result (λ p. p ≡ image.now.root) }
+{
+    Ok(PathText::new(image.root().copy()?))
 }
 
 /// The number of a code, as programs see it.

@@ -1,23 +1,32 @@
 //! Laws of the definitions: each is the contract of a function that does nothing.
 
 ghost use Rattle.wedge_base.specs.Images.{Image};
-ghost use Rattle.sthread_life.specs.Laws.{CellsOpen, RunsAreJudged, RunsWriteTheirOwn};
+ghost use Rattle.sthread_life.specs.Laws.{CellsOpen, MomentsAreLawful, NamesAreDistinct, RunsWriteTheirOwn};
 
-/// In every run, whatever the image and the order of the turns, each request takes place exactly where
-/// the actor's sheet allows it and nothing else refuses it, and a denial names the missing grant and
-/// changes nothing else.
-pub fn runs_are_judged()
-    ensures { RunsAreJudged }
+/// In every run, whatever the image and the order of the turns, each request that an instruction makes
+/// takes place exactly where the actor's sheet allows it and nothing else refuses it; a denial names the
+/// missing grant, and all else stays but that a load or store ends its actor and a call answers that it is
+/// denied; where no request is in question nothing is denied. A call is refused with the code of its row. Each
+/// actor ends exactly by the cause of its end, and passes no instruction over. Its private bytes are those that
+/// it stored, and a load gives them.
+pub fn moments_are_lawful()
+    ensures { MomentsAreLawful }
 {}
 
 /// In every run the bytes of each tag are those that the image declares, with the stores of the run
-/// written over them in order; and each store was made by an actor whose sheet has ReadWrite on the tag.
+/// written over them in order, and each store was made by an actor with ReadWrite on the tag; the
+/// bytes of each stream are those that the image declares, with the appends of the run behind them in order,
+/// each by an actor with the bit to append.
 pub fn runs_write_their_own()
     ensures { RunsWriteTheirOwn }
 {}
 
-/// As a run begins, each slot, each stream and the count of live sthreads is as the rule of its own kind of
-/// cell has it.
+/// As a run begins, each cell is as the rule of its own kind has it.
 pub fn cells_open_by_their_rules()
     ensures { (image : Image) → CellsOpen image }
+{}
+
+/// In every world of a run each actor has a name of its own.
+pub fn names_are_distinct()
+    ensures { NamesAreDistinct }
 {}

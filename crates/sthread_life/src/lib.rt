@@ -6,15 +6,17 @@ mod access;
 mod actor;
 mod calls;
 mod laws;
+mod lives;
 mod local;
 mod memory;
 mod phase;
-mod sheet;
 mod take;
 
 pub use actor::Actor;
-pub use laws::{cells_open_by_their_rules, runs_are_judged, runs_write_their_own};
+pub use laws::{
+    cells_open_by_their_rules, moments_are_lawful, names_are_distinct, runs_write_their_own,
+};
+pub use lives::Lives;
 pub use local::Next;
 pub use memory::Memory;
 pub use phase::Phase;
-pub use sheet::Sheet;

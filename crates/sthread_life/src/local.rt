@@ -1,17 +1,19 @@
 //! Local events: an actor alone, up to its next shared event.
 
-ghost use Rattle.std.specs.Prelude.{◌≡◌, OnOk, IfOk, true, false};
+ghost use Rattle.std.specs.Prelude.{◌≡◌, OnOk, OnErr, IfOk, true, false};
 ghost use Rattle.rv_isa.specs.Table.{HasRegisters};
 ghost use Rattle.rv_hart.specs.Local as hart;
+ghost use Rattle.sthread_life.specs.Actors.{whole};
 ghost use Rattle.sthread_life.specs.Local as local;
-ghost use Rattle.sthread_life.specs.Taking.{wanted};
-ghost use Rattle.sthread_life.specs.Resting.{want_in, is_end, NextFits};
+ghost use Rattle.sthread_life.specs.Taking.{wanted, wanted_at};
+ghost use Rattle.sthread_life.specs.Resting.{want_in, end_in, end_reached, NextFits};
 
 use crate::actor::Actor;
+use crate::memory::Memory;
 use crate::phase::Phase;
-use image_form::Image;
+use ready_text::Program;
 use rv_hart::Need;
-use rv_isa::{Instr, decode};
+use rv_isa::Instr;
 use wedge_base::{End, LivesAsk, NoMemory, Want};
 
 /// What an actor at rest is at.
@@ -24,44 +26,65 @@ pub enum Next {
 }
 
 impl Actor {
-    /// Makes the actor's local events up to its next shared event, and says which it wants. After
-    /// want of memory the actor has stopped.
-    pub fn local(&mut self, image: &Image) -> Result<Next, NoMemory>
-        ensures rests { OnOk result (self.new ≡ local.rest image.now self.old) }
-        ensures next { IfOk result (λ n. wanted self.new.phase ≡ want_in n) }
+    /// Makes the actor's local events up to its next shared event, and returns which it wants, or its end. An
+    /// actor that runs out of memory has stopped: from then on each call of it answers `NoMemory`.
+    #[inline(always)]
+    pub fn local(&mut self, program: &Program<'_>, memory: &mut Memory) -> Result<Next, NoMemory>
+        ensures rests { OnOk result (whole self.new memory.new ≡ local.rest program.now (whole self.old memory.old)) }
+        ensures next { IfOk result (λ n. want_in n ≡ wanted (whole self.new memory.new)) }
+        ensures ended { IfOk result (λ n. end_in n ≡ end_reached self.new.phase) }
         ensures name { OnOk result (self.new.name ≡ self.old.name) }
-        ensures ended { IfOk result (λ n. is_end n ≡ local.has_ended self.old.phase) }
+        ensures live { OnOk result (local.has_ended self.new.phase ≡ local.has_ended self.old.phase) }
         ensures fits { IfOk result NextFits }
-        ensures stays { local.has_ended self.old.phase ≡ true → OnOk result (self.new ≡ self.old) }
+        ensures going { OnOk result ((self.old.stopped ≡ false) × (self.new.stopped ≡ false)) }
+        ensures stops { OnErr result (self.new.stopped ≡ true) }
+        ensures stays { local.has_ended self.old.phase ≡ true → OnOk result (whole self.new memory.new ≡ whole self.old memory.old) }
     {
-        self.run(image)?;
+        if self.stopped {
+            return Err(NoMemory);
+        }
+        let next = self.come_to_rest(program, memory);
+        self.stopped = next.is_err();
+        next
+    }
+
+    /// Runs to the next shared event.
+    #[inline(always)]
+    fn come_to_rest(&mut self, program: &Program<'_>, memory: &mut Memory) -> Result<Next, NoMemory>
+        ensures rests { OnOk result (whole self.new memory.new ≡ local.rest program.now (whole self.old memory.old)) }
+        ensures next { IfOk result (λ n. want_in n ≡ wanted_at self.new.phase) }
+        ensures ended { IfOk result (λ n. end_in n ≡ end_reached self.new.phase) }
+        ensures name { OnOk result (self.new.name ≡ self.old.name) }
+        ensures live { OnOk result (local.has_ended self.new.phase ≡ local.has_ended self.old.phase) }
+        ensures fits { IfOk result NextFits }
+        ensures stays { local.has_ended self.old.phase ≡ true → OnOk result (whole self.new memory.new ≡ whole self.old memory.old) }
+    {
+        self.run(program, memory)?;
         self.next()
     }
 
     /// Runs instructions until it no longer runs: each takes a unit of fuel.
-    fn run(&mut self, image: &Image) -> Result<(), NoMemory>
-        ensures rests { OnOk result (self.new ≡ local.rest image.now self.old) }
+    #[inline(never)]
+    fn run(&mut self, program: &Program<'_>, memory: &mut Memory) -> Result<(), NoMemory>
+        ensures rests { OnOk result (whole self.new memory.new ≡ local.rest program.now (whole self.old memory.old)) }
         ensures stops { OnOk result (local.is_running self.new.phase ≡ false) }
     {
-        let budget = u64::from(self.fuel) + 1;
-        for _ in 0..budget {
-            if !self.is_running() {
-                return Ok(());
-            }
-            self.step(image)?;
+        while self.is_running() {
+            self.step(program, memory)?;
         }
         Ok(())
     }
 
     /// What it is at, at rest.
+    #[inline(always)]
     fn next(&self) -> Result<Next, NoMemory>
         requires { local.is_running self.now.phase ≡ false }
-        ensures wants { IfOk result (λ n. wanted self.now.phase ≡ want_in n) }
-        ensures ended { IfOk result (λ n. is_end n ≡ local.has_ended self.now.phase) }
+        ensures wants { IfOk result (λ n. want_in n ≡ wanted_at self.now.phase) }
+        ensures ended { IfOk result (λ n. end_in n ≡ end_reached self.now.phase) }
         ensures fits { IfOk result NextFits }
     {
         match &self.phase {
-            Phase::Within(want) => Ok(Next::Shared(want.clone()?)),
+            Phase::Within(want) => Ok(Next::Shared(want.copy(self.alloc)?)),
             Phase::Ending(end) => Ok(Next::Shared(Want::Lives(LivesAsk::Release { end: *end }))),
             Phase::Ended(end) => Ok(Next::Ended(*end)),
             Phase::Running => unreachable!(),
@@ -69,6 +92,7 @@ impl Actor {
     }
 
     /// Whether it runs.
+    #[inline(always)]
     fn is_running(&self) -> bool
         ensures { result ≡ local.is_running self.now.phase }
     {
@@ -76,30 +100,37 @@ impl Actor {
     }
 
     /// One instruction.
+    #[inline(always)]
     #[tactic(auto, unfolding(crate::specs::Local::step))]
-    fn step(&mut self, image: &Image) -> Result<(), NoMemory>
-        ensures { OnOk result (self.new ≡ local.step image.now self.old) }
+    fn step(&mut self, program: &Program<'_>, memory: &mut Memory) -> Result<(), NoMemory>
+        ensures { OnOk result (whole self.new memory.new ≡ local.step program.now (whole self.old memory.old)) }
     {
-        let Some(word) = image.fetch(self.hart.pc) else {
+        let Some(found) = program.fetch(self.hart.pc) else {
             self.end(End::FetchFault);
             return Ok(());
         };
-        if self.fuel == 0 {
+        let Some(fuel) = self.fuel.checked_sub(1) else {
             self.end(End::FuelOut);
             return Ok(());
-        }
-        self.fuel -= 1;
-        match decode(word) {
+        };
+        self.fuel = fuel;
+        match found {
             None => self.end(End::BadInstruction),
-            Some(instr) => self.execute(image, instr)?,
+            Some(instr) => self.execute(program, memory, instr)?,
         }
         Ok(())
     }
 
     /// An instruction that is paid for.
-    fn execute(&mut self, image: &Image, instr: Instr) -> Result<(), NoMemory>
-        requires { HasRegisters instr }
-        ensures { OnOk result (self.new ≡ local.proceeds image.now instr self.old (hart.local instr self.old.hart)) }
+    #[inline(always)]
+    fn execute(
+        &mut self,
+        program: &Program<'_>,
+        memory: &mut Memory,
+        instr: &Instr,
+    ) -> Result<(), NoMemory>
+        requires { HasRegisters instr.now }
+        ensures { OnOk result (whole self.new memory.new ≡ local.proceeds program.now instr.now (whole self.old memory.old) (hart.local instr.now self.old.hart)) }
     {
         match self.hart.begin(instr) {
             Need::Done => {}
@@ -107,13 +138,13 @@ impl Actor {
                 address,
                 width,
                 signed,
-            } => self.load(image, instr, signed, address, width),
+            } => self.load(program, memory, *instr, signed, address, width),
             Need::Store {
                 address,
                 width,
                 value,
-            } => self.store(image, address, width, value),
-            Need::Call => self.serve(image)?,
+            } => self.store(program, memory, address, width, value),
+            Need::Call => self.serve(program.image(), memory)?,
             Need::Break => self.end(End::Break),
             Need::JumpMisaligned => self.end(End::JumpMisaligned),
         }

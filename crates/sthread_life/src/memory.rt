@@ -1,20 +1,19 @@
 //! Private memory: ranges of bytes.
 
-ghost use Rattle.std.specs.Prelude.{◌≡◌, ◌+◌, ◌≤◌, ◌⊎◌, ◌∷◌, [], IfOk, IfSome, length, is_some, option_map, false, IsTrue};
+ghost use Rattle.std.specs.Prelude.{◌≡◌, ◌+◌, ◌≤◌, ◌⊎◌, ◌∷◌, [], None, IfOk, IfSome, length, is_some, option_map, false, IsTrue};
 ghost use Rattle.wedge_base.specs.Bytes.{zeros, number_of, bytes_of};
 ghost use Rattle.wedge_base.specs.Memory.{lies_in, range_at, read_range, write_range, write_at};
-ghost use Rattle.wedge_base.specs.Images.{private_base, private_size};
+ghost use Rattle.wedge_base.specs.Images.{windows_base};
+ghost use Rattle.sthread_life.specs.Actors.{pristine};
+ghost use Rattle.sthread_life.specs.Below.{AreBelow};
 
+use image_form::Image;
 use std::alloc::Global;
 use std::marker::Model;
-use wedge_base::{Bytes, MemoryRange, NoMemory};
+use wedge_base::{Bytes, MemoryRange, NoMemory, PRIVATE_BASE, PRIVATE_SIZE};
 
-/// Where the private range begins: stack and heap.
-const PRIVATE_BASE: u32 = 0x2000_0000;
-/// How many bytes it has.
-const PRIVATE_SIZE: usize = 0x2_0000;
-
-/// The private memory of an actor: the private range, and its own data ranges.
+/// The private memory of an actor: the private range, and its own data ranges. It lies below the windows of
+/// tags.
 #[derive(Debug, Drop)]
 pub struct Memory {
     ranges: Vec<MemoryRange>,
@@ -23,27 +22,47 @@ pub struct Memory {
 impl Model for Memory {
     ghost use Rattle.std.specs.Prelude.{List};
     ghost use Rattle.wedge_base.specs.declared.image.MemoryRange.{MemoryRange};
+    ghost use Rattle.sthread_life.specs.Below.{AreBelow};
 
     ghost Value = { List MemoryRange };
 
     ghost view = { λ m. m.ranges.items };
+
+    ghost invariant = { λ m. AreBelow m.ranges.items };
 }
 
 impl Memory {
-    /// Private memory as an actor begins: a private range of zeros, and a copy of the data ranges.
-    pub fn pristine(alloc: Global, data_ranges: &[MemoryRange]) -> Result<Memory, NoMemory>
-        ensures { IfOk result (λ m. m ≡ record { base = private_base; bytes = zeros private_size } ∷ data_ranges.now) }
+    /// Private memory as an actor begins: a private range of zeros, and a copy of the image's data ranges.
+    pub fn pristine(alloc: Global, image: &Image) -> Result<Memory, NoMemory>
+        ensures { IfOk result (λ m. m ≡ pristine image.now) }
     {
         let mut ranges = Vec::new(alloc);
-        let bytes = zeroed(alloc, PRIVATE_SIZE)?;
         ranges.push(MemoryRange {
             base: PRIVATE_BASE,
-            bytes,
+            bytes: zeroed(alloc, PRIVATE_SIZE as usize)?,
         })?;
-        for range in data_ranges {
+        for range in image.ranges() {
             ranges.push(copy_of_range(range)?)?;
         }
         Ok(Memory { ranges })
+    }
+
+    /// Frees it: no range is left.
+    pub fn clear(&mut self)
+        ensures { self.new ≡ [] }
+    {
+        self.ranges.clear();
+    }
+
+    /// No range has bytes where the windows of tags begin, nor above.
+    #[inline(always)]
+    pub fn has_no_range(&self, address: u32, size: u32)
+        requires window { windows_base ≤ address }
+        requires some { 1 ≤ size }
+        ensures { range_at self.now address size ≡ None }
+    {
+        // The memory is opened here, so that what its type keeps is at hand.
+        let _ = &self.ranges;
     }
 
     /// Whether so many bytes from an address on lie in one range.
@@ -53,7 +72,8 @@ impl Memory {
         range_at(self.ranges.as_slice(), address, size).is_some()
     }
 
-    /// The number of 1, 2 or 4 bytes at an address, if they lie in one range.
+    /// The little-endian number in 1, 2 or 4 bytes at an address, if they lie in one range.
+    #[inline(always)]
     pub fn load(&self, address: u32, width: u8) -> Option<u32>
         requires { (width ≡ 1) ⊎ (width ≡ 2) ⊎ (width ≡ 4) }
         ensures { result ≡ option_map (λ r. number_of (read_range r address width)) (range_at self.now address width) }
@@ -76,6 +96,7 @@ impl Memory {
 
     /// Writes 1, 2 or 4 low bytes of a number at an address, if they lie in one range; answers
     /// whether they do.
+    #[inline(always)]
     pub fn store(&mut self, address: u32, width: u8, value: u32) -> bool
         requires { (width ≡ 1) ⊎ (width ≡ 2) ⊎ (width ≡ 4) }
         ensures found { result ≡ is_some (range_at self.old address width) }

@@ -3,7 +3,7 @@
 use wedge_base::{End, Want};
 
 /// What an actor is at.
-#[derive(Clone, Debug, Drop)]
+#[derive(Debug, Drop)]
 pub enum Phase {
     /// It runs instructions.
     Running,

@@ -1,57 +1,90 @@
 //! An actor's part of a shared event.
 
-ghost use Rattle.std.specs.Prelude.{◌≡◌, OnOk, option_and_then};
+ghost use Rattle.std.specs.Prelude.{◌≡◌, List, OnOk, OnErr, true, false, option_and_then};
+ghost use Rattle.wedge_base.specs.declared.image.MemoryRange.{MemoryRange as ARange};
 ghost use Rattle.wedge_base.specs.Images.{fetch};
 ghost use Rattle.rv_isa.specs.Table.{decode};
+ghost use Rattle.sthread_life.specs.Actors.{whole};
 ghost use Rattle.sthread_life.specs.Taking as taking;
 
 use crate::actor::Actor;
 use crate::calls::A2;
+use crate::memory::Memory;
 use crate::phase::Phase;
-use image_form::Image;
-use rv_hart::{Need, Reply};
-use rv_isa::decode;
-use wedge_base::{
-    Code, Denial, End, Event, FdNo, LivesAsk, NoMemory, Right, SlotAsk, SlotReply, StreamReply,
-};
+use ready_text::Program;
+use rv_hart::Reply;
+use wedge_base::{Code, Denial, End, Event, FdNo, LivesAsk, NoMemory, SlotReply, StreamReply};
 
 impl Actor {
-    /// What the event that it wanted makes of the actor. After want of memory it has stopped.
+    /// What the event that it wanted makes of the actor. One that runs out of memory has stopped: from then on
+    /// each call of it answers `NoMemory`.
+    #[inline(always)]
+    pub fn take(
+        &mut self,
+        program: &Program<'_>,
+        memory: &mut Memory,
+        event: &Event,
+    ) -> Result<(), NoMemory>
+        ensures takes { OnOk result (whole self.new memory.new ≡ taking.takes program.now (whole self.old memory.old) event.now) }
+        ensures name { OnOk result (self.new.name ≡ self.old.name) }
+        ensures going { OnOk result ((self.old.stopped ≡ false) × (self.new.stopped ≡ false)) }
+        ensures stops { OnErr result (self.new.stopped ≡ true) }
+    {
+        if self.stopped {
+            return Err(NoMemory);
+        }
+        let taken = self.take_event(program, memory, event);
+        self.stopped = taken.is_err();
+        taken
+    }
+
+    /// What an event makes of it.
+    #[inline(always)]
     #[tactic(auto, unfolding(crate::specs::Taking::takes))]
-    pub fn take(&mut self, image: &Image, event: &Event) -> Result<(), NoMemory>
-        ensures takes { OnOk result (self.new ≡ taking.takes image.now self.old event.now) }
+    fn take_event(
+        &mut self,
+        program: &Program<'_>,
+        memory: &mut Memory,
+        event: &Event,
+    ) -> Result<(), NoMemory>
+        ensures takes { OnOk result (whole self.new memory.new ≡ taking.takes program.now (whole self.old memory.old) event.now) }
         ensures name { OnOk result (self.new.name ≡ self.old.name) }
     {
         match event {
-            Event::Slot { ask, reply, .. } => self.take_slot(image, *ask, reply),
+            Event::Slot { reply, .. } => self.take_slot(program, reply),
             Event::Fd { fd, reply, .. } => self.take_stream(*fd, reply),
             Event::Lives { ask, .. } => {
-                self.phase = match ask {
-                    LivesAsk::Claim => Phase::Running,
-                    LivesAsk::Release { end } => Phase::Ended(*end),
-                };
+                self.take_lives(memory, *ask);
+                Ok(())
+            }
+            _ => {
+                self.phase = Phase::Running;
                 Ok(())
             }
         }
     }
 
     /// What a slot's reply makes of it.
-    fn take_slot(&mut self, image: &Image, ask: SlotAsk, reply: &SlotReply) -> Result<(), NoMemory>
-        ensures { OnOk result (self.new ≡ taking.takes_slot image.now self.old ask reply.now) }
+    #[inline(always)]
+    fn take_slot(&mut self, program: &Program<'_>, reply: &SlotReply) -> Result<(), NoMemory>
+        ensures takes { OnOk result ((m : List ARange) → whole self.new m ≡ taking.takes_slot program.now (whole self.old m) reply.now) }
+        ensures name { OnOk result (self.new.name ≡ self.old.name) }
     {
         match reply {
             SlotReply::Loaded { value } => {
                 self.phase = Phase::Running;
-                self.take_load(image, *value);
+                self.take_load(program, *value);
             }
             SlotReply::Stored => {
                 self.phase = Phase::Running;
                 self.hart.advance();
             }
             SlotReply::Unmapped => self.end(End::Unmapped),
-            SlotReply::Denied { tag } => {
-                let wants = wanted_right(ask);
-                self.note(Denial::Tag { tag: *tag, wants })?;
+            SlotReply::Denied { tag, wants } => {
+                self.note(Denial::Tag {
+                    tag: *tag,
+                    wants: *wants,
+                })?;
                 self.end(End::Denied);
             }
             _ => self.phase = Phase::Running,
@@ -60,24 +93,24 @@ impl Actor {
     }
 
     /// The load at hand has its value.
-    fn take_load(&mut self, image: &Image, value: u32)
-        ensures { self.new ≡ taking.loads_at self.old (option_and_then decode (fetch image.now self.old.hart.pc)) value }
+    #[inline(always)]
+    fn take_load(&mut self, program: &Program<'_>, value: u32)
+        ensures takes { (m : List ARange) → whole self.new m ≡ taking.loads_at (whole self.old m) (option_and_then decode (fetch program.now self.old.hart.pc)) value }
+        ensures name { self.new.name ≡ self.old.name }
     {
-        let Some(word) = image.fetch(self.hart.pc) else {
+        let Some(Some(instr)) = program.fetch(self.hart.pc) else {
             return;
         };
-        let Some(instr) = decode(word) else {
-            return;
-        };
-        let mut hart = self.hart;
-        if let Need::Load { .. } = hart.begin(instr) {
-            self.hart.finish(instr, Reply::Loaded(value));
+        if self.hart.needs_load(*instr) {
+            self.hart.finish(*instr, Reply::Loaded(value));
         }
     }
 
     /// What a stream's reply makes of it.
+    #[inline(never)]
     fn take_stream(&mut self, fd: FdNo, reply: &StreamReply) -> Result<(), NoMemory>
-        ensures { OnOk result (self.new ≡ taking.takes_stream self.old fd reply.now) }
+        ensures takes { OnOk result ((m : List ARange) → whole self.new m ≡ taking.takes_stream (whole self.old m) fd reply.now) }
+        ensures name { OnOk result (self.new.name ≡ self.old.name) }
     {
         match reply {
             StreamReply::Appended => {
@@ -97,14 +130,19 @@ impl Actor {
         }
         Ok(())
     }
-}
 
-/// The right that an ask wants.
-fn wanted_right(ask: SlotAsk) -> Right
-    ensures { result ≡ taking.wanted_right ask }
-{
-    match ask {
-        SlotAsk::Load { .. } => Right::Read,
-        _ => Right::ReadWrite,
+    /// What the count of live sthreads makes of it: at its end it drops its private memory.
+    #[inline(never)]
+    fn take_lives(&mut self, memory: &mut Memory, ask: LivesAsk)
+        ensures takes { whole self.new memory.new ≡ taking.takes_lives (whole self.old memory.old) ask }
+        ensures name { self.new.name ≡ self.old.name }
+    {
+        match ask {
+            LivesAsk::Claim => self.phase = Phase::Running,
+            LivesAsk::Release { end } => {
+                memory.clear();
+                self.phase = Phase::Ended(end);
+            }
+        }
     }
 }

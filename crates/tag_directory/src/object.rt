@@ -27,20 +27,28 @@ impl Object for Directory {
         ensures after { IfOk result (λ r. self.new ≡ directory_next self.old ask.now) }
         ensures err { OnErr result (self.new ≡ self.old) }
     {
-        let reply = match *ask {
+        let reply = self.act_once(ask)?;
+        Ok((reply, reply))
+    }
+
+    fn act_once(&mut self, ask: &DirectoryAsk) -> Result<DirectoryReply, NoMemory>
+        ensures is { IfOk result (λ r. r ≡ directory_reply self.old ask.now) }
+        ensures after { IfOk result (λ r. self.new ≡ directory_next self.old ask.now) }
+        ensures err { OnErr result (self.new ≡ self.old) }
+    {
+        match *ask {
             DirectoryAsk::Claim => match self.claim() {
-                Ok(Claimed { place, number }) => DirectoryReply::Claimed { place, number },
-                Err(ClaimFault::Full) => DirectoryReply::Full,
-                Err(ClaimFault::NoMemory) => return Err(NoMemory),
+                Ok(Claimed { place, number }) => Ok(DirectoryReply::Claimed { place, number }),
+                Err(ClaimFault::Full) => Ok(DirectoryReply::Full),
+                Err(ClaimFault::NoMemory) => Err(NoMemory),
             },
             DirectoryAsk::Release { place } => {
                 if self.is_claimed(place) {
                     self.release(place);
                 }
-                DirectoryReply::Released
+                Ok(DirectoryReply::Released)
             }
-        };
-        Ok((reply, reply))
+        }
     }
 
     fn copy_ask(ask: &DirectoryAsk) -> Result<DirectoryAsk, NoMemory>

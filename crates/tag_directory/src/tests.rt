@@ -121,3 +121,18 @@ fn asks_are_replied_to(rt: HostRuntime) -> Result<(), Fail> {
     }
     Ok(())
 }
+
+/// A directory does what it is asked with one reply.
+#[test]
+fn one_reply_is_enough(rt: HostRuntime) -> Result<(), Fail> {
+    let mut directory = Directory::new(rt.alloc(), 3, 2)?;
+    let claimed = directory.act_once(&DirectoryAsk::Claim)?;
+    let wanted = DirectoryReply::Claimed {
+        place: 2,
+        number: 2,
+    };
+    assert_eq!(rt; claimed, wanted);
+    let full = directory.act_once(&DirectoryAsk::Claim)?;
+    assert_eq!(rt; full, DirectoryReply::Full);
+    Ok(())
+}

@@ -10,7 +10,7 @@ ghost use Rattle.wedge_base.specs.declared.cells.SlotReply.TheVariants as reply;
 ghost use Rattle.wedge_base.specs.declared.rights.Right.TheVariants as right;
 
 /// Whatever lived in a slot, a tag that is opened there has zero bytes, in whole pages, and no blocks.
-pub fn opened_tags_are_blank()
+pub fn opened_tags_are_zeroed()
     ensures { (s : Option slots.Segment) (tag pages : ℕ)
         → IfSome (slots.slot_next s (ask.Open tag pages)) (λ g. (g.tag ≡ tag) × All (λ b. b ≡ 0) g.bytes × (length g.bytes ≡ pages * page) × (g.blocks ≡ [])) }
 {}

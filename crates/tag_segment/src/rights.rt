@@ -1,4 +1,4 @@
-//! How an access is judged by the asker's right.
+//! How an access is checked by the asker's right.
 
 ghost use Rattle.std.specs.Prelude.{◌≡◌};
 ghost use Rattle.wedge_base.specs.Rights.{at_least};

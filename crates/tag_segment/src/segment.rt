@@ -1,6 +1,6 @@
 //! A live tag.
 
-ghost use Rattle.std.specs.Prelude.{◌≡◌, ◌*◌, ◌%◌, ◌+◌, ◌-◌, ◌≤◌, ◌++◌, [], Some, IfOk, OnErr, length};
+ghost use Rattle.std.specs.Prelude.{◌≡◌, ◌*◌, ◌%◌, ◌+◌, ◌-◌, ◌≤◌, ◌++◌, [], Some, IfOk, OnOk, OnErr, length};
 ghost use Rattle.wedge_base.specs.Blocks.{AreBlocks};
 ghost use Rattle.wedge_base.specs.Bytes.{zeros};
 ghost use Rattle.wedge_base.specs.Images.{page, window, most_pages};
@@ -11,10 +11,7 @@ use crate::rights::{at_least, right_in};
 use smalloc_heap::{Block, Heap, SmallocFault};
 use std::alloc::Global;
 use std::marker::Model;
-use wedge_base::{Bytes, Live, NoMemory, Right, SlotAsk, SlotReply, TagNo};
-
-/// The bytes of a page.
-const PAGE: u32 = 4096;
+use wedge_base::{Bytes, Live, NoMemory, PAGE, Right, SlotAsk, SlotReply, TagNo, pages_of};
 
 /// A live tag: its number, its bytes, and the heap in which its blocks are placed.
 #[derive(Debug, Drop)]
@@ -59,7 +56,8 @@ impl Segment {
     ) -> Result<Segment, NoMemory>
         requires pages { pages ≤ most_pages }
         requires content { length content.now ≤ pages * page }
-        ensures { IfOk result (λ g. g ≡ record { tag = tag; bytes = content.now ++ zeros (pages * page - length content.now); blocks = [] }) }
+        ensures { let bytes = content.now ++ zeros (pages * page - length content.now)
+            in IfOk result (λ g. g ≡ record { tag = tag; bytes = bytes; blocks = [] }) }
     {
         let size = pages * PAGE;
         Ok(Segment {
@@ -76,7 +74,7 @@ impl Segment {
         self.tag
     }
 
-    /// Lends the bytes: whole pages, 16 at most.
+    /// Returns the bytes: whole pages, 16 at most.
     pub fn bytes(&self) -> &[u8]
         ensures is { result.now ≡ self.now.bytes }
         ensures pages { length self.now.bytes % page ≡ 0 }
@@ -85,7 +83,7 @@ impl Segment {
         self.bytes.as_slice()
     }
 
-    /// Lends the blocks, by offset. They lie in the bytes, apart.
+    /// Returns the blocks, by offset. They lie in the bytes, apart.
     pub fn blocks(&self) -> &[Block]
         ensures is { result.now ≡ self.now.blocks }
         ensures apart { AreBlocks 0 (length self.now.bytes) self.now.blocks }
@@ -93,91 +91,92 @@ impl Segment {
         self.heap.blocks()
     }
 
-    /// A load, judged by the asker's right.
-    pub fn load(&self, offset: u32, width: u8, live: Option<Live>) -> (SlotReply, SlotReply)
+    /// Loads bytes, as the asker's right allows it.
+    #[inline(always)]
+    pub fn load(&self, offset: u32, width: u8, live: Option<Live>) -> SlotReply
         requires { slots.IsAligned offset width }
-        ensures first { result.0 ≡ slots.live_reply self.now (SlotAsk.Load offset width live) }
-        ensures second { result.1 ≡ slots.live_reply self.now (SlotAsk.Load offset width live) }
+        ensures { result ≡ slots.live_reply self.now (SlotAsk.Load offset width live) }
     {
         let place = offset as usize;
         if place >= self.bytes.as_slice().len() {
-            return twice!(SlotReply::Unmapped);
+            return SlotReply::Unmapped;
         }
         if !at_least(right_in(live), Right::Read) {
-            return twice!(SlotReply::Denied { tag: self.tag });
+            return SlotReply::Denied {
+                tag: self.tag,
+                wants: Right::Read,
+            };
         }
         let value = self.bytes.number_at(place, width);
-        twice!(SlotReply::Loaded { value })
+        SlotReply::Loaded { value }
     }
 
-    /// A store, judged by the asker's right.
-    pub fn store(
-        &mut self,
-        offset: u32,
-        width: u8,
-        value: u32,
-        live: Option<Live>,
-    ) -> (SlotReply, SlotReply)
+    /// Stores bytes, as the asker's right allows it.
+    #[inline(always)]
+    pub fn store(&mut self, offset: u32, width: u8, value: u32, live: Option<Live>) -> SlotReply
         requires { slots.IsAligned offset width }
-        ensures first { result.0 ≡ slots.live_reply self.old (SlotAsk.Store offset width value live) }
-        ensures second { result.1 ≡ slots.live_reply self.old (SlotAsk.Store offset width value live) }
-        ensures after { Some self.new ≡ slots.slot_next (Some self.old) (SlotAsk.Store offset width value live) }
+        ensures is { result ≡ slots.live_reply self.old (SlotAsk.Store offset width value live) }
+        ensures after { let q = SlotAsk.Store offset width value live
+            in Some self.new ≡ slots.slot_next (Some self.old) q }
     {
         let place = offset as usize;
         if place >= self.bytes.as_slice().len() {
-            return twice!(SlotReply::Unmapped);
+            return SlotReply::Unmapped;
         }
         if !at_least(right_in(live), Right::ReadWrite) {
-            return twice!(SlotReply::Denied { tag: self.tag });
+            return SlotReply::Denied {
+                tag: self.tag,
+                wants: Right::ReadWrite,
+            };
         }
         self.bytes.write_number(place, width, value);
-        twice!(SlotReply::Stored)
+        SlotReply::Stored
     }
 
     /// Places a block of at least so many bytes, if the tag is this one.
-    pub fn smalloc(&mut self, tag: TagNo, size: u32) -> Result<(SlotReply, SlotReply), NoMemory>
+    pub fn smalloc(&mut self, tag: TagNo, size: u32) -> Result<SlotReply, NoMemory>
         requires { 1 ≤ size }
-        ensures first { IfOk result (λ r. r.0 ≡ slots.live_reply self.old (SlotAsk.Smalloc tag size)) }
-        ensures second { IfOk result (λ r. r.1 ≡ slots.live_reply self.old (SlotAsk.Smalloc tag size)) }
-        ensures after { IfOk result (λ _. Some self.new ≡ slots.slot_next (Some self.old) (SlotAsk.Smalloc tag size)) }
+        ensures is { IfOk result (λ r. r ≡ slots.live_reply self.old (SlotAsk.Smalloc tag size)) }
+        ensures after { let q = SlotAsk.Smalloc tag size
+            in OnOk result (Some self.new ≡ slots.slot_next (Some self.old) q) }
         ensures err { OnErr result (self.new ≡ self.old) }
     {
         if self.tag != tag {
-            return Ok(twice!(SlotReply::NoSuch));
+            return Ok(SlotReply::NoSuch);
         }
         match self.heap.smalloc(size) {
-            Ok(offset) => Ok(twice!(SlotReply::Placed { offset })),
-            Err(SmallocFault::NoSpace) => Ok(twice!(SlotReply::Full)),
+            Ok(offset) => Ok(SlotReply::Placed { offset }),
+            Err(SmallocFault::NoSpace) => Ok(SlotReply::Full),
             Err(SmallocFault::NoMemory) => Err(NoMemory),
         }
     }
 
-    /// Frees the block that begins at an offset, judged by the asker's right.
-    pub fn sfree(&mut self, offset: u32, live: Option<Live>) -> (SlotReply, SlotReply)
-        ensures first { result.0 ≡ slots.live_reply self.old (SlotAsk.Sfree offset live) }
-        ensures second { result.1 ≡ slots.live_reply self.old (SlotAsk.Sfree offset live) }
+    /// Frees the block that begins at an offset, as the asker's right allows it.
+    pub fn sfree(&mut self, offset: u32, live: Option<Live>) -> SlotReply
+        ensures is { result ≡ slots.live_reply self.old (SlotAsk.Sfree offset live) }
         ensures after { Some self.new ≡ slots.slot_next (Some self.old) (SlotAsk.Sfree offset live) }
     {
         let held = right_in(live);
         if !at_least(held, Right::ReadWrite) {
-            return twice!(SlotReply::Denied { tag: self.tag });
+            return SlotReply::Denied {
+                tag: self.tag,
+                wants: Right::ReadWrite,
+            };
         }
         match self.heap.sfree(offset) {
-            Ok(()) => twice!(SlotReply::Freed),
-            Err(_) => twice!(SlotReply::Bad),
+            Ok(()) => SlotReply::Freed,
+            Err(_) => SlotReply::Bad,
         }
     }
 
-    /// Copies the bytes, if the tag is this one.
-    pub fn snap(&self, tag: TagNo) -> Result<(SlotReply, SlotReply), NoMemory>
-        ensures first { IfOk result (λ r. r.0 ≡ slots.live_reply self.now (SlotAsk.Snap tag)) }
-        ensures second { IfOk result (λ r. r.1 ≡ slots.live_reply self.now (SlotAsk.Snap tag)) }
+    /// Copies the bytes as pages, if the tag is this one.
+    pub fn snap(&self, alloc: Global, tag: TagNo) -> Result<SlotReply, NoMemory>
+        ensures { IfOk result (λ r. r ≡ slots.live_reply self.now (SlotAsk.Snap tag)) }
     {
         if self.tag != tag {
-            return Ok(twice!(SlotReply::Gone));
+            return Ok(SlotReply::Gone);
         }
-        Ok(twice!(SlotReply::Snapped {
-            bytes: self.bytes.clone()?
-        }))
+        let pages = pages_of(alloc, self.bytes.as_slice())?;
+        Ok(SlotReply::Snapped { pages })
     }
 }

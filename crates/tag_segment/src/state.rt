@@ -1,10 +1,11 @@
 //! The state of a slot.
 
-ghost use Rattle.std.specs.Prelude.{◌≡◌, ◌%◌, ◌*◌, ◌-◌, ◌≤◌, ◌++◌, [], Some, None, Ok, IfOk, IfSome, OnErr, length, option_map};
+ghost use Rattle.std.specs.Prelude.{◌≡◌, ◌%◌, ◌*◌, ◌-◌, ◌≤◌, ◌++◌, [], Some, None, IfOk, IfSome, OnOk, OnErr, length, option_map};
 ghost use Rattle.wedge_base.specs.Blocks.{AreBlocks};
 ghost use Rattle.wedge_base.specs.Bytes.{zeros};
 ghost use Rattle.wedge_base.specs.Images.{page, window, most_pages};
 ghost use Rattle.wedge_base.specs.Slots as slots;
+ghost use Rattle.tag_segment.specs.Replies.{HasNoPages};
 
 use crate::segment::Segment;
 use smalloc_heap::Block;
@@ -49,7 +50,8 @@ impl SlotState {
     ) -> Result<SlotState, NoMemory>
         requires pages { pages ≤ most_pages }
         requires content { length content.now ≤ pages * page }
-        ensures { IfOk result (λ s. s ≡ Some (record { tag = tag; bytes = content.now ++ zeros (pages * page - length content.now); blocks = [] })) }
+        ensures { let bytes = content.now ++ zeros (pages * page - length content.now)
+            in IfOk result (λ s. s ≡ Some (record { tag = tag; bytes = bytes; blocks = [] })) }
     {
         let segment = Segment::declared(alloc, tag, content, pages)?;
         Ok(SlotState {
@@ -66,7 +68,7 @@ impl SlotState {
         Some(segment.tag())
     }
 
-    /// Lends the bytes of the tag that lives there: whole pages of 4,096 bytes, 16 at most.
+    /// Returns the bytes of the tag that lives there: whole pages of 4,096 bytes, 16 at most.
     pub fn bytes(&self) -> Option<&[u8]>
         ensures is { option_map (λ b. b.now) result ≡ option_map (λ g. g.bytes) self.now }
         ensures pages { IfSome self.now (λ g. length g.bytes % page ≡ 0) }
@@ -76,7 +78,7 @@ impl SlotState {
         Some(segment.bytes())
     }
 
-    /// Lends the blocks of the tag that lives there, by offset. They lie in its bytes, apart.
+    /// Returns the blocks of the tag that lives there, by offset. They lie in its bytes, apart.
     pub fn blocks(&self) -> Option<&[Block]>
         ensures is { option_map (λ b. b.now) result ≡ option_map (λ g. g.blocks) self.now }
         ensures apart { IfSome self.now (λ g. AreBlocks 0 (length g.bytes) g.blocks) }
@@ -87,7 +89,8 @@ impl SlotState {
 }
 
 impl Object for SlotState {
-    ghost use Rattle.wedge_base.specs.Slots.{slot_reply, slot_next};
+    ghost use Rattle.std.specs.Prelude.{◌≡◌, Ok, IfOk, OnErr};
+    ghost use Rattle.wedge_base.specs.Slots.{slot_reply, slot_next, SlotFits};
     ghost use Rattle.tag_segment.specs.Objects.{opening_state, FitsState};
 
     type Ask = SlotAsk;
@@ -102,7 +105,66 @@ impl Object for SlotState {
 
     ghost fits = { FitsState };
 
-    fn act(&mut self, ask: &SlotAsk) -> Result<(SlotReply, SlotReply), NoMemory> {
+    fn act(&mut self, ask: &SlotAsk) -> Result<(SlotReply, SlotReply), NoMemory>
+        requires { SlotFits self.old ask.now }
+        ensures first { IfOk result (λ r. r.0 ≡ slot_reply self.old ask.now) }
+        ensures second { IfOk result (λ r. r.1 ≡ slot_reply self.old ask.now) }
+        ensures after { IfOk result (λ r. self.new ≡ slot_next self.old ask.now) }
+        ensures err { OnErr result (self.new ≡ self.old) }
+    {
+        match ask {
+            SlotAsk::Snap { tag } => {
+                let reply = self.snap(*tag)?;
+                let second = reply.copy()?;
+                Ok((reply, second))
+            }
+            _ => {
+                let reply = self.act_once(ask)?;
+                let second = twin(&reply);
+                Ok((reply, second))
+            }
+        }
+    }
+
+    #[inline(always)]
+    fn act_once(&mut self, ask: &SlotAsk) -> Result<SlotReply, NoMemory>
+        requires { SlotFits self.old ask.now }
+        ensures is { IfOk result (λ r. r ≡ slot_reply self.old ask.now) }
+        ensures after { IfOk result (λ r. self.new ≡ slot_next self.old ask.now) }
+        ensures err { OnErr result (self.new ≡ self.old) }
+    {
+        match ask {
+            SlotAsk::Load {
+                offset,
+                width,
+                live,
+            } => Ok(self.load(*offset, *width, *live)),
+            SlotAsk::Store {
+                offset,
+                width,
+                value,
+                live,
+            } => Ok(self.store(*offset, *width, *value, *live)),
+            _ => self.act_other(ask),
+        }
+    }
+
+    fn copy_ask(ask: &SlotAsk) -> Result<SlotAsk, NoMemory>
+        ensures { result ≡ Ok ask.now }
+    {
+        Ok(*ask)
+    }
+}
+
+impl SlotState {
+    /// Does what is asked, which may be of any kind, as `act_once` does.
+    #[inline(never)]
+    fn act_other(&mut self, ask: &SlotAsk) -> Result<SlotReply, NoMemory>
+        requires { slots.SlotFits self.old ask.now }
+        ensures is { IfOk result (λ r. r ≡ slots.slot_reply self.old ask.now) }
+        ensures after { OnOk result (self.new ≡ slots.slot_next self.old ask.now) }
+        ensures err { OnErr result (self.new ≡ self.old) }
+    {
         match ask {
             SlotAsk::Open { tag, pages } => self.begin(*tag, *pages),
             SlotAsk::Close { tag } => Ok(self.close(*tag)),
@@ -123,108 +185,115 @@ impl Object for SlotState {
         }
     }
 
-    fn copy_ask(ask: &SlotAsk) -> Result<SlotAsk, NoMemory>
-        ensures { result ≡ Ok ask.now }
-    {
-        Ok(*ask)
-    }
-}
-
-impl SlotState {
-    // Begins a tag, with zero bytes and no blocks, whatever lived there.
-    fn begin(&mut self, tag: TagNo, pages: u32) -> Result<(SlotReply, SlotReply), NoMemory>
+    /// Begins a tag, with zero bytes and no blocks, whatever lived there.
+    fn begin(&mut self, tag: TagNo, pages: u32) -> Result<SlotReply, NoMemory>
         requires { pages ≤ most_pages }
-        ensures first { IfOk result (λ r. r.0 ≡ slots.slot_reply self.old (SlotAsk.Open tag pages)) }
-        ensures second { IfOk result (λ r. r.1 ≡ slots.slot_reply self.old (SlotAsk.Open tag pages)) }
-        ensures after { IfOk result (λ _. self.new ≡ slots.slot_next self.old (SlotAsk.Open tag pages)) }
+        ensures is { IfOk result (λ r. r ≡ slots.slot_reply self.old (SlotAsk.Open tag pages)) }
+        ensures after { OnOk result (self.new ≡ slots.slot_next self.old (SlotAsk.Open tag pages)) }
         ensures err { OnErr result (self.new ≡ self.old) }
     {
         let segment = Segment::opened(self.alloc, tag, pages)?;
         self.segment = Some(segment);
-        Ok(twice!(SlotReply::Opened))
+        Ok(SlotReply::Opened)
     }
 
-    // Ends a tag, if it is the one that lives there.
-    fn close(&mut self, tag: TagNo) -> (SlotReply, SlotReply)
-        ensures first { result.0 ≡ slots.slot_reply self.old (SlotAsk.Close tag) }
-        ensures second { result.1 ≡ slots.slot_reply self.old (SlotAsk.Close tag) }
+    /// Ends a tag, if it is the one that lives there.
+    fn close(&mut self, tag: TagNo) -> SlotReply
+        ensures is { result ≡ slots.slot_reply self.old (SlotAsk.Close tag) }
         ensures after { self.new ≡ slots.slot_next self.old (SlotAsk.Close tag) }
     {
         let Some(segment) = &self.segment else {
-            return twice!(SlotReply::NoSuch);
+            return SlotReply::NoSuch;
         };
         if segment.tag() != tag {
-            return twice!(SlotReply::NoSuch);
+            return SlotReply::NoSuch;
         }
         self.segment = None;
-        twice!(SlotReply::Closed)
+        SlotReply::Closed
     }
 
-    // A load.
-    fn load(&self, offset: u32, width: u8, live: Option<Live>) -> (SlotReply, SlotReply)
+    /// Loads bytes.
+    #[inline(always)]
+    fn load(&self, offset: u32, width: u8, live: Option<Live>) -> SlotReply
         requires { slots.IsAligned offset width }
-        ensures first { result.0 ≡ slots.slot_reply self.now (SlotAsk.Load offset width live) }
-        ensures second { result.1 ≡ slots.slot_reply self.now (SlotAsk.Load offset width live) }
+        ensures { result ≡ slots.slot_reply self.now (SlotAsk.Load offset width live) }
     {
         match &self.segment {
-            None => twice!(SlotReply::Unmapped),
+            None => SlotReply::Unmapped,
             Some(segment) => segment.load(offset, width, live),
         }
     }
 
-    // A store.
-    fn store(
-        &mut self,
-        offset: u32,
-        width: u8,
-        value: u32,
-        live: Option<Live>,
-    ) -> (SlotReply, SlotReply)
+    /// Stores bytes.
+    #[inline(always)]
+    fn store(&mut self, offset: u32, width: u8, value: u32, live: Option<Live>) -> SlotReply
         requires { slots.IsAligned offset width }
-        ensures first { result.0 ≡ slots.slot_reply self.old (SlotAsk.Store offset width value live) }
-        ensures second { result.1 ≡ slots.slot_reply self.old (SlotAsk.Store offset width value live) }
-        ensures after { self.new ≡ slots.slot_next self.old (SlotAsk.Store offset width value live) }
+        ensures is { result ≡ slots.slot_reply self.old (SlotAsk.Store offset width value live) }
+        ensures after { let q = SlotAsk.Store offset width value live
+            in self.new ≡ slots.slot_next self.old q }
     {
         match &mut self.segment {
-            None => twice!(SlotReply::Unmapped),
+            None => SlotReply::Unmapped,
             Some(segment) => segment.store(offset, width, value, live),
         }
     }
 
-    // A block placed.
-    fn smalloc(&mut self, tag: TagNo, size: u32) -> Result<(SlotReply, SlotReply), NoMemory>
+    /// Places a block.
+    fn smalloc(&mut self, tag: TagNo, size: u32) -> Result<SlotReply, NoMemory>
         requires { 1 ≤ size }
-        ensures first { IfOk result (λ r. r.0 ≡ slots.slot_reply self.old (SlotAsk.Smalloc tag size)) }
-        ensures second { IfOk result (λ r. r.1 ≡ slots.slot_reply self.old (SlotAsk.Smalloc tag size)) }
-        ensures after { IfOk result (λ _. self.new ≡ slots.slot_next self.old (SlotAsk.Smalloc tag size)) }
+        ensures is { IfOk result (λ r. r ≡ slots.slot_reply self.old (SlotAsk.Smalloc tag size)) }
+        ensures after { OnOk result (self.new ≡ slots.slot_next self.old (SlotAsk.Smalloc tag size)) }
         ensures err { OnErr result (self.new ≡ self.old) }
     {
         match &mut self.segment {
-            None => Ok(twice!(SlotReply::NoSuch)),
+            None => Ok(SlotReply::NoSuch),
             Some(segment) => segment.smalloc(tag, size),
         }
     }
 
-    // A block freed.
-    fn sfree(&mut self, offset: u32, live: Option<Live>) -> (SlotReply, SlotReply)
-        ensures first { result.0 ≡ slots.slot_reply self.old (SlotAsk.Sfree offset live) }
-        ensures second { result.1 ≡ slots.slot_reply self.old (SlotAsk.Sfree offset live) }
+    /// Frees a block.
+    fn sfree(&mut self, offset: u32, live: Option<Live>) -> SlotReply
+        ensures is { result ≡ slots.slot_reply self.old (SlotAsk.Sfree offset live) }
         ensures after { self.new ≡ slots.slot_next self.old (SlotAsk.Sfree offset live) }
     {
         match &mut self.segment {
-            None => twice!(SlotReply::NoSuch),
+            None => SlotReply::NoSuch,
             Some(segment) => segment.sfree(offset, live),
         }
     }
 
-    // The bytes, copied.
-    fn snap(&self, tag: TagNo) -> Result<(SlotReply, SlotReply), NoMemory>
-        ensures first { IfOk result (λ r. r.0 ≡ slots.slot_reply self.now (SlotAsk.Snap tag)) }
-        ensures second { IfOk result (λ r. r.1 ≡ slots.slot_reply self.now (SlotAsk.Snap tag)) }
+    /// Copies the pages of a tag.
+    fn snap(&self, tag: TagNo) -> Result<SlotReply, NoMemory>
+        ensures { IfOk result (λ r. r ≡ slots.slot_reply self.now (SlotAsk.Snap tag)) }
     {
         match &self.segment {
-            None => Ok(twice!(SlotReply::Gone)),
-            Some(segment) => segment.snap(tag),
+            None => Ok(SlotReply::Gone),
+            Some(segment) => segment.snap(self.alloc, tag),
         }
+    }
+}
+
+/// An equal reply, of one that has no pages. It takes no memory.
+fn twin(reply: &SlotReply) -> SlotReply
+    requires { HasNoPages reply.now }
+    ensures { result ≡ reply.now }
+{
+    match reply {
+        SlotReply::Opened => SlotReply::Opened,
+        SlotReply::Closed => SlotReply::Closed,
+        SlotReply::Loaded { value } => SlotReply::Loaded { value: *value },
+        SlotReply::Stored => SlotReply::Stored,
+        SlotReply::Placed { offset } => SlotReply::Placed { offset: *offset },
+        SlotReply::Freed => SlotReply::Freed,
+        SlotReply::Unmapped => SlotReply::Unmapped,
+        SlotReply::Denied { tag, wants } => SlotReply::Denied {
+            tag: *tag,
+            wants: *wants,
+        },
+        SlotReply::NoSuch => SlotReply::NoSuch,
+        SlotReply::Full => SlotReply::Full,
+        SlotReply::Bad => SlotReply::Bad,
+        SlotReply::Gone => SlotReply::Gone,
+        SlotReply::Snapped { .. } => unreachable!(),
     }
 }

@@ -7,7 +7,9 @@ use super::*;
 use smalloc_heap::Block;
 use std::process::Abort;
 use std::test::Fail;
-use wedge_base::{Live, NoMemory, Object, Right, SlotAsk, SlotReply, TagNo};
+use wedge_base::{
+    Live, MOST_PAGES, NoMemory, Object, Right, SlotAsk, SlotReply, TagNo, WINDOW, pages_of,
+};
 
 /// What a slot is asked, for whatever tag lives there.
 #[derive(Clone, Copy, Debug)]
@@ -27,6 +29,10 @@ const READ: Option<Right> = Some(Right::Read);
 const WRITE: Option<Right> = Some(Right::ReadWrite);
 
 const COPY: Option<Right> = Some(Right::Cow);
+
+const DENIED_READ: &str = "Denied { tag: TagNo(7), wants: Read }";
+
+const DENIED_WRITE: &str = "Denied { tag: TagNo(7), wants: ReadWrite }";
 
 const TAG: TagNo = TagNo(7);
 
@@ -51,7 +57,7 @@ fn an_empty_slot(rt: HostRuntime) -> Result<(), Fail> {
 }
 
 #[test]
-fn a_tag_opened_again_is_blank(rt: HostRuntime) -> Result<(), Fail> {
+fn a_tag_opened_again_is_zeroed(rt: HostRuntime) -> Result<(), Fail> {
     let mut slot = SlotState::empty(rt.alloc());
     for tag in [TAG, OTHER, TAG] {
         let steps = [
@@ -85,9 +91,9 @@ fn accesses_under_each_right(rt: HostRuntime) -> Result<(), Fail> {
     let mut slot = SlotState::declared(rt.alloc(), TAG, b"abcd", 1)?;
     for right in [None, COPY] {
         let steps = [
-            (Step::Load(0, 4, right), "Denied { tag: TagNo(7) }"),
-            (Step::Store(0, 4, 1, right), "Denied { tag: TagNo(7) }"),
-            (Step::Sfree(0, right), "Denied { tag: TagNo(7) }"),
+            (Step::Load(0, 4, right), DENIED_READ),
+            (Step::Store(0, 4, 1, right), DENIED_WRITE),
+            (Step::Sfree(0, right), DENIED_WRITE),
             (Step::Load(4096, 4, right), "Unmapped"),
         ];
         run(&rt, &mut slot, &steps)?;
@@ -96,7 +102,7 @@ fn accesses_under_each_right(rt: HostRuntime) -> Result<(), Fail> {
         (Step::Load(0, 4, READ), "Loaded { value: 1684234849 }"),
         (Step::Load(2, 2, WRITE), "Loaded { value: 25699 }"),
         (Step::Load(4, 1, READ), "Loaded { value: 0 }"),
-        (Step::Store(0, 4, 1, READ), "Denied { tag: TagNo(7) }"),
+        (Step::Store(0, 4, 1, READ), DENIED_WRITE),
         (Step::Store(4096, 1, 1, READ), "Unmapped"),
         (Step::Load(3, 1, READ), "Loaded { value: 100 }"),
         (Step::Store(2, 2, 0x1_0203, WRITE), "Stored"),
@@ -128,10 +134,10 @@ fn blocks_are_freed_under_a_right_to_write(rt: HostRuntime) -> Result<(), Fail> 
     let steps = [
         (Step::Smalloc(TAG, 5), "Placed { offset: 0 }"),
         (Step::Smalloc(TAG, 9), "Placed { offset: 8 }"),
-        (Step::Sfree(4, READ), "Denied { tag: TagNo(7) }"),
+        (Step::Sfree(4, READ), DENIED_WRITE),
         (Step::Sfree(4, WRITE), "Bad"),
         (Step::Sfree(16, WRITE), "Bad"),
-        (Step::Sfree(0, READ), "Denied { tag: TagNo(7) }"),
+        (Step::Sfree(0, READ), DENIED_WRITE),
         (Step::Sfree(0, WRITE), "Freed"),
         (Step::Sfree(0, WRITE), "Bad"),
         (Step::Smalloc(TAG, 16), "Placed { offset: 24 }"),
@@ -143,18 +149,19 @@ fn blocks_are_freed_under_a_right_to_write(rt: HostRuntime) -> Result<(), Fail> 
 }
 
 #[test]
-fn a_snap_copies_the_bytes(rt: HostRuntime) -> Result<(), Fail> {
-    let mut slot = SlotState::declared(rt.alloc(), TAG, b"abcd", 1)?;
-    let (first, second) = slot.act(&SlotAsk::Snap { tag: TAG })?;
-    let lent = slot.bytes().ok_or("a tag lives there")?;
-    assert_eq!(rt; lent.len(), 4096);
-    assert!(rt; lent.starts_with(b"abcd\0"));
-    for reply in [first, second] {
-        let SlotReply::Snapped { bytes } = reply else {
-            return Err(Fail::from("the tag lives there"));
-        };
-        assert_eq!(rt; bytes.as_slice(), lent);
-    }
+fn a_snap_copies_the_pages(rt: HostRuntime) -> Result<(), Fail> {
+    let mut slot = SlotState::declared(rt.alloc(), TAG, b"abcd", 2)?;
+    let ask = SlotAsk::Snap { tag: TAG };
+    let (first, second) = slot.act(&ask)?;
+    let bytes = slot.bytes().ok_or("a tag lives there")?;
+    assert_eq!(rt; bytes.len(), 8192);
+    assert!(rt; bytes.starts_with(b"abcd\0"));
+    let wanted = SlotReply::Snapped {
+        pages: pages_of(rt.alloc(), bytes)?,
+    };
+    assert!(rt; first == wanted && second == wanted);
+    let once = slot.act_once(&ask)?;
+    assert!(rt; once == wanted);
     Ok(())
 }
 
@@ -167,7 +174,7 @@ fn run(
     for (step, wanted) in steps {
         let ask = ask_of(rt, slot, *step);
         assert_eq!(rt; SlotState::copy_ask(&ask)?, ask);
-        let (first, second) = replies(slot, &ask)?;
+        let (first, second) = slot.act(&ask)?;
         let first = format!(in rt.alloc(); "{first:?}")?;
         let second = format!(in rt.alloc(); "{second:?}")?;
         assert_eq!(rt; first.as_str(), *wanted, "{step:?}");
@@ -176,19 +183,12 @@ fn run(
     Ok(())
 }
 
-/// Both replies of a slot.
-fn replies(slot: &mut SlotState, ask: &SlotAsk) -> Result<(SlotReply, SlotReply), NoMemory>
-    requires { slots.SlotFits slot.old ask.now }
-{
-    slot.act(ask)
-}
-
 /// The ask of a step, with the tag that lives in the slot.
 fn ask_of(rt: &impl Abort, slot: &SlotState, step: Step) -> SlotAsk
     ensures { slots.SlotFits slot.now result }
 {
     match step {
-        Step::Open(tag, pages) if pages > 0 && pages <= 16 => SlotAsk::Open { tag, pages },
+        Step::Open(tag, pages) if pages > 0 && pages <= MOST_PAGES => SlotAsk::Open { tag, pages },
         Step::Close(tag) => SlotAsk::Close { tag },
         Step::Load(offset, width, right) if is_aligned(offset, width) => {
             let live = pair(slot, right);
@@ -208,7 +208,7 @@ fn ask_of(rt: &impl Abort, slot: &SlotState, step: Step) -> SlotAsk
             }
         }
         Step::Smalloc(tag, size) if size > 0 => SlotAsk::Smalloc { tag, size },
-        Step::Sfree(offset, right) if offset < 65536 => {
+        Step::Sfree(offset, right) if offset < WINDOW => {
             let live = pair(slot, right);
             SlotAsk::Sfree { offset, live }
         }
@@ -220,7 +220,7 @@ fn ask_of(rt: &impl Abort, slot: &SlotState, step: Step) -> SlotAsk
 fn is_aligned(offset: u32, width: u8) -> bool
     ensures { IsTrue result → slots.IsAligned offset width }
 {
-    offset < 65536
+    offset < WINDOW
         && match width {
             1 => true,
             2 => offset % 2 == 0,

@@ -5,16 +5,16 @@ use Rattle.std.specs.Prelude.{ℕ, zero, suc, ◌+◌, ◌*◌, ◌/◌, ◌%◌
 unfoldable pub zeros : ℕ → List ℕ
 zeros n = replicate n 0
 
--- the number that bytes spell, the lowest first
+-- the little-endian number in bytes
 abbrev pub number_of : List ℕ → ℕ
 number_of [] = 0
 number_of (b ∷ bs) = b + 256 * number_of bs
 
--- so many low bytes of a number, the lowest first
+-- so many low bytes of a number, little-endian
 abbrev pub bytes_of : ℕ → ℕ → List ℕ
 bytes_of zero n = []
 bytes_of (suc k) n = n % 256 ∷ bytes_of k (n / 256)
 
--- the bytes with others written over them from a place on
+-- the bytes with others written over them from an offset on
 abbrev pub written : List ℕ → ℕ → List ℕ → List ℕ
 written bytes place new = take place bytes ++ new ++ drop (place + length new) bytes

@@ -1,4 +1,4 @@
--- The plain record of an image, and the places of the address space.
+-- The plain record of an image, and the layout of the address space.
 use Rattle.std.specs.Prelude.{ℕ, zero, suc, ◌+◌, ◌-◌, ◌*◌, ◌/◌, ◌%◌, ◌^◌, ◌==◌, Bool, ◌&&◌, List, [], ◌∷◌, length, find, slice_get, slice_index, Option, Some, None, option_map, unwrap_or, nat_le, nat_lt, if◌then◌else◌}
 use Rattle.wedge_base.specs.declared.address.Place.{Place}
 use Rattle.wedge_base.specs.declared.image.Procedure.{Procedure}
@@ -28,7 +28,7 @@ in_text i address n = nat_le i.base address && nat_le (address + n) (i.base + 4 
 abbrev pub fetch : Image → ℕ → Option ℕ
 fetch i pc = if in_text i pc 4 then slice_get i.words ((pc - i.base) / 4) else None
 
--- the byte of the text at an address: the words lie with their lowest byte first
+-- the byte of the text at an address: the words are little-endian
 abbrev pub text_byte : Image → ℕ → ℕ
 text_byte i address = slice_index i.words ((address - i.base) / 4) / 256 ^ ((address - i.base) % 4) % 256
 

@@ -1,5 +1,7 @@
--- Turns and journals.
-use Rattle.std.specs.Prelude.{ℕ, ◌+◌, List, [], ◌∷◌, map, Option, Some}
+-- Events, turns and journals.
+use Rattle.std.specs.Prelude.{ℕ, ◌+◌, List, [], ◌∷◌, map, Option, Some, None}
+use Rattle.wedge_base.specs.declared.events.Ask.{Ask}
+use Rattle.wedge_base.specs.declared.events.Ask.TheVariants as ask
 use Rattle.wedge_base.specs.declared.events.Event.{Event}
 use Rattle.wedge_base.specs.declared.events.Event.TheVariants as event
 use Rattle.wedge_base.specs.declared.events.CellName.{CellName}
@@ -9,9 +11,29 @@ use Rattle.wedge_base.specs.declared.events.LogEntry.{LogEntry}
 
 -- the cell of an event, if it has one
 abbrev pub cell_of : Event → Option CellName
+cell_of (event.Slots q r) = Some cell.Slots
 cell_of (event.Slot slot q r) = Some (cell.Slot slot)
+cell_of (event.Fds q r) = Some cell.Fds
 cell_of (event.Fd fd q r) = Some (cell.Fd fd)
 cell_of (event.Lives q r) = Some cell.Lives
+cell_of (event.Gate gate q r) = Some (cell.Gate gate)
+cell_of (event.Start child) = None
+cell_of (event.Join child end fuel) = None
+cell_of (event.Enter run) = None
+cell_of (event.Leave end) = None
+
+-- what was asked in an event
+abbrev pub asked : Event → Ask
+asked (event.Slots q r) = ask.Slots q
+asked (event.Slot slot q r) = ask.Slot slot q
+asked (event.Fds q r) = ask.Fds q
+asked (event.Fd fd q r) = ask.Fd fd q
+asked (event.Lives q r) = ask.Lives q
+asked (event.Gate gate q r) = ask.Gate gate q
+asked (event.Start child) = ask.Start child
+asked (event.Join child end fuel) = ask.Join child
+asked (event.Enter run) = ask.Enter run
+asked (event.Leave end) = ask.Leave end
 
 -- the turns that a journal's entries tell
 abbrev pub turns_of : List LogEntry → List Turn
@@ -20,4 +42,4 @@ turns_of entries = map (λ e. record { actor = e.actor; event = e.event }) entri
 -- turns taken one after another on one thread: an entry's stamp is its place, from 1
 abbrev pub numbered : ℕ → List Turn → List LogEntry
 numbered stamp [] = []
-numbered stamp (t ∷ ts) = record { stamp = stamp; actor = t.actor; cell = cell_of t.event; event = t.event } ∷ numbered (stamp + 1) ts
+numbered stamp (t ∷ ts) = record { stamp = stamp; actor = t.actor; event = t.event } ∷ numbered (stamp + 1) ts

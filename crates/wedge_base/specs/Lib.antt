@@ -7,11 +7,16 @@ pub mod Images
 pub mod Rights
 pub mod Files
 pub mod Paths
+pub mod Sheets
+pub mod Services
 pub mod Wants
 pub mod Blocks
+pub mod Pages
+pub mod Parts
 pub mod Slots
 pub mod Histories
 pub mod Streams
 pub mod Directories
 pub mod Lives
+pub mod Gates
 pub mod Journals

@@ -9,3 +9,7 @@ same xs ys = pointwise ◌==◌ xs ys
 -- the name of the root
 abbrev pub root_name : List ℕ
 root_name = 0 ∷ []
+
+-- the most parts of a name
+abbrev pub most_parts : ℕ
+most_parts = 32

@@ -1,7 +1,8 @@
 -- Paths: their parts, and how one is resolved under a root.
-use Rattle.std.specs.Prelude.{ℕ, ◌==◌, Bool, true, false, not, ◌&&◌, ◌||◌, List, [], ◌∷◌, ◌++◌, length, take, ◌-◌, filter, Option, Some, None, nat_lt, nat_le, if◌then◌else◌}
-use Rattle.std.specs.List.{list_all}
+use Rattle.std.specs.Prelude.{ℕ, ◌==◌, Bool, true, false, not, ◌&&◌, ◌||◌, List, [], ◌∷◌, ◌++◌, length, take, ◌-◌, filter, Option, Some, None, nat_lt, if◌then◌else◌}
+use Rattle.std.specs.List.{list_all, slice_split}
 use Rattle.wedge_base.specs.Names.{same}
+use Rattle.wedge_base.specs.Texts.{is_printed}
 
 -- a byte put before the first piece
 abbrev pub onto : ℕ → List (List ℕ) → List (List ℕ)
@@ -34,10 +35,10 @@ walked kept (p ∷ ps) =
     else if same p (46 ∷ 46 ∷ []) then walked (take (length kept - 1) kept) ps
     else walked (kept ++ p ∷ []) ps
 
--- 1 to 256 bytes from 0x21 to 0x7E, the first a slash
+-- 1 to 256 bytes that are printed, the first a slash
 abbrev pub is_path : List ℕ → Bool
 is_path [] = false
-is_path (b ∷ bs) = (b == 47) && nat_lt (length bs) 256 && list_all (λ x. nat_le 0x21 x && nat_le x 0x7e) bs
+is_path (b ∷ bs) = (b == 47) && nat_lt (length bs) 256 && list_all is_printed bs
 
 -- the path under a root that a text names, if it is the text of a path
 abbrev pub resolve : List ℕ → List ℕ → Option (List ℕ)
@@ -52,3 +53,16 @@ is_front (x ∷ xs) (y ∷ ys) = same x y && is_front xs ys
 -- whether a path lies under a root
 abbrev pub under : List ℕ → List ℕ → Bool
 under root path = is_front (parts_of root) (parts_of path)
+
+-- a part of a canonical path: not empty, not `.` and not `..`
+abbrev pub is_part : List ℕ → Bool
+is_part [] = false
+is_part (c ∷ []) = not (c == 46)
+is_part (c ∷ d ∷ []) = not (c == 46 && d == 46)
+is_part (c ∷ d ∷ e ∷ rest) = true
+
+-- a canonical path: a slash alone, or a slash and printed parts with a slash between each two
+unfoldable pub is_canonical : List ℕ → Bool
+is_canonical [] = false
+is_canonical (c ∷ []) = c == 47
+is_canonical (c ∷ d ∷ cs) = c == 47 && list_all is_printed (d ∷ cs) && list_all is_part (slice_split (λ b. b == 47) (d ∷ cs))

@@ -1,15 +1,8 @@
--- Rights: what a sheet grants, and when a right is enough.
-use Rattle.std.specs.Prelude.{ℕ, Bool, true, false, ◌&&◌, Option, Some, None, unwrap_or, option_map, nat_le, if◌then◌else◌}
-use Rattle.wedge_base.specs.Maps.{Map, at}
+-- Rights, and when one is enough.
+use Rattle.std.specs.Prelude.{ℕ, Bool, true, false, ◌&&◌, Option, Some, None, nat_le, if◌then◌else◌}
 use Rattle.wedge_base.specs.declared.rights.Right.{Right}
 use Rattle.wedge_base.specs.declared.rights.Right.TheVariants as right
 use Rattle.wedge_base.specs.declared.rights.FdBits.{FdBits}
-use Rattle.wedge_base.specs.declared.rights.Grant.{Grant}
-
--- all that an actor may do: its rights on tags, and its bits on descriptors
-pub record Sheet : Type 0 where
-  pub tags : Map Grant
-  pub fds : Map FdBits
 
 -- Cow < Read < ReadWrite, and no right is below Cow
 abbrev pub rank : Right → ℕ
@@ -34,10 +27,3 @@ append_bit = record { read = false; append = true }
 -- whether each bit that is asked is among those held
 abbrev pub bits_within : FdBits → FdBits → Bool
 bits_within asked held = (if asked.read then held.read else true) && (if asked.append then held.append else true)
-
--- the right that a sheet gives on a tag, and the bits on a descriptor
-abbrev pub right_on : Sheet → ℕ → Option Right
-right_on s tag = option_map (λ g. g.right) (at s.tags tag)
-
-abbrev pub bits_on : Sheet → ℕ → FdBits
-bits_on s fd = unwrap_or (at s.fds fd) no_bits

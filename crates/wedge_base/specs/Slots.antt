@@ -2,6 +2,7 @@
 use Rattle.std.specs.Prelude.{◌≡◌, ℕ, ◌+◌, ◌-◌, ◌*◌, ◌%◌, ◌==◌, ◌≤◌, ◌<◌, ◌⊎◌, not, List, [], ◌∷◌, ◌++◌, length, slice_range, slice_get, Option, Some, None, is_some, option_map, nat_lt, if◌then◌else◌}
 use Rattle.wedge_base.specs.Bytes.{zeros, written, number_of, bytes_of}
 use Rattle.wedge_base.specs.Images.{Image, page, window, most_pages}
+use Rattle.wedge_base.specs.Pages.{pages_of}
 use Rattle.wedge_base.specs.Rights.{at_least}
 use Rattle.wedge_base.specs.Blocks.{Block, block, rounded, first_fit, with_block, block_at, without_block}
 use Rattle.wedge_base.specs.declared.image.TagEntry.{TagEntry}
@@ -24,11 +25,11 @@ abbrev pub right_in : Option Live → Option Right
 right_in None = None
 right_in (Some l) = l.right
 
--- an access is judged by the pair: past the bytes, below the right that it wants, or done
-abbrev pub judged : Segment → ℕ → Option Live → Right → SlotReply → SlotReply
-judged g offset live wants done =
+-- an access is checked by the pair: past the bytes, below the right that it wants, or done
+abbrev pub checked : Segment → ℕ → Option Live → Right → SlotReply → SlotReply
+checked g offset live wants done =
     if not (nat_lt offset (length g.bytes)) then reply.Unmapped
-    else if at_least (right_in live) wants then done else reply.Denied g.tag
+    else if at_least (right_in live) wants then done else reply.Denied g.tag wants
 
 -- where a block is placed, or that there is no room
 abbrev pub place_reply : Option ℕ → SlotReply
@@ -39,13 +40,13 @@ place_reply (Some offset) = reply.Placed offset
 abbrev pub live_reply : Segment → SlotAsk → SlotReply
 live_reply g (ask.Open tag pages) = reply.Opened
 live_reply g (ask.Close tag) = if g.tag == tag then reply.Closed else reply.NoSuch
-live_reply g (ask.Load offset width live) = judged g offset live right.Read (reply.Loaded (number_of (slice_range g.bytes offset (offset + width))))
-live_reply g (ask.Store offset width value live) = judged g offset live right.ReadWrite reply.Stored
+live_reply g (ask.Load offset width live) = checked g offset live right.Read (reply.Loaded (number_of (slice_range g.bytes offset (offset + width))))
+live_reply g (ask.Store offset width value live) = checked g offset live right.ReadWrite reply.Stored
 live_reply g (ask.Smalloc tag size) = if g.tag == tag then place_reply (first_fit 0 (rounded size) (length g.bytes) g.blocks) else reply.NoSuch
 live_reply g (ask.Sfree offset live) =
-    if not (at_least (right_in live) right.ReadWrite) then reply.Denied g.tag
+    if not (at_least (right_in live) right.ReadWrite) then reply.Denied g.tag right.ReadWrite
     else if is_some (block_at g.blocks offset) then reply.Freed else reply.Bad
-live_reply g (ask.Snap tag) = if g.tag == tag then reply.Snapped g.bytes else reply.Gone
+live_reply g (ask.Snap tag) = if g.tag == tag then reply.Snapped (pages_of g.bytes) else reply.Gone
 
 -- the reply where none lives
 abbrev pub empty_reply : SlotAsk → SlotReply
@@ -111,7 +112,7 @@ IsPair (Some g) (Some l) = l.tag ≡ g.tag
 abbrev pub IsAligned : ℕ → ℕ → Type 0
 IsAligned offset width = ((width ≡ 1) ⊎ (width ≡ 2) ⊎ (width ≡ 4)) × (offset % width ≡ 0) × (offset < window)
 
--- an ask fits the slot: an aligned access inside the window, judged against what lives there; pages and
+-- an ask fits the slot: an aligned access inside the window, checked against what lives there; pages and
 -- sizes that a tag may have
 abbrev pub SlotFits : Option Segment → SlotAsk → Type 0
 SlotFits s (ask.Open tag pages) = (1 ≤ pages) × (pages ≤ most_pages)

@@ -1,4 +1,4 @@
--- The form of a name.
+-- The form of a name, and printed bytes.
 use Rattle.std.specs.Prelude.{ℕ, Bool, false, ◌==◌, ◌&&◌, ◌||◌, List, [], ◌∷◌, length, nat_le}
 use Rattle.std.specs.List.{list_all}
 
@@ -17,3 +17,7 @@ continues_name c = starts_name c || (nat_le 48 c && nat_le c 57) || c == 46
 unfoldable pub is_name : List ℕ → Bool
 is_name [] = false
 is_name (c ∷ cs) = nat_le (length cs) 63 && starts_name c && list_all continues_name cs
+
+-- a byte that ASCII prints, other than the space
+abbrev pub is_printed : ℕ → Bool
+is_printed c = nat_le 0x21 c && nat_le c 0x7e

@@ -1,8 +1,9 @@
 //! The windows in which tags are seen.
 
-ghost use Rattle.std.specs.Prelude.{◌≡◌, ◌<◌};
+ghost use Rattle.std.specs.Prelude.{◌≡◌, ◌<◌, IfSome};
 ghost use Rattle.wedge_base.specs.Images as images;
 
+use crate::limits::{WINDOW, WINDOWS_BASE, WINDOWS_END};
 use crate::numbers::Slot;
 
 /// A slot, and an offset in its window in bytes.
@@ -12,16 +13,10 @@ pub struct Place {
     pub offset: u32,
 }
 
-/// Where the windows begin.
-const WINDOWS_BASE: u32 = 0x4000_0000;
-/// Where they end.
-const WINDOWS_END: u32 = 0x5000_0000;
-/// The bytes of a window.
-const WINDOW: u32 = 0x1_0000;
-
 /// The window in which an address lies; none outside the windows.
 pub fn slot_of(address: u32) -> Option<Place>
-    ensures { result ≡ images.slot_of address }
+    ensures is { result ≡ images.slot_of address }
+    ensures inside { IfSome result (λ p. p.slot < images.slots) }
 {
     if address < WINDOWS_BASE || address >= WINDOWS_END {
         return None;

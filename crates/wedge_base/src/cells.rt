@@ -1,7 +1,9 @@
 //! What each kind of cell is asked, and what it replies.
 
 use crate::items::Bytes;
+use crate::names::ActorName;
 use crate::numbers::TagNo;
+use crate::pages::{PageList, ViewParts};
 use crate::rights::{End, FdBits, Right, StreamKind};
 
 /// The tag that lives in a slot, and the asker's own right on it.
@@ -53,22 +55,22 @@ pub enum SlotAsk {
     },
 }
 
-#[derive(Clone, Debug, Drop)]
+#[derive(Clone, Debug, PartialEq, Drop)]
 pub enum SlotReply {
     Opened,
     Closed,
-    /// The bytes as a number, the lowest first.
+    /// The bytes as a little-endian number.
     Loaded { value: u32 },
     Stored,
     /// The offset of the block.
     Placed { offset: u32 },
     Freed,
-    /// The bytes of the tag.
-    Snapped { bytes: Bytes },
+    /// The pages of the tag.
+    Snapped { pages: PageList },
     /// No tag lives there, or the offset is past its pages.
     Unmapped,
-    /// The asker's right on the tag that lives there is too low.
-    Denied { tag: TagNo },
+    /// The asker lacks this right on the tag that lives there.
+    Denied { tag: TagNo, wants: Right },
     /// The tag doesn't live there, or none does.
     NoSuch,
     /// No gap is large enough.
@@ -81,7 +83,7 @@ pub enum SlotReply {
 
 /// What a descriptor's stream is asked. Each ask but the first carries the asker's own bits on the
 /// descriptor.
-#[derive(Clone, Debug, Drop)]
+#[derive(Clone, Debug, PartialEq, Drop)]
 pub enum StreamAsk {
     /// To begin, with these bytes.
     Open { kind: StreamKind, bytes: Bytes },
@@ -93,7 +95,7 @@ pub enum StreamAsk {
     Close { bits: FdBits },
 }
 
-#[derive(Clone, Debug, Drop)]
+#[derive(Clone, Debug, PartialEq, Drop)]
 pub enum StreamReply {
     Opened,
     /// The next bytes; none at the end.
@@ -108,10 +110,10 @@ pub enum StreamReply {
     Bad,
 }
 
-/// What a directory is asked, which gives out places and numbers.
+/// What a directory is asked, which assigns places and numbers.
 #[derive(Clone, Copy, Debug, PartialEq, Eq)]
 pub enum DirectoryAsk {
-    /// To give out a place.
+    /// To assign a place.
     Claim,
     /// To take a place back.
     Release { place: u32 },
@@ -119,7 +121,7 @@ pub enum DirectoryAsk {
 
 #[derive(Clone, Copy, Debug, PartialEq, Eq)]
 pub enum DirectoryReply {
-    /// The place, and a number that was never given out before.
+    /// The place, and a number that was never assigned before.
     Claimed { place: u32, number: u32 },
     /// No place is left, or no number.
     Full,
@@ -141,4 +143,20 @@ pub enum LivesReply {
     /// As many live as may.
     Full,
     Released,
+}
+
+/// What the cell of a recycled gate is asked.
+#[derive(Debug, Drop)]
+pub enum GateAsk {
+    /// A run of this name begins. The parts are those with which it begins where none are kept.
+    Enter { run: ActorName, parts: ViewParts },
+    /// The run in it has ended so, and leaves these parts.
+    Leave { end: End, parts: ViewParts },
+}
+
+#[derive(Debug, Drop)]
+pub enum GateReply {
+    /// The run begins with these parts.
+    Entered { parts: ViewParts },
+    Left,
 }

@@ -1,115 +1,154 @@
 //! Shared events, and the journal of a run.
 
-use crate::cells::{Live, LivesAsk, LivesReply, SlotAsk, SlotReply, StreamAsk, StreamReply};
+ghost use Rattle.std.specs.Prelude.{◌≡◌, IfOk};
+ghost use Rattle.wedge_base.specs.Journals.{cell_of};
+ghost use Rattle.wedge_base.specs.Wants.{slot_ask_with};
+
+use crate::cells::{
+    DirectoryAsk, DirectoryReply, GateAsk, GateReply, Live, LivesAsk, LivesReply, SlotAsk,
+    SlotReply, StreamAsk, StreamReply,
+};
+use crate::errors::NoMemory;
+use crate::grants::GateId;
 use crate::items::Items;
 use crate::names::ActorName;
-use crate::numbers::{FdNo, Slot, Stamp};
+use crate::numbers::{FdNo, Slot, Stamp, TagNo};
+use crate::rights::End;
 
 /// A cell: a piece of shared state on which one event happens at a time.
-#[derive(Clone, Copy, Debug, PartialEq, Eq)]
+#[derive(Debug, Drop)]
 pub enum CellName {
-    /// The directory that gives out slots and tag numbers.
+    /// The directory that assigns slots and tag numbers.
     Slots,
     /// A slot, and the tag that lives there.
     Slot { slot: Slot },
-    /// The directory that gives out descriptors.
+    /// The directory that assigns descriptors.
     Fds,
     /// The stream behind a descriptor.
     Fd { fd: FdNo },
     /// The count of live sthreads.
     Lives,
+    /// A recycled gate.
+    Gate { gate: GateId },
 }
 
-/// The event that an actor wants: what it will ask, without the tag that will live in a slot then.
-#[derive(Clone, Debug, Drop)]
-pub enum Want {
-    /// To load so many bytes at an offset of a slot's window.
-    Load {
-        slot: Slot,
-        offset: u32,
-        width: u8,
-    },
-    /// To store the low bytes of a value there.
-    Store {
-        slot: Slot,
-        offset: u32,
-        width: u8,
-        value: u32,
-    },
-    Fd {
-        fd: FdNo,
-        ask: StreamAsk,
-    },
-    Lives(LivesAsk),
-}
-
-impl Want {
-    ghost use Rattle.std.specs.Prelude.{◌≡◌};
-    ghost use Rattle.wedge_base.specs.Wants.{cell_wanted, asked_with};
-
-    /// The cell of the event.
-    pub fn cell(&self) -> CellName
-        ensures { result ≡ cell_wanted self.now }
+impl CellName {
+    /// An equal name.
+    pub fn copy(&self) -> Result<CellName, NoMemory>
+        ensures { IfOk result (λ n. n ≡ self.now) }
     {
-        match self {
-            Want::Load { slot, .. } | Want::Store { slot, .. } => CellName::Slot { slot: *slot },
-            Want::Fd { fd, .. } => CellName::Fd { fd: *fd },
-            Want::Lives(_) => CellName::Lives,
-        }
+        Ok(match self {
+            CellName::Slots => CellName::Slots,
+            CellName::Slot { slot } => CellName::Slot { slot: *slot },
+            CellName::Fds => CellName::Fds,
+            CellName::Fd { fd } => CellName::Fd { fd: *fd },
+            CellName::Lives => CellName::Lives,
+            CellName::Gate { gate } => CellName::Gate { gate: gate.copy()? },
+        })
     }
+}
 
+/// What an actor wants of a slot: what it will ask, without the tag that will live there then. An offset is
+/// in bytes from the start of the window.
+#[derive(Clone, Copy, Debug, PartialEq, Eq)]
+pub enum SlotWant {
+    /// To begin a tag of 1 to 16 pages there.
+    Open { tag: TagNo, pages: u32 },
+    /// To end a tag.
+    Close { tag: TagNo },
+    /// To load 1, 2 or 4 bytes.
+    Load { offset: u32, width: u8 },
+    /// To store the low 1, 2 or 4 bytes of a value.
+    Store { offset: u32, width: u8, value: u32 },
+    /// To place a block of at least so many bytes in a tag.
+    Smalloc { tag: TagNo, size: u32 },
+    /// To free the block that begins at an offset.
+    Sfree { offset: u32 },
+    /// To copy the pages of a tag.
+    Snap { tag: TagNo },
+}
+
+impl SlotWant {
     /// What is asked where this tag lives in the slot, on which the actor has this right.
-    pub fn with(self, live: Option<Live>) -> Ask
-        ensures { result ≡ asked_with self live }
+    #[inline(always)]
+    pub fn with(self, live: Option<Live>) -> SlotAsk
+        ensures { result ≡ slot_ask_with self live }
     {
         match self {
-            Want::Load {
-                slot,
+            SlotWant::Open { tag, pages } => SlotAsk::Open { tag, pages },
+            SlotWant::Close { tag } => SlotAsk::Close { tag },
+            SlotWant::Load { offset, width } => SlotAsk::Load {
                 offset,
                 width,
-            } => {
-                let ask = SlotAsk::Load {
-                    offset,
-                    width,
-                    live,
-                };
-                Ask::Slot { slot, ask }
-            }
-            Want::Store {
-                slot,
+                live,
+            },
+            SlotWant::Store {
                 offset,
                 width,
                 value,
-            } => {
-                let ask = SlotAsk::Store {
-                    offset,
-                    width,
-                    value,
-                    live,
-                };
-                Ask::Slot { slot, ask }
-            }
-            Want::Fd { fd, ask } => Ask::Fd { fd, ask },
-            Want::Lives(ask) => Ask::Lives(ask),
+            } => SlotAsk::Store {
+                offset,
+                width,
+                value,
+                live,
+            },
+            SlotWant::Smalloc { tag, size } => SlotAsk::Smalloc { tag, size },
+            SlotWant::Sfree { offset } => SlotAsk::Sfree { offset, live },
+            SlotWant::Snap { tag } => SlotAsk::Snap { tag },
         }
     }
 }
 
-/// What an actor asks, and of which cell.
-#[derive(Clone, Debug, Drop)]
-pub enum Ask {
-    Slot { slot: Slot, ask: SlotAsk },
+/// The event that an actor wants: what it will ask, without the tag that will live in a slot then. All but
+/// the last four are of a cell.
+#[derive(Debug, Drop)]
+pub enum Want {
+    Slots(DirectoryAsk),
+    Slot { slot: Slot, want: SlotWant },
+    Fds(DirectoryAsk),
     Fd { fd: FdNo, ask: StreamAsk },
     Lives(LivesAsk),
+    Gate { gate: GateId, ask: GateAsk },
+    /// To start an sthread of this name.
+    Start { child: ActorName },
+    /// To take the end of its k-th start.
+    Join { child: u32 },
+    /// To enter a fresh gate, in a run of this name.
+    Enter { run: ActorName },
+    /// To leave a fresh gate.
+    Leave { end: End },
 }
 
-/// A shared event: an ask with the cell's reply.
-#[derive(Clone, Debug, Drop)]
+/// What an actor asks, and of which cell.
+#[derive(Debug, Drop)]
+pub enum Ask {
+    Slots(DirectoryAsk),
+    Slot { slot: Slot, ask: SlotAsk },
+    Fds(DirectoryAsk),
+    Fd { fd: FdNo, ask: StreamAsk },
+    Lives(LivesAsk),
+    Gate { gate: GateId, ask: GateAsk },
+    Start { child: ActorName },
+    Join { child: u32 },
+    Enter { run: ActorName },
+    Leave { end: End },
+}
+
+/// A shared event: an ask with the cell's reply, or one of the four events that are of no cell.
+#[derive(Debug, Drop)]
 pub enum Event {
+    Slots {
+        ask: DirectoryAsk,
+        reply: DirectoryReply,
+    },
     Slot {
         slot: Slot,
         ask: SlotAsk,
         reply: SlotReply,
+    },
+    Fds {
+        ask: DirectoryAsk,
+        reply: DirectoryReply,
     },
     Fd {
         fd: FdNo,
@@ -120,26 +159,66 @@ pub enum Event {
         ask: LivesAsk,
         reply: LivesReply,
     },
+    Gate {
+        gate: GateId,
+        ask: GateAsk,
+        reply: GateReply,
+    },
+    /// An sthread of this name starts.
+    Start {
+        child: ActorName,
+    },
+    /// The k-th start has ended so, with so many units of fuel left, and is joined.
+    Join {
+        child: u32,
+        end: End,
+        fuel: u32,
+    },
+    /// A run of this name enters a fresh gate.
+    Enter {
+        run: ActorName,
+    },
+    /// A run of a fresh gate has ended so.
+    Leave {
+        end: End,
+    },
+}
+
+impl Event {
+    /// The cell of the event; none of a start, a join, and the enter and leave of a fresh gate.
+    pub fn cell(&self) -> Result<Option<CellName>, NoMemory>
+        ensures { IfOk result (λ c. c ≡ cell_of self.now) }
+    {
+        Ok(match self {
+            Event::Slots { .. } => Some(CellName::Slots),
+            Event::Slot { slot, .. } => Some(CellName::Slot { slot: *slot }),
+            Event::Fds { .. } => Some(CellName::Fds),
+            Event::Fd { fd, .. } => Some(CellName::Fd { fd: *fd }),
+            Event::Lives { .. } => Some(CellName::Lives),
+            Event::Gate { gate, .. } => Some(CellName::Gate { gate: gate.copy()? }),
+            Event::Start { .. } | Event::Join { .. } | Event::Enter { .. } | Event::Leave { .. } =>
+                None,
+        })
+    }
 }
 
 /// A turn of a run: an actor, and the shared event that it did.
-#[derive(Clone, Debug, Drop)]
+#[derive(Debug, Drop)]
 pub struct Turn {
     pub actor: ActorName,
     pub event: Event,
 }
 
-/// An event of a run: when, by whom, on which cell, and what.
-#[derive(Clone, Debug, Drop)]
+/// An event of a run: when, by whom, and what. Its cell is that of the event.
+#[derive(Debug, Drop)]
 pub struct LogEntry {
     pub stamp: Stamp,
     pub actor: ActorName,
-    pub cell: Option<CellName>,
     pub event: Event,
 }
 
 /// The events of a run, in order.
-#[derive(Clone, Debug, Drop)]
+#[derive(Debug, Drop)]
 pub struct Journal {
     pub entries: Items<LogEntry>,
 }

@@ -1,7 +1,6 @@
 //! The parts of an image.
 
-use crate::items::Bytes;
-use crate::names::PathText;
+use crate::items::{Bytes, Items};
 use crate::rights::{FdBits, Right, StreamKind};
 
 /// A procedure of the text.
@@ -19,7 +18,16 @@ pub struct MemoryRange {
     pub bytes: Bytes,
 }
 
-/// A declared tag. Its number and its slot are its place among the declared tags.
+/// The text of an image and its data ranges, as they are before the first instruction.
+#[derive(Debug, Drop)]
+pub struct Pristine {
+    /// The address of the first word of the text.
+    pub base: u32,
+    pub words: Items<u32>,
+    pub ranges: Items<MemoryRange>,
+}
+
+/// A declared tag. Its number and its slot are its index among the declared tags.
 #[derive(Clone, Debug, Drop)]
 pub struct TagEntry {
     pub name: Bytes,
@@ -31,7 +39,7 @@ pub struct TagEntry {
     pub content: Bytes,
 }
 
-/// A declared descriptor. Its number is its place among the declared descriptors.
+/// A declared descriptor. Its number is its index among the declared descriptors.
 #[derive(Clone, Debug, Drop)]
 pub struct FdEntry {
     pub name: Bytes,
@@ -45,7 +53,8 @@ pub struct FdEntry {
 /// A file.
 #[derive(Clone, Debug, Drop)]
 pub struct FileEntry {
-    pub path: PathText,
+    /// Its path: canonical, and of at least one part, once the image is checked.
+    pub path: Bytes,
     /// The user who owns it.
     pub owner: u32,
     /// Bit 0 owner read, bit 1 owner append, bit 2 others read, bit 3 others append.

@@ -24,6 +24,18 @@ impl<T> Model for Items<T> {
     ghost view = { λ l. l.items.items };
 }
 
+impl<T: PartialEq> PartialEq for Items<T> {
+    ghost use Rattle.std.specs.Cmp.Lexicographic.{pointwise, lists_per};
+
+    ghost eq = { λ x y. pointwise T.eq x y };
+
+    ghost laws = { lists_per T.laws };
+
+    fn eq(&self, other: &Self) -> bool {
+        self.items == other.items
+    }
+}
+
 impl<T> Items<T> {
     /// The items of a vector, in its order.
     pub fn new(items: Vec<T>) -> Self
@@ -32,14 +44,14 @@ impl<T> Items<T> {
         Items { items }
     }
 
-    /// Lends the items.
+    /// Returns the items.
     pub fn as_slice(&self) -> &[T]
         ensures { result.now ≡ self.now }
     {
         self.items.as_slice()
     }
 
-    /// Hands out the items.
+    /// Consumes the list and returns its items.
     pub fn into_vec(self) -> Vec<T>
         ensures { result.items ≡ self }
     {
@@ -60,6 +72,13 @@ impl<T> Items<T> {
 }
 
 impl Items<u8> {
+    /// Equal bytes.
+    pub fn copy(&self) -> Result<Bytes, NoMemory>
+        ensures { IfOk result (λ b. b ≡ self.now) }
+    {
+        Ok(self.clone()?)
+    }
+
     /// A copy of bytes.
     pub fn from_slice(alloc: Global, bytes: &[u8]) -> Result<Bytes, NoMemory>
         ensures { IfOk result (λ b. b ≡ bytes.now) }
@@ -67,7 +86,7 @@ impl Items<u8> {
         Ok(Items::new(Vec::from_slice(alloc, bytes)?))
     }
 
-    /// Writes bytes over those from a place on.
+    /// Writes bytes over those from an offset on.
     pub fn write(&mut self, place: usize, bytes: &[u8])
         requires { place + length bytes.now ≤ length self.old }
         ensures { self.new ≡ written self.old place bytes.now }
@@ -76,7 +95,7 @@ impl Items<u8> {
         part.copy_from_slice(bytes);
     }
 
-    /// Writes 1, 2 or 4 low bytes of a number over those from a place on, the lowest first.
+    /// Writes the low 1, 2 or 4 bytes of a number, little-endian, over those from an offset on.
     pub fn write_number(&mut self, place: usize, width: u8, value: u32)
         requires width { (width ≡ 1) ⊎ (width ≡ 2) ⊎ (width ≡ 4) }
         requires inside { place + width ≤ length self.old }
@@ -90,7 +109,7 @@ impl Items<u8> {
         }
     }
 
-    /// The number that 1, 2 or 4 bytes from a place on spell, the lowest first.
+    /// The little-endian number in 1, 2 or 4 bytes from an offset on.
     pub fn number_at(&self, place: usize, width: u8) -> u32
         requires width { (width ≡ 1) ⊎ (width ≡ 2) ⊎ (width ≡ 4) }
         requires inside { place + width ≤ length self.now }
@@ -100,7 +119,7 @@ impl Items<u8> {
     }
 }
 
-/// The number that bytes spell, the lowest first.
+/// The little-endian number in bytes.
 fn number_of(bytes: &[u8]) -> u32
     requires { (length bytes.now ≡ 1) ⊎ (length bytes.now ≡ 2) ⊎ (length bytes.now ≡ 4) }
     ensures { result ≡ number_of bytes.now }

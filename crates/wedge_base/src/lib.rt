@@ -4,31 +4,47 @@
 
 mod address;
 mod cells;
+mod copies;
 mod errors;
 mod events;
+mod grants;
 mod image;
 mod items;
+mod limits;
 mod names;
 mod numbers;
 mod object;
 mod outcome;
+mod pages;
+mod paths;
 mod rights;
+mod service;
 #[cfg(test)]
 mod tests;
 mod texts;
+mod wants;
 
 pub use address::{Place, address_of, slot_of};
 pub use cells::{
-    DirectoryAsk, DirectoryReply, Live, LivesAsk, LivesReply, SlotAsk, SlotReply, StreamAsk,
-    StreamReply,
+    DirectoryAsk, DirectoryReply, GateAsk, GateReply, Live, LivesAsk, LivesReply, SlotAsk,
+    SlotReply, StreamAsk, StreamReply,
 };
-pub use errors::NoMemory;
-pub use events::{Ask, CellName, Event, Journal, LogEntry, Turn, Want};
-pub use image::{FdEntry, FileEntry, MemoryRange, Procedure, TagEntry};
+pub use copies::copy_denials;
+pub use errors::{NameFault, NoMemory};
+pub use events::{Ask, CellName, Event, Journal, LogEntry, SlotWant, Turn, Want};
+pub use grants::{GateId, GateKind, Item};
+pub use image::{FdEntry, FileEntry, MemoryRange, Pristine, Procedure, TagEntry};
 pub use items::{Bytes, Items};
-pub use names::{ActorName, PathText};
+pub use limits::{
+    MOST_BUFFER, MOST_FDS, MOST_LIVES, MOST_PAGES, MOST_PARTS, PAGE, PRIVATE_BASE, PRIVATE_SIZE,
+    SLOTS, WINDOW, WINDOWS_BASE, WINDOWS_END,
+};
+pub use names::ActorName;
 pub use numbers::{FdNo, Slot, Stamp, TagNo};
 pub use object::Object;
 pub use outcome::{ActorLine, DenialAt, Outcome, StreamLine};
+pub use pages::{CopyAt, Page, PageAt, PageList, ViewParts, pages_of};
+pub use paths::{PathText, is_canonical};
 pub use rights::{Code, Denial, End, FdBits, Grant, Right, StreamKind};
-pub use texts::is_name;
+pub use service::{SERVICES, Service};
+pub use texts::{are_printed, is_name};

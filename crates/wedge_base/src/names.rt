@@ -1,26 +1,45 @@
-//! Names of actors, and paths.
+//! Names of actors.
 
-ghost use Rattle.std.specs.Prelude.{◌≡◌, IfOk, IsTrue, ◌↔◌};
-ghost use Rattle.wedge_base.specs.Names.{same, root_name};
+ghost use Rattle.std.specs.Prelude.{◌≡◌, ◌≤◌, ◌++◌, ◌∷◌, [], length, IfOk, IsErrOf, IsTrue, ◌↔◌};
+ghost use Rattle.wedge_base.specs.Names.{same, root_name, most_parts};
 
-use crate::errors::NoMemory;
-use crate::items::Bytes;
+use crate::errors::{NameFault, NoMemory};
+use crate::limits::MOST_PARTS;
 use std::alloc::Global;
 use std::marker::Model;
+use std::sync::Arc;
 
 /// An actor's name: its path of start numbers. The root is `0`, and the k-th actor that `p` starts is
 /// `p.k`, with k from 1.
+///
+/// The parts are held once, by all copies of the name, so a copy takes no memory for them.
 #[derive(Clone, Debug, Drop)]
 pub struct ActorName {
-    parts: Vec<u32>,
+    parts: Arc<Vec<u32>>,
 }
 
 impl Model for ActorName {
     ghost use Rattle.std.specs.Prelude.{ℕ, List};
+    ghost use Rattle.std.specs.Arc.{arc_value};
 
     ghost Value = { List ℕ };
 
-    ghost view = { λ n. n.parts.items };
+    ghost view = { λ n. (arc_value n.parts).items };
+}
+
+impl PartialEq for ActorName {
+    ghost use Rattle.std.specs.Prelude.{◌==◌};
+    ghost use Rattle.std.specs.Cmp.Lexicographic.{pointwise};
+    ghost use Rattle.std.proofs.Common.{rules};
+    ghost use Rattle.std.specs.Cmp.Rules.{comparing};
+
+    ghost eq = { λ x y. pointwise ◌==◌ x y };
+
+    ghost laws = { Prim.search (comparing, rules) };
+
+    fn eq(&self, other: &Self) -> bool {
+        self.is_same(other)
+    }
 }
 
 impl ActorName {
@@ -29,22 +48,42 @@ impl ActorName {
         ensures { IfOk result (λ n. n ≡ root_name) }
     {
         Ok(ActorName {
-            parts: Vec::from_slice(alloc, &[0])?,
+            parts: Arc::new(alloc, Vec::from_slice(alloc, &[0])?)?,
         })
     }
 
-    /// Lends the parts of the name, the root's 0 first.
+    /// Returns the parts of the name, the root's 0 first.
     pub fn parts(&self) -> &[u32]
         ensures { result.now ≡ self.now }
     {
         self.parts.as_slice()
     }
 
+    /// The name of the k-th actor that the actor of this name starts. `Deep` exactly where this name has 32
+    /// parts.
+    pub fn child(&self, alloc: Global, k: u32) -> Result<ActorName, NameFault>
+        requires { 1 ≤ k }
+        ensures ok { IfOk result (λ n. n ≡ self.now ++ k ∷ []) }
+        ensures deep { IsErrOf result NameFault.Deep ↔ (most_parts ≤ length self.now) }
+    {
+        if self.parts.len() >= MOST_PARTS {
+            return Err(NameFault::Deep);
+        }
+        let mut parts = Vec::with_capacity(alloc, self.parts.len() + 1)?;
+        parts.extend_from_slice(self.parts.as_slice())?;
+        parts.push(k)?;
+        Ok(ActorName {
+            parts: Arc::new(alloc, parts)?,
+        })
+    }
+
     /// An equal name.
     pub fn copy(&self) -> Result<ActorName, NoMemory>
         ensures { IfOk result (λ n. n ≡ self.now) }
     {
-        Ok(self.clone()?)
+        Ok(ActorName {
+            parts: Arc::try_clone(&self.parts)?,
+        })
     }
 
     /// Whether two names are the same.
@@ -53,35 +92,5 @@ impl ActorName {
         ensures exact { IsTrue result ↔ (self.now ≡ other.now) }
     {
         self.parts.as_slice() == other.parts.as_slice()
-    }
-}
-
-/// A canonical path: `/` alone, or parts that each begin with `/`, none of them empty, `.` or `..`.
-#[derive(Clone, Debug, Drop)]
-pub struct PathText {
-    text: Bytes,
-}
-
-impl Model for PathText {
-    ghost use Rattle.std.specs.Prelude.{ℕ, List};
-
-    ghost Value = { List ℕ };
-
-    ghost view = { λ p. p.text };
-}
-
-impl PathText {
-    /// The path that a text is.
-    pub fn new(text: Bytes) -> PathText
-        ensures { result ≡ text }
-    {
-        PathText { text }
-    }
-
-    /// Lends the text.
-    pub fn as_slice(&self) -> &[u8]
-        ensures { result.now ≡ self.now }
-    {
-        self.text.as_slice()
     }
 }

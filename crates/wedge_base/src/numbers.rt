@@ -44,7 +44,7 @@ impl Model for Slot {
     ghost inverse = { λ n. record { 0 = n } };
 }
 
-/// The place of an entry in the order of causes, from 1.
+/// The place of an entry in its journal, from 1.
 #[derive(Clone, Copy, Debug, PartialEq, Eq)]
 pub struct Stamp(pub u64);
 

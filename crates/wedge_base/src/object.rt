@@ -23,12 +23,19 @@ pub trait Object: Drop {
     // Which asks fit a state in a run of an image.
     ghost fits: { Image → Self → Self.Ask → Type 0 };
 
-    /// Does what is asked, and gives its reply in two equal copies. It takes all its memory before it
-    /// changes the state.
+    /// Does what is asked, and returns its reply in two equal copies: one for a history, one for who asked.
+    /// It takes all its memory before it changes the state.
     fn act(&mut self, ask: &Self::Ask) -> Result<(Self::Reply, Self::Reply), NoMemory>
         requires { (image : Image) × fits image self.old ask.now }
         ensures first { IfOk result (λ r. r.0 ≡ reply self.old ask.now) }
         ensures second { IfOk result (λ r. r.1 ≡ reply self.old ask.now) }
+        ensures after { IfOk result (λ r. self.new ≡ next self.old ask.now) }
+        ensures err { OnErr result (self.new ≡ self.old) };
+
+    /// Does what is asked, as `act` does, and returns its reply once.
+    fn act_once(&mut self, ask: &Self::Ask) -> Result<Self::Reply, NoMemory>
+        requires { (image : Image) × fits image self.old ask.now }
+        ensures is { IfOk result (λ r. r ≡ reply self.old ask.now) }
         ensures after { IfOk result (λ r. self.new ≡ next self.old ask.now) }
         ensures err { OnErr result (self.new ≡ self.old) };
 

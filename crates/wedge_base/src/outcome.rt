@@ -6,7 +6,7 @@ use crate::numbers::FdNo;
 use crate::rights::{Denial, End};
 
 /// A denial, and the address of the instruction that was denied.
-#[derive(Clone, Copy, Debug, PartialEq, Eq)]
+#[derive(Clone, Debug, Drop)]
 pub struct DenialAt {
     pub pc: u32,
     pub denial: Denial,

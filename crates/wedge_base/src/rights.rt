@@ -1,6 +1,8 @@
 //! Rights, denials, codes and ends.
 
+use crate::grants::Item;
 use crate::numbers::{FdNo, Slot, TagNo};
+use crate::paths::PathText;
 
 /// What a grant on a tag allows. Cow < Read < ReadWrite.
 #[derive(Clone, Copy, Debug, PartialEq, Eq)]
@@ -33,12 +35,24 @@ pub enum StreamKind {
 }
 
 /// The grant that a denied request lacks.
-#[derive(Clone, Copy, Debug, PartialEq, Eq)]
+#[derive(Clone, Debug, Drop)]
 pub enum Denial {
     /// A right on a tag.
     Tag { tag: TagNo, wants: Right },
     /// Bits on a descriptor.
     Fd { fd: FdNo, wants: FdBits },
+    /// The gate at an entry.
+    Gate { entry: u32 },
+    /// A grant of a draft that its creator may not give.
+    Grant { item: Item },
+    /// The user of a draft.
+    User,
+    /// The root directory of a draft.
+    Root,
+    /// A tag that the actor did not make, and so may not delete.
+    NotMaker { tag: TagNo },
+    /// The file at a path.
+    File { path: PathText },
 }
 
 /// The code that a service call answers in a1.

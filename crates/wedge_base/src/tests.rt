@@ -26,6 +26,9 @@ fn calls_with_ample_memory_succeed(rt: HostRuntime) -> Result<(), Fail> {
     let root = ActorName::root(rt.alloc())?;
     assert!(rt; root.is_same(&root.copy()?));
     assert_eq!(rt; root.parts(), [0].as_slice());
+    let child = root.child(rt.alloc(), 7)?;
+    assert_eq!(rt; child.parts(), [0, 7].as_slice());
+    assert!(rt; !child.is_same(&root));
     let mut bytes = Bytes::from_slice(rt.alloc(), b"abcdefgh")?;
     bytes.push(b'i')?;
     assert_eq!(rt; bytes.as_slice(), b"abcdefghi".as_slice());
@@ -36,7 +39,7 @@ fn calls_with_ample_memory_succeed(rt: HostRuntime) -> Result<(), Fail> {
     Ok(())
 }
 
-/// Numbers lie with their lowest byte first.
+/// Numbers are little-endian.
 #[test]
 fn numbers_in_bytes(rt: HostRuntime) -> Result<(), Fail> {
     let mut bytes = Bytes::from_slice(rt.alloc(), &[0; 8])?;
@@ -55,4 +58,67 @@ fn numbers_in_bytes(rt: HostRuntime) -> Result<(), Fail> {
 
 fn prove_room(rt: &impl std::process::Abort, bytes: &Bytes) {
     assert_eq!(rt; bytes.as_slice().len(), 8);
+}
+
+/// A name has 32 parts at most.
+#[test]
+fn names_are_32_parts_deep(rt: HostRuntime) -> Result<(), Fail> {
+    let mut name = ActorName::root(rt.alloc())?;
+    for _ in 0..40 {
+        match name.child(rt.alloc(), 1) {
+            Ok(child) => name = child,
+            Err(fault) => assert_eq!(rt; fault, NameFault::Deep),
+        }
+    }
+    assert_eq!(rt; name.parts().len(), 32);
+    Ok(())
+}
+
+#[test]
+fn canonical_paths(rt: HostRuntime) {
+    for text in ["/", "/a", "/a/b", "/.a", "/...", "/~"] {
+        assert!(&rt; is_canonical(text.as_bytes()), "{text}");
+    }
+    for text in [
+        "", "a", "//", "/a/", "/.", "/a/..", "/a//b", "/ ", "/a\u{7f}",
+    ] {
+        assert!(&rt; !is_canonical(text.as_bytes()), "{text}");
+    }
+}
+
+/// Whole pages, numbered from 0, and parts that hold them.
+#[test]
+fn pages_of_two_pages(rt: HostRuntime) -> Result<(), Fail> {
+    let mut bytes = Vec::new(rt.alloc());
+    for k in 0..2 * PAGE {
+        bytes.push((k / PAGE) as u8 + 1)?;
+    }
+    if bytes.len() != 2 * PAGE as usize {
+        return Err("two pages".into());
+    }
+    let memory = pages_of(rt.alloc(), &bytes)?;
+    let copies = Items::new(vec![in rt.alloc();
+        CopyAt {
+            slot: Slot(3),
+            pages: pages_of(rt.alloc(), &bytes)?
+        },
+    ]?);
+    let parts = ViewParts::new(rt.alloc(), memory, copies)?;
+    let copy = parts.copy(rt.alloc())?;
+    let pages = copy.memory().as_slice();
+    assert_eq!(rt; pages.len(), 2);
+    let second = &pages[1];
+    assert_eq!(rt; second.place, 1);
+    assert_eq!(rt; second.page.as_slice().first(), Some(&2));
+    assert_eq!(rt; copy.copies().as_slice().len(), 1);
+    Ok(())
+}
+
+/// Each service call has a number and a name of its own.
+#[test]
+fn services_are_numbered_in_order(rt: HostRuntime) {
+    for (number, service) in SERVICES.iter().enumerate() {
+        assert_eq!(&rt; service.number() as usize, number);
+    }
+    assert_eq!(&rt; Service::FdAppend.name(), "fd_append");
 }

@@ -1,4 +1,4 @@
-//! The form of names of procedures, tags, descriptors and labels.
+//! The form of names of procedures, tags, descriptors and labels, and printed bytes.
 
 ghost use Rattle.std.specs.Prelude.{◌≡◌};
 ghost use Rattle.std.specs.List.{list_all};
@@ -33,4 +33,11 @@ pub fn is_name(text: &[u8]) -> bool
             others.len() <= 63 && starts_name(*first) && all_continue_name(others)
         }
     }
+}
+
+/// Whether each byte is one that ASCII prints, other than the space: from 0x21 to 0x7E.
+pub fn are_printed(text: &[u8]) -> bool
+    ensures { result ≡ list_all texts.is_printed text.now }
+{
+    text.iter().all(|c| 0x21 <= *c && *c <= 0x7e)
 }

@@ -14,7 +14,7 @@ use Rattle.wedge_cli.specs.Lines.{usage_line, write_fault_line}
 use Rattle.wedge_cli.specs.Listing.{listing}
 use Rattle.wedge_cli.specs.Loading.{IsLoaded}
 
--- The journal tells a whole run of the image, each step of it judged by the sheet, and the text is that
+-- The journal tells a whole run of the image, each moment of it lawful, and the text is that
 -- run's report.
 pub record IsReportOf (i : Image) (journal : Journal) (text : List ℕ) : Type 0 where
   pub outcome : Outcome

@@ -4,3 +4,5 @@ pub mod Turning
 pub mod Working
 pub mod Numbering
 pub mod CellPlaces
+pub mod Fitting
+pub mod Advancing

@@ -1,20 +1,20 @@
 -- Entries by their places.
 use Rattle.std.proofs.Common.{◌≡◌, ℕ, ◌+◌, List, [], ◌∷◌, ◌++◌, length, refl, sym, ap, subst, ◌∙◌, true, append_assoc, arith}
-use Rattle.std.specs.Prelude.{reverse}
-use Rattle.std.proofs.lemmas.List.{reverse-append}
-use Rattle.wedge_base.specs.Journals.{cell_of, turns_of, numbered}
+use Rattle.wedge_base.specs.Journals.{turns_of, numbered}
 use Rattle.wedge_base.specs.declared.events.Turn.{Turn}
 use Rattle.wedge_base.specs.declared.events.LogEntry.{LogEntry}
 use Rattle.wedge_base.specs.declared.outcome.Outcome.{Outcome}
 use Rattle.wedge_base.specs.Images.{Image}
 use Rattle.sthread_life.specs.Worlds.{WorldState, opening, is_whole, Runs}
 use Rattle.sthread_life.specs.Outcomes.{outcome_of}
-use Rattle.sthread_life.proofs.Judging.{runs_judged}
+use Rattle.sthread_life.proofs.Mediating.{moments_lawful}
 use Rattle.sthread_life.proofs.Writing.{runs_write_their_own}
-use Rattle.wedge_core.specs.Serial.{IsWholeRun, IsNumbered}
+use Rattle.wedge_base.specs.declared.events.Event.{Event}
+use Rattle.std.proofs.lemmas.List.{map-append, length-map}
+use Rattle.wedge_core.specs.Serial.{IsWholeRun, IsNumbered, Notes}
 
 abbrev pub entry : ℕ → Turn → LogEntry
-entry stamp t = record { stamp = stamp; actor = t.actor; cell = cell_of t.event; event = t.event }
+entry stamp t = record { stamp = stamp; actor = t.actor; event = t.event }
 
 pub numbered-push : (stamp : ℕ) (ts : List Turn) (t : Turn) → numbered stamp (ts ++ t ∷ []) ≡ numbered stamp ts ++ entry (stamp + length ts) t ∷ []
 numbered-push stamp [] t = ap (λ n. entry n t ∷ []) (omega arith)
@@ -25,15 +25,6 @@ pub turns_of-numbered : (stamp : ℕ) (ts : List Turn) → turns_of (numbered st
 turns_of-numbered stamp [] = refl
 turns_of-numbered stamp (t ∷ ts) = ap (λ us. t ∷ us) (turns_of-numbered (stamp + 1) ts)
 
--- the entries so far, the last first, with those of the turns before them
-pub numbered-pop : (ts : List Turn) (t : Turn) (es : List LogEntry) (e : LogEntry) (all : List LogEntry) → e ≡ entry (1 + length ts) t
-    → numbered 1 (ts ++ t ∷ []) ++ reverse es ≡ all → numbered 1 ts ++ reverse (es ++ e ∷ []) ≡ all
-numbered-pop ts t es e all is so_far =
-    ap (λ (rs : List LogEntry). numbered 1 ts ++ rs) (reverse-append es (e ∷ []))
-    ∙ ap (λ (x : LogEntry). numbered 1 ts ++ ((x ∷ []) ++ reverse es)) is
-    ∙ sym (append_assoc (numbered 1 ts) (entry (1 + length ts) t ∷ []) (reverse es))
-    ∙ ap (λ (xs : List LogEntry). xs ++ reverse es) (sym (numbered-push 1 ts t)) ∙ so_far
-
 pub is_numbered : (ts : List Turn) (entries : List LogEntry) → entries ≡ numbered 1 ts → IsNumbered entries
 is_numbered ts entries is = is ∙ ap (numbered 1) (sym (ap turns_of is ∙ turns_of-numbered 1 ts))
 
@@ -43,4 +34,23 @@ pub whole_run : (i : Image) (w : WorldState) (ts : List Turn) (entries : List Lo
 whole_run i w ts entries outcome image run whole is ends =
     let told : turns_of entries ≡ ts = ap turns_of is ∙ turns_of-numbered 1 ts in
     let here : Runs (opening i) (turns_of entries) w = subst (λ (us : List Turn). Runs (opening i) us w) (sym told) (subst (λ (j : Image). Runs (opening j) ts w) image run) in
-    record { last = w; run = here; whole = whole; ends = ends; judged = runs_judged i (turns_of entries) w here; written = runs_write_their_own i (turns_of entries) w here }
+    record { last = w; run = here; whole = whole; ends = ends; lawful = moments_lawful i (turns_of entries) w here; written = runs_write_their_own i (turns_of entries) w here }
+
+-- an entry that is added tells its turn, and is numbered by its place
+pub notes_turns : (old new : List LogEntry) (name : List ℕ) (e : Event) → Notes old name e new → turns_of new ≡ turns_of old ++ record { actor = name; event = e } ∷ []
+notes_turns old new name e noted =
+    ap turns_of noted ∙ map-append (λ (x : LogEntry). record { actor = x.actor; event = x.event }) old (entry (length old + 1) (record { actor = name; event = e }) ∷ [])
+
+pub notes_numbered : (old new : List LogEntry) (name : List ℕ) (e : Event) → Notes old name e new → IsNumbered old → IsNumbered new
+notes_numbered old new name e noted numbered_old =
+    let t : Turn = record { actor = name; event = e } in
+    let len : length (turns_of old) ≡ length old = length-map old (λ (x : LogEntry). record { actor = x.actor; event = x.event }) in
+    let place : length old + 1 ≡ 1 + length (turns_of old) = omega (arith, len) in
+    noted ∙ ap (λ (es : List LogEntry). es ++ entry (length old + 1) t ∷ []) numbered_old
+    ∙ ap (λ n. numbered 1 (turns_of old) ++ entry n t ∷ []) place
+    ∙ sym (numbered-push 1 (turns_of old) t) ∙ ap (numbered 1) (sym (notes_turns old new name e noted))
+
+-- the entries of a whole run tell it
+pub whole_run_of : (i : Image) (w : WorldState) (entries : List LogEntry) (outcome : Outcome) → w.image ≡ i → Runs (opening w.image) (turns_of entries) w → is_whole w ≡ true
+    → IsNumbered entries → outcome ≡ outcome_of w → IsWholeRun i entries outcome
+whole_run_of i w entries outcome image run whole is ends = whole_run i w (turns_of entries) entries outcome image run whole is ends

@@ -4,7 +4,8 @@ use Rattle.std.specs.Prelude.{Some}
 use Rattle.wedge_base.specs.Images.{Image}
 use Rattle.wedge_base.specs.declared.events.Turn.{Turn}
 use Rattle.sthread_life.specs.Actors.{ActorState, root}
-use Rattle.sthread_life.specs.Worlds.{Cells, WorldState, opening, opening_cells, turn_of, Runs}
+use Rattle.sthread_life.specs.Cells.{Cells, opening_cells}
+use Rattle.sthread_life.specs.Worlds.{WorldState, opening, turn_of, Runs}
 use Rattle.wedge_core.specs.Progress.{IsRun, state_of}
 
 pub opened_is_run : (i : Image) (cells : Cells) (actors : List ActorState) (turns : List Turn) → cells ≡ opening_cells i → actors ≡ root i ∷ [] → turns ≡ []

@@ -1,7 +1,6 @@
 -- What makes a turn.
-use Rattle.std.proofs.Common.{◌≡◌, ℕ, zero, suc, ◌<◌, Bool, true, false, List, [], ◌∷◌, ◌++◌, length, get_or, refl, sym, ap, subst, ◌∙◌, arith}
-use Rattle.std.specs.Prelude.{Option, Some, None, IsSomeAnd, slice_get}
-use Rattle.std.proofs.Math.ListN.{set}
+use Rattle.std.proofs.Common.{◌≡◌, ℕ, Bool, true, false, List, [], ◌∷◌, ◌++◌, refl, sym, ap, subst, ◌∙◌}
+use Rattle.std.specs.Prelude.{Option, Some, None, IsSomeAnd, option_map, slice_get, slice_set}
 use Rattle.wedge_base.specs.Images.{Image}
 use Rattle.wedge_base.specs.declared.events.Want.{Want}
 use Rattle.wedge_base.specs.declared.events.Event.{Event}
@@ -9,26 +8,21 @@ use Rattle.wedge_base.specs.declared.events.Turn.{Turn}
 use Rattle.sthread_life.specs.Actors.{ActorState}
 use Rattle.sthread_life.specs.Local.{rest, has_ended}
 use Rattle.sthread_life.specs.Taking.{wanted, takes}
-use Rattle.sthread_life.specs.Worlds.{Cells, opening, actor_named, put_actor, event_for, cells_after, happened, wanting, turn_with, turn_of, Runs}
-use Rattle.wedge_core.specs.Progress.{IsRun, IsTurn, HasEnded, state_of}
+use Rattle.sthread_life.specs.Cells.{Cells, cells_after}
+use Rattle.sthread_life.specs.Worlds.{opening, actor_named, put_actor, event_at, happened, wanting, turn_with, turn_of, Runs}
+use Rattle.wedge_core.specs.Progress.{IsRun, IsTurn, HasEnded, IsFound, IsPlaceOf, state_of}
 use Rattle.wedge_core.proofs.Runs.{Runs-push}
 
-pub get_at : (xs : List ActorState) (n : ℕ) (x : ActorState) → n < length xs → x ≡ get_or xs n x → slice_get xs n ≡ Some x
-get_at [] n x lt is = absurd (omega arith)
-get_at (y ∷ ys) zero x lt is = ap (λ (z : ActorState). Some z) (sym is)
-get_at (y ∷ ys) (suc n) x lt is = get_at ys n x (omega arith) is
-
 pub is_turn : (i : Image) (cells after : Cells) (actors : List ActorState) (place : ℕ) (name : List ℕ) (a new : ActorState) (q : Want) (e : Event)
-    → actor_named actors name ≡ Some a → wanted (rest i a).phase ≡ Some q → e ≡ event_for cells (rest i a) q → after ≡ cells_after cells e → new ≡ takes i (rest i a) e
-    → put_actor actors new ≡ set actors place new
-    → IsTurn (state_of i cells actors) name e (state_of i after (set actors place new))
+    → actor_named actors name ≡ Some a → wanted (rest i a) ≡ Some q → event_at cells (rest i a) q ≡ Some e → after ≡ cells_after cells e → new ≡ takes i (rest i a) e
+    → put_actor actors new ≡ slice_set actors place new
+    → IsTurn (state_of i cells actors) name e (state_of i after (slice_set actors place new))
 unfolding turn_of
-is_turn i cells after actors place name a new q e named wants event after_is new_is put =
+is_turn i cells after actors place name a new q e named wants comes after_is new_is put =
     let w = state_of i cells actors in
     let b = rest i a in
-    let by_event = subst (λ (x : Event). Some (happened w b x) ≡ Some (record { event = e; world = state_of i (cells_after cells e) (put_actor actors (takes i b e)) })) event refl in
-    let actors_are : put_actor actors (takes i b e) ≡ set actors place new = ap (put_actor actors) (sym new_is) ∙ put in
-    ap (turn_with w) named ∙ ap (wanting w b) wants ∙ by_event
+    let actors_are : put_actor actors (takes i b e) ≡ slice_set actors place new = ap (put_actor actors) (sym new_is) ∙ put in
+    ap (turn_with w) named ∙ ap (wanting w b) wants ∙ ap (option_map (happened w b)) comes
     ∙ ap (λ (c : Cells). Some (record { event = e; world = state_of i c (put_actor actors (takes i b e)) })) (sym after_is)
     ∙ ap (λ (as_ : List ActorState). Some (record { event = e; world = state_of i after as_ })) actors_are
 
@@ -54,15 +48,12 @@ run_goes_on i cells new_cells actors new_actors turns new_turns name e stopped r
   current = λ s. refl;
 }
 
--- the actor that was found at a place
-pub record IsFound (actors : List ActorState) (name : List ℕ) (place : ℕ) (a : ActorState) : Type 0 where
-  pub there : slice_get actors place ≡ Some a
-  pub named : actor_named actors name ≡ Some a
-  pub put : (new : ActorState) → new.name ≡ a.name → put_actor actors new ≡ set actors place new
+-- the actor at a place is the one that was found there
+one_at : (actors : List ActorState) (name : List ℕ) (place : ℕ) (a x : ActorState) → IsFound actors name place x → slice_get actors place ≡ Some a → IsFound actors name place a
+one_at actors name place a x found there = let is : x ≡ a = cc in subst (λ (y : ActorState). IsFound actors name place y) is found
+  where
+    at : slice_get actors place ≡ Some x
+    at = found.there
 
-pub is_found : (actors looked : List ActorState) (name : List ℕ) (place : ℕ) (a : ActorState) → looked ≡ actors → place < length looked → actor_named looked name ≡ slice_get looked place
-    → ((x : ActorState) → slice_get looked place ≡ Some x → x.name ≡ name) → ((x : ActorState) → x.name ≡ name → put_actor looked x ≡ set looked place x)
-    → a ≡ get_or actors place a → IsFound actors name place a
-is_found actors looked name place a same inside found named put is =
-    let there = get_at looked place a inside (subst (λ (xs : List ActorState). a ≡ get_or xs place a) (sym same) is) in
-    subst (λ (xs : List ActorState). IsFound xs name place a) same (record { there = there; named = found ∙ there; put = λ new e. put new (e ∙ named a there) })
+pub found_at : (actors : List ActorState) (name : List ℕ) (place : ℕ) (a : ActorState) → IsPlaceOf actors name place → slice_get actors place ≡ Some a → IsFound actors name place a
+found_at actors name place a found there = one_at actors name place a found.0 found.1 there

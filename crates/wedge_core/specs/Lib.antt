@@ -1,4 +1,3 @@
 pub mod Progress
 pub mod Serial
 pub mod Built
-pub mod Fitting

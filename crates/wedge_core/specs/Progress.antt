@@ -1,19 +1,22 @@
 -- What a world keeps: its state, and the turns that led to it.
-use Rattle.std.specs.Prelude.{◌≡◌, ℕ, Bool, true, false, List, [], Some, IsSomeAnd}
+use Rattle.std.specs.Prelude.{◌≡◌, ℕ, ◌<◌, Bool, true, false, List, [], length, Some, IsSomeAnd, slice_get, slice_set}
 use Rattle.wedge_base.specs.Images.{Image}
 use Rattle.wedge_base.specs.declared.events.Turn.{Turn}
-use Rattle.sthread_life.specs.Worlds.{Cells, WorldState, opening, actor_named, turn_of, Runs}
+use Rattle.wedge_base.specs.Gates.{Kept}
+use Rattle.wedge_base.specs.declared.grants.GateId.{GateId}
+use Rattle.sthread_life.specs.Cells.{Cells, GateCell, kept_among, put_kept}
+use Rattle.sthread_life.specs.Worlds.{WorldState, opening, actor_named, put_actor, turn_of, Runs}
 use Rattle.sthread_life.specs.Actors.{ActorState}
 use Rattle.sthread_life.specs.Local.{has_ended}
 use Rattle.wedge_base.specs.declared.events.Event.{Event}
 
--- a world's state, the turns taken so far, and whether it has stopped for want of memory
+-- a world's state, the turns taken so far, and whether it has stopped because it ran out of memory
 pub record Progress : Type 0 where
   pub state : WorldState
   pub turns : List Turn
   pub stopped : Bool
 
--- the turns are a run from the opening world, and the state of a world that has not stopped is where
+-- the turns are a run from the initial state, and the state of a world that has not stopped is where
 -- that run leads
 pub record IsRun (p : Progress) : Type 0 where
   pub last : WorldState
@@ -35,3 +38,23 @@ HasEnded actors name = IsSomeAnd (actor_named actors name) (λ a. has_ended a.ph
 -- a world that has just been opened
 abbrev pub opened : Image → Progress
 opened i = record { state = opening i; turns = []; stopped = false }
+
+-- at this index is the first actor of a name
+pub record IsFound (actors : List ActorState) (name : List ℕ) (place : ℕ) (a : ActorState) : Type 0 where
+  pub inside : place < length actors
+  pub there : slice_get actors place ≡ Some a
+  pub named : actor_named actors name ≡ Some a
+  pub put : (new : ActorState) → new.name ≡ name → put_actor actors new ≡ slice_set actors place new
+
+abbrev pub IsPlaceOf : List ActorState → List ℕ → ℕ → Type 0
+IsPlaceOf actors name place = (a : ActorState) × IsFound actors name place a
+
+-- at this index is the cell of a recycled gate
+pub record IsCellOf (cells : List GateCell) (id : GateId) (place : ℕ) (c : GateCell) : Type 0 where
+  pub inside : place < length cells
+  pub there : slice_get cells place ≡ Some c
+  pub kept : kept_among cells id ≡ c.kept
+  pub put : (k : Kept) → put_kept cells id k ≡ slice_set cells place (record c { kept = k })
+
+abbrev pub IsGateAt : List GateCell → GateId → ℕ → Type 0
+IsGateAt cells id place = (c : GateCell) × IsCellOf cells id place c

@@ -1,34 +1,52 @@
 -- Whole runs.
-use Rattle.std.specs.Prelude.{◌≡◌, ◌+◌, ℕ, true, List, Option, Some, None, is_some, if◌then◌else◌}
+use Rattle.std.specs.Prelude.{◌≡◌, ◌+◌, ◌++◌, ◌∷◌, [], length, ℕ, true, List, Option, Some, None, if◌then◌else◌}
 use Rattle.wedge_base.specs.Images.{Image}
 use Rattle.wedge_base.specs.Names.{root_name}
 use Rattle.wedge_base.specs.Journals.{turns_of, numbered}
 use Rattle.wedge_base.specs.declared.events.LogEntry.{LogEntry}
+use Rattle.wedge_base.specs.declared.events.Event.{Event}
 use Rattle.wedge_base.specs.declared.outcome.Outcome.{Outcome}
 use Rattle.sthread_life.specs.Actors.{ActorState}
 use Rattle.sthread_life.specs.Local.{has_ended}
-use Rattle.sthread_life.specs.Allowed.{StepIsJudged, EachStep}
-use Rattle.sthread_life.specs.Laws.{IsWrittenByOwners}
-use Rattle.sthread_life.specs.Worlds.{WorldState, opening, actor_named, Runs, is_whole}
+use Rattle.sthread_life.specs.Taking.{takes}
+use Rattle.wedge_base.specs.declared.events.Want.{Want}
+use Rattle.sthread_life.specs.Moments.{EachMoment}
+use Rattle.sthread_life.specs.Laws.{IsLawful, IsWrittenByOwners}
+use Rattle.sthread_life.specs.Cells.{Cells, cells_after}
+use Rattle.sthread_life.specs.Worlds.{event_at, WorldState, opening, actor_named, Runs, is_whole}
+use Rattle.wedge_core.specs.Progress.{IsPlaceOf}
 use Rattle.sthread_life.specs.Outcomes.{outcome_of}
 
--- entries tell a whole run of the image with this outcome: each step of it is judged by the sheet, and
--- the bytes of each tag come from those who may store to it alone
+-- entries tell a complete run of the image with this outcome: each moment of it is lawful, and the bytes of
+-- each tag and of each stream come from those who may write them alone
 pub record IsWholeRun (i : Image) (entries : List LogEntry) (outcome : Outcome) : Type 0 where
   pub last : WorldState
   pub run : Runs (opening i) (turns_of entries) last
   pub whole : is_whole last ≡ true
   pub ends : outcome ≡ outcome_of last
-  pub judged : EachStep StepIsJudged (opening i) (turns_of entries)
+  pub lawful : EachMoment IsLawful (opening i) (turns_of entries)
   pub written : IsWrittenByOwners i (turns_of entries) last
 
 -- stamps are the places of the entries, from 1
 abbrev pub IsNumbered : List LogEntry → Type 0
 IsNumbered entries = entries ≡ numbered 1 (turns_of entries)
 
--- the root has started
+-- an entry is added, for a turn of this actor with this event
+abbrev pub Notes : List LogEntry → List ℕ → Event → List LogEntry → Type 0
+Notes old name e new = new ≡ old ++ record { stamp = length old + 1; actor = name; event = e } ∷ []
+
+-- the event that an actor at rest wants is done and noted
+pub record IsMade (i : Image) (cells : Cells) (a : ActorState) (q : Want) (entries : List LogEntry) (name : List ℕ) (new_cells : Cells) (new : ActorState) (new_entries : List LogEntry) : Type 0 where
+  pub event : Event
+  pub comes : event_at cells a q ≡ Some event
+  pub cells_are : new_cells ≡ cells_after cells event
+  pub takes_it : new ≡ takes i a event
+  pub name_stays : new.name ≡ a.name
+  pub noted : Notes entries name event new_entries
+
+-- the root is the first of the actors
 abbrev pub HasRoot : WorldState → Type 0
-HasRoot w = is_some (actor_named w.actors root_name) ≡ true
+HasRoot w = IsPlaceOf w.actors root_name 0
 
 -- the work that an actor has left at most: its fuel, and its end
 abbrev pub work : ActorState → ℕ

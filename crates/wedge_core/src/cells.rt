@@ -1,47 +1,59 @@
 //! The cells of a world.
 
-ghost use Rattle.std.specs.Prelude.{◌≡◌, ◌≤◌, Some, IfOk, OnOk, OnErr, length, map, option_map, slice_get, slice_set};
+ghost use Rattle.std.specs.Prelude.{◌≡◌, ◌<◌, ◌≤◌, ◌-◌, ◌++◌, Some, None, IfOk, OnOk, OnErr, length, map, option_map, slice_get, slice_set};
 ghost use Rattle.std.specs.List.{AllByRecursion};
+ghost use Rattle.wedge_base.specs.Images.{slots as most_slots};
 ghost use Rattle.wedge_base.specs.Slots.{SlotFits, slot_reply, slot_next, declared_slots};
-ghost use Rattle.image_form.specs.Rules.{IsTag};
-ghost use Rattle.wedge_core.specs.Fitting.{AskFits};
-ghost use Rattle.wedge_base.specs.Lives.{lives_reply, lives_next};
 ghost use Rattle.wedge_base.specs.Streams.{most_fds, declared_stream, stream_reply, stream_next};
-ghost use Rattle.sthread_life.specs.Worlds.{opening_cells, held, live_at, event_of, cells_after};
+ghost use Rattle.image_form.specs.Rules.{IsTag};
+ghost use Rattle.sthread_life.specs.Cells.{AskFits, opening_cells, nothings, held, live_at, event_of, cells_after};
 ghost use Rattle.sthread_life.specs.Written.{bytes_in};
 
+use crate::gates::{GateCell, ask_gate};
 use fd_table::Stream;
 use image_form::Image;
 use std::alloc::Global;
 use std::marker::Model;
+use sthread_life::Lives;
+use tag_directory::Directory;
 use tag_segment::SlotState;
 use wedge_base::{
-    Ask, Event, FdEntry, LivesAsk, LivesReply, NoMemory, Object, Slot, SlotAsk, SlotReply,
-    StreamAsk, StreamReply, TagEntry, TagNo, Want,
+    Ask, Event, FdEntry, MOST_FDS, NoMemory, Object, SLOTS, Slot, SlotAsk, SlotReply, StreamAsk,
+    StreamReply, TagEntry, TagNo, Want,
 };
 
-/// The most sthreads that live at a time.
-const MOST_LIVES: u32 = 256;
-
-/// The slots, with the tag that lives in each; the streams behind the descriptors; and the count of live
-/// sthreads.
+/// The cells of a world: the directory of slots, 4,096 slots with the tag that lives in each, the directory of
+/// descriptors, 1,024 descriptors with the stream behind each, the count of live sthreads, and the recycled
+/// gates.
 #[derive(Drop)]
 pub struct Cells {
+    alloc: Global,
+    places: Directory,
     slots: Vec<SlotState>,
+    numbers: Directory,
     streams: Vec<Stream>,
-    lives: u32,
+    lives: Lives,
+    gates: Vec<GateCell>,
 }
 
 impl Model for Cells {
-    ghost use Rattle.std.specs.Prelude.{◌≤◌, length};
+    ghost use Rattle.std.specs.Prelude.{◌≡◌, length};
+    ghost use Rattle.wedge_base.specs.Images.{slots as most_slots};
     ghost use Rattle.wedge_base.specs.Streams.{most_fds};
-    ghost use Rattle.sthread_life.specs.Worlds.{Cells as Plain};
+    ghost use Rattle.sthread_life.specs.Cells.{Cells as Plain};
 
     ghost Value = { Plain };
 
-    ghost view = { λ c. record { slots = c.slots.items; streams = c.streams.items; lives = c.lives } };
+    ghost view = { λ c. record {
+      places = c.places;
+      slots = c.slots.items;
+      numbers = c.numbers;
+      streams = c.streams.items;
+      lives = c.lives;
+      gates = c.gates.items;
+    } };
 
-    ghost invariant = { λ c. length c.streams.items ≤ most_fds };
+    ghost invariant = { λ c. (length c.slots.items ≡ most_slots) × (length c.streams.items ≡ most_fds) };
 }
 
 impl Cells {
@@ -49,22 +61,28 @@ impl Cells {
     pub fn opening(alloc: Global, image: &Image) -> Result<Cells, NoMemory>
         ensures { IfOk result (λ c. c ≡ opening_cells image.now) }
     {
+        let tags = image.tags();
+        let fds = image.fds();
         Ok(Cells {
-            slots: declared_slots(alloc, image.tags())?,
-            streams: declared_streams(alloc, image.fds())?,
-            lives: 1,
+            alloc,
+            places: Directory::new(alloc, SLOTS, tags.len() as u32)?,
+            slots: opening_slots(alloc, tags)?,
+            numbers: Directory::new(alloc, MOST_FDS, fds.len() as u32)?,
+            streams: opening_streams(alloc, fds)?,
+            lives: Lives::new(),
+            gates: Vec::new(alloc),
         })
     }
 
-    /// Lends the streams, by descriptor.
+    /// Returns the streams, by descriptor: 1,024.
     pub fn streams(&self) -> &[Stream]
         ensures is { result.now ≡ self.now.streams }
-        ensures few { length result.now ≤ most_fds }
+        ensures all { length result.now ≡ most_fds }
     {
         self.streams.as_slice()
     }
 
-    /// Lends the bytes of the tag that lives in a slot.
+    /// Returns the bytes of the tag that lives in a slot.
     pub fn bytes(&self, slot: Slot) -> Option<&[u8]>
         ensures { option_map (λ b. b.now) result ≡ bytes_in self.now slot }
     {
@@ -72,89 +90,105 @@ impl Cells {
     }
 
     /// The tag that lives in the slot of what is wanted.
+    #[inline(always)]
     pub fn live(&self, want: &Want) -> Option<TagNo>
         ensures { result ≡ live_at self.now want.now }
     {
         match want {
-            Want::Load { slot, .. } | Want::Store { slot, .. } => tag_in(&self.slots, *slot),
-            Want::Fd { .. } | Want::Lives(_) => None,
+            Want::Slot { slot, .. } => tag_in(&self.slots, *slot),
+            _ => None,
         }
     }
 
-    /// Puts an ask that fits to its cell, which goes on: the event that comes of it, in two equal copies.
-    /// After want of memory the cells are as before.
-    pub fn act(&mut self, ask: Ask) -> Result<(Event, Event), NoMemory>
+    /// Asks a cell what fits it, and returns the event that comes of it. After `NoMemory` the cells are as
+    /// before.
+    #[inline(always)]
+    pub fn act(&mut self, ask: Ask) -> Result<Event, NoMemory>
         requires { AskFits self.old ask }
-        ensures first { IfOk result (λ r. r.0 ≡ event_of self.old ask) }
-        ensures second { IfOk result (λ r. r.1 ≡ event_of self.old ask) }
-        ensures after { IfOk result (λ r. self.new ≡ cells_after self.old r.0) }
+        ensures is { IfOk result (λ e. event_of self.old ask ≡ Some e) }
+        ensures after { IfOk result (λ e. self.new ≡ cells_after self.old e) }
         ensures err { OnErr result (self.new ≡ self.old) }
     {
         match ask {
             Ask::Slot { slot, ask } => {
-                let (reply, again) = act_on(&mut self.slots, slot, &ask)?;
-                let copy = Event::Slot {
-                    slot,
-                    ask,
-                    reply: again,
-                };
-                Ok((Event::Slot { slot, ask, reply }, copy))
+                let reply = ask_slot(&mut self.slots, slot, &ask)?;
+                Ok(Event::Slot { slot, ask, reply })
             }
             Ask::Fd { fd, ask } => {
-                let same = Stream::copy_ask(&ask)?;
-                let (reply, again) = act_in(&mut self.streams, fd.0, &ask)?;
-                let copy = Event::Fd {
-                    fd,
-                    ask: same,
-                    reply: again,
-                };
-                Ok((Event::Fd { fd, ask, reply }, copy))
+                let reply = ask_stream(&mut self.streams, fd.0, &ask)?;
+                Ok(Event::Fd { fd, ask, reply })
             }
             Ask::Lives(ask) => {
-                let reply = count(&mut self.lives, ask);
-                Ok((Event::Lives { ask, reply }, Event::Lives { ask, reply }))
+                let reply = self.lives.count(ask);
+                Ok(Event::Lives { ask, reply })
+            }
+            Ask::Slots(ask) => {
+                let reply = self.places.act_once(&ask)?;
+                Ok(Event::Slots { ask, reply })
+            }
+            Ask::Fds(ask) => {
+                let reply = self.numbers.act_once(&ask)?;
+                Ok(Event::Fds { ask, reply })
+            }
+            Ask::Gate { gate, ask } => {
+                let reply = ask_gate(self.alloc, &mut self.gates, &gate, &ask)?;
+                Ok(Event::Gate { gate, ask, reply })
+            }
+            Ask::Start { .. } | Ask::Join { .. } | Ask::Enter { .. } | Ask::Leave { .. } => {
+                unreachable!()
             }
         }
     }
 }
 
 /// The tag that lives in a slot.
+#[inline(always)]
 fn tag_in(slots: &[SlotState], slot: Slot) -> Option<TagNo>
     ensures { result ≡ option_map (λ g. g.tag) (held (slice_get slots.now slot)) }
 {
     slots.get(slot.0 as usize)?.live()
 }
 
-/// Puts an ask to a slot. One past the end is empty, and stays so.
-#[tactic(auto, using(crate::proofs::CellPlaces::past_end, crate::proofs::CellPlaces::set_past, crate::proofs::CellPlaces::held_at))]
-fn act_on(
-    slots: &mut Vec<SlotState>,
-    slot: Slot,
-    ask: &SlotAsk,
-) -> Result<(SlotReply, SlotReply), NoMemory>
-    requires { SlotFits (held (slice_get slots.old.items slot)) ask.now }
-    ensures first { IfOk result (λ r. r.0 ≡ slot_reply (held (slice_get slots.old.items slot)) ask.now) }
-    ensures second { IfOk result (λ r. r.1 ≡ slot_reply (held (slice_get slots.old.items slot)) ask.now) }
+/// Asks a slot.
+#[tactic(auto, using(crate::proofs::CellPlaces::held_at))]
+#[inline(always)]
+fn ask_slot(slots: &mut Vec<SlotState>, slot: Slot, ask: &SlotAsk) -> Result<SlotReply, NoMemory>
+    requires inside { slot < length slots.old.items }
+    requires fits { SlotFits (held (slice_get slots.old.items slot)) ask.now }
+    ensures is { IfOk result (λ r. r ≡ slot_reply (held (slice_get slots.old.items slot)) ask.now) }
     ensures after { OnOk result (slots.new.items ≡ slice_set slots.old.items slot (slot_next (held (slice_get slots.old.items slot)) ask.now)) }
     ensures err { OnErr result (slots.new.items ≡ slots.old.items) }
+    ensures count { length slots.new.items ≡ length slots.old.items }
 {
-    let place = slot.0 as usize;
-    if place >= slots.len() {
-        let mut empty = SlotState::empty(*slots.allocator());
-        return ask_slot(&mut empty, ask);
-    }
-    ask_slot(&mut slots[place], ask)
+    let state = &mut slots[slot.0 as usize];
+    state.act_once(ask)
 }
 
-/// Puts an ask to the state of a slot.
-fn ask_slot(state: &mut SlotState, ask: &SlotAsk) -> Result<(SlotReply, SlotReply), NoMemory>
-    requires { SlotFits state.old ask.now }
-    ensures first { IfOk result (λ r. r.0 ≡ slot_reply state.old ask.now) }
-    ensures second { IfOk result (λ r. r.1 ≡ slot_reply state.old ask.now) }
-    ensures after { OnOk result (state.new ≡ slot_next state.old ask.now) }
-    ensures err { OnErr result (state.new ≡ state.old) }
+/// Asks the stream behind a descriptor.
+#[tactic(auto, using(crate::proofs::CellPlaces::held_at))]
+fn ask_stream(streams: &mut Vec<Stream>, fd: u32, ask: &StreamAsk) -> Result<StreamReply, NoMemory>
+    requires { fd < length streams.old.items }
+    ensures is { IfOk result (λ r. r ≡ stream_reply (held (slice_get streams.old.items fd)) ask.now) }
+    ensures after { OnOk result (streams.new.items ≡ slice_set streams.old.items fd (stream_next (held (slice_get streams.old.items fd)) ask.now)) }
+    ensures err { OnErr result (streams.new.items ≡ streams.old.items) }
+    ensures count { length streams.new.items ≡ length streams.old.items }
 {
-    state.act(ask)
+    let state = &mut streams[fd as usize];
+    state.act_once(ask)
+}
+
+/// The slots as a run begins: the declared tags, each in the slot of its number, and then empty ones.
+fn opening_slots(alloc: Global, tags: &[TagEntry]) -> Result<Vec<SlotState>, NoMemory>
+    requires few { length tags.now ≤ 256 }
+    requires each { AllByRecursion IsTag tags.now }
+    ensures is { IfOk result (λ v. v.items ≡ declared_slots 0 tags.now ++ nothings (most_slots - length tags.now)) }
+    ensures all { IfOk result (λ v. length v.items ≡ most_slots) }
+{
+    let mut slots = declared_slots(alloc, tags)?;
+    while slots.len() < SLOTS as usize {
+        slots.push(SlotState::empty(alloc))?;
+    }
+    Ok(slots)
 }
 
 /// The tags that are declared, each in the slot of its number.
@@ -163,7 +197,7 @@ fn declared_slots(alloc: Global, tags: &[TagEntry]) -> Result<Vec<SlotState>, No
     requires each { AllByRecursion IsTag tags.now }
     ensures { IfOk result (λ v. v.items ≡ declared_slots 0 tags.now) }
 {
-    let mut slots = Vec::new(alloc);
+    let mut slots = Vec::with_capacity(alloc, SLOTS as usize)?;
     let mut number = 0u32;
     for tag in tags {
         let content = tag.content.as_slice();
@@ -173,62 +207,26 @@ fn declared_slots(alloc: Global, tags: &[TagEntry]) -> Result<Vec<SlotState>, No
     Ok(slots)
 }
 
-/// Puts an ask to the stream behind a descriptor. One past the end is unopened, and stays so.
-#[tactic(auto, using(crate::proofs::CellPlaces::past_end, crate::proofs::CellPlaces::set_past, crate::proofs::CellPlaces::held_at))]
-fn act_in(
-    streams: &mut Vec<Stream>,
-    fd: u32,
-    ask: &StreamAsk,
-) -> Result<(StreamReply, StreamReply), NoMemory>
-    ensures first { IfOk result (λ r. r.0 ≡ stream_reply (held (slice_get streams.old.items fd)) ask.now) }
-    ensures second { IfOk result (λ r. r.1 ≡ stream_reply (held (slice_get streams.old.items fd)) ask.now) }
-    ensures after { OnOk result (streams.new.items ≡ slice_set streams.old.items fd (stream_next (held (slice_get streams.old.items fd)) ask.now)) }
-    ensures err { OnErr result (streams.new.items ≡ streams.old.items) }
-    ensures count { length streams.new.items ≡ length streams.old.items }
+/// The streams as a run begins: those of the declared descriptors, and then none.
+fn opening_streams(alloc: Global, fds: &[FdEntry]) -> Result<Vec<Stream>, NoMemory>
+    requires { length fds.now ≤ most_fds }
+    ensures is { IfOk result (λ v. v.items ≡ map (λ f. Some (declared_stream f)) fds.now ++ nothings (most_fds - length fds.now)) }
+    ensures all { IfOk result (λ v. length v.items ≡ most_fds) }
 {
-    let place = fd as usize;
-    if place >= streams.len() {
-        let mut unopened = Stream::unopened();
-        return ask_stream(&mut unopened, ask);
+    let mut streams = declared_streams(alloc, fds)?;
+    while streams.len() < MOST_FDS as usize {
+        streams.push(Stream::unopened())?;
     }
-    ask_stream(&mut streams[place], ask)
-}
-
-/// Puts an ask to the state of a stream.
-fn ask_stream(state: &mut Stream, ask: &StreamAsk) -> Result<(StreamReply, StreamReply), NoMemory>
-    ensures first { IfOk result (λ r. r.0 ≡ stream_reply state.old ask.now) }
-    ensures second { IfOk result (λ r. r.1 ≡ stream_reply state.old ask.now) }
-    ensures after { OnOk result (state.new ≡ stream_next state.old ask.now) }
-    ensures err { OnErr result (state.new ≡ state.old) }
-{
-    state.act(ask)
+    Ok(streams)
 }
 
 /// The streams of the declared descriptors.
 fn declared_streams(alloc: Global, fds: &[FdEntry]) -> Result<Vec<Stream>, NoMemory>
     ensures is { IfOk result (λ v. v.items ≡ map (λ f. Some (declared_stream f)) fds.now) }
 {
-    let mut streams = Vec::new(alloc);
+    let mut streams = Vec::with_capacity(alloc, MOST_FDS as usize)?;
     for fd in fds {
         streams.push(Stream::declared(alloc, fd)?)?;
     }
     Ok(streams)
-}
-
-/// Puts an ask to the count of live sthreads.
-fn count(lives: &mut u32, ask: LivesAsk) -> LivesReply
-    ensures reply { result ≡ lives_reply lives.old ask }
-    ensures after { lives.new ≡ lives_next lives.old ask }
-{
-    match ask {
-        LivesAsk::Claim if *lives < MOST_LIVES => {
-            *lives += 1;
-            LivesReply::Claimed
-        }
-        LivesAsk::Claim => LivesReply::Full,
-        LivesAsk::Release { .. } => {
-            *lives = lives.saturating_sub(1);
-            LivesReply::Released
-        }
-    }
 }

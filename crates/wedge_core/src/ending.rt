@@ -1,11 +1,14 @@
 //! What a run ends with.
 
-ghost use Rattle.std.specs.Prelude.{◌≡◌, ◌≤◌, ◌++◌, [], length, unwrap_or, option_map, IfOk, OnOk};
+ghost use Rattle.std.specs.Prelude.{◌≡◌, ◌≤◌, ◌++◌, [], true, false, length, unwrap_or, option_map, IfOk, OnOk};
+ghost use Rattle.sthread_life.specs.Worlds.{is_whole};
 ghost use Rattle.wedge_base.specs.Streams.{most_fds};
 ghost use Rattle.std.specs.Ordering.{nat_cmp, is_lt};
 ghost use Rattle.std.specs.Cmp.Lexicographic.{slice_cmp};
+ghost use Rattle.sthread_life.specs.Actors.{whole};
 ghost use Rattle.sthread_life.specs.Outcomes as outcomes;
 
+use crate::residents::Resident;
 use crate::world::World;
 use fd_table::Stream;
 use image_form::Image;
@@ -13,14 +16,17 @@ use std::alloc::Global;
 use sthread_life::{Actor, Phase};
 use wedge_base::{
     ActorLine, ActorName, Bytes, End, FdNo, Items, NoMemory, Outcome, StreamKind, StreamLine,
+    copy_denials,
 };
 
-/// The outcome of a world: a line for each actor that has ended, and one for each append stream.
+/// The outcome of a world whose root has ended: a line for each actor, and one for each append stream.
 pub fn outcome(alloc: Global, world: &World<'_>) -> Result<Outcome, NoMemory>
+    requires going { world.now.stopped ≡ false }
+    requires whole { is_whole world.now.state ≡ true }
     ensures { IfOk result (λ o. o ≡ outcomes.outcome_of world.now.state) }
 {
-    let image = world.image;
-    let actors = actor_lines(alloc, image, world.actors.as_slice())?;
+    let image = world.program.image();
+    let actors = actor_lines(alloc, image, world.residents.as_slice())?;
     let streams = stream_lines(alloc, image, world.cells.streams())?;
     Ok(Outcome {
         actors: Items::new(actors),
@@ -29,7 +35,11 @@ pub fn outcome(alloc: Global, world: &World<'_>) -> Result<Outcome, NoMemory>
 }
 
 /// The lines of the actors that have ended, in the order of names.
-fn actor_lines(alloc: Global, image: &Image, actors: &[Actor]) -> Result<Vec<ActorLine>, NoMemory>
+fn actor_lines(
+    alloc: Global,
+    image: &Image,
+    actors: &[Resident],
+) -> Result<Vec<ActorLine>, NoMemory>
     ensures { IfOk result (λ v. v.items ≡ outcomes.lines_of image.now actors.now) }
 {
     let mut lines = Vec::new(alloc);
@@ -45,14 +55,14 @@ fn actor_lines(alloc: Global, image: &Image, actors: &[Actor]) -> Result<Vec<Act
 fn add_actor(
     alloc: Global,
     image: &Image,
-    actor: &Actor,
+    resident: &Resident,
     lines: &mut Vec<ActorLine>,
 ) -> Result<(), NoMemory>
-    ensures { OnOk result (lines.new.items ≡ outcomes.with_actor image.now actor.now actor.now.phase lines.old.items) }
+    ensures { OnOk result (lines.new.items ≡ outcomes.with_actor image.now resident.now resident.now.phase lines.old.items) }
 {
-    match actor.phase() {
+    match resident.actor.phase() {
         Phase::Ended(end) => {
-            let line = line_of(alloc, image, actor, *end)?;
+            let line = line_of(alloc, image, &resident.actor, *end)?;
             add_line(lines, line)
         }
         _ => Ok(()),
@@ -61,7 +71,7 @@ fn add_actor(
 
 /// The line of an actor that ended so.
 fn line_of(alloc: Global, image: &Image, actor: &Actor, end: End) -> Result<ActorLine, NoMemory>
-    ensures { IfOk result (λ l. l ≡ outcomes.line_of image.now actor.now end) }
+    ensures { IfOk result (λ l. l ≡ outcomes.line_of image.now (whole actor.now []) end) }
 {
     Ok(ActorLine {
         name: actor.name().copy()?,
@@ -69,7 +79,7 @@ fn line_of(alloc: Global, image: &Image, actor: &Actor, end: End) -> Result<Acto
         end,
         pc: actor.pc(),
         fuel: actor.fuel(),
-        denials: actor.denials().clone()?,
+        denials: copy_denials(alloc, actor.denials())?,
     })
 }
 

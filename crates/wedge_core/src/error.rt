@@ -8,7 +8,7 @@ use wedge_base::NoMemory;
 /// Why there is no turn.
 #[derive(Clone, Copy, Debug, PartialEq, Eq)]
 pub enum NoTurn {
-    /// No memory was left. The world has stopped: each later turn answers so too.
+    /// Out of memory. The world has stopped: each later turn answers so too.
     NoMemory,
     /// No actor of that name has started.
     Unknown,

@@ -1,11 +1,12 @@
 //! The core: a world of actors and cells, its turns, and whole runs of it on one thread.
 #![tactic(auto)]
 
-mod actors;
 mod built;
 mod cells;
 mod ending;
 mod error;
+mod gates;
+mod residents;
 mod serially;
 #[cfg(test)]
 mod tests;

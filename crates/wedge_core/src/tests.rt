@@ -4,8 +4,7 @@ use std::alloc::Global;
 use std::process::Abort;
 use std::test::Fail;
 use wedge_base::{
-    ActorName, Bytes, FdEntry, Items, MemoryRange, NoMemory, PathText, Procedure, Right, Slot,
-    TagEntry,
+    ActorName, Bytes, FdEntry, Items, MemoryRange, NoMemory, Procedure, Right, Slot, TagEntry,
 };
 
 /// LUI t0, 0x40000; ADDI t0, t0, 0; ADDI t1, zero, 5; SW t1, 0(t0).
@@ -36,7 +35,7 @@ fn image(alloc: Global, right: Option<Right>) -> Result<Image, Fail> {
         fds: Items::<FdEntry>::new(Vec::new(alloc)),
         files: Items::new(Vec::new(alloc)),
         user: 0,
-        root: PathText::new(Bytes::from_slice(alloc, b"/")?),
+        root: Bytes::from_slice(alloc, b"/")?,
     };
     Ok(finish_image(alloc, parts).ok().ok_or("an image")?)
 }

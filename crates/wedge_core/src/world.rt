@@ -3,59 +3,68 @@
 ghost use Rattle.std.specs.Prelude.{◌≡◌, IfOk, false};
 ghost use Rattle.sthread_life.specs.Worlds.{opening, Runs};
 ghost use Rattle.wedge_core.specs.Progress.{opened};
+ghost use Rattle.wedge_core.specs.Serial.{IsNumbered};
+ghost use Rattle.wedge_base.specs.Journals.{turns_of};
 
 use crate::cells::Cells;
+use crate::residents::Resident;
 use image_form::Image;
+use ready_text::Program;
 use std::alloc::Global;
 use std::marker::Model;
 use sthread_life::Actor;
-use wedge_base::{NoMemory, Turn};
+use wedge_base::{LogEntry, NoMemory};
 
 /// The world of a run: every actor and every cell, and the turns taken so far. Its turns are always a
-/// run from the opening world of its image, and its state is where that run leads, unless it has
-/// stopped for want of memory.
+/// run from the initial state of its image, and its state is where that run leads, unless it has
+/// stopped because it ran out of memory.
 #[derive(Drop)]
 pub struct World<'a> {
-    pub(crate) image: &'a Image,
+    pub(crate) program: Program<'a>,
     pub(crate) cells: Cells,
-    pub(crate) actors: Vec<Actor>,
-    pub(crate) turns: Vec<Turn>,
+    pub(crate) residents: Vec<Resident>,
+    pub(crate) entries: Vec<LogEntry>,
     pub(crate) stopped: bool,
 }
 
 impl<'a> Model for World<'a> {
     ghost use Rattle.wedge_core.specs.Progress.{Progress, IsRun};
+    ghost use Rattle.wedge_core.specs.Serial.{IsNumbered};
+    ghost use Rattle.wedge_base.specs.Journals.{turns_of};
 
     ghost Value = { Progress };
 
     ghost view = { λ w. record {
-      state = record { image = w.image.now; cells = w.cells; actors = w.actors.items };
-      turns = w.turns.items;
+      state = record { image = w.program; cells = w.cells; actors = w.residents.items };
+      turns = turns_of w.entries.items;
       stopped = w.stopped;
     } };
 
-    ghost invariant = { λ w. IsRun (record {
-      state = record { image = w.image.now; cells = w.cells; actors = w.actors.items };
-      turns = w.turns.items;
-      stopped = w.stopped;
-    }) };
+    ghost invariant = { λ w. record {
+      numbered : IsNumbered w.entries.items;
+      run : IsRun (record {
+        state = record { image = w.program; cells = w.cells; actors = w.residents.items };
+        turns = turns_of w.entries.items;
+        stopped = w.stopped;
+      });
+    } };
 }
 
 impl<'a> World<'a> {
-    /// Lends the cells.
+    /// Returns the cells.
     pub fn cells(&self) -> &Cells
         ensures { result.now ≡ self.now.state.cells }
     {
         &self.cells
     }
 
-    /// Hands out the turns taken so far.
-    pub(crate) fn into_turns(self) -> Vec<Turn>
-        ensures turns { result.items ≡ self.entry.turns }
-        ensures run { self.entry.stopped ≡ false → Runs (opening self.entry.state.image) result.items self.entry.state }
+    /// Consumes the world and returns the entries of the turns taken so far.
+    pub(crate) fn into_entries(self) -> Vec<LogEntry>
+        ensures numbered { IsNumbered result.items }
+        ensures run { self.entry.stopped ≡ false → Runs (opening self.entry.state.image) (turns_of result.items) self.entry.state }
     {
-        let World { turns, .. } = self;
-        turns
+        let World { entries, .. } = self;
+        entries
     }
 }
 
@@ -63,15 +72,16 @@ impl<'a> World<'a> {
 pub fn open_world(alloc: Global, image: &Image) -> Result<World<'_>, NoMemory>
     ensures { IfOk result (λ w. w ≡ opened image.now) }
 {
+    let program = Program::new(alloc, image)?;
     let cells = Cells::opening(alloc, image)?;
-    let root = Actor::root(alloc, image)?;
-    let mut actors = Vec::new(alloc);
-    actors.push(root)?;
+    let (actor, memory) = Actor::root(alloc, image)?;
+    let mut residents = Vec::new(alloc);
+    residents.push(Resident { actor, memory })?;
     Ok(World {
-        image,
+        program,
         cells,
-        actors,
-        turns: Vec::new(alloc),
+        residents,
+        entries: Vec::new(alloc),
         stopped: false,
     })
 }

@@ -1,21 +1,16 @@
 use Rattle.std.proofs.Common.{subst}
 use Rattle.wedge_core.specs.Progress.{IsRun}
-use Rattle.wedge_core.proofs.Working.{turn_worked}
+use Rattle.wedge_core.proofs.Working.{RootStays, root_stays}
 use Rattle.wedge_core.proofs.serially.take_turn.Goals as goal
-use Rattle.wedge_core.proofs.serially.take_turn.Goals.{in-Ok, in-Err-NoMemory}
+
+stays : (c : goal.In_ok-took) → RootStays c.in_ok-took.took c.args.world.now.state c.advance.new.world.state
+stays c =
+    let run : IsRun c.args.world.now = subst IsRun c.world.view_is c.world.invariant.run in
+    let done = c.in_ok-took.ensures in
+    root_stays c.in_ok-took.took c.args.world.now c.advance.new.world c.args.root.now run c.requires.going c.requires.root c.requires.there done.took done.unchanged
 
 pub returns-clause-there : goal.returns-clause-there
-returns-clause-there c =
-    let run : IsRun c.args.world.now = subst IsRun c.world.view_is c.world.invariant in
-    elim c.match-turn.branch [
-      | in-Ok w ↦ rw w.result-is (turn_worked c.args.world.now c.args.root.now w.in-Ok.field-0.event c.turn.new.world.state run c.requires.going c.requires.root w.in-Ok.ensures.took).there
-      | in-Err-NoMemory w ↦ rw w.result-is tt
-    ]
+returns-clause-there c = (stays c).there
 
 pub returns-clause-less : goal.returns-clause-less
-returns-clause-less c =
-    let run : IsRun c.args.world.now = subst IsRun c.world.view_is c.world.invariant in
-    elim c.match-turn.branch [
-      | in-Ok w ↦ rw w.result-is (turn_worked c.args.world.now c.args.root.now w.in-Ok.field-0.event c.turn.new.world.state run c.requires.going c.requires.root w.in-Ok.ensures.took).less
-      | in-Err-NoMemory w ↦ rw w.result-is tt
-    ]
+returns-clause-less c = (stays c).less

@@ -1,33 +1,58 @@
-use Rattle.std.proofs.Common.{sym, subst}
+use Rattle.std.proofs.Common.{◌≡◌, sym, subst}
 use Rattle.wedge_base.specs.declared.events.Turn.{Turn}
-use Rattle.sthread_life.specs.Allowed.{StepIsJudged}
-use Rattle.sthread_life.specs.Written.{StepWritesOwn}
+use Rattle.wedge_base.specs.Journals.{turns_of}
+use Rattle.sthread_life.specs.Moments.{TurnHas}
+use Rattle.sthread_life.specs.Laws.{IsLawful}
 use Rattle.sthread_life.specs.Worlds.{opening, Runs}
-use Rattle.sthread_life.proofs.Judging.{turn_judged}
-use Rattle.sthread_life.proofs.Writing.{step_writes_own}
+use Rattle.sthread_life.specs.Written.{StepAppendsOwn, StepWritesOwn}
+use Rattle.sthread_life.proofs.Between.{run_between}
+use Rattle.sthread_life.proofs.Mediating.{run_turn_lawful}
+use Rattle.sthread_life.proofs.Writing.{step_appends_own, step_writes_own}
 use Rattle.wedge_core.specs.Progress.{Progress, state_of}
 use Rattle.wedge_core.proofs.Turning.{run_goes_on}
+use Rattle.wedge_core.proofs.Numbering.{notes_turns, notes_numbered}
 use Rattle.wedge_core.proofs.turns.turn.Goals as goal
 
 pub invariant_of-world : goal.invariant_of-world
 invariant_of-world c =
     let w = c.world.inside in
-    run_goes_on w.image.now w.cells c.turn_over.new.cells w.actors.items c.turn_over.new.actors.items w.turns.items c.turn_over.new.turns.items c.args.name.now c.in-Ok.event w.stopped
-    c.world.invariant c.if-world.false c.in-Ok.ensures.took c.in-Ok.ensures.noted
+    let old = w.entries.items in
+    let new = c.turn_over.new.entries.items in
+    record {
+      numbered = notes_numbered old new c.args.name.now c.in-Ok.event c.in-Ok.ensures.noted c.world.invariant.numbered;
+      run = run_goes_on w.program w.cells c.turn_over.new.cells w.residents.items c.turn_over.new.residents.items (turns_of old) (turns_of new) c.args.name.now c.in-Ok.event w.stopped
+          c.world.invariant.run c.if-world.false c.in-Ok.ensures.took (notes_turns old new c.args.name.now c.in-Ok.event c.in-Ok.ensures.noted);
+    }
 
-pub returns-in-Ok-clause-judged : goal.returns-in-Ok-clause-judged
-returns-in-Ok-clause-judged c =
+-- where the run leads
+run_here : (c : goal.In-Ok) → Runs (opening c.world.inside.program) (turns_of c.world.inside.entries.items) (state_of c.world.inside.program c.world.inside.cells c.world.inside.residents.items)
+run_here c =
     let w = c.world.inside in
-    let i = w.image.now in
-    let new = state_of i c.turn_over.new.cells c.turn_over.new.actors.items in
-    let run = subst (λ s. Runs (opening i) w.turns.items s) (sym (c.world.invariant.current c.if-world.false)) c.world.invariant.run in
-    let judged = turn_judged i w.turns.items (state_of i w.cells w.actors.items) (record { actor = c.args.name.now; event = c.in-Ok.event }) new run c.in-Ok.ensures.took in
-    subst (λ (p : Progress). StepIsJudged p.state (record { actor = c.args.name.now; event = c.in-Ok.event }) new) c.world.view_is judged
+    subst (λ s. Runs (opening w.program) (turns_of w.entries.items) s) (sym (c.world.invariant.run.current c.if-world.false)) c.world.invariant.run.run
+
+pub returns-in-Ok-clause-lawful : goal.returns-in-Ok-clause-lawful
+returns-in-Ok-clause-lawful c =
+    let w = c.world.inside in
+    let i = w.program in
+    let t : Turn = record { actor = c.args.name.now; event = c.in-Ok.event } in
+    let new = state_of i c.turn_over.new.cells c.turn_over.new.residents.items in
+    let lawful = run_turn_lawful i (turns_of w.entries.items) (state_of i w.cells w.residents.items) t new (run_here c) c.in-Ok.ensures.took in
+    subst (λ (p : Progress). TurnHas IsLawful p.state t new) c.world.view_is lawful
 
 pub returns-in-Ok-clause-owned : goal.returns-in-Ok-clause-owned
 returns-in-Ok-clause-owned c =
     let w = c.world.inside in
     let t : Turn = record { actor = c.args.name.now; event = c.in-Ok.event } in
-    let new = state_of w.image.now c.turn_over.new.cells c.turn_over.new.actors.items in
-    let owned = step_writes_own (state_of w.image.now w.cells w.actors.items) t new c.in-Ok.ensures.took in
+    let old = state_of w.program w.cells w.residents.items in
+    let new = state_of w.program c.turn_over.new.cells c.turn_over.new.residents.items in
+    let owned = step_writes_own old t new (run_between w.program (turns_of w.entries.items) old (run_here c)) c.in-Ok.ensures.took in
     subst (λ (p : Progress). StepWritesOwn p.state t new) c.world.view_is owned
+
+pub returns-in-Ok-clause-appended : goal.returns-in-Ok-clause-appended
+returns-in-Ok-clause-appended c =
+    let w = c.world.inside in
+    let t : Turn = record { actor = c.args.name.now; event = c.in-Ok.event } in
+    let old = state_of w.program w.cells w.residents.items in
+    let new = state_of w.program c.turn_over.new.cells c.turn_over.new.residents.items in
+    let owned = step_appends_own old t new (run_between w.program (turns_of w.entries.items) old (run_here c)) c.in-Ok.ensures.took in
+    subst (λ (p : Progress). StepAppendsOwn p.state t new) c.world.view_is owned

@@ -1,9 +1,21 @@
-use Rattle.std.proofs.Common.{◌≡◌, ◌∷◌, [], rules}
+use Rattle.std.proofs.Common.{◌≡◌, ◌∙◌, ◌∷◌, [], List, ap, sym, subst, refl, rules}
+use Rattle.wedge_base.specs.declared.events.LogEntry.{LogEntry}
+use Rattle.wedge_base.specs.Journals.{turns_of}
 use Rattle.sthread_life.specs.Actors.{root}
+use Rattle.sthread_life.specs.Cells.{opening_cells}
+use Rattle.wedge_core.specs.Serial.{IsNumbered}
 use Rattle.wedge_core.proofs.Runs.{opened_is_run}
 use Rattle.wedge_core.proofs.world.open_world.Goals as goal
 
+none : (es : List LogEntry) → es ≡ [] → IsNumbered es
+none es e = subst IsNumbered (sym e) refl
+
 pub invariant_of-result : goal.invariant_of-result
 invariant_of-result c =
+    let same = sym c.in_ok-program.ensures in
     let actors : c.push.new.self.items ≡ root c.args.image.now ∷ [] = search rules in
-    opened_is_run c.args.image.now c.in_ok-cells.cells c.push.new.self.items c.new.result.items c.in_ok-cells.ensures actors c.new.ensures.items
+    record {
+      numbered = none c.new-2.result.items c.new-2.ensures.items;
+      run = opened_is_run c.in_ok-program.program c.in_ok-cells.cells c.push.new.self.items (turns_of c.new-2.result.items)
+          (c.in_ok-cells.ensures ∙ ap opening_cells same) (actors ∙ ap (λ i. root i ∷ []) same) (ap turns_of c.new-2.ensures.items);
+    }

@@ -1,0 +1,4 @@
+pub mod NumberMap
+pub mod Paths
+pub mod Excess
+pub mod Granting

@@ -1,0 +1,31 @@
+-- What holds of every list of asks to a recycled gate.
+use Rattle.std.specs.Prelude.{◌≡◌, ℕ, List, [], ◌∷◌, ◌++◌, Option, Some, None, unwrap_or}
+use Rattle.wedge_base.specs.Gates.{Kept, gate_opening, gate_reply, gate_next, GateFits}
+use Rattle.wedge_base.specs.Parts.{Parts}
+use Rattle.wedge_base.specs.declared.cells.GateAsk.{GateAsk}
+use Rattle.wedge_base.specs.declared.cells.GateAsk.TheVariants as ask
+use Rattle.wedge_base.specs.declared.cells.GateReply.TheVariants as reply
+
+-- the gate after asks, one after another
+abbrev pub after : Kept → List GateAsk → Kept
+after k [] = k
+after k (q ∷ qs) = after (gate_next k q) qs
+
+-- each ask fits as it comes
+abbrev pub AllFit : Kept → List GateAsk → Type 0
+AllFit k [] = Unit {0}
+AllFit k (q ∷ qs) = GateFits k q × AllFit (gate_next k q) qs
+
+-- what the last leave of a list left, or what was there before
+abbrev pub left_last : Option Parts → List GateAsk → Option Parts
+left_last before [] = before
+left_last before (ask.Enter run parts ∷ qs) = left_last before qs
+left_last before (ask.Leave end parts ∷ qs) = left_last (Some parts) qs
+
+-- after any asks that fit, an enter that fits gives the run what the last leave left, or the parts
+-- that it brings where none has left
+abbrev pub BeginsWithWhatWasLeft : Type 0
+BeginsWithWhatWasLeft = (qs : List GateAsk) (run : List ℕ) (parts : Parts)
+    → AllFit gate_opening (qs ++ ask.Enter run parts ∷ [])
+    → gate_reply (after gate_opening qs) (ask.Enter run parts)
+    ≡ reply.Entered (unwrap_or (left_last None qs) parts)

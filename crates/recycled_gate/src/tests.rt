@@ -1,0 +1,126 @@
+use super::*;
+use std::alloc::Global;
+use std::process::Abort;
+use std::sync::Arc;
+use std::test::Fail;
+use wedge_base::{
+    ActorName, End, GateAsk, GateReply, Items, NoMemory, Object, Page, PageAt, ViewParts,
+};
+
+/// Parts of one page, at an index.
+fn parts_at(alloc: Global, place: u32) -> Result<ViewParts, NoMemory> {
+    let mut memory = Vec::new(alloc);
+    memory.push(PageAt {
+        place,
+        page: Arc::new(alloc, Page::zero())?,
+    })?;
+    ViewParts::new(alloc, Items::new(memory), Items::new(Vec::new(alloc)))
+}
+
+/// Whether parts are of one page, at an index.
+fn are_at(parts: &ViewParts, place: u32) -> bool {
+    matches!(parts.memory().as_slice(), [page] if page.place == place)
+}
+
+/// Enters a gate that must be free, and finds parts there.
+fn enters(
+    rt: &impl Abort,
+    alloc: Global,
+    gate: &mut Kept,
+    opening: u32,
+    wanted: u32,
+) -> Result<(), NoMemory> {
+    let free = !gate.entered();
+    assert!(rt; free);
+    if free {
+        let parts = gate.enter(parts_at(alloc, opening)?);
+        assert!(rt; are_at(&parts, wanted), "{wanted}");
+    }
+    assert!(rt; gate.entered());
+    assert!(rt; gate.kept().is_none());
+    Ok(())
+}
+
+/// Leaves a gate in which a run must be.
+fn leaves(rt: &impl Abort, alloc: Global, gate: &mut Kept, left: u32) -> Result<(), NoMemory> {
+    let entered = gate.entered();
+    assert!(rt; entered);
+    if entered {
+        gate.leave(parts_at(alloc, left)?);
+    }
+    assert!(rt; !gate.entered());
+    Ok(())
+}
+
+/// The first run begins with its own parts, each later one with what the one before left.
+#[test]
+fn runs_begin_with_what_was_left(rt: HostRuntime) -> Result<(), Fail> {
+    let alloc = rt.alloc();
+    let mut gate = Kept::new(alloc);
+    for (opening, begun, left) in [(1, 1, 5), (2, 5, 6), (3, 6, 6), (4, 6, 0)] {
+        enters(&rt, alloc, &mut gate, opening, begun)?;
+        leaves(&rt, alloc, &mut gate, left)?;
+    }
+    Ok(())
+}
+
+/// Whether a reply begins a run with parts.
+fn begins_with(reply: &GateReply, place: u32) -> bool {
+    matches!(reply, GateReply::Entered { parts } if are_at(parts, place))
+}
+
+/// Enters a gate through its cell, by a copy of the ask; where only one reply is wanted, by `act_once`.
+fn asks_to_enter(
+    rt: &impl Abort,
+    alloc: Global,
+    gate: &mut Kept,
+    opening: u32,
+    wanted: u32,
+) -> Result<(), NoMemory> {
+    let run = ActorName::root(alloc)?;
+    let parts = parts_at(alloc, opening)?;
+    let ask = Kept::copy_ask(&GateAsk::Enter { run, parts })?;
+    let free = !gate.entered();
+    assert!(rt; free);
+    if free && opening % 2 == 0 {
+        let reply = gate.act_once(&ask)?;
+        assert!(rt; begins_with(&reply, wanted));
+    } else if free {
+        let (first, second) = gate.act(&ask)?;
+        assert!(rt; begins_with(&first, wanted) && begins_with(&second, wanted));
+    }
+    Ok(())
+}
+
+/// Leaves a gate through its cell, by a copy of the ask.
+fn asks_to_leave(
+    rt: &impl Abort,
+    alloc: Global,
+    gate: &mut Kept,
+    left: u32,
+) -> Result<(), NoMemory> {
+    let parts = parts_at(alloc, left)?;
+    let end = End::Denied;
+    let ask = Kept::copy_ask(&GateAsk::Leave { end, parts })?;
+    let entered = gate.entered();
+    assert!(rt; entered);
+    if entered {
+        let (first, second) = gate.act(&ask)?;
+        assert!(rt; matches!(first, GateReply::Left) && matches!(second, GateReply::Left));
+    }
+    let kept = gate.kept().is_some_and(|parts| are_at(parts, left));
+    assert!(rt; kept, "{left}");
+    Ok(())
+}
+
+/// What a gate replies as a cell.
+#[test]
+fn asks_are_replied_to(rt: HostRuntime) -> Result<(), Fail> {
+    let alloc = rt.alloc();
+    let mut gate = Kept::new(alloc);
+    for (opening, begun, left) in [(1, 1, 5), (2, 5, 6), (3, 6, 7), (4, 7, 8)] {
+        asks_to_enter(&rt, alloc, &mut gate, opening, begun)?;
+        asks_to_leave(&rt, alloc, &mut gate, left)?;
+    }
+    Ok(())
+}

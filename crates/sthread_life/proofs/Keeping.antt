@@ -1,0 +1,126 @@
+-- Private memory over an instruction and over an event.
+use Rattle.std.proofs.Common.{◌≡◌, ℕ, zero, suc, ◌-◌, Bool, true, false, [], refl, sym, ap, subst, ◌∙◌, arith}
+use Rattle.std.specs.Prelude.{Option, Some, None, option_map, option_and_then, not, ◌&&◌, ◌==◌, nat_lt, nat_le, if◌then◌else◌}
+use Rattle.wedge_base.specs.Bytes.{number_of, bytes_of}
+use Rattle.wedge_base.specs.Images.{Image, fetch, in_text, read_text, slot_of}
+use Rattle.wedge_base.specs.Memory.{range_at, read_range}
+use Rattle.wedge_base.specs.Streams.{most_fds}
+use Rattle.wedge_base.specs.declared.address.Place.{Place}
+use Rattle.wedge_base.specs.declared.image.MemoryRange.{MemoryRange}
+use Rattle.wedge_base.specs.declared.events.Event.{Event}
+use Rattle.wedge_base.specs.declared.events.Event.TheVariants as event
+use Rattle.wedge_base.specs.declared.cells.LivesAsk.TheVariants as lives_ask
+use Rattle.wedge_base.specs.declared.cells.SlotReply.TheVariants as slot_reply
+use Rattle.wedge_base.specs.declared.cells.StreamReply.TheVariants as reply
+use Rattle.wedge_base.specs.declared.rights.End.TheVariants as end_
+use Rattle.wedge_base.specs.declared.rights.Code.TheVariants as code
+use Rattle.rv_isa.specs.declared.Instr.{Instr}
+use Rattle.rv_isa.specs.Table.{decode}
+use Rattle.rv_hart.specs.declared.Hart.{Hart}
+use Rattle.rv_hart.specs.declared.Need.{Need}
+use Rattle.rv_hart.specs.declared.Need.TheVariants as need
+use Rattle.rv_hart.specs.Local.{local}
+use Rattle.sthread_life.specs.Actors.{ActorState, ends, refuses, spends}
+use Rattle.sthread_life.specs.Private.{load_window, load_range, store_window, store_range, has_loaded, fits_read}
+use Rattle.sthread_life.specs.Calls.{serves, exit, fd_append, a0, a1, a2, a7}
+use Rattle.sthread_life.specs.Local.{needed, executed, fuelled, fetched, step}
+use Rattle.sthread_life.specs.Taking.{runs, loads_by, loads_at, takes}
+use Rattle.sthread_life.specs.Ends.{is_end_event}
+use Rattle.sthread_life.specs.Remembering.{bytes_in, LoadGives, StoreWrites, NeedRemembers, InstrRemembers, WordRemembers, EventRemembers}
+use Rattle.sthread_life.proofs.WritingRanges.{length-bytes_of, written_at}
+
+-- what keeps private memory
+abbrev Keeps : ActorState → ActorState → Type 0
+Keeps a x = x.memory ≡ a.memory
+
+keeps_if : (a x y : ActorState) (t : Bool) → Keeps a x → Keeps a y → Keeps a (if t then x else y)
+keeps_if a x y true h k = h
+keeps_if a x y false h k = k
+
+-- loads
+load_window_keeps : (a : ActorState) (width : ℕ) (p : Option Place) → Keeps a (load_window a width p)
+load_window_keeps a width None = refl
+load_window_keeps a width (Some p) = refl
+
+load_gives : (i : Image) (ins : Instr) (s : Bool) (a : ActorState) (address width : ℕ) (t u : Bool) (r : Option MemoryRange)
+    → LoadGives a ins.rd s width (if not t then None else if u then Some (read_text i address width) else option_map (λ x. read_range x address width) r)
+    (if not t then ends a end_.Misaligned else if u then has_loaded ins s a width (number_of (read_text i address width)) else load_range ins s a address width r)
+load_gives i ins s a address width false u r = refl
+load_gives i ins s a address width true true r = refl
+load_gives i ins s a address width true false (Some r) = refl
+load_gives i ins s a address width true false None = load_window_keeps a width (slot_of address)
+
+-- stores
+store_window_keeps : (a : ActorState) (width value : ℕ) (p : Option Place) → Keeps a (store_window a width value p)
+store_window_keeps a width value None = refl
+store_window_keeps a width value (Some p) = refl
+
+store_writes : (a : ActorState) (address width value : ℕ) (t u : Bool) (r : Option MemoryRange) → range_at a.memory address width ≡ r
+    → StoreWrites a address (bytes_of width value) (if t && not u then r else None)
+    (if not t then ends a end_.Misaligned else if u then ends a end_.TextStore else store_range a address width value r)
+store_writes a address width value false u r there = refl
+store_writes a address width value true true r there = refl
+store_writes a address width value true false (Some r) there =
+    (written_at a.memory address (bytes_of width value) r (ap (range_at a.memory address) (length-bytes_of width value) ∙ there), refl)
+store_writes a address width value true false None there = store_window_keeps a width value (slot_of address)
+
+-- calls
+append_keeps : (i : Image) (a : ActorState) → Keeps a (fd_append i a)
+append_keeps i a =
+    keeps_if a (refuses a code.Bad) _ (not (fits_read i a (a1 a) (a2 a))) refl
+    (keeps_if a (refuses a code.FuelShort) _ (nat_lt a.fuel (a2 a)) refl
+    (keeps_if a (refuses a code.NoSuch) _ (nat_le most_fds (a0 a)) refl refl))
+
+call_keeps : (i : Image) (a : ActorState) (n : ℕ) → Keeps a (serves i a n)
+unfolding serves
+call_keeps i a n = keeps_if a (exit a) _ (n == 0) refl (keeps_if a (fd_append i a) _ (n == 16) (append_keeps i a) refl)
+
+-- an instruction
+need_remembers : (i : Image) (ins : Instr) (a : ActorState) (h : Hart) (n : Need) → NeedRemembers i ins.rd a n (needed i ins a h n)
+need_remembers i ins a h need.Done = refl
+need_remembers i ins a h (need.Load address width s) = load_gives i ins s a address width _ _ (range_at a.memory address width)
+need_remembers i ins a h (need.Store address width value) = store_writes a address width value _ _ (range_at a.memory address width) refl
+need_remembers i ins a h need.Call = call_keeps i a (a7 a)
+need_remembers i ins a h need.Break = refl
+need_remembers i ins a h need.JumpMisaligned = refl
+
+instr_remembers : (i : Image) (a : ActorState) (ins : Option Instr) → InstrRemembers i a ins (executed i a ins)
+instr_remembers i a None = refl
+instr_remembers i a (Some ins) = need_remembers i ins a (local ins a.hart).hart (local ins a.hart).need
+
+word_remembers : (i : Image) (a : ActorState) (n : ℕ) (o : Option ℕ) → a.fuel ≡ n → WordRemembers i a (option_and_then decode o) n (fetched i a o)
+word_remembers i a zero None has = refl
+word_remembers i a (suc n) None has = refl
+word_remembers i a zero (Some word) has = ap (λ (x : ActorState). x.memory) (ap (fuelled i a word) has)
+word_remembers i a (suc n) (Some word) has =
+    let left : n ≡ a.fuel - 1 = omega (arith, has) in
+    let is : executed i (record a { fuel = n }) (decode word) ≡ fuelled i a word a.fuel = ap (λ m. executed i (record a { fuel = m }) (decode word)) left ∙ sym (ap (fuelled i a word) has) in
+    subst (InstrRemembers i (record a { fuel = n }) (decode word)) is (instr_remembers i (record a { fuel = n }) (decode word))
+
+pub step_remembers : (i : Image) (a : ActorState) → WordRemembers i a (option_and_then decode (fetch i a.hart.pc)) a.fuel (step i a)
+unfolding step
+step_remembers i a = word_remembers i a a.fuel (fetch i a.hart.pc) refl
+
+-- an event
+loaded_keeps : (ins : Instr) (n : Need) (a : ActorState) (value : ℕ) → Keeps a (loads_by ins n a value)
+loaded_keeps ins (need.Load address width s) a value = refl
+loaded_keeps ins n a value = refl
+
+loads_keep : (a : ActorState) (ins : Option Instr) (value : ℕ) → Keeps a (loads_at a ins value)
+loads_keep a None value = refl
+loads_keep a (Some ins) value = loaded_keeps ins (local ins a.hart).need a value
+
+pub event_remembers : (i : Image) (a : ActorState) (e : Event) → EventRemembers a e (takes i a e)
+unfolding takes
+event_remembers i a (event.Slot slot q (slot_reply.Loaded value)) = loads_keep (runs a) (option_and_then decode (fetch i a.hart.pc)) value
+event_remembers i a (event.Slot slot q r) = refl
+event_remembers i a (event.Fd fd q reply.Opened) = refl
+event_remembers i a (event.Fd fd q (reply.Given bytes)) = refl
+event_remembers i a (event.Fd fd q reply.Appended) = refl
+event_remembers i a (event.Fd fd q reply.Closed) = refl
+event_remembers i a (event.Fd fd q reply.NoSuch) = refl
+event_remembers i a (event.Fd fd q (reply.Denied wants)) = refl
+event_remembers i a (event.Fd fd q reply.Bad) = refl
+event_remembers i a (event.Lives lives_ask.Claim r) = refl
+event_remembers i a (event.Lives (lives_ask.Release x) r) = refl
+event_remembers i a e = refl

@@ -1,0 +1,521 @@
+-- Each moment of a run: each request is mediated, and each end has its cause.
+use Rattle.std.proofs.Common.{◌≡◌, ◌↔◌, ℕ, zero, suc, Bool, true, false, List, [], ◌∷◌, refl, sym, ap, subst, ◌∙◌}
+use Rattle.std.specs.Prelude.{Option, Some, None, is_none, IsSomeAnd, option_map, not, ◌&&◌, ◌+◌, slice_get, slice_set, slice_range, option_and_then, if◌then◌else◌}
+use Rattle.wedge_base.specs.Bytes.{number_of}
+use Rattle.wedge_base.specs.Images.{Image, fetch}
+use Rattle.wedge_base.specs.Rights.{append_bit}
+use Rattle.wedge_base.specs.Slots.{Segment, slot_reply as slot_reply_of, slot_after}
+use Rattle.wedge_base.specs.Streams.{Stream, append_reply, live_reply, stream_reply as stream_reply_of, stream_after}
+use Rattle.wedge_base.specs.declared.rights.FdBits.{FdBits}
+use Rattle.wedge_base.specs.declared.rights.Denial.{Denial}
+use Rattle.wedge_base.specs.declared.rights.Denial.TheVariants as denial
+use Rattle.wedge_base.specs.declared.rights.End.TheVariants as end_
+use Rattle.wedge_base.specs.declared.rights.Code.TheVariants as code
+use Rattle.wedge_base.specs.declared.rights.Right.TheVariants as right
+use Rattle.wedge_base.specs.declared.rights.StreamKind.{StreamKind}
+use Rattle.wedge_base.specs.declared.rights.StreamKind.TheVariants as kind
+use Rattle.wedge_base.specs.declared.events.SlotWant.TheVariants as slot_want
+use Rattle.wedge_base.specs.declared.events.Want.{Want}
+use Rattle.wedge_base.specs.declared.events.Want.TheVariants as want
+use Rattle.wedge_base.specs.declared.events.Event.{Event}
+use Rattle.wedge_base.specs.declared.events.Event.TheVariants as event
+use Rattle.wedge_base.specs.declared.events.Turn.{Turn}
+use Rattle.wedge_base.specs.declared.cells.Live.{Live}
+use Rattle.wedge_base.specs.declared.cells.LivesAsk.TheVariants as lives_ask
+use Rattle.wedge_base.specs.declared.cells.SlotAsk.{SlotAsk}
+use Rattle.wedge_base.specs.declared.cells.SlotAsk.TheVariants as slot_ask
+use Rattle.wedge_base.specs.declared.cells.SlotReply.{SlotReply}
+use Rattle.wedge_base.specs.declared.cells.SlotReply.TheVariants as slot_reply
+use Rattle.wedge_base.specs.declared.cells.StreamAsk.{StreamAsk}
+use Rattle.wedge_base.specs.declared.cells.StreamAsk.TheVariants as stream_ask
+use Rattle.wedge_base.specs.declared.cells.StreamReply.{StreamReply}
+use Rattle.wedge_base.specs.declared.cells.StreamReply.TheVariants as reply
+use Rattle.rv_isa.specs.declared.Instr.{Instr}
+use Rattle.rv_isa.specs.Table.{decode}
+use Rattle.rv_hart.specs.declared.Need.{Need}
+use Rattle.rv_hart.specs.declared.Need.TheVariants as need
+use Rattle.rv_hart.specs.Local.{local, put, extended}
+use Rattle.sthread_life.specs.declared.phase.Phase.{Phase}
+use Rattle.sthread_life.specs.declared.phase.Phase.TheVariants as phase
+use Rattle.sthread_life.specs.Actors.{ActorState, right_of, bits_of, ends, refuses, spends, answers}
+use Rattle.sthread_life.specs.Calls.{a2}
+use Rattle.sthread_life.specs.Private.{has_stored}
+use Rattle.sthread_life.specs.Local.{step, rest, has_ended, is_running, run_local}
+use Rattle.sthread_life.specs.Taking.{wanted, wanted_at, pair, runs, loads_by, loads_at, takes}
+use Rattle.sthread_life.specs.Cells.{Cells, held, slot_in, stream_in, cells_after}
+use Rattle.sthread_life.specs.Worlds.{WorldState, opening, actor_named, put_actor, happened, turn_of, Runs}
+use Rattle.sthread_life.specs.Requests.{Access, Request, Loads, Stores, Appends, request_at, in_tag, to_stream}
+use Rattle.sthread_life.specs.Allowed.{may_use, lacks, is_refused, is_source, next_word, IsDone, denied}
+use Rattle.sthread_life.specs.Moments.{EachMoment, TurnHas, with_actor, NothingDenied, IsChecked, ComesToEvent, IsMet, IsAnswered, MeetsWith, AnswersAt}
+use Rattle.sthread_life.specs.Ends.{is_end_event, end_of, end_at, end_by, reply_end, event_end}
+use Rattle.sthread_life.specs.Refusals.{RefusesIn, RefusesAfter, stream_refusal, refusal_after, refused}
+use Rattle.sthread_life.specs.Remembering.{WordRemembers, EventRemembers}
+use Rattle.sthread_life.specs.Laws.{IsLawful, MomentsAreLawful}
+use Rattle.sthread_life.proofs.Named.{found_name, put_put, named_put, same_noted}
+use Rattle.sthread_life.proofs.Keeping.{step_remembers, event_remembers}
+use Rattle.sthread_life.proofs.Meeting.{request_for, refusal_for, IsRequest, WantsAs, ReadsAs, InstrLoads, NeedLoads, LoadsAt, stuck, step_comes, rest_reads}
+use Rattle.sthread_life.proofs.Going.{IsNext, put_next, step_goes}
+use Rattle.sthread_life.proofs.Resting.{steps_step, stays, goes_on, running_is, rest-stops}
+use Rattle.sthread_life.proofs.Between.{AllBetween, named_between, turn_between, run_between, opening_between, event_for, parts_event_is, turn_parts, loaded_runs}
+
+-- putting what a place holds there changes nothing
+pub set_held : {X : Type 0} (xs : List (Option X)) (n : ℕ) (x : Option X) → held (slice_get xs n) ≡ x → slice_set xs n x ≡ xs
+set_held [] n x e = refl
+set_held (y ∷ ys) zero x e = ap (λ z. z ∷ ys) (sym e)
+set_held (y ∷ ys) (suc n) x e = ap (λ zs. y ∷ zs) (set_held ys n x e)
+
+-- ---- an instruction
+
+-- no denial, where the actor of the name keeps its own
+kept : (w : WorldState) (cells : Cells) (b x : ActorState) → x.name ≡ b.name → x.denials ≡ b.denials → NothingDenied (with_actor w b) (record w { cells = cells; actors = put_actor w.actors x })
+kept w cells b x n d name = same_noted w.actors b x name n d
+
+-- one that makes a request is at a want
+must_want : (N : ℕ → Bool → ℕ → Type 0) (p x : ActorState) (asked : Cells → Option Request) (later : Cells → Option ℕ) (c : Cells) (r : Request) (ph : Phase) → WantsAs N p asked later x ph → asked c ≡ Some r → (q : Want) × (x ≡ record p { phase = phase.Within q })
+must_want N p x asked later c r (phase.Within q) w e = (q, w.2)
+must_want N p x asked later c r phase.Running w e = let f : None ≡ Some r = sym (w c) ∙ e in absurd cc
+must_want N p x asked later c r (phase.Ending y) w e = let f : None ≡ Some r = sym (w c) ∙ e in absurd cc
+must_want N p x asked later c r (phase.Ended y) w e = let f : None ≡ Some r = sym (w c) ∙ e in absurd cc
+
+at_event : (old : WorldState) (a : ActorState) (r : Request) (new : WorldState) → ComesToEvent old a new → IsMet old a (Some r) new
+at_event old a (Loads x rd s) new h = h
+at_event old a (Stores x value) new h = h
+at_event old a (Appends fd s bytes) new h = h
+
+met_as : (w : WorldState) (b p x : ActorState) (o : Option Request) → p.name ≡ b.name → x.name ≡ b.name → x.denials ≡ b.denials
+    → ((r : Request) → o ≡ Some r → (q : Want) × (x ≡ record p { phase = phase.Within q })) → IsMet (with_actor w b) p o (with_actor w x)
+met_as w b p x None pn n d h = kept w w.cells b x n d
+met_as w b p x (Some r) pn n d h =
+    let q = h r refl in
+    at_event (with_actor w b) p r (with_actor w x)
+    (q.0, ap (with_actor w) q.1 ∙ ap (λ (as_ : List ActorState). record w { actors = as_ }) (sym (put_put w.actors b (record p { phase = phase.Within q.0 }) pn)))
+
+met : (w : WorldState) (b : ActorState) (n : ℕ) → b.fuel ≡ n → b.phase ≡ phase.Running → MeetsWith (with_actor w b) b n (with_actor w (step w.image b))
+met w b zero has run = let s = stuck w.image b has in subst (λ x. NothingDenied (with_actor w b) (with_actor w x)) (sym s.1) (kept w w.cells b (ends b s.0) refl refl)
+met w b (suc n) has run =
+    let p = record b { fuel = n } in
+    let s = step_comes w.image b n run has in
+    met_as w b p (step w.image b) (request_at w.image w.cells p) refl s.name s.denials (λ r e. must_want (LoadsAt w.image b.hart) p (step w.image b) (λ c. request_at w.image c p) (λ c. refusal_after w.image c p) w.cells r (step w.image b).phase s.wants e)
+
+-- the end of an instruction
+step_end : (i : Image) (b : ActorState) (n : ℕ) → b.fuel ≡ n → b.phase ≡ phase.Running → end_of (step i b).phase ≡ end_at i b
+step_end i b zero has run = let s = stuck i b has in ap (λ (x : ActorState). end_of x.phase) s.1 ∙ sym s.2
+step_end i b (suc n) has run = (step_comes i b n run has).ends
+
+-- so many instructions, and one more
+run_name : (i : Image) (n : ℕ) (a : ActorState) (t : Bool) → is_running a.phase ≡ t → (run_local i n a).name ≡ a.name
+run_name i n a false e = ap (λ (x : ActorState). x.name) (stays i n a e)
+run_name i zero a true e = unfold run_local in refl
+run_name i (suc n) a true e = ap (λ (x : ActorState). x.name) (goes_on i n a e) ∙ (run_name i n (step i a) _ refl ∙ (steps_step i a).name)
+
+one_more : (i : Image) (n : ℕ) (a : ActorState) (t : Bool) → is_running a.phase ≡ t → is_running (run_local i n a).phase ≡ true → run_local i (suc n) a ≡ step i (run_local i n a)
+one_more i n a false e runs = let f : true ≡ false = sym runs ∙ (ap (λ (x : ActorState). is_running x.phase) (stays i n a e) ∙ e) in absurd cc
+one_more i zero a true e runs = goes_on i zero a e ∙ unfold run_local in refl
+one_more i (suc n) a true e runs =
+    let here = goes_on i n a e in
+    goes_on i (suc n) a e ∙ (one_more i n (step i a) _ refl (subst (λ (x : ActorState). is_running x.phase ≡ true) here runs) ∙ ap (step i) (sym here))
+
+-- ---- an event
+
+-- the actor that was put is there
+put_there : (w : WorldState) (b x a : ActorState) → actor_named w.actors b.name ≡ Some a → x.name ≡ b.name → actor_named (put_actor w.actors x) b.name ≡ Some x
+put_there w b x a named n =
+    subst (λ m. actor_named (put_actor w.actors x) m ≡ Some x) n (named_put w.actors x a (subst (λ m. actor_named w.actors m ≡ Some a) (sym n) named))
+
+-- what checks a request that lacks a grant, and one that lacks none
+checked_denied : (old : WorldState) (a : ActorState) (r : Request) (e : Option Event) (new : WorldState) (d : Denial) → lacks a r ≡ Some d → (IsDone a r e (actor_named new.actors a.name) → ⊥) → new ≡ with_actor old (denied a r d) → IsChecked old a r e new
+checked_denied old a r e new d lack undone is = record {
+  done = (λ h. absurd (undone h), λ h. let f : false ≡ true = ap (λ (l : Option Denial). is_none l && not (is_refused a r)) (sym lack) ∙ h in absurd cc);
+  denied = λ x y. let same : d ≡ x = let f : Some d ≡ Some x = sym lack ∙ y in cc in subst (λ z. new ≡ with_actor old (denied a r z)) same is;
+  allowed = λ y. let f : Some d ≡ None = sym lack ∙ y in absurd cc;
+  refused = λ y z. let f : Some d ≡ None = sym lack ∙ y in absurd cc;
+}
+
+checked_allowed : (old : WorldState) (a : ActorState) (r : Request) (e : Option Event) (new : WorldState) (t : Bool) → lacks a r ≡ None → is_refused a r ≡ t → (IsDone a r e (actor_named new.actors a.name) ↔ (not t ≡ true)) → NothingDenied old new → (t ≡ true → new.cells ≡ old.cells) → IsChecked old a r e new
+checked_allowed old a r e new t lack refused done none stay =
+    let is : (is_none (lacks a r) && not (is_refused a r)) ≡ not t = ap (λ (l : Option Denial). is_none l && not (is_refused a r)) lack ∙ ap not refused in
+    record {
+      done = (λ h. is ∙ done.0 h, λ h. done.1 (sym is ∙ h));
+      denied = λ x y. let f : None ≡ Some x = sym lack ∙ y in absurd cc;
+      allowed = λ y. none;
+      refused = λ y z. stay (sym refused ∙ z);
+    }
+
+-- the world after an event
+abbrev after : WorldState → ActorState → Event → WorldState
+after w b e = (happened w b e).world
+
+-- one that leaves the cells as they are
+stayed : (w : WorldState) (b x : ActorState) (cells : Cells) → cells ≡ w.cells → x.name ≡ b.name → record w { cells = cells; actors = put_actor w.actors x } ≡ with_actor (with_actor w b) x
+stayed w b x cells same n = ap (λ (c : Cells). record w { cells = c; actors = put_actor w.actors x }) same ∙ ap (λ (as_ : List ActorState). record w { actors = as_ }) (sym (put_put w.actors b x n))
+
+same_slots : (w : WorldState) (slot : ℕ) (g : Option Segment) → slot_in w.cells slot ≡ g → record w.cells { slots = slice_set w.cells.slots slot g } ≡ w.cells
+same_slots w slot g there = ap (λ (gs : List (Option Segment)). record w.cells { slots = gs }) (set_held w.cells.slots slot g there)
+
+same_streams : (w : WorldState) (fd : ℕ) (s : Option Stream) → stream_in w.cells fd ≡ s → record w.cells { streams = slice_set w.cells.streams fd s } ≡ w.cells
+same_streams w fd s there = ap (λ (ss : List (Option Stream)). record w.cells { streams = ss }) (set_held w.cells.streams fd s there)
+
+-- a load that has its value keeps the name and the denials
+loaded_keeps : (ins : Instr) (n : Need) (a : ActorState) (value : ℕ) → ((loads_by ins n a value).name ≡ a.name) × ((loads_by ins n a value).denials ≡ a.denials)
+loaded_keeps ins need.Done a value = (refl, refl)
+loaded_keeps ins (need.Load address width s) a value = (refl, refl)
+loaded_keeps ins (need.Store address width v) a value = (refl, refl)
+loaded_keeps ins need.Call a value = (refl, refl)
+loaded_keeps ins need.Break a value = (refl, refl)
+loaded_keeps ins need.JumpMisaligned a value = (refl, refl)
+
+loads_keep : (a : ActorState) (ins : Option Instr) (value : ℕ) → ((loads_at a ins value).name ≡ a.name) × ((loads_at a ins value).denials ≡ a.denials)
+loads_keep a None value = (refl, refl)
+loads_keep a (Some ins) value = loaded_keeps ins (local ins a.hart).need a value
+
+-- an access inside the bytes of the tag that lives in the slot
+abbrev access : ℕ → ℕ → ℕ → Segment → Access
+access slot offset width g = record { place = record { slot = slot; offset = offset }; width = width; living = g }
+
+abbrev pair_on : ActorState → Segment → Option Live
+pair_on b g = Some (record { tag = g.tag; right = right_of b g.tag })
+
+-- the world after an event on a slot where g lives, and on a stream
+abbrev slot_world : WorldState → ActorState → ℕ → Option Segment → SlotAsk → SlotReply → WorldState
+slot_world w b slot g q r = record w { cells = record w.cells { slots = slice_set w.cells.slots slot (slot_after g q r) }; actors = put_actor w.actors (takes w.image b (event.Slot slot q r)) }
+
+abbrev stream_world : WorldState → ActorState → ℕ → Option Stream → StreamAsk → StreamReply → WorldState
+stream_world w b fd s q r = record w { cells = record w.cells { streams = slice_set w.cells.streams fd (stream_after s q r) }; actors = put_actor w.actors (takes w.image b (event.Fd fd q r)) }
+
+-- the actor that a load leaves
+abbrev loaded_as : ActorState → ℕ → ℕ → Bool → ℕ → ActorState
+loaded_as b width rd s value = record b { hart = record { pc = next_word b; regs = put b.hart.regs rd (extended width s value) }; phase = phase.Running }
+
+loads_as : (b : ActorState) (ins : Option Instr) (width rd : ℕ) (s : Bool) (value : ℕ) → InstrLoads b.hart ins rd s width → loads_at (runs b) ins value ≡ loaded_as b width rd s value
+loads_as b None width rd s value h = absurd h
+loads_as b (Some ins) width rd s value h = by_need (local ins b.hart).need h
+  where
+    by_need : (n : Need) → NeedLoads ins.rd n rd s width → loads_by ins n (runs b) value ≡ loaded_as b width rd s value
+    by_need need.Done h = absurd h
+    by_need (need.Load address w t) h = ap (λ r. loaded_as b w r t value) h.0 ∙ (ap (λ u. loaded_as b w rd u value) h.1 ∙ ap (λ v. loaded_as b v rd s value) h.2)
+    by_need (need.Store address w v) h = absurd h
+    by_need need.Call h = absurd h
+    by_need need.Break h = absurd h
+    by_need need.JumpMisaligned h = absurd h
+
+-- a load, inside the bytes of the tag or not, with the right or without
+load_checked : (w : WorldState) (b a : ActorState) (slot offset width rd : ℕ) (s : Bool) (value : ℕ) (g : Segment) (t : Bool) → actor_named w.actors b.name ≡ Some a → LoadsAt w.image b.hart rd s width
+    → slot_in w.cells slot ≡ Some g → value ≡ number_of (slice_range g.bytes offset (offset + width)) → may_use b g.tag right.Read ≡ t
+    → IsChecked (with_actor w b) b (Loads (access slot offset width g) rd s) (Some (event.Slot slot (slot_ask.Load offset width (pair_on b g)) (if t then slot_reply.Loaded value else slot_reply.Denied g.tag right.Read)))
+    (slot_world w b slot (Some g) (slot_ask.Load offset width (pair_on b g)) (if t then slot_reply.Loaded value else slot_reply.Denied g.tag right.Read))
+unfolding takes
+load_checked w b a slot offset width rd s value g false named loads there is held =
+    checked_denied _ b (Loads (access slot offset width g) rd s) _ _ (denial.Tag g.tag right.Read) (ap (λ u. if u then None else Some (denial.Tag g.tag right.Read)) held) (λ e. let f = e.0 in absurd cc) (stayed w b _ _ (same_slots w slot (Some g) there) refl)
+load_checked w b a slot offset width rd s value g true named loads there is held =
+    let as_ = loads_as b (option_and_then decode (fetch w.image b.hart.pc)) width rd s value loads in
+    let x = loads_at (runs b) (option_and_then decode (fetch w.image b.hart.pc)) value in
+    let name : x.name ≡ b.name = ap (λ (y : ActorState). y.name) as_ in
+    checked_allowed _ b (Loads (access slot offset width g) rd s) _ _ false (ap (λ u. if u then None else Some (denial.Tag g.tag right.Read)) held) refl
+    (λ e. refl, λ e. (ap (λ v. Some (event.Slot slot (slot_ask.Load offset width (pair_on b g)) (slot_reply.Loaded v))) is, put_there w b x a named name ∙ ap Some (as_ ∙ ap (loaded_as b width rd s) is)))
+    (kept w (record w.cells { slots = slice_set w.cells.slots slot (Some g) }) b x name (ap (λ (y : ActorState). y.denials) as_))
+    (λ z. absurd cc)
+
+load_inside : (w : WorldState) (b a : ActorState) (slot offset width rd : ℕ) (s : Bool) (g : Segment) (u : Bool) → actor_named w.actors b.name ≡ Some a → LoadsAt w.image b.hart rd s width → slot_in w.cells slot ≡ Some g
+    → IsAnswered (with_actor w b) b (event.Slot slot (slot_ask.Load offset width (pair_on b g)) (if not u then slot_reply.Unmapped else if may_use b g.tag right.Read then slot_reply.Loaded (number_of (slice_range g.bytes offset (offset + width))) else slot_reply.Denied g.tag right.Read))
+    (if u then Some (Loads (access slot offset width g) rd s) else None)
+    (slot_world w b slot (Some g) (slot_ask.Load offset width (pair_on b g)) (if not u then slot_reply.Unmapped else if may_use b g.tag right.Read then slot_reply.Loaded (number_of (slice_range g.bytes offset (offset + width))) else slot_reply.Denied g.tag right.Read))
+unfolding takes
+load_inside w b a slot offset width rd s g false named loads there = (kept w (record w.cells { slots = slice_set w.cells.slots slot (Some g) }) b (ends b end_.Unmapped) refl refl, refl)
+load_inside w b a slot offset width rd s g true named loads there = load_checked w b a slot offset width rd s _ g _ named loads there refl refl
+
+load_answered : (w : WorldState) (b a : ActorState) (slot offset width rd : ℕ) (s : Bool) (g : Option Segment) → actor_named w.actors b.name ≡ Some a → LoadsAt w.image b.hart rd s width → slot_in w.cells slot ≡ g
+    → IsAnswered (with_actor w b) b (event.Slot slot (slot_ask.Load offset width (pair b (option_map (λ x. x.tag) g))) (slot_reply_of g (slot_ask.Load offset width (pair b (option_map (λ x. x.tag) g)))))
+    (in_tag (λ x. Loads x rd s) (record { slot = slot; offset = offset }) width g)
+    (slot_world w b slot g (slot_ask.Load offset width (pair b (option_map (λ x. x.tag) g))) (slot_reply_of g (slot_ask.Load offset width (pair b (option_map (λ x. x.tag) g)))))
+unfolding takes
+load_answered w b a slot offset width rd s None named loads there = (kept w (record w.cells { slots = slice_set w.cells.slots slot None }) b (ends b end_.Unmapped) refl refl, refl)
+load_answered w b a slot offset width rd s (Some g) named loads there = load_inside w b a slot offset width rd s g _ named loads there
+
+-- a store
+store_checked : (w : WorldState) (b a : ActorState) (slot offset width value : ℕ) (g : Segment) (t : Bool) → actor_named w.actors b.name ≡ Some a → slot_in w.cells slot ≡ Some g → may_use b g.tag right.ReadWrite ≡ t
+    → IsChecked (with_actor w b) b (Stores (access slot offset width g) value) (Some (event.Slot slot (slot_ask.Store offset width value (pair_on b g)) (if t then slot_reply.Stored else slot_reply.Denied g.tag right.ReadWrite)))
+    (slot_world w b slot (Some g) (slot_ask.Store offset width value (pair_on b g)) (if t then slot_reply.Stored else slot_reply.Denied g.tag right.ReadWrite))
+unfolding takes
+store_checked w b a slot offset width value g false named there held =
+    checked_denied _ b (Stores (access slot offset width g) value) _ _ (denial.Tag g.tag right.ReadWrite) (ap (λ u. if u then None else Some (denial.Tag g.tag right.ReadWrite)) held) (λ e. let f = e.0 in absurd cc) (stayed w b _ _ (same_slots w slot (Some g) there) refl)
+store_checked w b a slot offset width value g true named there held =
+    checked_allowed _ b (Stores (access slot offset width g) value) _ _ false (ap (λ u. if u then None else Some (denial.Tag g.tag right.ReadWrite)) held) refl (λ e. refl, λ e. (refl, put_there w b (has_stored (runs b)) a named refl))
+    (kept w (record w.cells { slots = slice_set w.cells.slots slot (slot_after (Some g) (slot_ask.Store offset width value (pair_on b g)) slot_reply.Stored) }) b (has_stored (runs b)) refl refl)
+    (λ z. absurd cc)
+
+store_inside : (w : WorldState) (b a : ActorState) (slot offset width value : ℕ) (g : Segment) (u : Bool) → actor_named w.actors b.name ≡ Some a → slot_in w.cells slot ≡ Some g
+    → IsAnswered (with_actor w b) b (event.Slot slot (slot_ask.Store offset width value (pair_on b g)) (if not u then slot_reply.Unmapped else if may_use b g.tag right.ReadWrite then slot_reply.Stored else slot_reply.Denied g.tag right.ReadWrite))
+    (if u then Some (Stores (access slot offset width g) value) else None)
+    (slot_world w b slot (Some g) (slot_ask.Store offset width value (pair_on b g)) (if not u then slot_reply.Unmapped else if may_use b g.tag right.ReadWrite then slot_reply.Stored else slot_reply.Denied g.tag right.ReadWrite))
+unfolding takes
+store_inside w b a slot offset width value g false named there = (kept w (record w.cells { slots = slice_set w.cells.slots slot (Some g) }) b (ends b end_.Unmapped) refl refl, refl)
+store_inside w b a slot offset width value g true named there = store_checked w b a slot offset width value g _ named there refl
+
+store_answered : (w : WorldState) (b a : ActorState) (slot offset width value : ℕ) (g : Option Segment) → actor_named w.actors b.name ≡ Some a → slot_in w.cells slot ≡ g
+    → IsAnswered (with_actor w b) b (event.Slot slot (slot_ask.Store offset width value (pair b (option_map (λ x. x.tag) g))) (slot_reply_of g (slot_ask.Store offset width value (pair b (option_map (λ x. x.tag) g)))))
+    (in_tag (λ x. Stores x value) (record { slot = slot; offset = offset }) width g)
+    (slot_world w b slot g (slot_ask.Store offset width value (pair b (option_map (λ x. x.tag) g))) (slot_reply_of g (slot_ask.Store offset width value (pair b (option_map (λ x. x.tag) g)))))
+unfolding takes
+store_answered w b a slot offset width value None named there = (kept w (record w.cells { slots = slice_set w.cells.slots slot None }) b (ends b end_.Unmapped) refl refl, refl)
+store_answered w b a slot offset width value (Some g) named there = store_inside w b a slot offset width value g _ named there
+
+-- an append: with the bit or without, to a live stream of either kind, or to none
+append_checked : (w : WorldState) (b a : ActorState) (fd : ℕ) (bytes : List ℕ) (s : Stream) (t : Bool) (k : StreamKind) → actor_named w.actors b.name ≡ Some a → stream_in w.cells fd ≡ Some s → (bits_of b fd).append ≡ t → s.kind ≡ k
+    → IsChecked (with_actor w b) b (Appends fd s bytes) (Some (event.Fd fd (stream_ask.Append (bits_of b fd) bytes) (if t then append_reply k else reply.Denied append_bit)))
+    (stream_world w b fd (Some s) (stream_ask.Append (bits_of b fd) bytes) (if t then append_reply k else reply.Denied append_bit))
+unfolding takes
+append_checked w b a fd bytes s false k named there held is =
+    checked_denied _ b (Appends fd s bytes) _ _ (denial.Fd fd append_bit) (ap (λ u. if u then None else Some (denial.Fd fd append_bit)) held) (λ e. let f = e.0 in absurd cc) (stayed w b _ _ (same_streams w fd (Some s) there) refl)
+append_checked w b a fd bytes s true kind.Append named there held is =
+    checked_allowed _ b (Appends fd s bytes) _ _ false (ap (λ u. if u then None else Some (denial.Fd fd append_bit)) held) (ap is_source is) (λ e. refl, λ e. (refl, put_there w b (answers (spends b (a2 b)) (a2 b)) a named refl))
+    (kept w (record w.cells { streams = slice_set w.cells.streams fd (stream_after (Some s) (stream_ask.Append (bits_of b fd) bytes) reply.Appended) }) b _ refl refl)
+    (λ z. absurd cc)
+append_checked w b a fd bytes s true kind.Source named there held is =
+    checked_allowed _ b (Appends fd s bytes) _ _ true (ap (λ u. if u then None else Some (denial.Fd fd append_bit)) held) (ap is_source is) (λ e. let f = e.0 in absurd cc, λ e. absurd cc)
+    (kept w (record w.cells { streams = slice_set w.cells.streams fd (Some s) }) b _ refl refl)
+    (λ z. same_streams w fd (Some s) there)
+
+append_live : (w : WorldState) (b a : ActorState) (fd : ℕ) (bytes : List ℕ) (s : Stream) (v : Bool) → actor_named w.actors b.name ≡ Some a → stream_in w.cells fd ≡ Some s
+    → IsAnswered (with_actor w b) b (event.Fd fd (stream_ask.Append (bits_of b fd) bytes) (if v then live_reply s (stream_ask.Append (bits_of b fd) bytes) else reply.NoSuch))
+    (if v then Some (Appends fd s bytes) else None)
+    (stream_world w b fd (Some s) (stream_ask.Append (bits_of b fd) bytes) (if v then live_reply s (stream_ask.Append (bits_of b fd) bytes) else reply.NoSuch))
+unfolding takes
+append_live w b a fd bytes s false named there = (kept w (record w.cells { streams = slice_set w.cells.streams fd (Some s) }) b (refuses b code.NoSuch) refl refl, refl)
+append_live w b a fd bytes s true named there = append_checked w b a fd bytes s _ s.kind named there refl refl
+
+append_answered : (w : WorldState) (b a : ActorState) (fd : ℕ) (bytes : List ℕ) (s : Option Stream) → actor_named w.actors b.name ≡ Some a → stream_in w.cells fd ≡ s
+    → IsAnswered (with_actor w b) b (event.Fd fd (stream_ask.Append (bits_of b fd) bytes) (stream_reply_of s (stream_ask.Append (bits_of b fd) bytes)))
+    (to_stream fd bytes s)
+    (stream_world w b fd s (stream_ask.Append (bits_of b fd) bytes) (stream_reply_of s (stream_ask.Append (bits_of b fd) bytes)))
+unfolding takes
+append_answered w b a fd bytes None named there = (kept w (record w.cells { streams = slice_set w.cells.streams fd None }) b (refuses b code.NoSuch) refl refl, refl)
+append_answered w b a fd bytes (Some s) named there = append_live w b a fd bytes s s.live named there
+
+-- what is wanted is answered as the request that it is
+abbrev IsAnsweredFor : WorldState → ActorState → Want → Option Request → Type 0
+IsAnsweredFor w b q o = IsAnswered (with_actor w b) b (event_for w.cells b q) o (after w b (event_for w.cells b q))
+
+answered_for : (w : WorldState) (b a : ActorState) (rd : ℕ) (s : Bool) (q : Want) → actor_named w.actors b.name ≡ Some a → IsRequest (LoadsAt w.image b.hart rd s) b q → IsAnsweredFor w b q (request_for w.cells rd s q)
+answered_for w b a rd s (want.Slot slot (slot_want.Load offset width)) named own = load_answered w b a slot offset width rd s (slot_in w.cells slot) named own refl
+answered_for w b a rd s (want.Slot slot (slot_want.Store offset width value)) named own = store_answered w b a slot offset width value (slot_in w.cells slot) named refl
+answered_for w b a rd s (want.Fd fd (stream_ask.Append bits bytes)) named own =
+    subst (λ x. IsAnsweredFor w b (want.Fd fd (stream_ask.Append x bytes)) (to_stream fd bytes (stream_in w.cells fd))) (sym own) (append_answered w b a fd bytes (stream_in w.cells fd) named refl)
+answered_for w b a rd s q named own = absurd own
+
+answered_at : (w : WorldState) (b a : ActorState) (ph : Phase) (q : Want) → actor_named w.actors b.name ≡ Some a → ReadsAs w.image b ph → wanted_at ph ≡ Some q → AnswersAt (with_actor w b) b ph (event_for w.cells b q) (after w b (event_for w.cells b q))
+unfolding takes
+answered_at w b a phase.Running q named reads e = absurd cc
+answered_at w b a (phase.Within x) q named reads e =
+    let is : x ≡ q = cc in
+    subst (λ y. AnswersAt (with_actor w b) b (phase.Within x) (event_for w.cells b y) (after w b (event_for w.cells b y))) is
+    (subst (IsAnsweredFor w b x) (sym (reads.2 w.cells)) (answered_for w b a reads.0 reads.1 x named reads.3))
+answered_at w b a (phase.Ending x) q named reads e =
+    let is : want.Lives (lives_ask.Release x) ≡ q = cc in
+    subst (λ y. AnswersAt (with_actor w b) b (phase.Ending x) (event_for w.cells b y) (after w b (event_for w.cells b y))) is (kept w (cells_after w.cells (event_for w.cells b (want.Lives (lives_ask.Release x)))) b (record b { memory = []; phase = phase.Ended x }) refl refl, refl)
+answered_at w b a (phase.Ended x) q named reads e = absurd cc
+
+-- the end of an event
+slot_end : (i : Image) (b : ActorState) (slot : ℕ) (q : SlotAsk) (r : SlotReply) → (end_of (takes i b (event.Slot slot q r)).phase ≡ reply_end r) × ((takes i b (event.Slot slot q r)).name ≡ b.name)
+unfolding takes
+slot_end i b slot q (slot_reply.Loaded value) =
+    let ins = option_and_then decode (fetch i b.hart.pc) in
+    (ap end_of (loaded_runs (runs b) ins value refl), (loads_keep (runs b) ins value).0)
+slot_end i b slot q r = (refl, refl)
+
+stream_end : (i : Image) (b : ActorState) (fd : ℕ) (q : StreamAsk) (r : StreamReply) → (end_of (takes i b (event.Fd fd q r)).phase ≡ None) × ((takes i b (event.Fd fd q r)).name ≡ b.name)
+unfolding takes
+stream_end i b fd q reply.Opened = (refl, refl)
+stream_end i b fd q (reply.Given bytes) = (refl, refl)
+stream_end i b fd q reply.Appended = (refl, refl)
+stream_end i b fd q reply.Closed = (refl, refl)
+stream_end i b fd q reply.NoSuch = (refl, refl)
+stream_end i b fd q (reply.Denied wants) = (refl, refl)
+stream_end i b fd q reply.Bad = (refl, refl)
+
+want_end : (w : WorldState) (b : ActorState) (N : ℕ → Type 0) (q : Want) → IsRequest N b q
+    → (end_of (takes w.image b (event_for w.cells b q)).phase ≡ event_end (event_for w.cells b q)) × ((takes w.image b (event_for w.cells b q)).name ≡ b.name)
+want_end w b N (want.Slot slot (slot_want.Load offset width)) own = slot_end w.image b slot _ _
+want_end w b N (want.Slot slot (slot_want.Store offset width value)) own = slot_end w.image b slot _ _
+want_end w b N (want.Fd fd (stream_ask.Append bits bytes)) own = stream_end w.image b fd (stream_ask.Append bits bytes) _
+want_end w b N q own = absurd own
+
+ends_by : (w : WorldState) (b : ActorState) (ph : Phase) (q : Want) → ReadsAs w.image b ph → wanted_at ph ≡ Some q
+    → (end_of (takes w.image b (event_for w.cells b q)).phase ≡ end_by ph (event_for w.cells b q)) × ((takes w.image b (event_for w.cells b q)).name ≡ b.name)
+unfolding takes
+ends_by w b phase.Running q reads e = absurd cc
+ends_by w b (phase.Within x) q reads e = let is : x ≡ q = cc in want_end w b (LoadsAt w.image b.hart reads.0 reads.1) q (subst (IsRequest (LoadsAt w.image b.hart reads.0 reads.1) b) is reads.3)
+ends_by w b (phase.Ending x) q reads e =
+    let is : want.Lives (lives_ask.Release x) ≡ q = cc in
+    subst (λ y. (end_of (takes w.image b (event_for w.cells b y)).phase ≡ end_by (phase.Ending x) (event_for w.cells b y)) × ((takes w.image b (event_for w.cells b y)).name ≡ b.name)) is (refl, refl)
+ends_by w b (phase.Ended x) q reads e = absurd cc
+
+-- the pc after an event
+load_next : (i : Image) (b : ActorState) (slot offset width : ℕ) (o : Option Live) (g : Option Segment) (rd : ℕ) (s : Bool) → LoadsAt i b.hart rd s width → IsNext b.hart.pc (takes i b (event.Slot slot (slot_ask.Load offset width o) (slot_reply_of g (slot_ask.Load offset width o))))
+unfolding takes
+load_next i b slot offset width o None rd s h = λ e. absurd cc
+load_next i b slot offset width o (Some g) rd s h = by_tests _ _
+  where
+    by_tests : (u t : Bool) → IsNext b.hart.pc (takes i b (event.Slot slot (slot_ask.Load offset width o) (if not u then slot_reply.Unmapped else if t then slot_reply.Loaded (number_of (slice_range g.bytes offset (offset + width))) else slot_reply.Denied g.tag right.Read)))
+    by_tests false t = λ e. absurd cc
+    by_tests true false = λ e. absurd cc
+    by_tests true true = λ e. ap (λ (x : ActorState). x.hart.pc) (loads_as b (option_and_then decode (fetch i b.hart.pc)) width rd s (number_of (slice_range g.bytes offset (offset + width))) h)
+
+store_next : (i : Image) (b : ActorState) (slot offset width value : ℕ) (o : Option Live) (g : Option Segment) → IsNext b.hart.pc (takes i b (event.Slot slot (slot_ask.Store offset width value o) (slot_reply_of g (slot_ask.Store offset width value o))))
+unfolding takes
+store_next i b slot offset width value o None = λ e. absurd cc
+store_next i b slot offset width value o (Some g) = by_tests _ _
+  where
+    by_tests : (u t : Bool) → IsNext b.hart.pc (takes i b (event.Slot slot (slot_ask.Store offset width value o) (if not u then slot_reply.Unmapped else if t then slot_reply.Stored else slot_reply.Denied g.tag right.ReadWrite)))
+    by_tests false t = λ e. absurd cc
+    by_tests true false = λ e. absurd cc
+    by_tests true true = λ e. refl
+
+append_next : (i : Image) (b : ActorState) (fd : ℕ) (bits : FdBits) (bytes : List ℕ) (s : Option Stream) → IsNext b.hart.pc (takes i b (event.Fd fd (stream_ask.Append bits bytes) (stream_reply_of s (stream_ask.Append bits bytes))))
+unfolding takes
+append_next i b fd bits bytes None = λ e. refl
+append_next i b fd bits bytes (Some s) = by_tests s.live bits.append s.kind
+  where
+    by_tests : (v t : Bool) (k : StreamKind) → IsNext b.hart.pc (takes i b (event.Fd fd (stream_ask.Append bits bytes) (if v then (if t then append_reply k else reply.Denied append_bit) else reply.NoSuch)))
+    by_tests false t k = λ e. refl
+    by_tests true false k = λ e. refl
+    by_tests true true kind.Append = λ e. refl
+    by_tests true true kind.Source = λ e. refl
+
+want_next : (w : WorldState) (b : ActorState) (rd : ℕ) (s : Bool) (q : Want) → IsRequest (LoadsAt w.image b.hart rd s) b q → IsNext b.hart.pc (takes w.image b (event_for w.cells b q))
+want_next w b rd s (want.Slot slot (slot_want.Load offset width)) own = load_next w.image b slot offset width _ (slot_in w.cells slot) rd s own
+want_next w b rd s (want.Slot slot (slot_want.Store offset width value)) own = store_next w.image b slot offset width value _ (slot_in w.cells slot)
+want_next w b rd s (want.Fd fd (stream_ask.Append bits bytes)) own = append_next w.image b fd bits bytes (stream_in w.cells fd)
+want_next w b rd s q own = absurd own
+
+next_by : (w : WorldState) (b : ActorState) (ph : Phase) (q : Want) → ReadsAs w.image b ph → wanted_at ph ≡ Some q → IsNext b.hart.pc (takes w.image b (event_for w.cells b q))
+unfolding takes
+next_by w b phase.Running q reads e = absurd cc
+next_by w b (phase.Within x) q reads e = let is : x ≡ q = cc in want_next w b reads.0 reads.1 q (subst (IsRequest (LoadsAt w.image b.hart reads.0 reads.1) b) is reads.3)
+next_by w b (phase.Ending x) q reads e =
+    let is : want.Lives (lives_ask.Release x) ≡ q = cc in
+    subst (λ y. IsNext b.hart.pc (takes w.image b (event_for w.cells b y))) is (λ f. absurd cc)
+next_by w b (phase.Ended x) q reads e = absurd cc
+
+-- an end is reached by its event alone
+reached : (i : Image) (b : ActorState) (e : Event) → has_ended (takes i b e).phase ≡ is_end_event (Some e)
+unfolding takes
+reached i b (event.Slot slot q (slot_reply.Loaded value)) = ap has_ended (loaded_runs (runs b) (option_and_then decode (fetch i b.hart.pc)) value refl)
+reached i b (event.Slot slot q r) = refl
+reached i b (event.Fd fd q reply.Opened) = refl
+reached i b (event.Fd fd q (reply.Given bytes)) = refl
+reached i b (event.Fd fd q reply.Appended) = refl
+reached i b (event.Fd fd q reply.Closed) = refl
+reached i b (event.Fd fd q reply.NoSuch) = refl
+reached i b (event.Fd fd q (reply.Denied wants)) = refl
+reached i b (event.Fd fd q reply.Bad) = refl
+reached i b (event.Lives lives_ask.Claim r) = refl
+reached i b (event.Lives (lives_ask.Release x) r) = refl
+reached i b e = refl
+
+-- ---- refusals
+
+-- a call that is refused in its instruction
+refuses_in : (w : WorldState) (b : ActorState) (n : ℕ) → b.fuel ≡ n → b.phase ≡ phase.Running → RefusesIn (with_actor w b) b n (with_actor w (step w.image b))
+refuses_in w b zero has run = tt
+refuses_in w b (suc n) has run = λ code told.
+    let p = record b { fuel = n } in
+    let is : step w.image b ≡ refused p code = (step_comes w.image b n run has).codes code told in
+    ap (with_actor w) is ∙ ap (λ (as_ : List ActorState). record w { actors = as_ }) (sym (put_put w.actors b (refused p code) refl))
+
+-- an append that its event refuses: to no live stream, and to a source
+append_refused : (w : WorldState) (b : ActorState) (fd code : ℕ) (bytes : List ℕ) (s : Option Stream) → stream_in w.cells fd ≡ s → stream_refusal b fd s ≡ Some code
+    → stream_world w b fd s (stream_ask.Append (bits_of b fd) bytes) (stream_reply_of s (stream_ask.Append (bits_of b fd) bytes)) ≡ with_actor (with_actor w b) (refused b code)
+unfolding takes
+append_refused w b fd code bytes None there told =
+    let same : 5 ≡ code = cc in
+    subst (λ n. stream_world w b fd None (stream_ask.Append (bits_of b fd) bytes) reply.NoSuch ≡ with_actor (with_actor w b) (refused b n)) same (stayed w b _ _ (same_streams w fd None there) refl)
+append_refused w b fd code bytes (Some s) there told = by_tests s.live (bits_of b fd).append s.kind told
+  where
+    by_tests : (v t : Bool) (k : StreamKind) → (if not v then Some 5 else if not t then None else if is_source k then Some 6 else None) ≡ Some code
+        → stream_world w b fd (Some s) (stream_ask.Append (bits_of b fd) bytes) (if v then (if t then append_reply k else reply.Denied append_bit) else reply.NoSuch) ≡ with_actor (with_actor w b) (refused b code)
+    by_tests false t k h = let same : 5 ≡ code = cc in subst (λ n. stream_world w b fd (Some s) (stream_ask.Append (bits_of b fd) bytes) reply.NoSuch ≡ with_actor (with_actor w b) (refused b n)) same (stayed w b _ _ (same_streams w fd (Some s) there) refl)
+    by_tests true false k h = absurd cc
+    by_tests true true kind.Source h = let same : 6 ≡ code = cc in subst (λ n. stream_world w b fd (Some s) (stream_ask.Append (bits_of b fd) bytes) reply.Bad ≡ with_actor (with_actor w b) (refused b n)) same (stayed w b _ _ (same_streams w fd (Some s) there) refl)
+    by_tests true true kind.Append h = absurd cc
+
+refused_for : (w : WorldState) (b : ActorState) (rd : ℕ) (s : Bool) (q : Want) (code : ℕ) → IsRequest (LoadsAt w.image b.hart rd s) b q → refusal_for w.cells b q ≡ Some code
+    → after w b (event_for w.cells b q) ≡ with_actor (with_actor w b) (refused b code)
+refused_for w b rd s (want.Slot slot (slot_want.Load offset width)) code own told = absurd cc
+refused_for w b rd s (want.Slot slot (slot_want.Store offset width value)) code own told = absurd cc
+refused_for w b rd s (want.Fd fd (stream_ask.Append bits bytes)) code own told =
+    subst (λ x. after w b (event_for w.cells b (want.Fd fd (stream_ask.Append x bytes))) ≡ with_actor (with_actor w b) (refused b code)) (sym own) (append_refused w b fd code bytes (stream_in w.cells fd) refl told)
+refused_for w b rd s q code own told = absurd own
+
+refuses_after : (w : WorldState) (b : ActorState) (ph : Phase) (q : Want) → ReadsAs w.image b ph → wanted_at ph ≡ Some q → RefusesAfter (with_actor w b) b ph (after w b (event_for w.cells b q))
+refuses_after w b phase.Running q reads e = tt
+refuses_after w b (phase.Within x) q reads e = λ code told.
+    let is : x ≡ q = cc in
+    subst (λ y. after w b (event_for w.cells b y) ≡ with_actor (with_actor w b) (refused b code)) is (refused_for w b reads.0 reads.1 x code reads.3 (sym (reads.4 w.cells) ∙ told))
+refuses_after w b (phase.Ending x) q reads e = tt
+refuses_after w b (phase.Ended x) q reads e = tt
+
+-- what holds of the actor that was put
+put_such : (Q : ActorState → Type 0) (w : WorldState) (b x a : ActorState) → actor_named w.actors b.name ≡ Some a → x.name ≡ b.name → Q x → IsSomeAnd (actor_named (put_actor w.actors x) b.name) Q
+put_such Q w b x a named n q = subst (λ f. IsSomeAnd f Q) (sym (put_there w b x a named n)) q
+
+-- ---- turns
+
+-- what holds of the moments of a turn, from what holds of an instruction and of an event
+turn_has : (P : WorldState → ActorState → Option Event → WorldState → Type 0) (w : WorldState) (t : Turn) (new : WorldState) → AllBetween w.actors → turn_of w t.actor ≡ Some (record { event = t.event; world = new })
+    → ((a b : ActorState) → actor_named w.actors b.name ≡ Some a → b.phase ≡ phase.Running → P (with_actor w b) b None (with_actor w (step w.image b)))
+    → ((a b : ActorState) (q : Want) → actor_named w.actors b.name ≡ Some a → ReadsAs w.image b b.phase → wanted b ≡ Some q → P (with_actor w b) b (Some (event_for w.cells b q)) (after w b (event_for w.cells b q)))
+    → TurnHas P w t new
+unfolding rest
+turn_has P w t new all e instructs happens a named =
+    let name = found_name w.actors t.actor a named in
+    let here : (n : ℕ) → actor_named w.actors (run_local w.image n a).name ≡ Some a = λ n. subst (λ m. actor_named w.actors m ≡ Some a) (sym (run_name w.image n a _ refl ∙ name)) named in
+    let p = turn_parts w t.actor t.event new e in
+    let same_actor : p.actor ≡ a = let f : Some p.actor ≡ Some a = sym p.named ∙ named in cc in
+    let b = rest w.image a in
+    let wants : wanted b ≡ Some p.want = ap (λ (x : ActorState). wanted (rest w.image x)) (sym same_actor) ∙ p.wants in
+    let event_is : t.event ≡ event_for w.cells b p.want = parts_event_is w t.actor t.event new p ∙ ap (λ (x : ActorState). event_for w.cells (rest w.image x) p.want) same_actor in
+    let new_is : new ≡ after w b (event_for w.cells b p.want) = p.new_is ∙ (ap (λ (x : ActorState). after w (rest w.image x) t.event) same_actor ∙ ap (after w b) event_is) in
+    let done = happens a b p.want (here (a.fuel + 1)) (rest_reads w.image a (named_between w.actors t.actor a all named)) wants in
+    record {
+      instructions = λ n runs.
+          let x = run_local w.image n a in
+          subst (λ y. P (with_actor w x) x None (with_actor w y)) (sym (one_more w.image n a _ refl runs)) (instructs a x (here n) (running_is x.phase runs));
+      event = (a.fuel + 1, rest-stops w.image a, subst (λ y. P (with_actor w b) b (Some y) new) (sym event_is) (subst (λ y. P (with_actor w b) b (Some (event_for w.cells b p.want)) y) (sym new_is) done));
+    }
+
+turn_lawful : (w : WorldState) (t : Turn) (new : WorldState) → AllBetween w.actors → turn_of w t.actor ≡ Some (record { event = t.event; world = new }) → TurnHas IsLawful w t new
+turn_lawful w t new all e =
+    turn_has IsLawful w t new all e
+    (λ a b named run.
+    let x = step w.image b in
+    let name = (steps_step w.image b).name in
+    record {
+      mediated = met w b _ refl run;
+      ends = put_such (λ y. (end_of y.phase ≡ end_at w.image b) × (has_ended y.phase ≡ false)) w b x a named name (step_end w.image b _ refl run, (steps_step w.image b).live (ap has_ended run));
+      goes = step_goes w b a named name;
+      refuses = refuses_in w b _ refl run;
+      remembers = put_such (WordRemembers w.image b (option_and_then decode (fetch w.image b.hart.pc)) b.fuel) w b x a named name (step_remembers w.image b);
+    })
+    (λ a b q named reads wants.
+    let e = event_for w.cells b q in
+    let x = takes w.image b e in
+    let k = ends_by w b b.phase q reads wants in
+    record {
+      mediated = answered_at w b a b.phase q named reads wants;
+      ends = put_such (λ y. (end_of y.phase ≡ end_by b.phase e) × (has_ended y.phase ≡ is_end_event (Some e))) w b x a named k.1 (k.0, reached w.image b e);
+      goes = put_next w b x a named k.1 (next_by w b b.phase q reads wants);
+      refuses = refuses_after w b b.phase q reads wants;
+      remembers = put_such (EventRemembers b e) w b x a named k.1 (event_remembers w.image b e);
+    })
+
+each_lawful : (old : WorldState) (turns : List Turn) (new : WorldState) → AllBetween old.actors → Runs old turns new → EachMoment IsLawful old turns
+each_lawful old [] new all run = tt
+each_lawful old (t ∷ ts) new all run = (run.0, run.1, turn_lawful old t run.0 all run.1, each_lawful run.0 ts new (turn_between old t.actor t.event run.0 all run.1) run.2)
+
+pub moments_lawful : MomentsAreLawful
+moments_lawful i turns new run = each_lawful (opening i) turns new (opening_between i) run
+
+-- a turn from a world to which a run leads is lawful
+pub run_turn_lawful : (i : Image) (turns : List Turn) (mid : WorldState) (t : Turn) (new : WorldState) → Runs (opening i) turns mid
+    → turn_of mid t.actor ≡ Some (record { event = t.event; world = new }) → TurnHas IsLawful mid t new
+run_turn_lawful i turns mid t new run e = turn_lawful mid t new (run_between i turns mid run) e

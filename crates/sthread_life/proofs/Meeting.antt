@@ -1,0 +1,291 @@
+-- What an instruction comes to: the request that it makes, its end, and the code with which it is refused.
+use Rattle.std.proofs.Common.{◌≡◌, ℕ, zero, suc, ◌+◌, ◌-◌, Bool, true, false, List, [], refl, sym, ap, subst, ◌∙◌, arith}
+use Rattle.std.proofs.lemmas.Bool.{eqb-true}
+use Rattle.std.proofs.lemmas.Bool.Decides.{nat_tests}
+use Rattle.std.specs.Prelude.{Option, Some, None, is_some, option_and_then, not, ◌&&◌, ◌||◌, ◌==◌, nat_lt, nat_le, if◌then◌else◌}
+use Rattle.wedge_base.specs.Images.{Image, fetch, in_text, read_text, slot_of}
+use Rattle.wedge_base.specs.Bytes.{number_of}
+use Rattle.wedge_base.specs.Memory.{range_at, read_range}
+use Rattle.wedge_base.specs.Streams.{most_fds}
+use Rattle.wedge_base.specs.declared.address.Place.{Place}
+use Rattle.wedge_base.specs.declared.image.MemoryRange.{MemoryRange}
+use Rattle.wedge_base.specs.declared.rights.End.{End}
+use Rattle.wedge_base.specs.declared.rights.End.TheVariants as end_
+use Rattle.wedge_base.specs.declared.rights.Code.{Code}
+use Rattle.wedge_base.specs.declared.rights.Code.TheVariants as code
+use Rattle.wedge_base.specs.declared.events.SlotWant.TheVariants as slot_want
+use Rattle.wedge_base.specs.declared.events.Want.{Want}
+use Rattle.wedge_base.specs.declared.events.Want.TheVariants as want
+use Rattle.wedge_base.specs.declared.cells.StreamAsk.TheVariants as stream_ask
+use Rattle.rv_isa.specs.declared.Instr.{Instr}
+use Rattle.rv_isa.specs.Table.{decode}
+use Rattle.rv_hart.specs.declared.Hart.{Hart}
+use Rattle.rv_hart.specs.declared.Need.{Need}
+use Rattle.rv_hart.specs.declared.Need.TheVariants as need
+use Rattle.rv_hart.specs.Local.{local}
+use Rattle.sthread_life.specs.declared.phase.Phase.{Phase}
+use Rattle.sthread_life.specs.declared.phase.Phase.TheVariants as phase
+use Rattle.sthread_life.specs.Actors.{ActorState, bits_of, code_number, ends, refuses, wants}
+use Rattle.sthread_life.specs.Private.{load_window, load_range, store_window, store_range, has_loaded, fits_read, buffer, buffer_in}
+use Rattle.sthread_life.specs.Calls.{serves, exit, fd_append, a0, a1, a2, a7}
+use Rattle.sthread_life.specs.Local.{needed, executed, fuelled, fetched, step, is_running, run_local, rest}
+use Rattle.sthread_life.specs.Between.{IsBetween}
+use Rattle.sthread_life.proofs.Resting.{stays, goes_on, running_is}
+use Rattle.sthread_life.specs.Cells.{Cells, slot_in, stream_in}
+use Rattle.sthread_life.specs.Refusals.{fuel_short, no_such, bad, append_refusal, need_refusal, instr_refusal, word_refusal, refusal_at, stream_refusal, need_refusal_after, instr_refusal_after, word_refusal_after, refusal_after, refused}
+use Rattle.sthread_life.specs.Requests.{Request, Loads, Stores, in_tag, in_window, bytes_in_range, bytes_at, to_stream, append_of, needed_request, instr_request, word_request, request_at}
+use Rattle.sthread_life.specs.Ends.{end_of, needed_end, instr_end, fuel_end, word_end, end_at}
+
+-- the request that is in question in what is wanted
+abbrev pub request_for : Cells → ℕ → Bool → Want → Option Request
+request_for c rd s (want.Slot slot (slot_want.Load offset width)) = in_tag (λ x. Loads x rd s) (record { slot = slot; offset = offset }) width (slot_in c slot)
+request_for c rd s (want.Slot slot (slot_want.Store offset width value)) = in_tag (λ x. Stores x value) (record { slot = slot; offset = offset }) width (slot_in c slot)
+request_for c rd s (want.Fd fd (stream_ask.Append bits bytes)) = to_stream fd bytes (stream_in c fd)
+request_for c rd s q = None
+
+-- the code with which its event refuses it
+abbrev pub refusal_for : Cells → ActorState → Want → Option ℕ
+refusal_for c a (want.Fd fd (stream_ask.Append bits bytes)) = stream_refusal a fd (stream_in c fd)
+refusal_for c a q = None
+
+-- the wants that are requests today, asked with the bits of the actor; N is what is known where a load is wanted
+abbrev pub IsRequest : (ℕ → Type 0) → ActorState → Want → Type 0
+IsRequest N a (want.Slot slot (slot_want.Load offset width)) = N width
+IsRequest N a (want.Slot slot (slot_want.Store offset width value)) = Unit {0}
+IsRequest N a (want.Fd fd (stream_ask.Append bits bytes)) = bits ≡ bits_of a fd
+IsRequest N a q = ⊥
+
+-- where an instruction leaves its actor: at a want that is its request, or it made none
+abbrev pub WantsAs : (ℕ → Bool → ℕ → Type 0) → ActorState → (Cells → Option Request) → (Cells → Option ℕ) → ActorState → Phase → Type 0
+WantsAs N a asked later x (phase.Within q) = (rd : ℕ) × (s : Bool) × (x ≡ record a { phase = phase.Within q }) × ((c : Cells) → asked c ≡ request_for c rd s q) × IsRequest (N rd s) a q × ((c : Cells) → later c ≡ refusal_for c a q)
+WantsAs N a asked later x phase.Running = (c : Cells) → asked c ≡ None
+WantsAs N a asked later x (phase.Ending e) = (c : Cells) → asked c ≡ None
+WantsAs N a asked later x (phase.Ended e) = (c : Cells) → asked c ≡ None
+
+-- asked: its request; later: the code with which its event refuses it; ended: its end; told: the code with
+-- which it is refused itself
+pub record Comes (N : ℕ → Bool → ℕ → Type 0) (a : ActorState) (asked : Cells → Option Request) (later : Cells → Option ℕ) (ended : Option End) (told : Option ℕ) (x : ActorState) : Type 0 where
+  pub name : x.name ≡ a.name
+  pub denials : x.denials ≡ a.denials
+  pub ends : end_of x.phase ≡ ended
+  pub wants : WantsAs N a asked later x x.phase
+  pub codes : (n : ℕ) → told ≡ Some n → x ≡ refused a n
+
+-- the leaves: an end, an actor that goes on, and one that is refused
+comes_end : (N : ℕ → Bool → ℕ → Type 0) (a : ActorState) (asked : Cells → Option Request) (later : Cells → Option ℕ) (e : End) → ((c : Cells) → asked c ≡ None) → Comes N a asked later (Some e) None (ends a e)
+comes_end N a asked later e none = record { name = refl; denials = refl; ends = refl; wants = none; codes = λ n h. absurd cc }
+
+comes_on : (N : ℕ → Bool → ℕ → Type 0) (a x : ActorState) (asked : Cells → Option Request) (later : Cells → Option ℕ) → x.name ≡ a.name → x.denials ≡ a.denials → x.phase ≡ phase.Running → ((c : Cells) → asked c ≡ None) → Comes N a asked later None None x
+comes_on N a x asked later name denials runs none = record { name = name; denials = denials; ends = ap end_of runs; wants = subst (WantsAs N a asked later x) (sym runs) none; codes = λ n h. absurd cc }
+
+comes_refused : (N : ℕ → Bool → ℕ → Type 0) (a : ActorState) (asked : Cells → Option Request) (later : Cells → Option ℕ) (k : Code) → ((c : Cells) → asked c ≡ None) → Comes N a asked later None (Some (code_number k)) (refuses a k)
+comes_refused N a asked later k none = record {
+  name = refl;
+  denials = refl;
+  ends = refl;
+  wants = none;
+  codes = λ n h. let same : code_number k ≡ n = cc in subst (λ m. refuses a k ≡ refused a m) same refl;
+}
+
+-- the same request, told otherwise
+wants_as : (N : ℕ → Bool → ℕ → Type 0) (a : ActorState) (asked told : Cells → Option Request) (later : Cells → Option ℕ) (x : ActorState) (p : Phase) → ((c : Cells) → told c ≡ asked c) → WantsAs N a asked later x p → WantsAs N a told later x p
+wants_as N a asked told later x (phase.Within q) same w = (w.0, w.1, w.2, λ c. same c ∙ w.3 c, w.4, w.5)
+wants_as N a asked told later x phase.Running same w = λ c. same c ∙ w c
+wants_as N a asked told later x (phase.Ending e) same w = λ c. same c ∙ w c
+wants_as N a asked told later x (phase.Ended e) same w = λ c. same c ∙ w c
+
+comes_as : (N : ℕ → Bool → ℕ → Type 0) (a : ActorState) (asked asked2 : Cells → Option Request) (later : Cells → Option ℕ) (e : Option End) (told told2 : Option ℕ) (x : ActorState) → ((c : Cells) → asked2 c ≡ asked c) → told2 ≡ told → Comes N a asked later e told x → Comes N a asked2 later e told2 x
+comes_as N a asked asked2 later e told told2 x same coded m = record { name = m.name; denials = m.denials; ends = m.ends; wants = wants_as N a asked asked2 later x x.phase same m.wants; codes = λ n h. m.codes n (sym coded ∙ h) }
+
+-- loads
+load_window_comes : (N : ℕ → Bool → ℕ → Type 0) (a : ActorState) (rd : ℕ) (s : Bool) (width : ℕ) (p : Option Place) → N rd s width → Comes N a (λ c. in_window (λ x. Loads x rd s) c width p) (λ c. None) (if is_some p then None else Some end_.Unmapped) None (load_window a width p)
+load_window_comes N a rd s width None k = comes_end N a _ _ end_.Unmapped (λ c. refl)
+load_window_comes N a rd s width (Some p) k = record { name = refl; denials = refl; ends = refl; wants = (rd, s, refl, λ c. refl, k, λ c. refl); codes = λ n h. absurd cc }
+
+load_comes : (N : ℕ → Bool → ℕ → Type 0) (i : Image) (ins : Instr) (s : Bool) (a : ActorState) (address width : ℕ) (t u : Bool) (r : Option MemoryRange) → N ins.rd s width → a.phase ≡ phase.Running
+    → Comes N a (λ c. if t && not u && not (is_some r) then in_window (λ x. Loads x ins.rd s) c width (slot_of address) else None) (λ c. None)
+    (if not t then Some end_.Misaligned else if u then None else if is_some r || is_some (slot_of address) then None else Some end_.Unmapped) None
+    (if not t then ends a end_.Misaligned else if u then has_loaded ins s a width (number_of (read_text i address width)) else load_range ins s a address width r)
+load_comes N i ins s a address width false u r k run = comes_end N a _ _ end_.Misaligned (λ c. refl)
+load_comes N i ins s a address width true true r k run = comes_on N a (has_loaded ins s a width (number_of (read_text i address width))) _ _ refl refl run (λ c. refl)
+load_comes N i ins s a address width true false (Some r) k run = comes_on N a (has_loaded ins s a width (number_of (read_range r address width))) _ _ refl refl run (λ c. refl)
+load_comes N i ins s a address width true false None k run = load_window_comes N a ins.rd s width (slot_of address) k
+
+-- stores
+store_window_comes : (N : ℕ → Bool → ℕ → Type 0) (a : ActorState) (width value : ℕ) (p : Option Place)
+    → Comes N a (λ c. in_window (λ x. Stores x value) c width p) (λ c. None) (if is_some p then None else Some end_.Unmapped) None (store_window a width value p)
+store_window_comes N a width value None = comes_end N a _ _ end_.Unmapped (λ c. refl)
+store_window_comes N a width value (Some p) = record { name = refl; denials = refl; ends = refl; wants = (0, false, refl, λ c. refl, tt, λ c. refl); codes = λ n h. absurd cc }
+
+store_comes : (N : ℕ → Bool → ℕ → Type 0) (a : ActorState) (address width value : ℕ) (t u : Bool) (r : Option MemoryRange) → a.phase ≡ phase.Running
+    → Comes N a (λ c. if t && not u && not (is_some r) then in_window (λ x. Stores x value) c width (slot_of address) else None) (λ c. None)
+    (if not t then Some end_.Misaligned else if u then Some end_.TextStore else if is_some r || is_some (slot_of address) then None else Some end_.Unmapped) None
+    (if not t then ends a end_.Misaligned else if u then ends a end_.TextStore else store_range a address width value r)
+store_comes N a address width value false u r run = comes_end N a _ _ end_.Misaligned (λ c. refl)
+store_comes N a address width value true true r run = comes_end N a _ _ end_.TextStore (λ c. refl)
+store_comes N a address width value true false (Some r) run = comes_on N a (store_range a address width value (Some r)) _ _ refl refl run (λ c. refl)
+store_comes N a address width value true false None run = store_window_comes N a width value (slot_of address)
+
+-- appends: the buffer that fits, in the two words for it
+buffers : (i : Image) (pointer n : ℕ) (t u : Bool) (r : Option MemoryRange)
+    → (if not t then None else if u then Some [] else bytes_in_range i pointer n r) ≡ (if t && (u || is_some r || in_text i pointer n) then Some (if u then [] else buffer_in i pointer n r) else None)
+buffers i pointer n false u r = refl
+buffers i pointer n true true r = refl
+buffers i pointer n true false (Some r) = refl
+buffers i pointer n true false None = refl
+
+not_below : (m n : ℕ) → nat_le n m ≡ not (nat_lt m n)
+not_below m n = grind (arith, nat_tests)
+
+append_told : (c : Cells) (a : ActorState) (fd n : ℕ) (bytes : List ℕ) (t u v : Bool)
+    → (nat_le n a.fuel ≡ not u) → (nat_lt fd most_fds ≡ not v) → append_of c a fd n (if t then Some bytes else None) ≡ (if t && not u && not v then to_stream fd bytes (stream_in c fd) else None)
+append_told c a fd n bytes false u v fuel few = refl
+append_told c a fd n bytes true u v fuel few = rw (fuel, few) refl
+
+append_tests : (N : ℕ → Bool → ℕ → Type 0) (a : ActorState) (fd : ℕ) (bytes : List ℕ) (t u v : Bool)
+    → Comes N a (λ c. if t && not u && not v then to_stream fd bytes (stream_in c fd) else None) (λ c. stream_refusal a fd (stream_in c fd)) None
+    (if not t then Some bad else if u then Some fuel_short else if v then Some no_such else None)
+    (if not t then refuses a code.Bad else if u then refuses a code.FuelShort else if v then refuses a code.NoSuch else wants a (want.Fd fd (stream_ask.Append (bits_of a fd) bytes)))
+append_tests N a fd bytes false u v = comes_refused N a _ _ code.Bad (λ c. refl)
+append_tests N a fd bytes true true v = comes_refused N a _ _ code.FuelShort (λ c. refl)
+append_tests N a fd bytes true false true = comes_refused N a _ _ code.NoSuch (λ c. refl)
+append_tests N a fd bytes true false false = record { name = refl; denials = refl; ends = refl; wants = (0, false, refl, λ c. refl, refl, λ c. refl); codes = λ n h. absurd cc }
+
+-- its codes, in the tests of the call
+append_coded : (a : ActorState) (fd n : ℕ) (bytes : List ℕ) (t u v : Bool) → (nat_le n a.fuel ≡ not u) → (nat_lt fd most_fds ≡ not v)
+    → append_refusal a fd n (if t then Some bytes else None) ≡ (if not t then Some bad else if u then Some fuel_short else if v then Some no_such else None)
+append_coded a fd n bytes false u v fuel few = refl
+append_coded a fd n bytes true true v fuel few = rw fuel refl
+append_coded a fd n bytes true false true fuel few = rw (fuel, few) refl
+append_coded a fd n bytes true false false fuel few = rw (fuel, few) refl
+
+append_comes : (N : ℕ → Bool → ℕ → Type 0) (i : Image) (a : ActorState) → Comes N a (λ c. append_of c a (a0 a) (a2 a) (bytes_at i a (a1 a) (a2 a))) (λ c. stream_refusal a (a0 a) (stream_in c (a0 a))) None (append_refusal a (a0 a) (a2 a) (bytes_at i a (a1 a) (a2 a))) (fd_append i a)
+append_comes N i a =
+    let t = fits_read i a (a1 a) (a2 a) in
+    let bytes = buffer i a (a1 a) (a2 a) in
+    let buffer_is = buffers i (a1 a) (a2 a) (nat_le (a2 a) 256) (a2 a == 0) (range_at a.memory (a1 a) (a2 a)) in
+    comes_as N a _ _ _ None _ _ (fd_append i a)
+    (λ c. ap (append_of c a (a0 a) (a2 a)) buffer_is
+    ∙ append_told c a (a0 a) (a2 a) bytes t _ _ (not_below a.fuel (a2 a)) (not_above (a0 a)))
+    (ap (append_refusal a (a0 a) (a2 a)) buffer_is
+    ∙ append_coded a (a0 a) (a2 a) bytes t _ _ (not_below a.fuel (a2 a)) (not_above (a0 a)))
+    (append_tests N a (a0 a) bytes t (nat_lt a.fuel (a2 a)) (nat_le most_fds (a0 a)))
+  where
+    not_above : (fd : ℕ) → nat_lt fd most_fds ≡ not (nat_le most_fds fd)
+    not_above fd = grind (arith, nat_tests)
+
+-- calls
+call_comes : (N : ℕ → Bool → ℕ → Type 0) (i : Image) (a : ActorState) (n : ℕ) (t u : Bool) → (n == 0) ≡ t → (n == 16) ≡ u
+    → Comes N a (λ c. if u then append_of c a (a0 a) (a2 a) (bytes_at i a (a1 a) (a2 a)) else None) (λ c. if u then stream_refusal a (a0 a) (stream_in c (a0 a)) else None) (if t then Some (end_.Exited (a0 a)) else None)
+    (if t then None else if u then append_refusal a (a0 a) (a2 a) (bytes_at i a (a1 a) (a2 a)) else Some bad)
+    (if t then exit a else if u then fd_append i a else refuses a code.Bad)
+call_comes N i a n true true e f = absurd (apart n e f)
+  where
+    apart : (n : ℕ) → (n == 0) ≡ true → (n == 16) ≡ true → ⊥
+    apart n e f = let zero_is : n ≡ 0 = eqb-true n 0 e in let g : (0 == 16) ≡ true = subst (λ m. (m == 16) ≡ true) zero_is f in cc
+call_comes N i a n true false e f = comes_end N a _ _ (end_.Exited (a0 a)) (λ c. refl)
+call_comes N i a n false true e f = append_comes N i a
+call_comes N i a n false false e f = comes_refused N a _ _ code.Bad (λ c. refl)
+
+-- a load is wanted only where the instruction needs one, into this register and with this sign
+abbrev pub NeedLoads : ℕ → Need → ℕ → Bool → ℕ → Type 0
+NeedLoads to need.Done rd s width = ⊥
+NeedLoads to (need.Load address w is_signed) rd s width = (to ≡ rd) × (is_signed ≡ s) × (w ≡ width)
+NeedLoads to (need.Store address w value) rd s width = ⊥
+NeedLoads to need.Call rd s width = ⊥
+NeedLoads to need.Break rd s width = ⊥
+NeedLoads to need.JumpMisaligned rd s width = ⊥
+
+abbrev pub InstrLoads : Hart → Option Instr → ℕ → Bool → ℕ → Type 0
+InstrLoads h None rd s width = ⊥
+InstrLoads h (Some ins) rd s width = NeedLoads ins.rd (local ins h).need rd s width
+
+abbrev pub LoadsAt : Image → Hart → ℕ → Bool → ℕ → Type 0
+LoadsAt i h = InstrLoads h (option_and_then decode (fetch i h.pc))
+
+-- an instruction that is paid for
+needed_comes : (i : Image) (ins : Instr) (a : ActorState) (h : Hart) (n : Need) → a.phase ≡ phase.Running → Comes (NeedLoads ins.rd n) a (λ c. needed_request i c a ins.rd n) (λ c. need_refusal_after c a n) (needed_end i a n) (need_refusal i a n) (needed i ins a h n)
+unfolding serves
+needed_comes i ins a h need.Done run = comes_on (NeedLoads ins.rd need.Done) a (record a { hart = h }) _ _ refl refl run (λ c. refl)
+needed_comes i ins a h (need.Load address width s) run = load_comes (NeedLoads ins.rd (need.Load address width s)) i ins s a address width _ _ (range_at a.memory address width) (refl, refl, refl) run
+needed_comes i ins a h (need.Store address width value) run = store_comes (NeedLoads ins.rd (need.Store address width value)) a address width value _ _ (range_at a.memory address width) run
+needed_comes i ins a h need.Call run = call_comes (NeedLoads ins.rd need.Call) i a (a7 a) _ _ refl refl
+needed_comes i ins a h need.Break run = comes_end (NeedLoads ins.rd need.Break) a _ _ end_.Break (λ c. refl)
+needed_comes i ins a h need.JumpMisaligned run = comes_end (NeedLoads ins.rd need.JumpMisaligned) a _ _ end_.JumpMisaligned (λ c. refl)
+
+executed_comes : (i : Image) (a : ActorState) (ins : Option Instr) → a.phase ≡ phase.Running → Comes (InstrLoads a.hart ins) a (λ c. instr_request i c a ins) (λ c. instr_refusal_after c a ins) (instr_end i a ins) (instr_refusal i a ins) (executed i a ins)
+executed_comes i a None run = comes_end (InstrLoads a.hart None) a _ _ end_.BadInstruction (λ c. refl)
+executed_comes i a (Some ins) run = needed_comes i ins a (local ins a.hart).hart (local ins a.hart).need run
+
+-- one instruction of an actor that runs: with no fuel, or no word, it ends
+pub stuck : (i : Image) (a : ActorState) → a.fuel ≡ zero → (e : End) × (step i a ≡ ends a e) × (end_at i a ≡ Some e)
+unfolding step
+stuck i a out = fetched_stuck (fetch i a.hart.pc)
+  where
+    fetched_stuck : (w : Option ℕ) → (e : End) × (fetched i a w ≡ ends a e) × (word_end i a w ≡ Some e)
+    fetched_stuck None = (end_.FetchFault, refl, refl)
+    fetched_stuck (Some word) = (end_.FuelOut, ap (fuelled i a word) out, ap (fuel_end i a word) out)
+
+fetched_comes : (i : Image) (a : ActorState) (n : ℕ) (w : Option ℕ) → a.phase ≡ phase.Running → a.fuel ≡ suc n
+    → Comes (InstrLoads a.hart (option_and_then decode w)) (record a { fuel = n }) (λ c. word_request i c (record a { fuel = n }) w) (λ c. word_refusal_after c (record a { fuel = n }) w) (word_end i a w) (word_refusal i (record a { fuel = n }) w) (fetched i a w)
+fetched_comes i a n None run has = record { name = refl; denials = refl; ends = refl; wants = λ c. refl; codes = λ m h. absurd cc }
+fetched_comes i a n (Some word) run has =
+    let p = record a { fuel = n } in
+    let asked : Cells → Option Request = λ c. instr_request i c p (decode word) in
+    let later : Cells → Option ℕ = λ c. instr_refusal_after c p (decode word) in
+    let told = instr_refusal i p (decode word) in
+    let left : n ≡ a.fuel - 1 = omega (arith, has) in
+    let paid = subst (λ m. Comes (InstrLoads a.hart (decode word)) p asked later (instr_end i a (decode word)) told (executed i (record a { fuel = m }) (decode word))) left (executed_comes i p (decode word) run) in
+    subst (λ m. Comes (InstrLoads a.hart (decode word)) p asked later (fuel_end i a word m) told (fuelled i a word m)) (sym has) paid
+
+pub step_comes : (i : Image) (a : ActorState) (n : ℕ) → a.phase ≡ phase.Running → a.fuel ≡ suc n
+    → Comes (LoadsAt i a.hart) (record a { fuel = n }) (λ c. request_at i c (record a { fuel = n })) (λ c. refusal_after i c (record a { fuel = n })) (end_at i a) (refusal_at i (record a { fuel = n })) (step i a)
+unfolding step
+step_comes i a n run has = fetched_comes i a n (fetch i a.hart.pc) run has
+
+-- an actor within an instruction wants its request
+abbrev pub ReadsAs : Image → ActorState → Phase → Type 0
+ReadsAs i a (phase.Within q) = (rd : ℕ) × (s : Bool) × ((c : Cells) → request_at i c a ≡ request_for c rd s q) × IsRequest (LoadsAt i a.hart rd s) a q × ((c : Cells) → refusal_after i c a ≡ refusal_for c a q)
+ReadsAs i a phase.Running = Unit {0}
+ReadsAs i a (phase.Ending e) = Unit {0}
+ReadsAs i a (phase.Ended e) = Unit {0}
+
+-- what is asked does not turn on what the actor is at
+request_within : (N : ℕ → Type 0) (p : ActorState) (ph : Phase) (q : Want) → IsRequest N p q → IsRequest N (record p { phase = ph }) q
+request_within N p ph (want.Slot slot (slot_want.Load offset width)) k = k
+request_within N p ph (want.Slot slot (slot_want.Store offset width value)) k = k
+request_within N p ph (want.Fd fd (stream_ask.Append bits bytes)) k = k
+request_within N p ph q k = absurd k
+
+refusal_within : (c : Cells) (p : ActorState) (ph : Phase) (q : Want) → refusal_for c p q ≡ refusal_for c (record p { phase = ph }) q
+refusal_within c p ph (want.Fd fd (stream_ask.Append bits bytes)) = refl
+refusal_within c p ph q = refl
+
+reads_within : (i : Image) (p : ActorState) (q : Want) (rd : ℕ) (s : Bool) → ((c : Cells) → request_at i c p ≡ request_for c rd s q) → IsRequest (LoadsAt i p.hart rd s) p q → ((c : Cells) → refusal_after i c p ≡ refusal_for c p q)
+    → ReadsAs i (record p { phase = phase.Within q }) (phase.Within q)
+reads_within i p q rd s asked own later = (rd, s, asked, request_within (LoadsAt i p.hart rd s) p (phase.Within q) q own, λ c. later c ∙ refusal_within c p (phase.Within q) q)
+
+reads_of : (i : Image) (p x : ActorState) (ph : Phase) → WantsAs (LoadsAt i p.hart) p (λ c. request_at i c p) (λ c. refusal_after i c p) x ph → ReadsAs i x ph
+reads_of i p x (phase.Within q) w = subst (λ y. ReadsAs i y (phase.Within q)) (sym w.2) (reads_within i p q w.0 w.1 w.3 w.4 w.5)
+reads_of i p x phase.Running w = tt
+reads_of i p x (phase.Ending e) w = tt
+reads_of i p x (phase.Ended e) w = tt
+
+step_reads : (i : Image) (a : ActorState) (n : ℕ) → a.fuel ≡ n → a.phase ≡ phase.Running → ReadsAs i (step i a) (step i a).phase
+step_reads i a zero has run = let s = stuck i a has in subst (λ x. ReadsAs i x x.phase) (sym s.1) tt
+step_reads i a (suc n) has run = reads_of i (record a { fuel = n }) (step i a) (step i a).phase (step_comes i a n run has).wants
+
+reads_from : (i : Image) (n : ℕ) (a : ActorState) (b : Bool) → is_running a.phase ≡ b → ReadsAs i a a.phase → ReadsAs i (run_local i n a) (run_local i n a).phase
+reads_from i n a false e h = rw (stays i n a e) h
+reads_from i zero a true e h = unfold run_local in h
+reads_from i (suc n) a true e h = rw (goes_on i n a e) (reads_from i n (step i a) _ refl (step_reads i a _ refl (running_is a.phase e)))
+
+pub rest_reads : (i : Image) (a : ActorState) → IsBetween a.phase → ReadsAs i (rest i a) (rest i a).phase
+unfolding rest
+rest_reads i a h = reads_from i (a.fuel + 1) a _ refl (between_reads a.phase h)
+  where
+    between_reads : (p : Phase) → IsBetween p → ReadsAs i a p
+    between_reads phase.Running h = tt
+    between_reads (phase.Within q) h = absurd h
+    between_reads (phase.Ending e) h = tt
+    between_reads (phase.Ended e) h = tt

@@ -1,0 +1,5 @@
+use Rattle.sthread_life.proofs.Distinct.{names_distinct}
+use Rattle.sthread_life.proofs.laws.names_are_distinct.Goals as goal
+
+pub returns : goal.returns
+returns c = names_distinct

@@ -1,0 +1,107 @@
+-- The code with which a call is refused, by the row of the call: in its instruction, before its denial, or at
+-- its event, before or behind it. A second statement, beside the calls; the codes are numbers, as programs
+-- see them.
+use Rattle.std.specs.Prelude.{◌≡◌, ℕ, zero, suc, ◌==◌, Bool, not, List, Option, Some, None, nat_le, nat_lt, if◌then◌else◌}
+use Rattle.wedge_base.specs.Images.{Image, fetch}
+use Rattle.wedge_base.specs.Streams.{Stream, most_fds}
+use Rattle.wedge_base.specs.declared.events.Event.{Event}
+use Rattle.rv_isa.specs.declared.Instr.{Instr}
+use Rattle.rv_isa.specs.Table.{decode}
+use Rattle.rv_hart.specs.declared.Need.{Need}
+use Rattle.rv_hart.specs.declared.Need.TheVariants as need
+use Rattle.rv_hart.specs.Local.{local, reg}
+use Rattle.sthread_life.specs.declared.phase.Phase.{Phase}
+use Rattle.sthread_life.specs.declared.phase.Phase.TheVariants as phase
+use Rattle.sthread_life.specs.Actors.{ActorState, bits_of}
+use Rattle.sthread_life.specs.Cells.{Cells, stream_in}
+use Rattle.sthread_life.specs.Worlds.{WorldState}
+use Rattle.sthread_life.specs.Requests.{bytes_at}
+use Rattle.sthread_life.specs.Allowed.{is_source, answered}
+use Rattle.sthread_life.specs.Moments.{with_actor}
+
+abbrev pub fuel_short : ℕ
+fuel_short = 3
+
+abbrev pub no_such : ℕ
+no_such = 5
+
+abbrev pub bad : ℕ
+bad = 6
+
+-- ---- in the instruction, once its unit of fuel is taken
+
+-- fd_append: a buffer that does not fit; more bytes than there is fuel; a number that no descriptor has
+abbrev pub append_refusal : ActorState → ℕ → ℕ → Option (List ℕ) → Option ℕ
+append_refusal a fd n None = Some bad
+append_refusal a fd n (Some bytes) =
+    if not (nat_le n a.fuel) then Some fuel_short
+    else if not (nat_lt fd most_fds) then Some no_such
+    else None
+
+-- exit is never refused, and a number that is no call is bad
+abbrev pub call_refusal : Image → ActorState → List ℕ → ℕ → Option ℕ
+call_refusal i a regs n =
+    if n == 0 then None
+    else if n == 16 then append_refusal a (reg regs 10) (reg regs 12) (bytes_at i a (reg regs 11) (reg regs 12))
+    else Some bad
+
+abbrev pub need_refusal : Image → ActorState → Need → Option ℕ
+need_refusal i a need.Call = call_refusal i a a.hart.regs (reg a.hart.regs 17)
+need_refusal i a n = None
+
+abbrev pub instr_refusal : Image → ActorState → Option Instr → Option ℕ
+instr_refusal i a None = None
+instr_refusal i a (Some ins) = need_refusal i a (local ins a.hart).need
+
+abbrev pub word_refusal : Image → ActorState → Option ℕ → Option ℕ
+word_refusal i a None = None
+word_refusal i a (Some word) = instr_refusal i a (decode word)
+
+abbrev pub refusal_at : Image → ActorState → Option ℕ
+refusal_at i a = word_refusal i a (fetch i a.hart.pc)
+
+-- ---- at the event
+
+-- fd_append: a descriptor that is not live; and, where the bit to append is held, a source
+abbrev pub stream_refusal : ActorState → ℕ → Option Stream → Option ℕ
+stream_refusal a fd None = Some no_such
+stream_refusal a fd (Some s) =
+    if not s.live then Some no_such
+    else if not (bits_of a fd).append then None
+    else if is_source s.kind then Some bad
+    else None
+
+abbrev pub call_refusal_after : Cells → ActorState → List ℕ → ℕ → Option ℕ
+call_refusal_after c a regs n = if n == 16 then stream_refusal a (reg regs 10) (stream_in c (reg regs 10)) else None
+
+abbrev pub need_refusal_after : Cells → ActorState → Need → Option ℕ
+need_refusal_after c a need.Call = call_refusal_after c a a.hart.regs (reg a.hart.regs 17)
+need_refusal_after c a n = None
+
+abbrev pub instr_refusal_after : Cells → ActorState → Option Instr → Option ℕ
+instr_refusal_after c a None = None
+instr_refusal_after c a (Some ins) = need_refusal_after c a (local ins a.hart).need
+
+abbrev pub word_refusal_after : Cells → ActorState → Option ℕ → Option ℕ
+word_refusal_after c a None = None
+word_refusal_after c a (Some word) = instr_refusal_after c a (decode word)
+
+abbrev pub refusal_after : Image → Cells → ActorState → Option ℕ
+refusal_after i c a = word_refusal_after c a (fetch i a.hart.pc)
+
+-- ---- what a refusal leaves: its caller is answered 0 and the code, and all else is as before
+abbrev pub refused : ActorState → ℕ → ActorState
+refused a code = record a { hart = answered a 0 code; phase = phase.Running }
+
+abbrev pub RefusesIn : WorldState → ActorState → ℕ → WorldState → Type 0
+RefusesIn old a zero new = Unit {0}
+RefusesIn old a (suc n) new = (code : ℕ) → refusal_at old.image (record a { fuel = n }) ≡ Some code → new ≡ with_actor old (refused (record a { fuel = n }) code)
+
+abbrev pub RefusesAfter : WorldState → ActorState → Phase → WorldState → Type 0
+RefusesAfter old a (phase.Within q) new = (code : ℕ) → refusal_after old.image old.cells a ≡ Some code → new ≡ with_actor old (refused a code)
+RefusesAfter old a p new = Unit {0}
+
+-- a call is refused with the code of its row
+abbrev pub RefusesByRow : WorldState → ActorState → Option Event → WorldState → Type 0
+RefusesByRow old a None new = RefusesIn old a a.fuel new
+RefusesByRow old a (Some e) new = RefusesAfter old a a.phase new

@@ -1,0 +1,86 @@
+-- The requests that a sheet may forbid, and which of them an instruction makes: read off its word, the
+-- registers, private memory and what lives in the cells. Nothing here calls the step, so that what the step
+-- makes of a request is a theorem.
+use Rattle.std.specs.Prelude.{ℕ, ◌%◌, ◌==◌, Bool, not, ◌&&◌, List, [], length, Option, Some, None, is_some, nat_le, nat_lt, if◌then◌else◌}
+use Rattle.wedge_base.specs.Memory.{range_at, read_range}
+use Rattle.wedge_base.specs.Images.{Image, fetch, in_text, read_text, slot_of}
+use Rattle.wedge_base.specs.Slots.{Segment}
+use Rattle.wedge_base.specs.Streams.{Stream, most_fds}
+use Rattle.wedge_base.specs.declared.address.Place.{Place}
+use Rattle.wedge_base.specs.declared.image.MemoryRange.{MemoryRange}
+use Rattle.rv_isa.specs.declared.Instr.{Instr}
+use Rattle.rv_isa.specs.Table.{decode}
+use Rattle.rv_hart.specs.declared.Need.{Need}
+use Rattle.rv_hart.specs.declared.Need.TheVariants as need
+use Rattle.rv_hart.specs.Local.{local, reg}
+use Rattle.sthread_life.specs.Actors.{ActorState}
+use Rattle.sthread_life.specs.Cells.{Cells, slot_in, stream_in}
+
+-- an access: its place in a window, how many bytes, and the tag that lives there
+pub record Access : Type 0 where
+  pub place : Place
+  pub width : ℕ
+  pub living : Segment
+
+-- a request that a sheet may forbid: to load into a register, with a sign or without, to store a value, to
+-- append bytes to a live stream
+pub data Request : Type 0 where
+  Loads : Access → (rd : ℕ) → (is_signed : Bool) → Request
+  Stores : Access → (value : ℕ) → Request
+  Appends : (fd : ℕ) → Stream → (bytes : List ℕ) → Request
+
+-- ---- which request an instruction makes, once its unit of fuel is taken
+
+-- an access reaches a window where it is aligned, and neither in the text nor in private memory
+abbrev pub reaches_window : Image → ActorState → ℕ → ℕ → Bool
+reaches_window i a address width = (address % width == 0) && not (in_text i address width) && not (is_some (range_at a.memory address width))
+
+-- inside the bytes of the tag that lives there
+abbrev pub in_tag : (Access → Request) → Place → ℕ → Option Segment → Option Request
+in_tag of p width None = None
+in_tag of p width (Some g) = if nat_lt p.offset (length g.bytes) then Some (of (record { place = p; width = width; living = g })) else None
+
+abbrev pub in_window : (Access → Request) → Cells → ℕ → Option Place → Option Request
+in_window of c width None = None
+in_window of c width (Some p) = in_tag of p width (slot_in c p.slot)
+
+-- the bytes of a buffer that is read, where it fits: 256 at most, in one private range or in the text
+abbrev pub bytes_in_range : Image → ℕ → ℕ → Option MemoryRange → Option (List ℕ)
+bytes_in_range i pointer n (Some r) = Some (read_range r pointer n)
+bytes_in_range i pointer n None = if in_text i pointer n then Some (read_text i pointer n) else None
+
+abbrev pub bytes_at : Image → ActorState → ℕ → ℕ → Option (List ℕ)
+bytes_at i a pointer n =
+    if not (nat_le n 256) then None
+    else if n == 0 then Some []
+    else bytes_in_range i pointer n (range_at a.memory pointer n)
+
+-- fd_append: the buffer fits, the fuel is enough, and the descriptor is live
+abbrev pub to_stream : ℕ → List ℕ → Option Stream → Option Request
+to_stream fd bytes None = None
+to_stream fd bytes (Some s) = if s.live then Some (Appends fd s bytes) else None
+
+abbrev pub append_of : Cells → ActorState → ℕ → ℕ → Option (List ℕ) → Option Request
+append_of c a fd n None = None
+append_of c a fd n (Some bytes) = if nat_le n a.fuel && nat_lt fd most_fds then to_stream fd bytes (stream_in c fd) else None
+
+-- a service call, by its number
+abbrev pub call_request : Image → Cells → ActorState → List ℕ → ℕ → Option Request
+call_request i c a regs n = if n == 16 then append_of c a (reg regs 10) (reg regs 12) (bytes_at i a (reg regs 11) (reg regs 12)) else None
+
+abbrev pub needed_request : Image → Cells → ActorState → ℕ → Need → Option Request
+needed_request i c a rd (need.Load address width is_signed) = if reaches_window i a address width then in_window (λ x. Loads x rd is_signed) c width (slot_of address) else None
+needed_request i c a rd (need.Store address width value) = if reaches_window i a address width then in_window (λ x. Stores x value) c width (slot_of address) else None
+needed_request i c a rd need.Call = call_request i c a a.hart.regs (reg a.hart.regs 17)
+needed_request i c a rd n = None
+
+abbrev pub instr_request : Image → Cells → ActorState → Option Instr → Option Request
+instr_request i c a None = None
+instr_request i c a (Some ins) = needed_request i c a ins.rd (local ins a.hart).need
+
+abbrev pub word_request : Image → Cells → ActorState → Option ℕ → Option Request
+word_request i c a None = None
+word_request i c a (Some word) = instr_request i c a (decode word)
+
+abbrev pub request_at : Image → Cells → ActorState → Option Request
+request_at i c a = word_request i c a (fetch i a.hart.pc)

@@ -1,0 +1,36 @@
+-- The cell of a recycled gate: whether a run is in it, and what the last run left.
+use Rattle.std.specs.Prelude.{◌≡◌, ◌==◌, Bool, true, false, ◌&&◌, Option, Some, None, unwrap_or}
+use Rattle.wedge_base.specs.Names.{same}
+use Rattle.wedge_base.specs.Parts.{Parts}
+use Rattle.wedge_base.specs.declared.grants.GateId.{GateId}
+use Rattle.wedge_base.specs.declared.cells.GateAsk.{GateAsk}
+use Rattle.wedge_base.specs.declared.cells.GateAsk.TheVariants as ask
+use Rattle.wedge_base.specs.declared.cells.GateReply.{GateReply}
+use Rattle.wedge_base.specs.declared.cells.GateReply.TheVariants as reply
+
+-- whether two identities are the same
+abbrev pub same_gate : GateId → GateId → Bool
+same_gate x y = same x.maker y.maker && (x.number == y.number)
+
+-- whether a run is in the gate, and the memory that is kept for the next one
+pub record Kept : Type 0 where
+  pub entered : Bool
+  pub kept : Option Parts
+
+-- a gate begins free, with nothing kept
+abbrev pub gate_opening : Kept
+gate_opening = record { entered = false; kept = None }
+
+-- an enter is given what is kept, or else what it brings
+abbrev pub gate_reply : Kept → GateAsk → GateReply
+gate_reply k (ask.Enter run parts) = reply.Entered (unwrap_or k.kept parts)
+gate_reply k (ask.Leave end parts) = reply.Left
+
+abbrev pub gate_next : Kept → GateAsk → Kept
+gate_next k (ask.Enter run parts) = record { entered = true; kept = None }
+gate_next k (ask.Leave end parts) = record { entered = false; kept = Some parts }
+
+-- a run enters where the gate is free, and leaves where one is in it
+abbrev pub GateFits : Kept → GateAsk → Type 0
+GateFits k (ask.Enter run parts) = k.entered ≡ false
+GateFits k (ask.Leave end parts) = k.entered ≡ true

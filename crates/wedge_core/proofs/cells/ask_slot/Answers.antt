@@ -1,5 +1,0 @@
-use Rattle.tag_segment.proofs.Images.{no_image}
-use Rattle.wedge_core.proofs.cells.ask_slot.Goals as goal
-
-pub act-requires : goal.act-requires
-act-requires c = (no_image, c.requires)
