@@ -4,7 +4,7 @@ use Rattle.std.proofs.lemmas.Bool.{cases_Bool}
 use Rattle.std.proofs.lemmas.Slice.Eq.{bytes_eq-Decides}
 use Rattle.std.specs.Str.{bytes_eq}
 use Rattle.std.specs.String.{string_bytes}
-use Rattle.host_io.specs.Memory.{bytes_named, names_differ, IsTold}
+use Rattle.host_io.specs.Memory.{bytes_named, names_differ, IsExposed}
 use Rattle.host_io.specs.declared.mem_file.MemFile.{MemFile}
 
 both : (a b : Bool) → (a && b) ≡ true → (a ≡ true) × (b ≡ true)
@@ -27,9 +27,9 @@ tail_of f fs name bytes none found =
     ]
 
 -- of files whose names differ each tells its bytes
-pub told_of_differ : (files : List MemFile) → IsTrue (names_differ files) → (k : ℕ) (d : MemFile) → k < length files → IsTold files (get_or files k d)
-told_of_differ [] h k d in_range = absurd (omega arith)
-told_of_differ (f ∷ fs) h zero d in_range = at_head f fs (string_bytes f.name) refl
-told_of_differ (f ∷ fs) h (suc k) d in_range =
+pub exposed_of_differ : (files : List MemFile) → IsTrue (names_differ files) → (k : ℕ) (d : MemFile) → k < length files → IsExposed files (get_or files k d)
+exposed_of_differ [] h k d in_range = absurd (omega arith)
+exposed_of_differ (f ∷ fs) h zero d in_range = at_head f fs (string_bytes f.name) refl
+exposed_of_differ (f ∷ fs) h (suc k) d in_range =
     let parts = both _ _ h in
-    tail_of f fs (string_bytes (get_or fs k d).name) (get_or fs k d).bytes.items parts.0 (told_of_differ fs parts.1 k d (omega arith))
+    tail_of f fs (string_bytes (get_or fs k d).name) (get_or fs k d).bytes.items parts.0 (exposed_of_differ fs parts.1 k d (omega arith))

@@ -1,3 +1,3 @@
-pub mod Told
+pub mod Exposed
 pub mod Counts
 pub mod Memory

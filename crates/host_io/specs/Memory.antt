@@ -31,9 +31,9 @@ abbrev pub names_differ : List MemFile → Bool
 names_differ [] = true
 names_differ (f ∷ fs) = is_none (bytes_named fs (string_bytes f.name)) && names_differ fs
 
--- the file tells its bytes
-abbrev pub IsTold : List MemFile → MemFile → Type 0
-IsTold files f = bytes_named files (string_bytes f.name) ≡ Some f.bytes.items
+-- the file exposes its bytes
+abbrev pub IsExposed : List MemFile → MemFile → Type 0
+IsExposed files f = bytes_named files (string_bytes f.name) ≡ Some f.bytes.items
 
 -- files in memory after a call
 abbrev pub after_read : MemoryFiles → Bool → MemoryFiles

@@ -6,7 +6,7 @@ ghost use base.Fml.{ftrue};
 use std::marker::{Model, PhantomData};
 
 /// How often a device has failed. Only proofs read it: it takes no memory, and so there is no greatest
-/// count after which a further failure could not be told.
+/// count after which a further failure could not be counted.
 pub struct Count {
     marker: PhantomData<()>,
     pub ghost value: { ℕ },

@@ -12,7 +12,7 @@ pub struct Failed;
 /// Why a file was not read whole.
 #[derive(Clone, Copy, Debug, PartialEq, Eq, Error)]
 pub enum ReadFault {
-    /// No memory was left for its bytes.
+    /// Out of memory for its bytes.
     #[error("out of memory")]
     NoMemory,
     /// A read failed.

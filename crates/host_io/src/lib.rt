@@ -1,5 +1,5 @@
-//! The outside: files that are read, sinks that are written, and the pace of a run. Each tells how
-//! often it has failed, and may tell its bytes.
+//! The outside: files that are read, sinks that are written, and the pace of a run. Each counts how
+//! often it has failed, and may expose its bytes to contracts.
 #![tactic(auto)]
 
 mod count;

@@ -1,9 +1,9 @@
 //! Files that lie in memory.
 
 ghost use Rattle.std.specs.Prelude.{option_map, ◌≡◌, ℕ, ◌≤◌, ◌<◌, ◌+◌, ◌-◌, List, length, take, drop, min, Option, IfOk, IsErr, IsTrue, ◌↔◌, ◌⊎◌, None, All, is_err};
-ghost use Rattle.host_io.specs.Told.{WhereTold};
+ghost use Rattle.host_io.specs.Exposed.{WhereExposed};
 ghost use Rattle.host_io.specs.Counts.{Counts};
-ghost use Rattle.host_io.specs.Memory.{MemoryFiles, bytes_named, is_due, names_differ, IsTold, after_read};
+ghost use Rattle.host_io.specs.Memory.{MemoryFiles, bytes_named, is_due, names_differ, IsExposed, after_read};
 
 use crate::count::Count;
 use crate::errors::Failed;
@@ -12,7 +12,7 @@ use crate::mem_file::MemFile;
 use crate::plan::Plan;
 use std::marker::Model;
 
-/// Files that lie in memory and tell their bytes. Chosen calls fail, and so does each read of a name that
+/// Files that lie in memory and expose their bytes. Chosen calls fail, and so does each read of a name that
 /// no file has.
 #[derive(Drop)]
 pub struct MemFiles {
@@ -69,7 +69,7 @@ impl MemFiles {
     pub fn new(files: Vec<MemFile>, fails: Vec<u64>) -> MemFiles
         requires { IsTrue (names_differ files.items) }
         ensures state { result ≡ record { files = files.items; fails = fails.items; calls = 0; faults = 0 } }
-        ensures told { All (IsTold files.items) files.items }
+        ensures exposed { All (IsExposed files.items) files.items }
     {
         MemFiles {
             files,
@@ -86,10 +86,10 @@ impl Files for MemFiles {
 
     fn read(&mut self, name: &str, at: u64, buf: &mut [u8]) -> Result<usize, Failed>
         ensures within { IfOk result (λ n. n ≤ length buf.new) }
-        ensures bytes { IfOk result (λ n. WhereTold (bytes_named self.old.files name.now)
-            (λ told. take n buf.new ≡ take n (drop at told))) }
-        ensures some { IfOk result (λ n. WhereTold (bytes_named self.old.files name.now)
-            (λ told. at < length told → 0 < length buf.new → 0 < n)) }
+        ensures bytes { IfOk result (λ n. WhereExposed (bytes_named self.old.files name.now)
+            (λ exposed. take n buf.new ≡ take n (drop at exposed))) }
+        ensures some { IfOk result (λ n. WhereExposed (bytes_named self.old.files name.now)
+            (λ exposed. at < length exposed → 0 < length buf.new → 0 < n)) }
         ensures counts { Counts result self.old.faults self.new.faults }
         ensures rises { (other : List ℕ) → self.old.faults ≤ self.new.faults }
         ensures content { (other : List ℕ) → bytes_named self.new.files other ≡ bytes_named self.old.files other }

@@ -1,7 +1,7 @@
 //! A sink that lies in memory.
 
 ghost use Rattle.std.specs.Prelude.{◌≡◌, ℕ, ◌≤◌, ◌<◌, ◌+◌, List, [], length, take, Option, Some, IfOk, OnErr, IsErr, IsTrue, ◌↔◌, ◌⊎◌, vec_capacity};
-ghost use Rattle.host_io.specs.Told.{grown_by};
+ghost use Rattle.host_io.specs.Exposed.{grown_by};
 ghost use Rattle.host_io.specs.Counts.{Counts};
 ghost use Rattle.host_io.specs.Memory.{MemorySink, is_due, fitting, IsFull, after_write};
 
@@ -13,7 +13,7 @@ use std::alloc::Global;
 use std::marker::Model;
 use wedge_base::NoMemory;
 
-/// A sink that lies in memory and tells its bytes. It has room for so many; a write that finds none left
+/// A sink that lies in memory whose bytes contracts see. It has room for so many; a write that finds none left
 /// fails, and so do chosen calls.
 #[derive(Drop)]
 pub struct MemSink {

@@ -29,7 +29,7 @@ impl<F> Opened<F> {
     }
 }
 
-/// The files of the system. They tell no bytes: what a file holds is for the system to say. Whatever it
+/// The files of the system. They expose no bytes: what a file holds is for the system to say. Whatever it
 /// answers in place of bytes is a failure, and so is a name that it cannot open.
 #[derive(Drop)]
 pub struct RealFiles<'a, R: rt::Files> {

@@ -7,7 +7,7 @@ use crate::errors::Failed;
 use crate::sinks::Sink;
 use std::io::{Print, Stderr, Stdout};
 
-/// An output of the process. It tells no bytes: what became of them is for the system to say.
+/// An output of the process. It exposes no bytes: what became of them is for the system to say.
 #[derive(Drop)]
 pub struct RealSink<P: Print> {
     to: P,

@@ -1,14 +1,14 @@
 //! Sinks that are written.
 
 ghost use Rattle.std.specs.Prelude.{◌≡◌, ℕ, ◌≤◌, ◌<◌, List, length, take, Option, IfOk, OnErr};
-ghost use Rattle.host_io.specs.Told.{grown_by};
+ghost use Rattle.host_io.specs.Exposed.{grown_by};
 ghost use Rattle.host_io.specs.Counts.{Counts};
 
 use crate::errors::Failed;
 
 /// A place outside the program that takes bytes in order.
 pub trait Sink {
-    /// The bytes that it has taken, where they are told.
+    /// The bytes that it has taken, where they are exposed.
     ghost written: { Self → Option (List ℕ) };
 
     /// How often writing has failed.

@@ -1,7 +1,7 @@
 //! Whole reads and whole writes.
 
 ghost use Rattle.std.specs.Prelude.{◌≡◌, ℕ, ◌≤◌, ◌<◌, List, [], length, take, IfOk, OnOk, OnErr, MatchResult, vec_len};
-ghost use Rattle.host_io.specs.Told.{WhereTold, grown_by};
+ghost use Rattle.host_io.specs.Exposed.{WhereExposed, grown_by};
 ghost use Rattle.host_io.specs.Counts.{ReadCounts};
 
 use crate::errors::{ReadFault, WriteFault};
@@ -27,11 +27,11 @@ pub fn read_whole<F: Files>(
     name: &str,
     limit: u64,
 ) -> Result<Vec<u8>, ReadFault>
-    ensures bytes { IfOk result (λ v. WhereTold (F.content files.old name.now) (λ told. v.items ≡ told)) }
+    ensures bytes { IfOk result (λ v. WhereExposed (F.content files.old name.now) (λ exposed. v.items ≡ exposed)) }
     ensures within { IfOk result (λ v. vec_len v ≤ limit) }
     ensures too_long { (most : ℕ) → result ≡ Err (ReadFault.TooLong most) → most ≡ limit }
     ensures longer { (most : ℕ) → result ≡ Err (ReadFault.TooLong most)
-        → WhereTold (F.content files.old name.now) (λ told. limit < length told) }
+        → WhereExposed (F.content files.old name.now) (λ exposed. limit < length exposed) }
 
     // A fault is answered where the count rose in this call, and only there.
     ensures counts { MatchResult result

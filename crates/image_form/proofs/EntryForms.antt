@@ -7,7 +7,7 @@ use Rattle.wedge_base.specs.declared.image.MemoryRange.{MemoryRange}
 use Rattle.image_form.specs.declared.fault.Why.TheVariants.{Range, Overlap, Limit}
 use Rattle.wedge_base.specs.Texts.{is_name}
 use Rattle.image_form.specs.Forms.{is_below}
-use Rattle.image_form.specs.Spelling.{number, string, content, table, procedure, range}
+use Rattle.image_form.specs.Encoding.{number, string, content, table, procedure, range}
 use Rattle.image_form.specs.Rules.{high_end, most_procedures, most_ranges, most_range_bytes, is_among, addresses, begins_at, end_of, is_off_text, IsProcedure, AreProcedures, IsRange, AreRanges}
 use Rattle.image_form.specs.Reading.{◌>>=◌, demand, last_of, bytes_at, number_at, checked_at, is_base, is_word_count, words_at, is_address, address_at, procedure_at, procedures_at, is_range_length, range_length_at, range_at, ranges_at}
 use Rattle.image_form.proofs.Form.{IsForm, seq, ended, demanded, placed, tested, reworded}

@@ -8,7 +8,7 @@ use Rattle.std.proofs.lemmas.List.{length-take, take-append-drop, take_at, drop_
 use Rattle.std.proofs.lemmas.Nat.{le_bytes_2, le_bytes_4, from_le_bytes-to_le_bytes_2, from_le_bytes-to_le_bytes_4}
 use Rattle.image_form.specs.declared.fault.Why.{Why}
 use Rattle.image_form.specs.declared.fault.Why.TheVariants.{Truncated, Range, Order}
-use Rattle.image_form.specs.Spelling.{number, string, content}
+use Rattle.image_form.specs.Encoding.{number, string, content}
 use Rattle.image_form.specs.Forms.{is_below}
 use Rattle.image_form.specs.Reading.{◌>>=◌, Read, place, bytes_at, number_at, short_at, checked_at, string_at, formed_at, key_at, content_at}
 use Rattle.image_form.proofs.Form.{IsBytes, IsBytes-drop, IsBytes-take, bind_ok, ok_is, demand_ok, Takes, IsForm, seq, reworded, tested}
@@ -75,8 +75,8 @@ wide_form w limit wide total = record { takes = took; again = repeated }
         let p = ok_is (from_le_bytes w b.0.0, b.0.1) (n, rest) b.2 in
         let n-is : from_le_bytes w b.0.0 ≡ n = ap (λ (q : ℕ × List ℕ). q.0) p in
         let rest-is : b.0.1 ≡ rest = ap (λ (q : ℕ × List ℕ). q.1) p in
-        let spelled : b.0.0 ≡ to_le_bytes w n = sym (wide.back b.0.0 t.1 front_fits) ∙ ap (to_le_bytes w) n-is in
-        (subst (λ x. Takes bytes x rest) spelled (subst (λ r. Takes bytes b.0.0 r) rest-is t.0), rw (← n-is) (wide.below b.0.0 front_fits))
+        let encoded : b.0.0 ≡ to_le_bytes w n = sym (wide.back b.0.0 t.1 front_fits) ∙ ap (to_le_bytes w) n-is in
+        (subst (λ x. Takes bytes x rest) encoded (subst (λ r. Takes bytes b.0.0 r) rest-is t.0), rw (← n-is) (wide.below b.0.0 front_fits))
 
     repeated : (n : ℕ) (rest : List ℕ) → n < limit → (bytes_at total (byte_len w) (to_le_bytes w n ++ rest) >>= decoded w) ≡ Ok (n, rest)
     repeated n rest lt =

@@ -19,8 +19,8 @@ use Rattle.image_form.specs.declared.fault.Why.TheVariants.{Magic, Version, Rang
 use Rattle.image_form.specs.declared.fault.ImageError.{ImageError}
 use Rattle.wedge_base.specs.Texts.{is_name}
 use Rattle.image_form.specs.Forms.{is_path, is_root, is_below, ascend}
-use Rattle.image_form.specs.Spelling.{most_bytes, magic, version, number, table, right_code, tag, kind_code, bits_code, fd, file, spelling}
-use Rattle.image_form.specs.Rules.{most_fuel, most_tags, most_fds, most_files, begins_at, may_hold, IsText, IsProcedure, AreProcedures, AreRanges, IsTag, AreTags, IsFd, AreFds, IsFile, AreFiles, IsImage, Spells}
+use Rattle.image_form.specs.Encoding.{most_bytes, magic, version, number, table, right_code, tag, kind_code, bits_code, fd, file, encoding}
+use Rattle.image_form.specs.Rules.{most_fuel, most_tags, most_fds, most_files, begins_at, may_hold, IsText, IsProcedure, AreProcedures, AreRanges, IsTag, AreTags, IsFd, AreFds, IsFile, AreFiles, IsImage, Encodes}
 use Rattle.image_form.specs.Reading.{◌>>=◌, Read, last_of, checked_at, table_at, right_of, right_at, is_page_count, tag_at, tags_at, kind_of, kind_at, bits_of, bits_at, fd_at, fds_at, file_at, files_at, header_at, is_base, image_at, reading, place, Gives}
 use Rattle.image_form.proofs.Form.{IsBytes, bind_ok, demand_ok, ok_is, IsForm, seq, ended, reworded}
 use Rattle.image_form.proofs.FieldForms.{number_form, checked_form, formed_form, key_form, content_form}
@@ -188,12 +188,12 @@ file_form total front =
 -- ---- tables
 
 -- entries in the order of their texts
-keyed_form : {X : Type 0} (key : X → List ℕ) (entry : List X → List ℕ → Read X) (spell : X → List ℕ) (Rule : X → Type 0) (most total : ℕ) → most < 2 ^ 32
-    → ((front : List X) → IsForm (entry front) spell (λ x. IsAfter key front x × Rule x))
-    → IsForm (table_at most entry total) (table spell) (λ xs. (length xs ≤ most) × (AllByRecursion Rule xs × (ascend (map key xs) ≡ true)))
-keyed_form key entry spell Rule most total few form =
-    reworded (table spell) (λ xs. (length xs ≤ most) × (AllByRecursion Rule xs × (ascend (map key xs) ≡ true)))
-    (table_form entry spell (λ front x. IsAfter key front x × Rule x) form most total few)
+keyed_form : {X : Type 0} (key : X → List ℕ) (entry : List X → List ℕ → Read X) (encode : X → List ℕ) (Rule : X → Type 0) (most total : ℕ) → most < 2 ^ 32
+    → ((front : List X) → IsForm (entry front) encode (λ x. IsAfter key front x × Rule x))
+    → IsForm (table_at most entry total) (table encode) (λ xs. (length xs ≤ most) × (AllByRecursion Rule xs × (ascend (map key xs) ≡ true)))
+keyed_form key entry encode Rule most total few form =
+    reworded (table encode) (λ xs. (length xs ≤ most) × (AllByRecursion Rule xs × (ascend (map key xs) ≡ true)))
+    (table_form entry encode (λ front x. IsAfter key front x × Rule x) form most total few)
     (λ xs good.
     let a = scan_there (names_scan key) (λ f x. Rule x) [] xs good.1 in
     (refl, (good.0, (plain_there Rule [] xs a.1, a.0))))
@@ -245,7 +245,7 @@ entry_small base count (p ∷ ps) n each h =
       | inr later ↦ entry_small base count ps n each.1 later
     ]
 
--- all rules but the one on the length of the spelling
+-- all rules but the one on the length of the encoding
 pub record MeetsRules (i : Image) : Type 0 where
   pub fuel_small : i.fuel ≤ most_fuel
   pub text : IsText i.base i.words
@@ -261,10 +261,10 @@ pub record MeetsRules (i : Image) : Type 0 where
 after_header : (fuel : ℕ) (rest : List ℕ) → header fuel ++ rest ≡ number magic ++ (number version ++ (number fuel ++ rest))
 after_header fuel rest = append_assoc (number magic) (number version ++ number fuel) rest ∙ ap (λ x. number magic ++ x) (append_assoc (number version) (number fuel) rest)
 
-pub image_form : (total : ℕ) → IsForm (image_at total) spelling MeetsRules
-unfolding image_at spelling
+pub image_form : (total : ℕ) → IsForm (image_at total) encoding MeetsRules
+unfolding image_at encoding
 image_form total =
-    reworded spelling MeetsRules
+    reworded encoding MeetsRules
     (seq _ _ _ (λ i. i.fuel) (header_form total) (λ fuel g0.
     seq _ _ _ (λ i. i.base) (checked_form is_base Range total) (λ base g1.
     seq _ _ _ (λ i. i.words) (words_form base total) (λ words g2.
@@ -329,7 +329,7 @@ image_form total =
 trailing_none : (rest : List ℕ) → eqb (length rest) 0 ≡ true → rest ≡ []
 trailing_none rest h = nil_from_length rest (eqb-true _ _ h)
 
-pub is_image : (i : Image) → MeetsRules i → length (spelling i) ≤ most_bytes → IsImage i
+pub is_image : (i : Image) → MeetsRules i → length (encoding i) ≤ most_bytes → IsImage i
 is_image i rule small = record {
   fuel_small = rule.fuel_small;
   text = rule.text;
@@ -358,8 +358,8 @@ meets i is = record {
   root_canonical = is.root_canonical;
 }
 
--- what is read is an image, and the bytes are its spelling
-pub is_found : (bytes : List ℕ) (i : Image) → IsBytes bytes → reading bytes ≡ Ok i → Spells i bytes
+-- what is read is an image, and the bytes are its encoding
+pub is_found : (bytes : List ℕ) (i : Image) → IsBytes bytes → reading bytes ≡ Ok i → Encodes i bytes
 unfolding reading
 is_found bytes i fits e =
     let a = demand_ok (leb (length bytes) most_bytes) most_bytes Limit _ i e in
@@ -368,21 +368,21 @@ is_found bytes i fits e =
     let t = (image_form (length bytes)).takes bytes b.0.0 b.0.1 fits b.1 in
     let none : b.0.1 ≡ [] = trailing_none b.0.1 g.0 in
     let same : b.0.0 ≡ i = ok_is b.0.0 i g.1 in
-    let spelled : bytes ≡ spelling b.0.0 = t.0.parts ∙ ap (λ r. spelling b.0.0 ++ r) none ∙ append-nil (spelling b.0.0) in
+    let encoded : bytes ≡ encoding b.0.0 = t.0.parts ∙ ap (λ r. encoding b.0.0 ++ r) none ∙ append-nil (encoding b.0.0) in
     let small : length bytes ≤ most_bytes = leb_there _ _ a.0 in
-    subst (λ j. Spells j bytes) same (record { valid = is_image b.0.0 t.1 (omega (arith, small, ap length spelled)); spelled = spelled })
+    subst (λ j. Encodes j bytes) same (record { valid = is_image b.0.0 t.1 (omega (arith, small, ap length encoded)); encoded = encoded })
 
--- the spelling of an image is read as that image
-pub is_read : (i : Image) → IsImage i → reading (spelling i) ≡ Ok i
+-- the encoding of an image is read as that image
+pub is_read : (i : Image) → IsImage i → reading (encoding i) ≡ Ok i
 unfolding reading
 is_read i is =
-    let total = length (spelling i) in
-    let whole : image_at total (spelling i) ≡ Ok (i, []) = ap (image_at total) (sym (append-nil (spelling i))) ∙ (image_form total).again i [] (meets i is) in
+    let total = length (encoding i) in
+    let whole : image_at total (encoding i) ≡ Ok (i, []) = ap (image_at total) (sym (append-nil (encoding i))) ∙ (image_form total).again i [] (meets i is) in
     rw (leb_back total most_bytes is.small, whole) refl
 
-pub is_given : {X : Type 0} (view : X → Image) (bytes : List ℕ) (r : Result X ImageError) → IsBytes bytes → Gives view r (reading bytes) → IfOk r (λ x. Spells (view x) bytes)
+pub is_given : {X : Type 0} (view : X → Image) (bytes : List ℕ) (r : Result X ImageError) → IsBytes bytes → Gives view r (reading bytes) → IfOk r (λ x. Encodes (view x) bytes)
 is_given view bytes (Ok x) fits given = is_found bytes (view x) fits given
 is_given view bytes (Err e) fits given = tt
 
-pub is_only : {X : Type 0} (view : X → Image) (bytes : List ℕ) (r : Result X ImageError) → Gives view r (reading bytes) → (i : Image) → Spells i bytes → Gives view r (Ok i)
-is_only view bytes r given i spells = subst (λ read. Gives view r read) (ap reading spells.spelled ∙ is_read i spells.valid) given
+pub is_only : {X : Type 0} (view : X → Image) (bytes : List ℕ) (r : Result X ImageError) → Gives view r (reading bytes) → (i : Image) → Encodes i bytes → Gives view r (Ok i)
+is_only view bytes r given i encodes = subst (λ read. Gives view r read) (ap reading encodes.encoded ∙ is_read i encodes.valid) given

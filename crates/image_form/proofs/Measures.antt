@@ -10,23 +10,23 @@ use Rattle.wedge_base.specs.declared.image.FdEntry.{FdEntry}
 use Rattle.wedge_base.specs.declared.image.FileEntry.{FileEntry}
 use Rattle.std.specs.Prelude.{Option, Some, None}
 use Rattle.image_form.specs.Fitting.{Leaves, TableFits, WordFits}
-use Rattle.image_form.specs.Spelling.{number, string, table, procedure, range, tag, fd, file}
+use Rattle.image_form.specs.Encoding.{number, string, table, procedure, range, tag, fd, file}
 
 pub number_long : (n : ℕ) → length (number n) ≡ 4
 unfolding number
 number_long n = refl
 
-module _ {X : Type 0} (spell : X → List ℕ) where
+module _ {X : Type 0} (encode : X → List ℕ) where
   -- what the entries from a place on take
-  pub need_next : (xs : List X) (k : ℕ) (x : X) → k < length xs → x ≡ get_or xs k x → length (flat_map spell (drop k xs)) ≡ length (spell x) + length (flat_map spell (drop (k + 1) xs))
+  pub need_next : (xs : List X) (k : ℕ) (x : X) → k < length xs → x ≡ get_or xs k x → length (flat_map encode (drop k xs)) ≡ length (encode x) + length (flat_map encode (drop (k + 1) xs))
   need_next xs k x lt is =
       let split : drop k xs ≡ x ∷ drop (k + 1) xs = rw (add-one, drop-cons xs k x lt, ← is) refl in
-      ap (λ ys. length (flat_map spell ys)) split ∙ ap length (flat_map-cons spell x (drop (k + 1) xs)) ∙ length-append (spell x) (flat_map spell (drop (k + 1) xs))
+      ap (λ ys. length (flat_map encode ys)) split ∙ ap length (flat_map-cons encode x (drop (k + 1) xs)) ∙ length-append (encode x) (flat_map encode (drop (k + 1) xs))
 
   -- entries that each take a byte at least are no more than the bytes
-  pub no_more_than : ((x : X) → 1 ≤ length (spell x)) → (xs : List X) → length xs ≤ length (flat_map spell xs)
+  pub no_more_than : ((x : X) → 1 ≤ length (encode x)) → (xs : List X) → length xs ≤ length (flat_map encode xs)
   no_more_than some [] = omega arith
-  no_more_than some (x ∷ xs) = omega (arith, some x, no_more_than some xs, ap length (flat_map-cons spell x xs), length-append (spell x) (flat_map spell xs))
+  no_more_than some (x ∷ xs) = omega (arith, some x, no_more_than some xs, ap length (flat_map-cons encode x xs), length-append (encode x) (flat_map encode xs))
 
 AllByRecursion-push : {X : Type 0} (Fits : X → Type 0) (xs : List X) (x : X) → AllByRecursion Fits xs → Fits x → AllByRecursion Fits (xs ++ x ∷ [])
 AllByRecursion-push Fits [] x each fit = (fit, tt)
@@ -40,29 +40,29 @@ each_next Fits xs k x lt is each fit = rw (take_more xs k x lt, ← is) (AllByRe
 pub none_left : (xs : List ℕ) (r : Option ℕ) (room : ℕ) → r ≡ None → room < length xs → Leaves room xs r
 none_left xs r room none short = rw none short
 
-module _ {X : Type 0} (spell : X → List ℕ) (Fits : X → Type 0) (xs : List X) where
+module _ {X : Type 0} (encode : X → List ℕ) (Fits : X → Type 0) (xs : List X) where
   -- after the first entries, the bytes that are left and those that the others take
   abbrev pub Left : ℕ → ℕ → ℕ → Type 0
-  Left total room k = room + 4 + length (flat_map spell xs) ≡ total + length (flat_map spell (drop k xs))
+  Left total room k = room + 4 + length (flat_map encode xs) ≡ total + length (flat_map encode (drop k xs))
 
-  whole : length (table spell xs) ≡ 4 + length (flat_map spell xs)
-  whole = omega (arith, length-append (number (length xs)) (flat_map spell xs), number_long (length xs))
+  whole : length (table encode xs) ≡ 4 + length (flat_map encode xs)
+  whole = omega (arith, length-append (number (length xs)) (flat_map encode xs), number_long (length xs))
 
-  pub no_count : (total : ℕ) (r : Option ℕ) → r ≡ None → (4 ≤ total → ⊥) → Leaves total (table spell xs) r
-  no_count total r none short = none_left (table spell xs) r total none (omega (arith, whole, short))
+  pub no_count : (total : ℕ) (r : Option ℕ) → r ≡ None → (4 ≤ total → ⊥) → Leaves total (table encode xs) r
+  no_count total r none short = none_left (table encode xs) r total none (omega (arith, whole, short))
 
-  pub no_entry : (total room k : ℕ) (x : X) (r : Option ℕ) → r ≡ None → Left total room k → k < length xs → x ≡ get_or xs k x → room < length (spell x) → Leaves total (table spell xs) r
-  no_entry total room k x r none left lt is short = none_left (table spell xs) r total none (omega (arith, whole, left, short, need_next spell xs k x lt is))
+  pub no_entry : (total room k : ℕ) (x : X) (r : Option ℕ) → r ≡ None → Left total room k → k < length xs → x ≡ get_or xs k x → room < length (encode x) → Leaves total (table encode xs) r
+  no_entry total room k x r none left lt is short = none_left (table encode xs) r total none (omega (arith, whole, left, short, need_next encode xs k x lt is))
 
-  at_end : (k : ℕ) → length xs ≤ k → length (flat_map spell (drop k xs)) ≡ 0
-  at_end k le = ap (λ ys. length (flat_map spell ys)) (drop_all k xs le)
+  at_end : (k : ℕ) → length xs ≤ k → length (flat_map encode (drop k xs)) ≡ 0
+  at_end k le = ap (λ ys. length (flat_map encode ys)) (drop_all k xs le)
 
-  pub all_left : (total room k : ℕ) → Left total room k → length xs ≤ k → room + length (table spell xs) ≡ total
+  pub all_left : (total room k : ℕ) → Left total room k → length xs ≤ k → room + length (table encode xs) ≡ total
   all_left total room k left le = omega (arith, whole, left, at_end k le)
 
-  pub all_fit : ((x : X) → 1 ≤ length (spell x)) → (total room k : ℕ) → Left total room k → length xs ≤ k → total ≤ 16777216 → AllByRecursion Fits (take k xs) → TableFits Fits xs
+  pub all_fit : ((x : X) → 1 ≤ length (encode x)) → (total room k : ℕ) → Left total room k → length xs ≤ k → total ≤ 16777216 → AllByRecursion Fits (take k xs) → TableFits Fits xs
   all_fit some total room k left le small each = record {
-    count = omega (arith, left, at_end k le, no_more_than spell some xs);
+    count = omega (arith, left, at_end k le, no_more_than encode some xs);
     each = subst (AllByRecursion Fits) (take_all k xs le) each;
   }
 

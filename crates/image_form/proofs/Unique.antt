@@ -1,4 +1,4 @@
--- Parts that fit, and are spelled as an image is, are that image.
+-- Parts that fit, and are encoded as an image is, are that image.
 use Rattle.std.proofs.Common.{◌≡◌, ℕ, ◌^◌, ◌<◌, true, List, [], ◌∷◌, ◌++◌, length, refl, sym, ap, ◌∙◌, append_assoc, arith}
 use Rattle.std.specs.Prelude.{min}
 use Rattle.std.specs.Int.{w16, to_le_bytes}
@@ -6,7 +6,7 @@ use Rattle.std.specs.List.{flat_map, AllByRecursion}
 use Rattle.std.proofs.lemmas.List.{append-nil}
 use Rattle.std.proofs.lemmas.List.Concat.{flat_map-cons}
 use Rattle.wedge_base.specs.Images.{Image}
-use Rattle.image_form.specs.Spelling.{magic, version, number, string, content, table, procedure, range, right_code, tag, kind_code, bits_code, fd, file, spelling}
+use Rattle.image_form.specs.Encoding.{magic, version, number, string, content, table, procedure, range, right_code, tag, kind_code, bits_code, fd, file, encoding}
 use Rattle.image_form.specs.Fitting.{WordFits, ProcedureFits, RangeFits, TagFits, FdFits, FileFits, TableFits, PartsFit}
 use Rattle.image_form.specs.Rules.{IsProcedure, IsRange, IsTag, IsFd, IsFile, IsImage}
 use Rattle.image_form.specs.Reading.{Read}
@@ -15,12 +15,12 @@ use Rattle.image_form.proofs.FieldForms.{bytes_form, short_form, number_form, co
 use Rattle.image_form.proofs.ImageForm.{right_form, kind_form, bits_form, entry_small}
 use Rattle.image_form.proofs.Scans.{name_short, path_short, root_short}
 
--- A spelling of what fits, if it begins as that of what is good, tells the same.
-pub record IsUnique {X : Type 0} (spell : X → List ℕ) (Fit Good : X → Type 0) (Same : X → X → Type 0) : Type 0 where
-  pub unique : (y x : X) (r s : List ℕ) → Fit y → Good x → spell y ++ r ≡ spell x ++ s → Same y x × (r ≡ s)
+-- A encoding of what fits, if it begins as that of what is good, tells the same.
+pub record IsUnique {X : Type 0} (encode : X → List ℕ) (Fit Good : X → Type 0) (Same : X → X → Type 0) : Type 0 where
+  pub unique : (y x : X) (r s : List ℕ) → Fit y → Good x → encode y ++ r ≡ encode x ++ s → Same y x × (r ≡ s)
 
 -- what is read again is unique
-from_form : {X : Type 0} {read : List ℕ → Read X} {spell : X → List ℕ} {Good : X → Type 0} → IsForm read spell Good → IsUnique spell Good Good (λ y x. y ≡ x)
+from_form : {X : Type 0} {read : List ℕ → Read X} {encode : X → List ℕ} {Good : X → Type 0} → IsForm read encode Good → IsUnique encode Good Good (λ y x. y ≡ x)
 from_form {X} {read} form = record {
   unique = λ y x r s fit good e.
       let p = ok_is (y, r) (x, s) (sym (form.again y r fit) ∙ ap read e ∙ form.again x s good) in
@@ -212,8 +212,8 @@ image_fits i is =
       user = good.user;
     }
 
-image_unique : IsUnique spelling PartsFit IsGood (λ y x. y ≡ x)
-unfolding spelling
+image_unique : IsUnique encoding PartsFit IsGood (λ y x. y ≡ x)
+unfolding encoding
 image_unique =
     whole PartsFit IsGood
     (field_then (λ _. magic) number_unique (field_then (λ _. version) number_unique (field_then (λ i. i.fuel) number_unique (field_then (λ i. i.base) number_unique (field_then (λ i. i.words) (table_unique word_unique)
@@ -236,8 +236,8 @@ image_unique =
     (λ y fit. (omega arith, (omega arith, (fit.fuel, (fit.base, (fit.words, (fit.procedures, (fit.entry, (fit.ranges, (fit.tags, (fit.fds, (fit.files, (fit.user, (tt, tt))))))))))))))
     (λ x good. (omega arith, (omega arith, (good.fuel, (good.base, (good.words, (good.procedures, (good.entry, (good.ranges, (good.tags, (good.fds, (good.files, (good.user, (good.root, tt))))))))))))))
 
--- parts that fit, and are spelled as an image is, are that image
-pub same_spelling : (p i : Image) → PartsFit p → IsImage i → spelling p ≡ spelling i → p ≡ i
-same_spelling p i fit is e =
-    let none = λ (j : Image). append-nil (spelling j) in
+-- parts that fit, and are encoded as an image is, are that image
+pub same_encoding : (p i : Image) → PartsFit p → IsImage i → encoding p ≡ encoding i → p ≡ i
+same_encoding p i fit is e =
+    let none = λ (j : Image). append-nil (encoding j) in
     (image_unique.unique p i [] [] fit (image_good i is) (none p ∙ e ∙ sym (none i))).0

@@ -1,4 +1,4 @@
--- Parts whose numbers and lengths fit the four bytes in which a spelling tells them.
+-- Parts whose numbers and lengths fit the four bytes in which an encoding writes them.
 use Rattle.std.specs.Prelude.{◌≡◌, ℕ, ◌+◌, ◌^◌, ◌<◌, List, length, Option, Some, None}
 use Rattle.std.specs.List.{AllByRecursion}
 use Rattle.wedge_base.specs.Images.{Image}
@@ -47,7 +47,7 @@ pub record PartsFit (i : Image) : Type 0 where
   pub files : TableFits FileFits i.files
   pub user : i.user < 2 ^ 32
 
--- what is left of so many bytes after a spelling, if it fits
+-- what is left of so many bytes after an encoding, if it fits
 abbrev pub Leaves : ℕ → List ℕ → Option ℕ → Type 0
 Leaves room text None = room < length text
 Leaves room text (Some left) = left + length text ≡ room

@@ -1,6 +1,6 @@
 pub mod Forms
 pub mod Words
-pub mod Spelling
+pub mod Encoding
 pub mod Rules
 pub mod Address
 pub mod View

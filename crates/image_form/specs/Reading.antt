@@ -19,7 +19,7 @@ use Rattle.image_form.specs.declared.fault.Why.{Why}
 use Rattle.image_form.specs.declared.fault.Why.TheVariants.{Magic, Version, Truncated, Trailing, Order, Range, Overlap, Limit}
 use Rattle.image_form.specs.declared.fault.ImageError.{ImageError}
 use Rattle.image_form.specs.declared.fault.ImageError.TheVariants as error
-use Rattle.image_form.specs.Spelling.{most_bytes, magic, version}
+use Rattle.image_form.specs.Encoding.{most_bytes, magic, version}
 use Rattle.wedge_base.specs.Texts.{is_name}
 use Rattle.image_form.specs.Forms.{is_path, is_root, is_below}
 use Rattle.image_form.specs.Rules.{most_fuel, low_end, high_end, most_procedures, most_ranges, most_range_bytes, most_tags, most_fds, most_files, is_among, addresses, begins_at, end_of, is_off_text, may_hold}
@@ -105,7 +105,7 @@ entries_at entry (suc n) front bytes =
 unfoldable pub table_at : {X : Type 0} → ℕ → (List X → List ℕ → Read X) → ℕ → List ℕ → Read (List X)
 table_at most entry total bytes = limited_at most total bytes >>= λ n rest. entries_at entry n [] rest
 
--- what the last entry has, or what stands in its place where there is no entry
+-- what the last entry has, or a given value where there is no entry
 abbrev pub last_of : {X Y : Type 0} → (X → Y) → Y → List X → Y
 last_of has none xs = option_map_or has (slice_get xs (length xs - 1)) none
 
@@ -225,7 +225,7 @@ files_at total bytes = table_at most_files (file_at total) total bytes
 
 -- ---- the whole
 
--- the fuel, after what tells that this is an image
+-- the fuel, after the magic number and the version
 unfoldable pub header_at : ℕ → List ℕ → Read ℕ
 header_at total bytes =
     checked_at (λ n. n == magic) Magic total bytes >>= λ m rest.
@@ -262,7 +262,7 @@ image_at total bytes =
       rest,
     )
 
--- what all the bytes spell, or their first fault
+-- what all the bytes encode, or their first fault
 unfoldable pub reading : List ℕ → Result Image Fault
 reading bytes =
     demand (nat_le (length bytes) most_bytes) most_bytes Limit (

@@ -9,7 +9,7 @@ use Rattle.wedge_base.specs.declared.image.FdEntry.{FdEntry}
 use Rattle.wedge_base.specs.declared.image.FileEntry.{FileEntry}
 use Rattle.wedge_base.specs.declared.rights.StreamKind.{StreamKind}
 use Rattle.wedge_base.specs.declared.rights.StreamKind.TheVariants as kind
-use Rattle.image_form.specs.Spelling.{spelling, most_bytes}
+use Rattle.image_form.specs.Encoding.{encoding, most_bytes}
 use Rattle.wedge_base.specs.Texts.{is_name}
 use Rattle.image_form.specs.Forms.{is_path, is_root, ascend}
 
@@ -167,9 +167,9 @@ pub record IsImage (i : Image) : Type 0 where
   pub files : AreFiles i.files
   pub user_fits : i.user < 2 ^ 32
   pub root_canonical : IsTrue (is_root i.root)
-  pub small : length (spelling i) ≤ most_bytes
+  pub small : length (encoding i) ≤ most_bytes
 
--- the bytes are the one spelling of the image, which meets every rule
-pub record Spells (i : Image) (bytes : List ℕ) : Type 0 where
+-- the bytes are the one encoding of the image, which meets every rule
+pub record Encodes (i : Image) (bytes : List ℕ) : Type 0 where
   pub valid : IsImage i
-  pub spelled : bytes ≡ spelling i
+  pub encoded : bytes ≡ encoding i

@@ -1,7 +1,7 @@
 //! Making an image of parts.
 
 ghost use Rattle.std.specs.Prelude.{◌≡◌, IfOk, OnOk, Ok};
-ghost use Rattle.image_form.specs.Spelling as spelled;
+ghost use Rattle.image_form.specs.Encoding as encoded;
 ghost use Rattle.image_form.specs.Rules.{IsImage};
 ghost use Rattle.image_form.specs.Reading.{Gives, reading};
 ghost use Rattle.image_form.specs.View.{image_of};
@@ -11,12 +11,12 @@ use crate::image::Image;
 use crate::measuring::is_small;
 use crate::parts::ImageParts;
 use crate::reading::{MOST_BYTES, image_parts};
-use crate::writing::spelling;
+use crate::writing::encoding;
 use std::alloc::Global;
 
 /// Judges parts by the bytes that would be written of them.
 fn judge(alloc: Global, parts: &ImageParts) -> Result<(), ImageError>
-    ensures exact { Gives (λ _. image_of parts.now) result (reading (spelled.spelling (image_of parts.now))) }
+    ensures exact { Gives (λ _. image_of parts.now) result (reading (encoded.encoding (image_of parts.now))) }
     ensures valid { OnOk result (IsImage (image_of parts.now)) }
 {
     if !is_small(parts.lend()) {
@@ -25,7 +25,7 @@ fn judge(alloc: Global, parts: &ImageParts) -> Result<(), ImageError>
             why: Why::Limit,
         }));
     }
-    let bytes = spelling(alloc, parts.lend())?;
+    let bytes = encoding(alloc, parts.lend())?;
     let _read = image_parts(alloc, &bytes)?;
     Ok(())
 }
@@ -34,7 +34,7 @@ fn judge(alloc: Global, parts: &ImageParts) -> Result<(), ImageError>
 /// place is the one in those bytes.
 pub fn finish_image(alloc: Global, parts: ImageParts) -> Result<Image, ImageError>
     // What is made, or which fault comes first.
-    ensures exact { Gives (λ i. i) result (reading (spelled.spelling (image_of parts))) }
+    ensures exact { Gives (λ i. i) result (reading (encoded.encoding (image_of parts))) }
     // What is made has these parts.
     ensures same { IfOk result (λ i. i ≡ image_of parts) }
     // Parts of an image are made that image, unless memory runs out.

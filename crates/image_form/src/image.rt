@@ -68,7 +68,7 @@ impl Image {
         }
     }
 
-    /// Lends the parts.
+    /// Borrows the parts.
     pub(crate) fn lend(&self) -> LentParts<'_>
         ensures is { lent_image result ≡ self.now }
         ensures valid { IsImage self.now }
@@ -104,7 +104,7 @@ impl Image {
         self.pristine.base
     }
 
-    /// Lends the words of the text.
+    /// Borrows the words of the text.
     pub fn words(&self) -> &[u32]
         ensures is { result.now ≡ self.now.words }
         ensures valid { IsImage self.now }
@@ -112,7 +112,7 @@ impl Image {
         self.pristine.words.as_slice()
     }
 
-    /// Lends the procedures, by ascending name.
+    /// Borrows the procedures, by ascending name.
     pub fn procedures(&self) -> &[Procedure]
         ensures is { result.now ≡ self.now.procedures }
         ensures valid { IsImage self.now }
@@ -128,7 +128,7 @@ impl Image {
         self.entry
     }
 
-    /// Lends the data ranges, by ascending address.
+    /// Borrows the data ranges, by ascending address.
     pub fn ranges(&self) -> &[MemoryRange]
         ensures is { result.now ≡ self.now.ranges }
         ensures valid { IsImage self.now }
@@ -136,7 +136,7 @@ impl Image {
         self.pristine.ranges.as_slice()
     }
 
-    /// Lends the declared tags, each at the place that is its number.
+    /// Borrows the declared tags, each at the place that is its number.
     pub fn tags(&self) -> &[TagEntry]
         ensures is { result.now ≡ self.now.tags }
         ensures valid { IsImage self.now }
@@ -144,7 +144,7 @@ impl Image {
         self.tags.as_slice()
     }
 
-    /// Lends the declared descriptors, each at the place that is its number.
+    /// Borrows the declared descriptors, each at the place that is its number.
     pub fn fds(&self) -> &[FdEntry]
         ensures is { result.now ≡ self.now.fds }
         ensures valid { IsImage self.now }
@@ -152,7 +152,7 @@ impl Image {
         self.fds.as_slice()
     }
 
-    /// Lends the files, by ascending path.
+    /// Borrows the files, by ascending path.
     pub fn files(&self) -> &[FileEntry]
         ensures is { result.now ≡ self.now.files }
         ensures valid { IsImage self.now }
@@ -168,7 +168,7 @@ impl Image {
         self.user
     }
 
-    /// Lends the root's directory.
+    /// Borrows the root's directory.
     pub fn root(&self) -> &Bytes
         ensures is { result.now ≡ self.now.root }
         ensures valid { IsImage self.now }
@@ -176,7 +176,7 @@ impl Image {
         &self.root
     }
 
-    /// Lends the text and the data ranges.
+    /// Borrows the text and the data ranges.
     pub fn pristine(&self) -> &Pristine
         ensures base { result.now.base ≡ self.now.base }
         ensures words { result.now.words ≡ self.now.words }
@@ -222,7 +222,7 @@ impl Image {
         }
     }
 
-    /// The number that 1, 2 or 4 bytes of the text spell from an address on, the lowest byte first.
+    /// The number that 1, 2 or 4 bytes of the text encode from an address on, little-endian.
     pub fn text_number(&self, address: u32, width: u8) -> u32
         requires width { (width ≡ 1) ⊎ (width ≡ 2) ⊎ (width ≡ 4) }
         requires inside { images.in_text self.now address width ≡ true }

@@ -2,7 +2,7 @@
 //! leave of so much room, or nothing where they take more.
 
 ghost use Rattle.std.specs.Prelude.{◌≡◌, ◌<◌, ◌≤◌, ◌^◌, length, OnSome, IsSome, IsTrue, ◌↔◌};
-ghost use Rattle.image_form.specs.Spelling as spelled;
+ghost use Rattle.image_form.specs.Encoding as encoded;
 ghost use Rattle.image_form.specs.Fitting as fitting;
 ghost use Rattle.image_form.specs.Fitting.{Leaves};
 ghost use Rattle.image_form.specs.View.{lent_image};
@@ -12,27 +12,27 @@ use crate::reading::{MAGIC, MOST_BYTES, VERSION};
 use crate::writing::{bits_code, kind_code, right_code};
 use wedge_base::{FdEntry, FileEntry, MemoryRange, Procedure, TagEntry};
 
-#[tactic(auto, unfolding(crate::specs::Spelling::number))]
+#[tactic(auto, unfolding(crate::specs::Encoding::number))]
 fn after_number(room: usize, n: u32) -> Option<usize>
-    ensures { Leaves room (spelled.number n) result }
+    ensures { Leaves room (encoded.number n) result }
 {
     // Each number takes four bytes; which one it is, the contract alone asks.
     let _ = n;
     room.checked_sub(4)
 }
 
-#[tactic(auto, unfolding(crate::specs::Spelling::string))]
+#[tactic(auto, unfolding(crate::specs::Encoding::string))]
 fn after_string(room: usize, text: &[u8]) -> Option<usize>
-    ensures { Leaves room (spelled.string text.now) result }
+    ensures { Leaves room (encoded.string text.now) result }
 {
     let room = room.checked_sub(2)?;
     room.checked_sub(text.len())
 }
 
-#[tactic(auto, unfolding(crate::specs::Spelling::content, crate::specs::Spelling::number))]
+#[tactic(auto, unfolding(crate::specs::Encoding::content, crate::specs::Encoding::number))]
 fn after_content(room: usize, bytes: &[u8]) -> Option<usize>
     requires { room ≤ 16777216 }
-    ensures leaves { Leaves room (spelled.content bytes.now) result }
+    ensures leaves { Leaves room (encoded.content bytes.now) result }
     ensures fits { OnSome result (length bytes.now < 2 ^ 32) }
 {
     let room = room.checked_sub(4)?;
@@ -40,7 +40,7 @@ fn after_content(room: usize, bytes: &[u8]) -> Option<usize>
 }
 
 fn after_procedure(room: usize, p: &Procedure) -> Option<usize>
-    ensures leaves { Leaves room (spelled.procedure p.now) result }
+    ensures leaves { Leaves room (encoded.procedure p.now) result }
     ensures fits { fitting.ProcedureFits p.now }
 {
     let address = p.address;
@@ -50,7 +50,7 @@ fn after_procedure(room: usize, p: &Procedure) -> Option<usize>
 
 fn after_range(room: usize, r: &MemoryRange) -> Option<usize>
     requires { room ≤ 16777216 }
-    ensures leaves { Leaves room (spelled.range r.now) result }
+    ensures leaves { Leaves room (encoded.range r.now) result }
     ensures fits { OnSome result (fitting.RangeFits r.now) }
 {
     let room = after_number(room, r.base)?;
@@ -59,7 +59,7 @@ fn after_range(room: usize, r: &MemoryRange) -> Option<usize>
 
 fn after_tag(room: usize, t: &TagEntry) -> Option<usize>
     requires { room ≤ 16777216 }
-    ensures leaves { Leaves room (spelled.tag t.now) result }
+    ensures leaves { Leaves room (encoded.tag t.now) result }
     ensures fits { OnSome result (fitting.TagFits t.now) }
 {
     let room = after_string(room, t.name.as_slice())?;
@@ -70,7 +70,7 @@ fn after_tag(room: usize, t: &TagEntry) -> Option<usize>
 
 fn after_fd(room: usize, f: &FdEntry) -> Option<usize>
     requires { room ≤ 16777216 }
-    ensures leaves { Leaves room (spelled.fd f.now) result }
+    ensures leaves { Leaves room (encoded.fd f.now) result }
     ensures fits { OnSome result (fitting.FdFits f.now) }
 {
     let room = after_string(room, f.name.as_slice())?;
@@ -81,7 +81,7 @@ fn after_fd(room: usize, f: &FdEntry) -> Option<usize>
 
 fn after_file(room: usize, f: &FileEntry) -> Option<usize>
     requires { room ≤ 16777216 }
-    ensures leaves { Leaves room (spelled.file f.now) result }
+    ensures leaves { Leaves room (encoded.file f.now) result }
     ensures fits { OnSome result (fitting.FileFits f.now) }
 {
     let room = after_string(room, f.path.as_slice())?;
@@ -93,7 +93,7 @@ fn after_file(room: usize, f: &FileEntry) -> Option<usize>
 
 fn after_procedures(room: usize, procedures: &[Procedure]) -> Option<usize>
     requires { room ≤ 16777216 }
-    ensures leaves { Leaves room (spelled.table spelled.procedure procedures.now) result }
+    ensures leaves { Leaves room (encoded.table encoded.procedure procedures.now) result }
     ensures fits { OnSome result (fitting.TableFits fitting.ProcedureFits procedures.now) }
 {
     let mut room = room.checked_sub(4)?;
@@ -105,7 +105,7 @@ fn after_procedures(room: usize, procedures: &[Procedure]) -> Option<usize>
 
 fn after_ranges(room: usize, ranges: &[MemoryRange]) -> Option<usize>
     requires { room ≤ 16777216 }
-    ensures leaves { Leaves room (spelled.table spelled.range ranges.now) result }
+    ensures leaves { Leaves room (encoded.table encoded.range ranges.now) result }
     ensures fits { OnSome result (fitting.TableFits fitting.RangeFits ranges.now) }
 {
     let mut room = room.checked_sub(4)?;
@@ -117,7 +117,7 @@ fn after_ranges(room: usize, ranges: &[MemoryRange]) -> Option<usize>
 
 fn after_tags(room: usize, tags: &[TagEntry]) -> Option<usize>
     requires { room ≤ 16777216 }
-    ensures leaves { Leaves room (spelled.table spelled.tag tags.now) result }
+    ensures leaves { Leaves room (encoded.table encoded.tag tags.now) result }
     ensures fits { OnSome result (fitting.TableFits fitting.TagFits tags.now) }
 {
     let mut room = room.checked_sub(4)?;
@@ -129,7 +129,7 @@ fn after_tags(room: usize, tags: &[TagEntry]) -> Option<usize>
 
 fn after_fds(room: usize, fds: &[FdEntry]) -> Option<usize>
     requires { room ≤ 16777216 }
-    ensures leaves { Leaves room (spelled.table spelled.fd fds.now) result }
+    ensures leaves { Leaves room (encoded.table encoded.fd fds.now) result }
     ensures fits { OnSome result (fitting.TableFits fitting.FdFits fds.now) }
 {
     let mut room = room.checked_sub(4)?;
@@ -141,7 +141,7 @@ fn after_fds(room: usize, fds: &[FdEntry]) -> Option<usize>
 
 fn after_files(room: usize, files: &[FileEntry]) -> Option<usize>
     requires { room ≤ 16777216 }
-    ensures leaves { Leaves room (spelled.table spelled.file files.now) result }
+    ensures leaves { Leaves room (encoded.table encoded.file files.now) result }
     ensures fits { OnSome result (fitting.TableFits fitting.FileFits files.now) }
 {
     let mut room = room.checked_sub(4)?;
@@ -153,7 +153,7 @@ fn after_files(room: usize, files: &[FileEntry]) -> Option<usize>
 
 fn after_words(room: usize, words: &[u32]) -> Option<usize>
     requires { room ≤ 16777216 }
-    ensures leaves { Leaves room (spelled.table spelled.number words.now) result }
+    ensures leaves { Leaves room (encoded.table encoded.number words.now) result }
     ensures fits { OnSome result (fitting.TableFits fitting.WordFits words.now) }
 {
     let room = room.checked_sub(4)?;
@@ -163,10 +163,10 @@ fn after_words(room: usize, words: &[u32]) -> Option<usize>
     Some(room - 4 * words.len())
 }
 
-#[tactic(auto, unfolding(crate::specs::Spelling::spelling))]
+#[tactic(auto, unfolding(crate::specs::Encoding::encoding))]
 fn after_parts(room: usize, parts: LentParts<'_>) -> Option<usize>
     requires { room ≤ 16777216 }
-    ensures leaves { Leaves room (spelled.spelling (lent_image parts.entry)) result }
+    ensures leaves { Leaves room (encoded.encoding (lent_image parts.entry)) result }
     ensures fits { OnSome result (fitting.PartsFit (lent_image parts.entry)) }
 {
     let room = after_number(room, MAGIC)?;
@@ -184,9 +184,9 @@ fn after_parts(room: usize, parts: LentParts<'_>) -> Option<usize>
     after_string(room, parts.root)
 }
 
-/// Whether the bytes that spell the parts are no more than an image's file may have.
+/// Whether the bytes that encode the parts are no more than an image's file may have.
 pub(crate) fn is_small(parts: LentParts<'_>) -> bool
-    ensures is { IsTrue result ↔ (length (spelled.spelling (lent_image parts.entry)) ≤ spelled.most_bytes) }
+    ensures is { IsTrue result ↔ (length (encoded.encoding (lent_image parts.entry)) ≤ encoded.most_bytes) }
     ensures fits { IsTrue result → fitting.PartsFit (lent_image parts.entry) }
 {
     after_parts(MOST_BYTES, parts).is_some()

@@ -43,7 +43,7 @@ impl ImageParts {
     ghost use Rattle.std.specs.Prelude.{◌≡◌};
     ghost use Rattle.image_form.specs.View.{image_of, lent_image};
 
-    /// Lends the parts.
+    /// Borrows the parts.
     pub(crate) fn lend(&self) -> LentParts<'_>
         ensures { lent_image result ≡ image_of self.now }
     {

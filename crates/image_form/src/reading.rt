@@ -2,9 +2,9 @@
 
 ghost use Rattle.std.specs.Prelude.{◌≡◌, ◌==◌, IfOk, Ok};
 ghost use Rattle.wedge_base.specs.Images as images;
-ghost use Rattle.image_form.specs.Rules.{Spells};
+ghost use Rattle.image_form.specs.Rules.{Encodes};
 ghost use Rattle.image_form.specs.declared.fault.Why.TheVariants as why;
-ghost use Rattle.image_form.specs.Spelling as spelled;
+ghost use Rattle.image_form.specs.Encoding as encoded;
 ghost use Rattle.image_form.specs.Rules as rules;
 ghost use Rattle.image_form.specs.Reading as reading;
 ghost use Rattle.image_form.specs.Reading.{Gives};
@@ -23,7 +23,7 @@ use crate::text::{base, words};
 use std::alloc::Global;
 use wedge_base::Items;
 
-/// The number that the first four bytes `WEDG` spell.
+/// The number that the first four bytes `WEDG` encode.
 pub(crate) const MAGIC: u32 = 0x47444557;
 
 /// The one version of the form.
@@ -35,10 +35,10 @@ const MOST_FUEL: u32 = 16777216;
 /// The most bytes of an image's file.
 pub(crate) const MOST_BYTES: usize = 16777216;
 
-/// What tells that this is an image.
+/// The magic number and the version.
 #[tactic(auto, unfolding(crate::specs::Reading::checked_at))]
 fn magic(total: usize, bytes: &[u8]) -> Result<(u32, &[u8]), ImageError>
-    ensures { Gives (λ x. (x.0, x.1.now)) result (reading.checked_at (λ n. n == spelled.magic) why.Magic total bytes.now) }
+    ensures { Gives (λ x. (x.0, x.1.now)) result (reading.checked_at (λ n. n == encoded.magic) why.Magic total bytes.now) }
 {
     let (number, rest) = number(total, bytes)?;
     if number != MAGIC {
@@ -50,7 +50,7 @@ fn magic(total: usize, bytes: &[u8]) -> Result<(u32, &[u8]), ImageError>
 /// The version of the form.
 #[tactic(auto, unfolding(crate::specs::Reading::checked_at))]
 fn version(total: usize, bytes: &[u8]) -> Result<(u32, &[u8]), ImageError>
-    ensures { Gives (λ x. (x.0, x.1.now)) result (reading.checked_at (λ n. n == spelled.version) why.Version total bytes.now) }
+    ensures { Gives (λ x. (x.0, x.1.now)) result (reading.checked_at (λ n. n == encoded.version) why.Version total bytes.now) }
 {
     let (number, rest) = number(total, bytes)?;
     if number != VERSION {
@@ -59,7 +59,7 @@ fn version(total: usize, bytes: &[u8]) -> Result<(u32, &[u8]), ImageError>
     Ok((number, rest))
 }
 
-/// The fuel, after what tells that this is an image.
+/// The fuel, after the magic number and the version.
 #[tactic(auto, unfolding(crate::specs::Reading::header_at))]
 fn header(total: usize, bytes: &[u8]) -> Result<(u32, &[u8]), ImageError>
     ensures { Gives (λ x. (x.0, x.1.now)) result (reading.header_at total bytes.now) }
@@ -124,11 +124,11 @@ fn all_parts(alloc: Global, bytes: &[u8]) -> Result<ImageParts, ImageError>
     Ok(parts)
 }
 
-/// The same, and that the bytes are a spelling exactly where they are read.
+/// The same, and that the bytes are an encoding exactly where they are read.
 pub(crate) fn image_parts(alloc: Global, bytes: &[u8]) -> Result<ImageParts, ImageError>
     ensures exact { Gives image_of result (reading.reading bytes.now) }
-    ensures found { IfOk result (λ p. Spells (image_of p) bytes.now) }
-    ensures only { (i : images.Image) → Spells i bytes.now → Gives image_of result (Ok i) }
+    ensures found { IfOk result (λ p. Encodes (image_of p) bytes.now) }
+    ensures only { (i : images.Image) → Encodes i bytes.now → Gives image_of result (Ok i) }
 {
     all_parts(alloc, bytes)
 }
@@ -138,10 +138,10 @@ pub(crate) fn image_parts(alloc: Global, bytes: &[u8]) -> Result<ImageParts, Ima
 pub fn read_image(alloc: Global, bytes: &[u8]) -> Result<Image, ImageError>
     // What is read, or which fault comes first.
     ensures exact { Gives (λ i. i) result (reading.reading bytes.now) }
-    // What is read is an image, and all the bytes are its spelling.
-    ensures found { IfOk result (λ i. Spells i bytes.now) }
-    // What is the spelling of an image is read as that image, unless memory runs out.
-    ensures only { (i : images.Image) → Spells i bytes.now → Gives (λ j. j) result (Ok i) }
+    // What is read is an image, and all the bytes are its encoding.
+    ensures found { IfOk result (λ i. Encodes i bytes.now) }
+    // What is the encoding of an image is read as that image, unless memory runs out.
+    ensures only { (i : images.Image) → Encodes i bytes.now → Gives (λ j. j) result (Ok i) }
 {
     match image_parts(alloc, bytes) {
         Ok(parts) => Ok(Image::from_parts(parts)),

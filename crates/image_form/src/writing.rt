@@ -4,9 +4,9 @@ ghost use Rattle.std.specs.Prelude.{◌≡◌, ◌<◌, ◌^◌, ◌++◌, lengt
 ghost use Rattle.std.specs.Int.{w16, to_le_bytes};
 ghost use Rattle.std.specs.List.{concat};
 ghost use Rattle.wedge_base.specs.Images as images;
-ghost use Rattle.image_form.specs.Spelling as spelled;
+ghost use Rattle.image_form.specs.Encoding as encoded;
 ghost use Rattle.image_form.specs.Fitting as fitting;
-ghost use Rattle.image_form.specs.Rules.{Spells};
+ghost use Rattle.image_form.specs.Rules.{Encodes};
 ghost use Rattle.image_form.specs.Reading.{reading};
 ghost use Rattle.image_form.specs.View.{lent_image};
 
@@ -18,17 +18,17 @@ use wedge_base::{
     FdBits, FdEntry, FileEntry, MemoryRange, NoMemory, Procedure, Right, StreamKind, TagEntry,
 };
 
-#[tactic(auto, unfolding(crate::specs::Spelling::number))]
+#[tactic(auto, unfolding(crate::specs::Encoding::number))]
 fn put_number(out: &mut Vec<u8>, n: u32) -> Result<(), NoMemory>
-    ensures { OnOk result (out.new.items ≡ out.old.items ++ spelled.number n) }
+    ensures { OnOk result (out.new.items ≡ out.old.items ++ encoded.number n) }
 {
     out.extend_from_slice(&n.to_le_bytes())?;
     Ok(())
 }
 
-#[tactic(auto, unfolding(crate::specs::Spelling::string))]
+#[tactic(auto, unfolding(crate::specs::Encoding::string))]
 fn put_string(out: &mut Vec<u8>, text: &[u8]) -> Result<(), NoMemory>
-    ensures { OnOk result (out.new.items ≡ out.old.items ++ spelled.string text.now) }
+    ensures { OnOk result (out.new.items ≡ out.old.items ++ encoded.string text.now) }
 {
     let length = text.len().min(65535) as u16;
     out.extend_from_slice(&length.to_le_bytes())?;
@@ -36,10 +36,10 @@ fn put_string(out: &mut Vec<u8>, text: &[u8]) -> Result<(), NoMemory>
     Ok(())
 }
 
-#[tactic(auto, unfolding(crate::specs::Spelling::content))]
+#[tactic(auto, unfolding(crate::specs::Encoding::content))]
 fn put_content(out: &mut Vec<u8>, bytes: &[u8]) -> Result<(), NoMemory>
     requires { length bytes.now < 2 ^ 32 }
-    ensures { OnOk result (out.new.items ≡ out.old.items ++ spelled.content bytes.now) }
+    ensures { OnOk result (out.new.items ≡ out.old.items ++ encoded.content bytes.now) }
 {
     put_number(out, bytes.len() as u32)?;
     out.extend_from_slice(bytes)?;
@@ -48,7 +48,7 @@ fn put_content(out: &mut Vec<u8>, bytes: &[u8]) -> Result<(), NoMemory>
 
 fn put_words(out: &mut Vec<u8>, words: &[u32]) -> Result<(), NoMemory>
     requires { length words.now < 2 ^ 32 }
-    ensures { OnOk result (out.new.items ≡ out.old.items ++ spelled.table spelled.number words.now) }
+    ensures { OnOk result (out.new.items ≡ out.old.items ++ encoded.table encoded.number words.now) }
 {
     put_number(out, words.len() as u32)?;
     for word in words {
@@ -58,7 +58,7 @@ fn put_words(out: &mut Vec<u8>, words: &[u32]) -> Result<(), NoMemory>
 }
 
 fn put_procedure(out: &mut Vec<u8>, p: &Procedure) -> Result<(), NoMemory>
-    ensures { OnOk result (out.new.items ≡ out.old.items ++ spelled.procedure p.now) }
+    ensures { OnOk result (out.new.items ≡ out.old.items ++ encoded.procedure p.now) }
 {
     put_string(out, p.name.as_slice())?;
     put_number(out, p.address)
@@ -66,7 +66,7 @@ fn put_procedure(out: &mut Vec<u8>, p: &Procedure) -> Result<(), NoMemory>
 
 fn put_procedures(out: &mut Vec<u8>, procedures: &[Procedure]) -> Result<(), NoMemory>
     requires { fitting.TableFits fitting.ProcedureFits procedures.now }
-    ensures { OnOk result (out.new.items ≡ out.old.items ++ spelled.table spelled.procedure procedures.now) }
+    ensures { OnOk result (out.new.items ≡ out.old.items ++ encoded.table encoded.procedure procedures.now) }
 {
     put_number(out, procedures.len() as u32)?;
     for procedure in procedures {
@@ -77,7 +77,7 @@ fn put_procedures(out: &mut Vec<u8>, procedures: &[Procedure]) -> Result<(), NoM
 
 fn put_range(out: &mut Vec<u8>, r: &MemoryRange) -> Result<(), NoMemory>
     requires { fitting.RangeFits r.now }
-    ensures { OnOk result (out.new.items ≡ out.old.items ++ spelled.range r.now) }
+    ensures { OnOk result (out.new.items ≡ out.old.items ++ encoded.range r.now) }
 {
     put_number(out, r.base)?;
     put_content(out, r.bytes.as_slice())
@@ -85,7 +85,7 @@ fn put_range(out: &mut Vec<u8>, r: &MemoryRange) -> Result<(), NoMemory>
 
 fn put_ranges(out: &mut Vec<u8>, ranges: &[MemoryRange]) -> Result<(), NoMemory>
     requires { fitting.TableFits fitting.RangeFits ranges.now }
-    ensures { OnOk result (out.new.items ≡ out.old.items ++ spelled.table spelled.range ranges.now) }
+    ensures { OnOk result (out.new.items ≡ out.old.items ++ encoded.table encoded.range ranges.now) }
 {
     put_number(out, ranges.len() as u32)?;
     for range in ranges {
@@ -95,7 +95,7 @@ fn put_ranges(out: &mut Vec<u8>, ranges: &[MemoryRange]) -> Result<(), NoMemory>
 }
 
 pub(crate) fn right_code(right: Option<Right>) -> u32
-    ensures { result ≡ spelled.right_code right }
+    ensures { result ≡ encoded.right_code right }
 {
     match right {
         None => 0,
@@ -107,7 +107,7 @@ pub(crate) fn right_code(right: Option<Right>) -> u32
 
 fn put_tag(out: &mut Vec<u8>, t: &TagEntry) -> Result<(), NoMemory>
     requires { fitting.TagFits t.now }
-    ensures { OnOk result (out.new.items ≡ out.old.items ++ spelled.tag t.now) }
+    ensures { OnOk result (out.new.items ≡ out.old.items ++ encoded.tag t.now) }
 {
     put_string(out, t.name.as_slice())?;
     put_number(out, t.pages)?;
@@ -118,7 +118,7 @@ fn put_tag(out: &mut Vec<u8>, t: &TagEntry) -> Result<(), NoMemory>
 
 fn put_tags(out: &mut Vec<u8>, tags: &[TagEntry]) -> Result<(), NoMemory>
     requires { fitting.TableFits fitting.TagFits tags.now }
-    ensures { OnOk result (out.new.items ≡ out.old.items ++ spelled.table spelled.tag tags.now) }
+    ensures { OnOk result (out.new.items ≡ out.old.items ++ encoded.table encoded.tag tags.now) }
 {
     put_number(out, tags.len() as u32)?;
     for tag in tags {
@@ -128,7 +128,7 @@ fn put_tags(out: &mut Vec<u8>, tags: &[TagEntry]) -> Result<(), NoMemory>
 }
 
 pub(crate) fn kind_code(kind: StreamKind) -> u32
-    ensures { result ≡ spelled.kind_code kind }
+    ensures { result ≡ encoded.kind_code kind }
 {
     match kind {
         StreamKind::Source => 0,
@@ -137,7 +137,7 @@ pub(crate) fn kind_code(kind: StreamKind) -> u32
 }
 
 pub(crate) fn bits_code(bits: FdBits) -> u32
-    ensures { result ≡ spelled.bits_code bits }
+    ensures { result ≡ encoded.bits_code bits }
 {
     let read = if bits.read { 1 } else { 0 };
     let append = if bits.append { 2 } else { 0 };
@@ -146,7 +146,7 @@ pub(crate) fn bits_code(bits: FdBits) -> u32
 
 fn put_fd(out: &mut Vec<u8>, f: &FdEntry) -> Result<(), NoMemory>
     requires { fitting.FdFits f.now }
-    ensures { OnOk result (out.new.items ≡ out.old.items ++ spelled.fd f.now) }
+    ensures { OnOk result (out.new.items ≡ out.old.items ++ encoded.fd f.now) }
 {
     put_string(out, f.name.as_slice())?;
     put_number(out, kind_code(f.kind))?;
@@ -157,7 +157,7 @@ fn put_fd(out: &mut Vec<u8>, f: &FdEntry) -> Result<(), NoMemory>
 
 fn put_fds(out: &mut Vec<u8>, fds: &[FdEntry]) -> Result<(), NoMemory>
     requires { fitting.TableFits fitting.FdFits fds.now }
-    ensures { OnOk result (out.new.items ≡ out.old.items ++ spelled.table spelled.fd fds.now) }
+    ensures { OnOk result (out.new.items ≡ out.old.items ++ encoded.table encoded.fd fds.now) }
 {
     put_number(out, fds.len() as u32)?;
     for fd in fds {
@@ -168,7 +168,7 @@ fn put_fds(out: &mut Vec<u8>, fds: &[FdEntry]) -> Result<(), NoMemory>
 
 fn put_file(out: &mut Vec<u8>, f: &FileEntry) -> Result<(), NoMemory>
     requires { fitting.FileFits f.now }
-    ensures { OnOk result (out.new.items ≡ out.old.items ++ spelled.file f.now) }
+    ensures { OnOk result (out.new.items ≡ out.old.items ++ encoded.file f.now) }
 {
     put_string(out, f.path.as_slice())?;
     put_number(out, f.owner)?;
@@ -180,7 +180,7 @@ fn put_file(out: &mut Vec<u8>, f: &FileEntry) -> Result<(), NoMemory>
 
 fn put_files(out: &mut Vec<u8>, files: &[FileEntry]) -> Result<(), NoMemory>
     requires { fitting.TableFits fitting.FileFits files.now }
-    ensures { OnOk result (out.new.items ≡ out.old.items ++ spelled.table spelled.file files.now) }
+    ensures { OnOk result (out.new.items ≡ out.old.items ++ encoded.table encoded.file files.now) }
 {
     put_number(out, files.len() as u32)?;
     for file in files {
@@ -189,11 +189,11 @@ fn put_files(out: &mut Vec<u8>, files: &[FileEntry]) -> Result<(), NoMemory>
     Ok(())
 }
 
-/// The bytes that spell the parts.
-#[tactic(auto, unfolding(crate::specs::Spelling::spelling))]
-pub(crate) fn spelling(alloc: Global, parts: LentParts<'_>) -> Result<Vec<u8>, NoMemory>
+/// The bytes that encode the parts.
+#[tactic(auto, unfolding(crate::specs::Encoding::encoding))]
+pub(crate) fn encoding(alloc: Global, parts: LentParts<'_>) -> Result<Vec<u8>, NoMemory>
     requires { fitting.PartsFit (lent_image parts) }
-    ensures { IfOk result (λ v. v.items ≡ spelled.spelling (lent_image parts.entry)) }
+    ensures { IfOk result (λ v. v.items ≡ encoded.encoding (lent_image parts.entry)) }
 {
     let mut out = Vec::new(alloc);
     put_number(&mut out, MAGIC)?;
@@ -212,13 +212,13 @@ pub(crate) fn spelling(alloc: Global, parts: LentParts<'_>) -> Result<Vec<u8>, N
     Ok(out)
 }
 
-/// The bytes of an image's file: its one spelling.
+/// The bytes of an image's file: its one encoding.
 pub fn write_image(alloc: Global, image: &Image) -> Result<Vec<u8>, NoMemory>
-    ensures found { IfOk result (λ v. Spells image.now v.items) }
+    ensures found { IfOk result (λ v. Encodes image.now v.items) }
     // They are read again as this image.
     ensures again { IfOk result (λ v. reading v.items ≡ Ok image.now) }
-    // They spell no other image.
-    ensures alone { (i : images.Image) → IfOk result (λ v. Spells i v.items → i ≡ image.now) }
+    // They encode no other image.
+    ensures alone { (i : images.Image) → IfOk result (λ v. Encodes i v.items → i ≡ image.now) }
 {
-    spelling(alloc, image.lend())
+    encoding(alloc, image.lend())
 }

@@ -91,7 +91,7 @@ named_fault p None None = None
 unfoldable pub table_fault : Part → Members → Option Refusal
 table_fault p ms = named_fault p (first_key_fault p ms) (first_kind_fault p ms)
 
--- of tables the first that is at fault
+-- of tables the first that is invalid
 abbrev pub tables_fault : Part → List Members → Option Refusal
 tables_fault p [] = None
 tables_fault p (ms ∷ rest) = option_or (table_fault p ms) (tables_fault p rest)

@@ -4,7 +4,7 @@ use Rattle.toml.specs.Data.{Members}
 use Rattle.toml.specs.Parse.{parse_document}
 use Rattle.wedge_base.specs.Images.{Image}
 use Rattle.image_form.specs.Reading.{reading}
-use Rattle.image_form.specs.Spelling.{spelling}
+use Rattle.image_form.specs.Encoding.{encoding}
 use Rattle.image_form.specs.declared.fault.Fault.{Fault as ImageFault}
 use Rattle.rv_asm.specs.Assembly as asm
 use Rattle.rv_asm.specs.declared.assembled.Assembled.{Assembled}
@@ -74,7 +74,7 @@ partition_of ms =
     unless (document_fault ms) (
     text_of ms >>= λ a.
     or_no_label (address_of (text_at key.Entry ms) a.procedures) >>= λ entry.
-    by_image (reading (spelling (image_of ms a entry))))
+    by_image (reading (encoding (image_of ms a entry))))
 
 abbrev pub or_no_toml : Option Members → Result Image Refusal
 or_no_toml (Some ms) = partition_of ms
@@ -85,14 +85,14 @@ partition text = or_no_toml (parse_document text)
 
 -- ---- answers
 
--- a fault of the code tells what is refused, unless memory ran out
-abbrev pub Tells : PartFault → Option Refusal → Type 0
-Tells fault.NoMemory found = Unit {0}
-Tells fault.Toml found = found ≡ Some Toml
-Tells (fault.Key name) found = found ≡ Some (Key name)
-Tells (fault.Kind name) found = found ≡ Some (Kind name)
-Tells (fault.Asm line w) found = found ≡ Some (Asm line w)
-Tells (fault.Image at w) found = found ≡ Some (ImageRefusal at w)
+-- a fault of the code reports what is refused, unless memory ran out
+abbrev pub Reports : PartFault → Option Refusal → Type 0
+Reports fault.NoMemory found = Unit {0}
+Reports fault.Toml found = found ≡ Some Toml
+Reports (fault.Key name) found = found ≡ Some (Key name)
+Reports (fault.Kind name) found = found ≡ Some (Kind name)
+Reports (fault.Asm line w) found = found ≡ Some (Asm line w)
+Reports (fault.Image at w) found = found ≡ Some (ImageRefusal at w)
 
 abbrev pub refusal_in : {X : Type 0} → Result X Refusal → Option Refusal
 refusal_in (Ok x) = None
@@ -101,9 +101,9 @@ refusal_in (Err r) = Some r
 -- what the code answers is what is meant, unless memory ran out
 abbrev pub IsAnswer : {X : Type 0} → Result X PartFault → Result X Refusal → Type 0
 IsAnswer (Ok x) meant = meant ≡ Ok x
-IsAnswer (Err e) meant = Tells e (refusal_in meant)
+IsAnswer (Err e) meant = Reports e (refusal_in meant)
 
 -- the code finds nothing wrong, or what is wrong first
 abbrev pub Finds : {X : Type 0} → Result X PartFault → Option Refusal → Type 0
 Finds (Ok x) found = found ≡ None
-Finds (Err e) found = Tells e found
+Finds (Err e) found = Reports e found

@@ -18,7 +18,7 @@ use Rattle.part_toml.specs.Sorting.{sorted}
 
 -- ---- the entries that tables name
 
--- the bytes of a table's string, or those that its digits spell
+-- the bytes of a table's string, or those that its digits encode
 abbrev pub content_at : Members → List ℕ
 content_at ms = if has key.Text ms then text_at key.Text ms else bytes_of (text_at key.Hex ms)
 

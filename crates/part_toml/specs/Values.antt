@@ -66,7 +66,7 @@ is_hex text = length text % 2 == 0 && list_all is_digit text
 abbrev pub digit : ℕ → ℕ
 digit c = if is_decimal c then c - 48 else (if is_letter c then c - 87 else 0)
 
--- the bytes that pairs of digits spell
+-- the bytes that pairs of digits encode
 abbrev pub bytes_of : List ℕ → List ℕ
 bytes_of [] = []
 bytes_of (c ∷ []) = []
@@ -96,7 +96,7 @@ fits kind.Number d = is_some (number_of d)
 fits kind.Tables d = passes are_tables (as_array d)
 fits k d = passes (word_fits k) (as_str d)
 
--- ---- what stands at a key of a table
+-- ---- the value at a key of a table
 
 abbrev pub at : Key → Members → Option Data
 at k ms = get_member (name_of k) ms

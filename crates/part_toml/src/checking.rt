@@ -140,7 +140,7 @@ fn full_name(alloc: Global, part: Part, name: &str) -> Result<Bytes, NoMemory>
     Ok(Items::new(full))
 }
 
-/// Refuses a table that is at fault: its keys first, and then their values.
+/// Refuses a table that is invalid: its keys first, and then their values.
 #[tactic(auto, unfolding(crate::specs::Faults::table_fault))]
 fn check_table(alloc: Global, part: Part, table: &Table) -> Result<(), PartFault>
     ensures { Finds result (faults.table_fault part (table_view table.now)) }
@@ -156,7 +156,7 @@ fn check_table(alloc: Global, part: Part, table: &Table) -> Result<(), PartFault
     Ok(())
 }
 
-/// Refuses the first of some tables that is at fault.
+/// Refuses the first of some tables that is invalid.
 fn check_all(alloc: Global, part: Part, tables: &[&Table]) -> Result<(), PartFault>
     ensures { Finds result (faults.tables_fault part (map (λ t. table_view t.now) tables.now)) }
 {
@@ -174,7 +174,7 @@ fn check_array(alloc: Global, part: Part, top: &Table, key: Key) -> Result<(), P
     check_all(alloc, part, &tables)
 }
 
-/// Refuses a document whose top table, or one of whose other tables, is at fault.
+/// Refuses a document whose top table, or one of whose other tables, is invalid.
 #[tactic(auto, unfolding(crate::specs::Faults::document_fault))]
 pub(crate) fn check_document(alloc: Global, top: &Table) -> Result<(), PartFault>
     ensures { Finds result (faults.document_fault (table_view top.now)) }

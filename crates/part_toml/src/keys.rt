@@ -259,7 +259,7 @@ impl Part {
 }
 
 impl Key {
-    /// How the key is written. It may be held beside names that a table lends.
+    /// How the key is written. It may be held beside names that a table has.
     pub fn name<'a>(self) -> &'a str
         ensures { result.now ≡ keys.name_of self }
     {

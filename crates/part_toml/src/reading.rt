@@ -3,7 +3,7 @@
 ghost use Rattle.std.specs.Prelude.{◌≡◌, map, IfOk};
 ghost use Rattle.toml.specs.View.{table_view};
 ghost use Rattle.image_form.specs.Reading.{reading};
-ghost use Rattle.image_form.specs.Spelling.{spelling};
+ghost use Rattle.image_form.specs.Encoding.{encoding};
 ghost use Rattle.image_form.specs.View as image;
 ghost use Rattle.part_toml.specs.Parts as parts;
 ghost use Rattle.part_toml.specs.Partition as partition;
@@ -100,7 +100,7 @@ fn finish(
     entry: u32,
 ) -> Result<Image, PartFault>
     requires { AreEntries entries (table_view top.now) }
-    ensures { IsAnswer result (partition.by_image (reading (spelling (partition.image_of (table_view top.now) text entry)))) }
+    ensures { IsAnswer result (partition.by_image (reading (encoding (partition.image_of (table_view top.now) text entry)))) }
 {
     let parts = image_parts(alloc, top, entries, text, entry)?;
     Ok(finish_image(alloc, parts)?)

@@ -1,4 +1,4 @@
-//! What stands at a key of a table.
+//! The value at a key of a table.
 
 ghost use Rattle.std.specs.Prelude.{◌≡◌, map, option_map, IfOk};
 ghost use Rattle.toml.specs.View.{view, items_view, table_view};

@@ -1,4 +1,4 @@
-//! A partition with the bytes of its image, and partitions at fault with what is told of them.
+//! A partition with the bytes of its image, and invalid partitions with what is reported of them.
 
 use crate::{PartFault, read_partition};
 use image_form::write_image;
@@ -114,7 +114,7 @@ root = \"/\"
 text = \".proc main\\nret\\n\"
 ";
 
-/// What stands in `GOOD`, what stands in its place, and what is then told.
+/// What is in `GOOD`, what is put in its place, and what is then reported.
 type Case = (&'static str, &'static str, &'static str);
 
 static KEYS: [Case; 38] = [
@@ -276,7 +276,7 @@ static LATER: [Case; 15] = [
     ("mode = 15", "mode = 16", "image 203 Range"),
 ];
 
-/// What stands at the end of `SMALL`, and what is then told.
+/// What is put at the end of `SMALL`, and what is then reported.
 static ARRAYS: [(&str, &str); 10] = [
     ("data = []\ntag = []\nfd = []\nfile = []\n", "fine"),
     ("data = 1\n", "kind data"),
@@ -312,19 +312,19 @@ fn line_of(alloc: Global, fault: &PartFault) -> Result<String, Fail> {
     Ok(line)
 }
 
-/// What is told of a text.
-fn told(alloc: Global, text: &str) -> Result<String, Fail> {
+/// What is reported of a text.
+fn reported(alloc: Global, text: &str) -> Result<String, Fail> {
     match read_partition(alloc, text) {
         Ok(_) => Ok(String::from_str(alloc, "fine")?),
         Err(fault) => line_of(alloc, &fault),
     }
 }
 
-/// Each case tells what it should.
-fn tell<R: Abort + AllocGlobal>(rt: &R, cases: &[Case]) -> Result<(), Fail> {
+/// Each case reports what it should.
+fn each_reports<R: Abort + AllocGlobal>(rt: &R, cases: &[Case]) -> Result<(), Fail> {
     for (old, new, want) in cases {
         let text = GOOD.replacen(rt.alloc(), *old, new, 1)?;
-        let found = told(rt.alloc(), text.as_str())?;
+        let found = reported(rt.alloc(), text.as_str())?;
         assert_eq!(rt; found.as_str(), *want, "{new}");
     }
     Ok(())
@@ -344,24 +344,24 @@ fn the_image_of_a_partition(rt: HostRuntime) -> Result<(), Fail> {
 
 #[test]
 fn keys_that_are_missing_unknown_or_doubled(rt: HostRuntime) -> Result<(), Fail> {
-    tell(&rt, &KEYS)
+    each_reports(&rt, &KEYS)
 }
 
 #[test]
 fn values_of_another_kind(rt: HostRuntime) -> Result<(), Fail> {
-    tell(&rt, &KINDS)
+    each_reports(&rt, &KINDS)
 }
 
 #[test]
 fn refusals_of_the_text_and_the_image(rt: HostRuntime) -> Result<(), Fail> {
-    tell(&rt, &LATER)
+    each_reports(&rt, &LATER)
 }
 
 #[test]
 fn arrays_of_tables(rt: HostRuntime) -> Result<(), Fail> {
     for (end, want) in &ARRAYS {
         let text = format!(in rt.alloc(); "{SMALL}{end}")?;
-        let found = told(rt.alloc(), text.as_str())?;
+        let found = reported(rt.alloc(), text.as_str())?;
         assert_eq!(rt; found.as_str(), *want, "{end}");
     }
     Ok(())

@@ -94,7 +94,7 @@ fn digit(c: u8) -> u8
     }
 }
 
-/// The bytes that pairs of digits spell.
+/// The bytes that pairs of digits encode.
 pub(crate) fn bytes_of(alloc: Global, text: &[u8]) -> Result<Bytes, NoMemory>
     ensures { IfOk result (λ b. b ≡ values.bytes_of text.now) }
 {

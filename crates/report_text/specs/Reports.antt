@@ -88,7 +88,7 @@ quote = 34
 abbrev pub backslash : ℕ
 backslash = 92
 
--- whether a byte stands in quotes as it is: from a blank to `~`, but neither of these two
+-- whether a byte is written in quotes as it is: from a space to `~`, but neither of these two
 abbrev pub is_plain : ℕ → Bool
 is_plain b = nat_le 0x20 b && nat_le b 0x7e && not (b == quote) && not (b == backslash)
 

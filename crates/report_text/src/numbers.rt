@@ -70,7 +70,7 @@ pub fn write_name(out: &mut Vec<u8>, parts: &[u32]) -> Result<(), NoMemory>
     Ok(())
 }
 
-/// Adds a byte as it stands in quotes.
+/// Adds a byte as it is written in quotes.
 #[tactic(auto, unfolding(crate::specs::Reports::escaped))]
 fn write_escaped(out: &mut Vec<u8>, byte: u8) -> Result<(), NoMemory>
     ensures ok { OnOk result (out.new.items ≡ out.old.items ++ escaped byte) }

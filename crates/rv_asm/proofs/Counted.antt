@@ -9,7 +9,7 @@ use Rattle.rv_asm.specs.Laws.{WordsAreCounted}
 use Rattle.rv_asm.specs.declared.fault.Why.{Why}
 use Rattle.rv_isa.specs.declared.Form.{Form}
 
--- how many words an answer has; one at fault counts for a number that is given
+-- how many words an answer has; an invalid one counts for a number that is given
 abbrev long : Result (List ℕ) Why → ℕ → ℕ
 long (Ok ws) n = length ws
 long (Err w) n = n

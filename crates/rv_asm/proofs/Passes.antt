@@ -32,7 +32,7 @@ module _ {X : Type 0} (view : X → Statement) (es : Equates) (xs : List X) wher
     unfolding next_line
     assembled_step front line at i x ws h e w = step front line at i x h e ∙ ap (next_line front line at i (view x)) (sym w)
 
-    -- a line at fault
+    -- a invalid line
     pub assembled_fault : (front : Assembled) (line at i : ℕ) (x : X) (why : Why) → i < length xs → x ≡ get_or xs i x → Err why ≡ words es ls line at (view x) → assembled_from es ls front line at (map view (drop i xs)) ≡ Err (record { line = line; why = why })
     unfolding next_line
     assembled_fault front line at i x why h e w = step front line at i x h e ∙ ap (next_line front line at i (view x)) (sym w)

@@ -41,7 +41,7 @@ module _ (p : ℕ → Bool) where
   pub after_none : (xs : List ℕ) → All (λ x. p x ≡ false) xs → after_first p xs ≡ []
   after_none xs h = ap (λ n. drop (n + 1) xs) (no_place xs h) ∙ drop_all (length xs + 1) xs (omega arith)
 
--- an operand: no comma, and no blank around it
+-- an operand: no comma, and no space or tab around it
 pub record IsOperand (w : List ℕ) : Type 0 where
   pub tight : IsTight w
   pub each : list_all is_whole w ≡ true
@@ -49,7 +49,7 @@ pub record IsOperand (w : List ℕ) : Type 0 where
 pub operand_plain : (w : List ℕ) → 0 < length w → list_all is_plain w ≡ true → IsOperand w
 operand_plain w l h = record { tight = tight_plain w l h; each = each_passes is_plain is_whole plain_whole w h }
 
--- what a line says: one line, no comment, and no blank around it
+-- what a line says: one line, no comment, and no space or tab around it
 pub record IsContent (t : List ℕ) : Type 0 where
   pub tight : IsTight t
   pub each : list_all is_said t ≡ true
@@ -57,7 +57,7 @@ pub record IsContent (t : List ℕ) : Type 0 where
 pub content_operand : (w : List ℕ) → IsOperand w → IsContent w
 content_operand w h = record { tight = h.tight; each = each_passes is_whole is_said whole_said w h.each }
 
--- a text and one after it, with a comma and a blank
+-- a text and one after it, with a comma and a space
 unfoldable pub pair : List ℕ → List ℕ → List ℕ
 pair a b = a ++ 44 ∷ 32 ∷ b
 

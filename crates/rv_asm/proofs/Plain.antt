@@ -15,7 +15,7 @@ is_said c = not (c == 35) && not (c == 10)
 abbrev pub is_whole : ℕ → Bool
 is_whole c = not (is_comma c) && is_said c
 
--- and is no blank
+-- and is no space or tab
 abbrev pub is_plain : ℕ → Bool
 is_plain c = not (is_blank c) && is_whole c
 
@@ -62,7 +62,7 @@ each_passes p q too (c ∷ cs) h =
 pub all_append : (p : ℕ → Bool) (xs ys : List ℕ) → list_all p xs ≡ true → list_all p ys ≡ true → list_all p (xs ++ ys) ≡ true
 all_append p xs ys h k = list_all-append p xs ys ∙ rw (h, k) refl
 
--- there is no blank in front
+-- there is no space or tab in front
 abbrev pub Begins : List ℕ → Type 0
 Begins t = is_blank (get_or t 0 32) ≡ false
 

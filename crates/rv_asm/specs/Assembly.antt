@@ -1,4 +1,4 @@
--- What a text means: its words and its procedures, or the first line that is at fault.
+-- What a text means: its words and its procedures, or the first line that is invalid.
 use Rattle.std.specs.Prelude.{◌≡◌, ℕ, ◌+◌, ◌-◌, ◌*◌, ◌/◌, ◌%◌, ◌^◌, ◌==◌, ℤ, pos, negsuc, Bool, false, ◌&&◌, ◌||◌, List, [], ◌∷◌, ◌++◌, map, Option, Some, None, option_map, is_some, Result, Ok, Err, nat_lt, int_le, if◌then◌else◌}
 use Rattle.std.specs.Int.{w32, cast_signed}
 use Rattle.std.specs.Str.{bytes_eq}
@@ -188,7 +188,7 @@ abbrev pub number_size : Result ℤ Why → ℕ
 number_size (Ok z) = if is_small z then 1 else 2
 number_size (Err e) = 1
 
--- how many words a statement takes, at fault or not
+-- how many words a statement takes, invalid or not
 abbrev pub size : Equates → Statement → ℕ
 size es (statement.Word n) = 1
 size es (statement.Instruction t) = 1
@@ -237,14 +237,14 @@ abbrev pub on_line : {X : Type 0} → ℕ → Result X Why → Result X Fault
 on_line line (Ok x) = Ok x
 on_line line (Err w) = Err (record { line = line; why = w })
 
--- what stands in front, and then the words of statements from a line and an address on
+-- what is in front, and then the words of statements from a line and an address on
 unfoldable pub assembled_from : Equates → Labels → Assembled → ℕ → ℕ → List Statement → Result Assembled Fault
 assembled_from es ls front line at [] = Ok front
 assembled_from es ls front line at (s ∷ ss) =
     on_line line (words es ls line at s) >>= λ ws.
     assembled_from es ls (grown front ws (procedures at s)) (line + 1) (after es at s) ss
 
--- a text whose first word stands at a base, with names for numbers
+-- a text whose first word has a base address, with names for numbers
 unfoldable pub assembled : List ℕ → ℕ → List Equate → Result Assembled Fault
 assembled text base names =
     let statements = map statement_of (lines text) in

@@ -21,6 +21,6 @@ TextsAreReadBack = (i : Instr) (base : ℕ) (names : List Equate) → IsOfRow i 
 abbrev pub WordsAreReadBack : Type 0
 WordsAreReadBack = (word : ℕ) (i : Instr) (base : ℕ) (names : List Equate) → word < 2 ^ 32 → decode word ≡ Some i → assembled (text i) base names ≡ Ok (alone word)
 
--- a statement that is not at fault has as many words as it counts for, so that labels stand where they are said to
+-- a statement that is valid has as many words as it counts for, so that labels have the addresses that they are given
 abbrev pub WordsAreCounted : Type 0
 WordsAreCounted = (es : Equates) (ls : Labels) (line at : ℕ) (s : Statement) (ws : List ℕ) → words es ls line at s ≡ Ok ws → length ws ≡ size es s

@@ -1,4 +1,4 @@
--- A text in pieces: lines, words and operands. Blanks are the space and the tab.
+-- A text in pieces: lines, words and operands. Only the space and the tab are left out around them.
 use Rattle.std.specs.Prelude.{ℕ, ◌==◌, Bool, ◌||◌, List, [], ◌∷◌, map, reverse, Option, Some, None, length, nat_lt, if◌then◌else◌}
 use Rattle.std.specs.List.{slice_split, position_or_len, before_first, after_first}
 
@@ -8,16 +8,16 @@ is_blank c = c == 32 || c == 9
 abbrev pub is_comma : ℕ → Bool
 is_comma c = c == 44
 
--- the text without the blanks at its start
+-- the text without the spaces and tabs at its start
 abbrev pub trim_start : List ℕ → List ℕ
 trim_start [] = []
 trim_start (c ∷ cs) = if is_blank c then trim_start cs else c ∷ cs
 
--- the text without the blanks at its end
+-- the text without the spaces and tabs at its end
 unfoldable pub trim_end : List ℕ → List ℕ
 trim_end text = reverse (trim_start (reverse text))
 
--- the text without the blanks around it
+-- the text without the spaces and tabs around it
 unfoldable pub trim : List ℕ → List ℕ
 trim text = trim_end (trim_start text)
 
@@ -36,7 +36,7 @@ first_word text = before_first is_blank text
 abbrev pub following : List ℕ → List ℕ
 following text = trim_start (after_first is_blank text)
 
--- the operands: what stands between commas, without the blanks around it
+-- the operands: the pieces between commas, without spaces and tabs around them
 unfoldable pub operands : List ℕ → List (List ℕ)
 operands [] = []
 operands (c ∷ cs) = map trim (slice_split is_comma (c ∷ cs))

@@ -12,7 +12,7 @@ past_all = 2 ^ 33
 abbrev pub is_digit : ℕ → ℕ → Bool
 is_digit radix c = nat_lt (digit_value c) radix
 
--- the number that digits of a radix spell
+-- the number that digits of a radix encode
 unfoldable pub natural : ℕ → List ℕ → Option ℕ
 natural radix [] = None
 natural radix (d ∷ ds) =

@@ -110,7 +110,7 @@ abbrev pub with_head : Head → List ℕ → Option Statement
 with_head (head.Machine o) text = machine o text >>= λ t. Some (statement.Instruction t)
 with_head (head.Short s) text = shorthand s text
 
--- how many words a line has whose operands are at fault
+-- how many words a line has whose operands are invalid
 abbrev pub words_at_fault : Head → ℕ
 words_at_fault (head.Short short.Procedure) = 0
 words_at_fault (head.Short short.LoadAddress) = 2

@@ -1,4 +1,4 @@
-//! From a text to its words and procedures, or its first line at fault.
+//! From a text to its words and procedures, or its first invalid line.
 
 ghost use Rattle.std.specs.Prelude.{◌≡◌, ◌++◌, map, option_map, IfOk, OnOk};
 ghost use Rattle.rv_asm.specs.Assembly as assembly;
@@ -62,7 +62,7 @@ fn note<'a>(
     labels.define(name, label)
 }
 
-/// The labels of statements, of which the first stands at a base.
+/// The labels of statements, of which the first has a base address.
 fn labels_of<'a>(
     alloc: Global,
     equates: &Equates<'_>,
@@ -114,7 +114,7 @@ fn push_procedure(
     }
 }
 
-/// The words and procedures of statements, of which the first stands at a base.
+/// The words and procedures of statements, of which the first has a base address.
 fn emitted(
     alloc: Global,
     equates: &Equates<'_>,
@@ -142,7 +142,7 @@ fn emitted(
     Ok(front)
 }
 
-/// Assembles a text. Its first word stands at `base`; addresses are modulo 2^32. `names` stand for
+/// Assembles a text. Its first word has the address `base`; addresses are modulo 2^32. `names` are names for
 /// numbers; of two with one name the first holds. A fault is that of the least line that has one.
 #[tactic(auto, unfolding(crate::specs::Assembly::assembled))]
 pub fn assemble(

@@ -205,7 +205,7 @@ fn number_size(equates: &Equates<'_>, number: Number<'_>) -> u32
     }
 }
 
-/// How many words a statement takes, at fault or not.
+/// How many words a statement takes, invalid or not.
 fn size(equates: &Equates<'_>, statement: &Statement<'_>) -> u32
     ensures is { result ≡ assembly.size (equates_view equates.now) (statement_view statement.now) }
     ensures small { result ≤ 255 }

@@ -37,7 +37,7 @@ impl Why {
     }
 }
 
-/// The first line that is at fault, and what is wrong with it.
+/// The first line that is invalid, and what is wrong with it.
 #[derive(Clone, Copy, Debug, PartialEq, Eq)]
 pub struct Fault {
     /// The number of the line, from 1.

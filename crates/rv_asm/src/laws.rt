@@ -9,7 +9,7 @@ pub fn texts_are_read_back()
     ensures words { WordsAreReadBack }
 {}
 
-/// A line that is not at fault has as many words as it counts for where labels are placed: so a label stands four
+/// A line that is valid has as many words as it counts for where labels are placed: so a label is four
 /// bytes behind the base for each word before it.
 pub fn words_are_counted()
     ensures { WordsAreCounted }

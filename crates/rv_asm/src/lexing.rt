@@ -10,7 +10,7 @@ pub(crate) fn is_blank(c: u8) -> bool
     c == b' ' || c == b'\t'
 }
 
-/// The text without the blanks at its start.
+/// The text without the spaces and tabs at its start.
 pub(crate) fn trim_start(text: &[u8]) -> &[u8]
     ensures { result.now ≡ lexing.trim_start text.now }
 {
@@ -24,7 +24,7 @@ pub(crate) fn trim_start(text: &[u8]) -> &[u8]
     rest
 }
 
-/// The text without the blanks at its end.
+/// The text without the spaces and tabs at its end.
 #[tactic(auto, using(crate::proofs::Trims::trim_end_blank, crate::proofs::Trims::trim_end_other, crate::proofs::Trims::trim_end_none))]
 fn trim_end(text: &[u8]) -> &[u8]
     ensures { result.now ≡ lexing.trim_end text.now }
@@ -39,7 +39,7 @@ fn trim_end(text: &[u8]) -> &[u8]
     rest
 }
 
-/// The text without the blanks around it.
+/// The text without the spaces and tabs around it.
 #[tactic(auto, unfolding(crate::specs::Lexing::trim))]
 pub(crate) fn trim(text: &[u8]) -> &[u8]
     ensures { result.now ≡ lexing.trim text.now }

@@ -1,4 +1,4 @@
-//! The assembler: from a text to the words and procedures of an image, or the first line at fault.
+//! The assembler: from a text to the words and procedures of an image, or the first invalid line.
 #![tactic(auto)]
 
 mod assembled;

@@ -34,8 +34,8 @@ fn digit_value(c: u8) -> u64
     }
 }
 
-/// The number that digits spell.
-fn spelled(radix: u64, text: &[u8]) -> u64
+/// The number that digits encode.
+fn number_read(radix: u64, text: &[u8]) -> u64
     requires low { 2 ≤ radix }
     requires high { radix ≤ 16 }
     ensures { result ≡ min (digits_value radix text.now) numbers.past_all }
@@ -47,7 +47,7 @@ fn spelled(radix: u64, text: &[u8]) -> u64
     value
 }
 
-/// The number that digits of a radix spell.
+/// The number that digits of a radix encode.
 #[tactic(auto, unfolding(crate::specs::Numbers::natural))]
 fn natural(radix: u32, text: &[u8]) -> Option<u64>
     requires low { 2 ≤ radix }
@@ -58,7 +58,7 @@ fn natural(radix: u32, text: &[u8]) -> Option<u64>
     if text.is_empty() || !all_digits(radix, text) {
         return None;
     }
-    Some(spelled(u64::from(radix), text))
+    Some(number_read(u64::from(radix), text))
 }
 
 /// Decimal digits, the first of several not 0.

@@ -153,7 +153,7 @@ fn shorthand(shorthand: Shorthand, text: &[u8]) -> Option<Statement<'_>>
     }
 }
 
-/// How many words a line has whose operands are at fault.
+/// How many words a line has whose operands are invalid.
 fn words_at_fault(head: Head) -> u8
     ensures { result ≡ parsing.words_at_fault head }
 {

@@ -24,6 +24,6 @@ pub(crate) enum Statement<'a> {
     LoadAddress { rd: Register, label: &'a [u8] },
     /// A service call.
     Service(Service),
-    /// The line is at fault, and counts so many words.
+    /// The line is invalid, and counts so many words.
     Faulty { why: Why, words: u8 },
 }

@@ -1,5 +1,5 @@
 //! Texts with words worked out from the formats of sections 2.2 and 2.3 of the manual and the listings of
-//! chapter 24, and texts at fault with the line and the reason.
+//! chapter 24, and invalid texts with the line and the reason.
 
 use crate::{AsmError, Equate, Fault, Why, assemble};
 use std::alloc::Global;
@@ -44,7 +44,7 @@ fn gives<R: Abort + AllocGlobal>(
     Ok(())
 }
 
-/// The text is at fault on this line for this reason.
+/// The text is invalid on this line for this reason.
 fn refuses<R: Abort + AllocGlobal>(rt: &R, text: &str, line: usize, why: Why) -> Result<(), Fail> {
     let names = equates(rt.alloc(), &[("one", 1), ("far", 0x4000_0000), ("one", 2)])?;
     match assemble(rt.alloc(), text, BASE, &names) {
@@ -633,7 +633,7 @@ fn the_distance_of_a_label_has_a_range(rt: HostRuntime) -> Result<(), Fail> {
     assert_eq!(rt; found.words.as_slice().len(), 1023);
     let text = branch_over(&rt, 1021, "svc exit")?;
     refuses(&rt, text.as_str(), 1, Why::Range)?;
-    // lines at fault count their words: the branch reaches over one, and not over two
+    // invalid lines count their words: the branch reaches over one, and not over two
     let text = branch_over(&rt, 1021, "move a0, a1")?;
     refuses(&rt, text.as_str(), 1023, Why::Mnemonic)?;
     let text = branch_over(&rt, 1021, "la a0, 4")?;

@@ -42,7 +42,7 @@ pub enum Need {
     JumpMisaligned,
 }
 
-/// What a hart is told of what it needed.
+/// The reply to what a hart needed.
 #[derive(Clone, Copy, Debug, PartialEq, Eq)]
 pub enum Reply {
     /// The loaded bytes, as a number without sign.
@@ -258,7 +258,7 @@ impl Hart {
     }
 
     /// Makes the step that was begun, with the reply to what it needed: a load sets its register, a
-    /// call's answer stands in a0, a1 and, where it has one, a2.
+    /// call's answer goes to a0, a1 and, where it has one, a2.
     #[inline(always)]
     #[tactic(auto, unfolding(crate::specs::Local::local))]
     pub fn finish(&mut self, instr: Instr, reply: Reply)

@@ -172,7 +172,7 @@ fn text_in(alloc: Global, instr: Instr) -> Result<String, AllocError>
 }
 
 /// Appends the assembler text of an instruction: its mnemonic of chapter 24 of the manual, and its
-/// operands. The error is `std`'s own, since this crate stands on no other: no memory was left, and
+/// operands. The error is `std`'s own, since this crate uses no other: out of memory, and
 /// `out` is as it was.
 pub fn text_of(instr: Instr, out: &mut String) -> Result<(), AllocError>
     requires { HasRegisters instr }

@@ -210,7 +210,7 @@ sought_all bs room size low place s all =
     let r = rest_sought bs room size low place [] (drop_all place bs all) s in
     (r.inside, sym r.fit, omega (arith, r.at))
 
--- a block put in at the place of the first gap stands in its place
+-- a block put in at the place of the first gap is at its position
 pub placed_at : (size room : ℕ) (bs : List Block) (offset place : ℕ) → size % 8 ≡ 0 → 0 < size → AreBlocks 0 room bs → first_fit 0 size room bs ≡ Some offset → fit_place 0 size bs ≡ place
     → insert bs place (block offset size) ≡ with_block (block offset size) bs
 placed_at size room bs offset place size8 some h e at =

@@ -7,7 +7,7 @@ use std::alloc::{AllocError, AllocFailed};
 pub enum SmallocFault {
     /// At no offset are so many bytes free.
     NoSpace,
-    /// No memory was left.
+    /// Out of memory.
     NoMemory,
 }
 

@@ -54,8 +54,8 @@ impl Heap {
     }
 
     /// Takes a block of at least so many bytes, and gives its offset: the least multiple of 8 at
-    /// which the size, rounded up to a multiple of 8, is free. It refuses where there is none, and
-    /// for want of memory; the heap is then as it was.
+    /// which the size, rounded up to a multiple of 8, is free. An error where there is none, and
+    /// when out of memory; the heap is then as it was.
     pub fn smalloc(&mut self, size: u32) -> Result<u32, SmallocFault>
         requires { 1 ≤ size }
         ensures fit { IfOk result (λ offset. blocks.first_fit 0 (blocks.rounded size) self.old.room self.old.blocks ≡ Some offset) }

@@ -44,7 +44,7 @@ is_path (b ∷ bs) = (b == 47) && nat_lt (length bs) 256 && list_all is_printed 
 abbrev pub resolve : List ℕ → List ℕ → Option (List ℕ)
 resolve root path = if is_path path then Some (text_of (parts_of root ++ walked [] (pieces path))) else None
 
--- whether the first list stands at the front of the second
+-- whether the first list is a prefix of the second
 abbrev pub is_front : List (List ℕ) → List (List ℕ) → Bool
 is_front [] ys = true
 is_front (x ∷ xs) [] = false

@@ -9,11 +9,11 @@ use Rattle.part_toml.specs.declared.fault.PartFault.{PartFault}
 use Rattle.part_toml.specs.declared.fault.PartFault.TheVariants as fault
 use Rattle.part_toml.specs.Faults.{Refusal as Meant}
 use Rattle.part_toml.specs.Faults as meant
-use Rattle.part_toml.specs.Partition.{partition, Tells, refusal_in}
+use Rattle.part_toml.specs.Partition.{partition, Reports, refusal_in}
 use Rattle.wedge_cli.specs.declared.refusal.Refusal.TheVariants as refusal
 use Rattle.wedge_cli.specs.declared.refusal.PartRefusal.TheVariants as part
 use Rattle.wedge_cli.specs.Refusals.{as_refused, part_refusal_of}
-use Rattle.wedge_cli.specs.Loading.{built_of, by_partition, most_partition, IsTold}
+use Rattle.wedge_cli.specs.Loading.{built_of, by_partition, most_partition, IsRefusalOf}
 
 not_utf8 : (bytes : List ℕ) (t : Bool) → is_utf8 bytes ≡ t → (IsUtf8 bytes → ⊥) → is_utf8 bytes ≡ false
 not_utf8 bytes true e h = absurd (h (IsUtf8-from_is_utf8 bytes e))
@@ -38,10 +38,10 @@ some_err (Ok i) r e = let f : None ≡ Some r = e in absurd cc
 some_err (Err q) r e = let is : q ≡ r = let f : Some q ≡ Some r = e in cc in ap (λ x. Err (refusal.Partition (as_refused x))) is
 
 -- a fault that tells what is refused
-pub told_by : (m : Result Image Meant) (f : PartFault) → Tells f (refusal_in m) → IsTold (by_partition m) (part_refusal_of f)
-told_by m fault.NoMemory h = tt
-told_by m fault.Toml h = some_err m meant.Toml h
-told_by m (fault.Key name) h = some_err m (meant.Key name) h
-told_by m (fault.Kind name) h = some_err m (meant.Kind name) h
-told_by m (fault.Asm line why) h = some_err m (meant.Asm line why) h
-told_by m (fault.Image at why) h = some_err m (meant.Image at why) h
+pub exposed_by : (m : Result Image Meant) (f : PartFault) → Reports f (refusal_in m) → IsRefusalOf (by_partition m) (part_refusal_of f)
+exposed_by m fault.NoMemory h = tt
+exposed_by m fault.Toml h = some_err m meant.Toml h
+exposed_by m (fault.Key name) h = some_err m (meant.Key name) h
+exposed_by m (fault.Kind name) h = some_err m (meant.Kind name) h
+exposed_by m (fault.Asm line why) h = some_err m (meant.Asm line why) h
+exposed_by m (fault.Image at why) h = some_err m (meant.Image at why) h

@@ -1,7 +1,7 @@
 -- Which cause each status has.
 use Rattle.std.proofs.Common.{◌≡◌, ◌⊎◌, inl, inr, ℕ, ◌<◌, ◌≤◌, List, refl, sym, ◌∙◌, arith}
 use Rattle.std.specs.Prelude.{Option, Some, None}
-use Rattle.host_io.specs.Told.{WhereTold}
+use Rattle.host_io.specs.Exposed.{WhereExposed}
 use Rattle.wedge_cli.specs.declared.top.Ended.{Ended}
 use Rattle.wedge_cli.specs.declared.refusal.Refusal.{Refusal}
 use Rattle.wedge_cli.specs.declared.refusal.Refusal.TheVariants as refusal
@@ -46,12 +46,12 @@ run_status c content ended o p e f r = elim r.written.out [ inl done ↦ inl don
 abbrev Not : ℕ → ℕ → Type 0
 Not status n = status ≡ n → ⊥
 
-refusal_of_3 : (c : Command) (r : Refusal) (content : Option (List ℕ)) (before after : ℕ) → IsRefused c content before after r → status_of r ≡ 3 → WhereTold content (IsUnfit c)
+refusal_of_3 : (c : Command) (r : Refusal) (content : Option (List ℕ)) (before after : ℕ) → IsRefused c content before after r → status_of r ≡ 3 → WhereExposed content (IsUnfit c)
 refusal_of_3 c refusal.NoMemory content before after cause e = absurd (omega arith)
 refusal_of_3 c refusal.Read content before after cause e = absurd (omega arith)
-refusal_of_3 c (refusal.Image fault) content before after cause e = λ bytes told. (refusal.Image fault, cause bytes told)
-refusal_of_3 c refusal.Unbuilt content before after cause e = λ bytes told. (refusal.Unbuilt, cause bytes told)
-refusal_of_3 c (refusal.Partition p) content before after cause e = λ bytes told. (refusal.Partition p, cause bytes told)
+refusal_of_3 c (refusal.Image fault) content before after cause e = λ bytes exposed. (refusal.Image fault, cause bytes exposed)
+refusal_of_3 c refusal.Unbuilt content before after cause e = λ bytes exposed. (refusal.Unbuilt, cause bytes exposed)
+refusal_of_3 c (refusal.Partition p) content before after cause e = λ bytes exposed. (refusal.Partition p, cause bytes exposed)
 
 refusal_of_4 : (c : Command) (r : Refusal) (content : Option (List ℕ)) (before after : ℕ) → IsRefused c content before after r → status_of r ≡ 4 → before < after
 refusal_of_4 c refusal.NoMemory content before after cause e = absurd (omega arith)
@@ -91,7 +91,7 @@ usage_by : (asked : Asked) (status : ℕ) → ((c : Command) (name : List ℕ) �
 usage_by None status done is = refl
 usage_by (Some (c, name)) status done is = absurd (done c name refl is)
 
-pub image_by : (c : Command) (name : List ℕ) (content : Option (List ℕ)) (before after : ℕ) (ended : Ended) (o p e f : Device) → IsEither c name content before after ended o p e f → ended.status ≡ 3 → WhereTold content (IsUnfit c)
+pub image_by : (c : Command) (name : List ℕ) (content : Option (List ℕ)) (before after : ℕ) (ended : Ended) (o p e f : Device) → IsEither c name content before after ended o p e f → ended.status ≡ 3 → WhereExposed content (IsUnfit c)
 image_by c name content before after ended o p e f (inl r) is =
     elim (refusal_status name r.why ended e f r.err) [
       | inl status ↦ refusal_of_3 c r.why content before after r.cause (sym status ∙ is)

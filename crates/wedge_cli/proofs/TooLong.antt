@@ -2,8 +2,8 @@
 use Rattle.std.proofs.Common.{◌≡◌, ℕ, ◌<◌, true, false, List, length, refl, sym, subst}
 use Rattle.std.specs.Prelude.{Option, Err, nat_le, nat_lt}
 use Rattle.std.proofs.lemmas.Bool.{lt-leb, lt-ltb}
-use Rattle.host_io.specs.Told.{WhereTold}
-use Rattle.image_form.specs.Spelling.{most_bytes}
+use Rattle.host_io.specs.Exposed.{WhereExposed}
+use Rattle.image_form.specs.Encoding.{most_bytes}
 use Rattle.image_form.specs.Reading.{reading}
 use Rattle.wedge_cli.specs.declared.words.Command.{Command}
 use Rattle.wedge_cli.specs.declared.words.Command.TheVariants.{Run, Show, Build}
@@ -20,8 +20,8 @@ long_built : (bytes : List ℕ) → most_partition < length bytes → built_of b
 unfolding built_of
 long_built bytes lt = let long : nat_lt most_partition (length bytes) ≡ true = lt-ltb most_partition (length bytes) lt in rw long refl
 
-pub refused_long : (c : Command) (content : Option (List ℕ)) (before after : ℕ) (r : Refusal) → r ≡ too_long c → WhereTold content (λ bytes. most_of c < length bytes)
+pub refused_long : (c : Command) (content : Option (List ℕ)) (before after : ℕ) (r : Refusal) → r ≡ too_long c → WhereExposed content (λ bytes. most_of c < length bytes)
     → IsRefused c content before after r
-refused_long Run content before after r is longer = subst (IsRefused Run content before after) (sym is) (λ bytes told. long_read Run bytes (longer bytes told))
-refused_long Show content before after r is longer = subst (IsRefused Show content before after) (sym is) (λ bytes told. long_read Show bytes (longer bytes told))
-refused_long Build content before after r is longer = subst (IsRefused Build content before after) (sym is) (λ bytes told. long_built bytes (longer bytes told))
+refused_long Run content before after r is longer = subst (IsRefused Run content before after) (sym is) (λ bytes exposed. long_read Run bytes (longer bytes exposed))
+refused_long Show content before after r is longer = subst (IsRefused Show content before after) (sym is) (λ bytes exposed. long_read Show bytes (longer bytes exposed))
+refused_long Build content before after r is longer = subst (IsRefused Build content before after) (sym is) (λ bytes exposed. long_built bytes (longer bytes exposed))

@@ -1,10 +1,10 @@
 -- What the program ends with.
 use Rattle.std.specs.Prelude.{◌≡◌, ℕ, ◌<◌, ◌≤◌, ◌⊎◌, List, length, take, Option, Some, None}
 use Rattle.wedge_base.specs.Images.{Image}
-use Rattle.image_form.specs.Rules.{Spells}
+use Rattle.image_form.specs.Rules.{Encodes}
 use Rattle.wedge_base.specs.declared.events.Journal.{Journal}
 use Rattle.wedge_base.specs.declared.outcome.Outcome.{Outcome}
-use Rattle.host_io.specs.Told.{grown_by}
+use Rattle.host_io.specs.Exposed.{grown_by}
 use Rattle.wedge_core.specs.Serial.{IsWholeRun, IsNumbered}
 use Rattle.report_text.specs.Reports.{report_of}
 use Rattle.wedge_cli.specs.declared.words.Command.{Command}
@@ -14,7 +14,7 @@ use Rattle.wedge_cli.specs.Lines.{usage_line, write_fault_line}
 use Rattle.wedge_cli.specs.Listing.{listing}
 use Rattle.wedge_cli.specs.Loading.{IsLoaded}
 
--- The journal tells a whole run of the image, each moment of it lawful, and the text is that
+-- The journal is that of a complete run of the image, each moment of it lawful, and the text is that
 -- run's report.
 pub record IsReportOf (i : Image) (journal : Journal) (text : List ℕ) : Type 0 where
   pub outcome : Outcome
@@ -22,12 +22,12 @@ pub record IsReportOf (i : Image) (journal : Journal) (text : List ℕ) : Type 0
   pub stamps : IsNumbered journal.entries
   pub report : text ≡ report_of outcome
 
--- what a command writes of an image: a report with its journal, a listing, or the one spelling of it
+-- what a command writes of an image: a report with its journal, a listing, or the one encoding of it
 abbrev pub IsTextFor : Command → Image → Option Journal → List ℕ → Type 0
 IsTextFor Run i None text = ⊥
 IsTextFor Run i (Some journal) text = IsReportOf i journal text
 IsTextFor Show i journal text = (journal ≡ None) × (text ≡ listing i)
-IsTextFor Build i journal text = (journal ≡ None) × Spells i text
+IsTextFor Build i journal text = (journal ≡ None) × Encodes i text
 
 -- the same of the image of the file's bytes
 pub record IsTextOf (c : Command) (content : Option (List ℕ)) (journal : Option Journal) (text : List ℕ) : Type 0 where
@@ -35,7 +35,7 @@ pub record IsTextOf (c : Command) (content : Option (List ℕ)) (journal : Optio
   pub loaded : IsLoaded c content image
   pub text_for : IsTextFor c image journal text
 
--- a sink before and after: the bytes that it has taken, where they are told, and its count of faults
+-- a sink before and after: the bytes that it has taken, where they are exposed, and its count of faults
 pub record Device : Type 0 where
   pub written : Option (List ℕ)
   pub faults : ℕ

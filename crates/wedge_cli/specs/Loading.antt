@@ -2,11 +2,11 @@
 use Rattle.std.specs.Prelude.{◌≡◌, ℕ, ◌<◌, Bool, true, List, length, Option, Result, Ok, Err, nat_lt, if◌then◌else◌}
 use Rattle.std.specs.Str.{is_utf8}
 use Rattle.wedge_base.specs.Images.{Image}
-use Rattle.host_io.specs.Told.{WhereTold}
+use Rattle.host_io.specs.Exposed.{WhereExposed}
 use Rattle.image_form.specs.declared.fault.Fault.{Fault}
-use Rattle.image_form.specs.Rules.{Spells}
+use Rattle.image_form.specs.Rules.{Encodes}
 use Rattle.image_form.specs.Reading.{reading}
-use Rattle.image_form.specs.Spelling.{most_bytes}
+use Rattle.image_form.specs.Encoding.{most_bytes}
 use Rattle.image_form.specs.declared.fault.Why.TheVariants.{Limit}
 use Rattle.part_toml.specs.Faults.{Refusal as Meant}
 use Rattle.part_toml.specs.Partition.{partition}
@@ -64,32 +64,32 @@ too_long Show = long_image
 too_long Build = refusal.Partition part.Limit
 
 -- what is meant is this refusal, unless memory ran out
-abbrev pub IsTold : Result Image Refusal → Refusal → Type 0
-IsTold meant refusal.NoMemory = Unit {0}
-IsTold meant refusal.Read = ⊥
-IsTold meant (refusal.Image fault) = meant ≡ Err (refusal.Image fault)
-IsTold meant refusal.Unbuilt = meant ≡ Err refusal.Unbuilt
-IsTold meant (refusal.Partition p) = meant ≡ Err (refusal.Partition p)
+abbrev pub IsRefusalOf : Result Image Refusal → Refusal → Type 0
+IsRefusalOf meant refusal.NoMemory = Unit {0}
+IsRefusalOf meant refusal.Read = ⊥
+IsRefusalOf meant (refusal.Image fault) = meant ≡ Err (refusal.Image fault)
+IsRefusalOf meant refusal.Unbuilt = meant ≡ Err refusal.Unbuilt
+IsRefusalOf meant (refusal.Partition p) = meant ≡ Err (refusal.Partition p)
 
 -- bytes are refused so
 abbrev pub Refuses : Command → List ℕ → Refusal → Type 0
-Refuses c bytes r = IsTold (accepted c bytes) r
+Refuses c bytes r = IsRefusalOf (accepted c bytes) r
 
--- the bytes of an image spell it, and a partition is what it is built of
+-- the bytes of an image encode it, and a partition is what it is built of
 abbrev pub IsMeant : Command → Image → List ℕ → Type 0
-IsMeant Run i bytes = Spells i bytes
-IsMeant Show i bytes = Spells i bytes
+IsMeant Run i bytes = Encodes i bytes
+IsMeant Show i bytes = Encodes i bytes
 IsMeant Build i bytes = partition bytes ≡ Ok i
 
--- the image is that of the file's bytes, where they are told
+-- the image is that of the file's bytes, where they are exposed
 pub record IsLoaded (c : Command) (content : Option (List ℕ)) (i : Image) : Type 0 where
-  pub meant : WhereTold content (λ bytes. IsMeant c i bytes)
-  pub accepted_is : WhereTold content (λ bytes. accepted c bytes ≡ Ok i)
+  pub meant : WhereExposed content (λ bytes. IsMeant c i bytes)
+  pub accepted_is : WhereExposed content (λ bytes. accepted c bytes ≡ Ok i)
 
 -- why there is none: the count of faults of the name rose, or the bytes are refused so
 abbrev pub IsRefused : Command → Option (List ℕ) → ℕ → ℕ → Refusal → Type 0
 IsRefused c content before after refusal.NoMemory = Unit {0}
 IsRefused c content before after refusal.Read = before < after
-IsRefused c content before after (refusal.Image fault) = WhereTold content (λ bytes. accepted c bytes ≡ Err (refusal.Image fault))
-IsRefused c content before after refusal.Unbuilt = WhereTold content (λ bytes. accepted c bytes ≡ Err refusal.Unbuilt)
-IsRefused c content before after (refusal.Partition p) = WhereTold content (λ bytes. accepted c bytes ≡ Err (refusal.Partition p))
+IsRefused c content before after (refusal.Image fault) = WhereExposed content (λ bytes. accepted c bytes ≡ Err (refusal.Image fault))
+IsRefused c content before after refusal.Unbuilt = WhereExposed content (λ bytes. accepted c bytes ≡ Err refusal.Unbuilt)
+IsRefused c content before after (refusal.Partition p) = WhereExposed content (λ bytes. accepted c bytes ≡ Err (refusal.Partition p))

@@ -1,8 +1,8 @@
 //! From the name of a file to the image that is run, listed or written.
 
 ghost use Rattle.std.specs.Prelude.{◌≡◌, ◌≤◌, ◌<◌, ℕ, List, length, IfOk, IfErr, Ok};
-ghost use Rattle.wedge_cli.specs.Loading.{is_fit, accepted, accepted_of, built_of, most_of, most_partition, too_long, IsMeant, IsTold, Refuses, IsLoaded, IsRefused};
-ghost use Rattle.image_form.specs.Rules.{Spells};
+ghost use Rattle.wedge_cli.specs.Loading.{is_fit, accepted, accepted_of, built_of, most_of, most_partition, too_long, IsMeant, IsRefusalOf, Refuses, IsLoaded, IsRefused};
+ghost use Rattle.image_form.specs.Rules.{Encodes};
 ghost use Rattle.image_form.specs.Reading.{reading};
 ghost use Rattle.part_toml.specs.Partition.{partition};
 
@@ -87,11 +87,11 @@ fn image_of(alloc: Global, command: Command, bytes: &[u8]) -> Result<Image, Refu
     }
 }
 
-/// The image that bytes spell, if it is fit for a command.
+/// The image that bytes encode, if it is fit for a command.
 fn image_read(alloc: Global, command: Command, bytes: &[u8]) -> Result<Image, Refusal>
-    ensures spelled { IfOk result (λ i. Spells i bytes.now) }
+    ensures encoded { IfOk result (λ i. Encodes i bytes.now) }
     ensures accepted { IfOk result (λ i. accepted_of command (reading bytes.now) ≡ Ok i) }
-    ensures refused { IfErr result (IsTold (accepted_of command (reading bytes.now))) }
+    ensures refused { IfErr result (IsRefusalOf (accepted_of command (reading bytes.now))) }
 {
     match read_image(alloc, bytes) {
         Ok(image) if is_fit(command, &image) => Ok(image),
@@ -106,7 +106,7 @@ fn image_built(alloc: Global, bytes: &[u8]) -> Result<Image, Refusal>
     requires { length bytes.now ≤ most_partition }
     ensures meant { IfOk result (λ i. partition bytes.now ≡ Ok i) }
     ensures accepted { IfOk result (λ i. built_of bytes.now ≡ Ok i) }
-    ensures refused { IfErr result (IsTold (built_of bytes.now)) }
+    ensures refused { IfErr result (IsRefusalOf (built_of bytes.now)) }
 {
     let Ok(text) = str::from_utf8(bytes) else {
         return Err(Refusal::Partition(PartRefusal::Toml));

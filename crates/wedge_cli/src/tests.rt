@@ -320,7 +320,7 @@ fn what_is_no_run_says_why(rt: HostRuntime) -> Result<(), Fail> {
 }
 
 #[test]
-fn a_failed_write_is_told(rt: HostRuntime) -> Result<(), Fail> {
+fn a_failed_write_has_its_line(rt: HostRuntime) -> Result<(), Fail> {
     let alloc = rt.alloc();
     let report = Run {
         bytes: image_of(alloc, 100, &OK, 3, 2)?,

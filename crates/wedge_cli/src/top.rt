@@ -7,7 +7,7 @@ ghost use Rattle.wedge_cli.specs.Loading.{IsRefused};
 ghost use Rattle.wedge_cli.specs.Ended.{IsTextFor, IsTextOf, device, Takes, Tried, FailsAndSays, IsWritten};
 ghost use Rattle.wedge_cli.specs.declared.words.Command.{Command as ACommand};
 ghost use Rattle.wedge_cli.specs.Causes.{Said, SaysRefusal, IsUnfit, IsAnswer};
-ghost use Rattle.host_io.specs.Told.{WhereTold};
+ghost use Rattle.host_io.specs.Exposed.{WhereExposed};
 
 use crate::lines::{no_memory_line, refusal_line, usage_line, write_fault_line};
 use crate::loading::load;
@@ -57,9 +57,9 @@ pub(crate) struct Ready {
 /// its bytes.
 ///
 /// The status is 0 where that was written; 2 where the words are no command; 3 where the file's bytes
-/// spell no image, or one to be run of a kind that the machine does not run yet, or no partition; 4 where
+/// encode no image, or one to be run of a kind that the machine does not run yet, or no partition; 4 where
 /// a read failed; 5 where a write failed; 6 where no memory was left. A refusal leaves `out` alone and says
-/// one line on `err`. A write that fails leaves a first part of the text on `out`, and is told once on `err`.
+/// one line on `err`. A write that fails leaves a prefix of the text on `out`, and is reported once on `err`.
 pub fn wedge<R: Threads + Wait + Sync, F: Files, O: Sink, E: Sink, P: Pace + Sync>(
     _rt: &R,
     alloc: Global,
@@ -78,7 +78,7 @@ pub fn wedge<R: Threads + Wait + Sync, F: Files, O: Sink, E: Sink, P: Pace + Syn
 
     // why each status comes
     ensures usage_only { result.status ≡ 2 → asking.asked (asking.texts words.now) ≡ None }
-    ensures image_only { (c : ACommand) (name : List ℕ) → asking.asked (asking.texts words.now) ≡ Some (c, name) → result.status ≡ 3 → WhereTold (F.content files.old name) (IsUnfit c) }
+    ensures image_only { (c : ACommand) (name : List ℕ) → asking.asked (asking.texts words.now) ≡ Some (c, name) → result.status ≡ 3 → WhereExposed (F.content files.old name) (IsUnfit c) }
     ensures read_only { (c : ACommand) (name : List ℕ) → asking.asked (asking.texts words.now) ≡ Some (c, name) → result.status ≡ 4 → F.faults files.old name < F.faults files.new name }
     ensures write_only { result.status ≡ 5 → (O.faults out.old < O.faults out.new) ⊎ (E.faults err.old < E.faults err.new) }
 {

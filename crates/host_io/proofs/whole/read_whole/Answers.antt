@@ -4,20 +4,20 @@ use Rattle.host_io.proofs.Parts.{past, all_of, first_more, front}
 use Rattle.host_io.proofs.whole.read_whole.Goals as goal
 
 pub returns-then-count-eq0-clause-bytes : goal.returns-then-count-eq0-clause-bytes
-returns-then-count-eq0-clause-bytes g c told is_told =
+returns-then-count-eq0-clause-bytes g c exposed is_exposed =
     let call = c.in_ok-count.ensures in
     let so_far = c.loop-piece.invariant in
-    let told_now = so_far.same c.args.name.now ∙ is_told in
+    let exposed_now = so_far.same c.args.name.now ∙ is_exposed in
     let room : 0 < length c.read.new.buf = rw (c.read.auto.buf, c.deref_mut.ensures.len) so_far.room in
-    all_of c.loop-piece.bytes.items told (vec_len c.loop-piece.bytes) (so_far.first told is_told)
-    (λ more. rw c.if-count-eq0.true at (call.some told told_now (rw c.len.ensures more) room))
+    all_of c.loop-piece.bytes.items exposed (vec_len c.loop-piece.bytes) (so_far.first exposed is_exposed)
+    (λ more. rw c.if-count-eq0.true at (call.some exposed exposed_now (rw c.len.ensures more) room))
 
 pub returns-then-count-limit-clause-longer : goal.returns-then-count-limit-clause-longer
-returns-then-count-limit-clause-longer g c most is_most told is_told =
+returns-then-count-limit-clause-longer g c most is_most exposed is_exposed =
     let call = c.in_ok-count.ensures in
     let so_far = c.loop-piece.invariant in
-    let told_now = so_far.same c.args.name.now ∙ is_told in
-    past c.read.new.buf told c.len.result c.in_ok-count.count c.args.limit call.within (call.bytes told told_now) (omega arith) (omega arith)
+    let exposed_now = so_far.same c.args.name.now ∙ is_exposed in
+    past c.read.new.buf exposed c.len.result c.in_ok-count.count c.args.limit call.within (call.bytes exposed exposed_now) (omega arith) (omega arith)
 
 pub loop-piece-preserved : goal.loop-piece-preserved
 loop-piece-preserved g c =
@@ -33,8 +33,8 @@ loop-piece-preserved g c =
     record {
       in_range = omega (arith, len, c.if-count-limit.false, c.len-in-loop-piece.ensures, so_far.in_range);
       room = so_far.room;
-      first = λ told is_told. added.items ∙ ap (λ (xs : List ℕ). c.loop-piece.bytes.items ++ xs) put
-          ∙ first_more c.loop-piece.bytes.items buf told at n (so_far.first told is_told) (rw c.len.ensures at (call.bytes told (so_far.same c.args.name.now ∙ is_told))) ∙ rw len;
+      first = λ exposed is_exposed. added.items ∙ ap (λ (xs : List ℕ). c.loop-piece.bytes.items ++ xs) put
+          ∙ first_more c.loop-piece.bytes.items buf exposed at n (so_far.first exposed is_exposed) (rw c.len.ensures at (call.bytes exposed (so_far.same c.args.name.now ∙ is_exposed))) ∙ rw len;
       counted = call.counts ∙ so_far.counted;
       risen = λ other. omega (arith, so_far.risen other, call.rises other);
       same = λ other. call.content other ∙ so_far.same other;

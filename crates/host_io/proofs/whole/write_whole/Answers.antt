@@ -1,5 +1,5 @@
 use Rattle.std.proofs.Common.{ℕ, ◌<◌, ◌≤◌, List, length, take, drop, arith, ◌∙◌, ap, length-drop}
-use Rattle.host_io.specs.Told.{grown_by}
+use Rattle.host_io.specs.Exposed.{grown_by}
 use Rattle.host_io.proofs.Parts.{grown_by-take, rest_from}
 use Rattle.host_io.proofs.whole.write_whole.Goals as goal
 

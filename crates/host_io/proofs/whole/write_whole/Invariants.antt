@@ -1,5 +1,5 @@
 use Rattle.std.proofs.Common.{length, ◌-◌, ◌≡◌, ◌≤◌, take}
-use Rattle.host_io.specs.Told.{grown_by}
+use Rattle.host_io.specs.Exposed.{grown_by}
 use Rattle.host_io.proofs.whole.write_whole.Given as goal
 
 -- The sink has taken the bytes before `done`, and has counted no fault.

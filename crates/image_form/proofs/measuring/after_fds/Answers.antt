@@ -1,4 +1,4 @@
-use Rattle.image_form.specs.Spelling.{fd}
+use Rattle.image_form.specs.Encoding.{fd}
 use Rattle.image_form.specs.Fitting.{FdFits}
 use Rattle.image_form.proofs.Measures.{no_count, no_entry, all_left, all_fit, fd_some}
 use Rattle.image_form.proofs.measuring.after_fds.Goals as goal

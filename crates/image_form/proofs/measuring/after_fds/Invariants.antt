@@ -1,6 +1,6 @@
 use Rattle.std.proofs.Common.{◌≤◌, take}
 use Rattle.std.specs.List.{AllByRecursion}
-use Rattle.image_form.specs.Spelling.{fd}
+use Rattle.image_form.specs.Encoding.{fd}
 use Rattle.image_form.specs.Fitting.{FdFits}
 use Rattle.image_form.proofs.Measures.{Left}
 use Rattle.image_form.proofs.measuring.after_fds.Given as goal

@@ -1,4 +1,4 @@
-use Rattle.image_form.specs.Spelling.{file}
+use Rattle.image_form.specs.Encoding.{file}
 use Rattle.image_form.specs.Fitting.{FileFits}
 use Rattle.image_form.proofs.Measures.{no_count, no_entry, all_left, all_fit, file_some}
 use Rattle.image_form.proofs.measuring.after_files.Goals as goal

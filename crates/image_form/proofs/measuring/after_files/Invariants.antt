@@ -1,6 +1,6 @@
 use Rattle.std.proofs.Common.{◌≤◌, take}
 use Rattle.std.specs.List.{AllByRecursion}
-use Rattle.image_form.specs.Spelling.{file}
+use Rattle.image_form.specs.Encoding.{file}
 use Rattle.image_form.specs.Fitting.{FileFits}
 use Rattle.image_form.proofs.Measures.{Left}
 use Rattle.image_form.proofs.measuring.after_files.Given as goal

@@ -1,4 +1,4 @@
-use Rattle.image_form.specs.Spelling.{procedure}
+use Rattle.image_form.specs.Encoding.{procedure}
 use Rattle.image_form.specs.Fitting.{ProcedureFits}
 use Rattle.image_form.proofs.Measures.{no_count, no_entry, all_left, all_fit, procedure_some}
 use Rattle.image_form.proofs.measuring.after_procedures.Goals as goal

@@ -1,6 +1,6 @@
 use Rattle.std.proofs.Common.{take}
 use Rattle.std.specs.List.{AllByRecursion}
-use Rattle.image_form.specs.Spelling.{procedure}
+use Rattle.image_form.specs.Encoding.{procedure}
 use Rattle.image_form.specs.Fitting.{ProcedureFits}
 use Rattle.image_form.proofs.Measures.{Left}
 use Rattle.image_form.proofs.measuring.after_procedures.Given as goal

@@ -1,4 +1,4 @@
-use Rattle.image_form.specs.Spelling.{range}
+use Rattle.image_form.specs.Encoding.{range}
 use Rattle.image_form.specs.Fitting.{RangeFits}
 use Rattle.image_form.proofs.Measures.{no_count, no_entry, all_left, all_fit, range_some}
 use Rattle.image_form.proofs.measuring.after_ranges.Goals as goal

@@ -1,6 +1,6 @@
 use Rattle.std.proofs.Common.{◌≤◌, take}
 use Rattle.std.specs.List.{AllByRecursion}
-use Rattle.image_form.specs.Spelling.{range}
+use Rattle.image_form.specs.Encoding.{range}
 use Rattle.image_form.specs.Fitting.{RangeFits}
 use Rattle.image_form.proofs.Measures.{Left}
 use Rattle.image_form.proofs.measuring.after_ranges.Given as goal

@@ -1,4 +1,4 @@
-use Rattle.image_form.specs.Spelling.{tag}
+use Rattle.image_form.specs.Encoding.{tag}
 use Rattle.image_form.specs.Fitting.{TagFits}
 use Rattle.image_form.proofs.Measures.{no_count, no_entry, all_left, all_fit, tag_some}
 use Rattle.image_form.proofs.measuring.after_tags.Goals as goal

@@ -1,6 +1,6 @@
 use Rattle.std.proofs.Common.{◌≤◌, take}
 use Rattle.std.specs.List.{AllByRecursion}
-use Rattle.image_form.specs.Spelling.{tag}
+use Rattle.image_form.specs.Encoding.{tag}
 use Rattle.image_form.specs.Fitting.{TagFits}
 use Rattle.image_form.proofs.Measures.{Left}
 use Rattle.image_form.proofs.measuring.after_tags.Given as goal

@@ -1,5 +1,5 @@
 use Rattle.std.proofs.Common.{arith}
-use Rattle.image_form.specs.Spelling.{table, number}
+use Rattle.image_form.specs.Encoding.{table, number}
 use Rattle.image_form.proofs.Measures.{none_left, words_table, words_fit}
 use Rattle.image_form.proofs.measuring.after_words.Goals as goal
 

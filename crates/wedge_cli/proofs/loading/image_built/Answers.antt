@@ -1,8 +1,8 @@
 use Rattle.std.proofs.Common.{◌≡◌, List, ℕ, sym, ap, subst, ◌∙◌}
-use Rattle.wedge_cli.specs.Loading.{built_of, by_partition, IsTold}
+use Rattle.wedge_cli.specs.Loading.{built_of, by_partition, IsRefusalOf}
 use Rattle.wedge_cli.specs.Refusals.{part_refusal_of}
 use Rattle.part_toml.specs.Partition.{partition}
-use Rattle.wedge_cli.proofs.Partitions.{built_not_utf8, built_utf8, told_by}
+use Rattle.wedge_cli.proofs.Partitions.{built_not_utf8, built_utf8, exposed_by}
 use Rattle.wedge_cli.proofs.loading.image_built.Goals as goal
 
 pub returns-in_default-clause-refused : goal.returns-in_default-clause-refused
@@ -16,7 +16,7 @@ returns-in-Ok-read_partition-clause-accepted c =
 
 pub returns-in-Err-clause-refused : goal.returns-in-Err-clause-refused
 returns-in-Err-clause-refused c =
-    let told = told_by (partition c.in-Ok.text.now) c.in-Err.fault c.in-Err.ensures.exact in
+    let exposed = exposed_by (partition c.in-Ok.text.now) c.in-Err.fault c.in-Err.ensures.exact in
     let same = ap (λ (b : List ℕ). by_partition (partition b)) c.in-Ok.ensures.cases.0 ∙ sym (built_utf8 c.args.bytes.now c.requires c.in-Ok.ensures.cases.1) in
-    let moved = subst (λ m. IsTold m (part_refusal_of c.in-Err.fault)) same told in
-    subst (λ r. IsTold (built_of c.args.bytes.now) r) (sym c.refused_partition.ensures) moved
+    let moved = subst (λ m. IsRefusalOf m (part_refusal_of c.in-Err.fault)) same exposed in
+    subst (λ r. IsRefusalOf (built_of c.args.bytes.now) r) (sym c.refused_partition.ensures) moved

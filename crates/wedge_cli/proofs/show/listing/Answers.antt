@@ -8,6 +8,6 @@ use Rattle.wedge_cli.proofs.show.listing.Goals as goal
 pub loop-word-preserved : goal.loop-word-preserved
 loop-word-preserved c =
     let named : c.at.result.now ≡ procedure_name c.args.image.now c.loop-word.address = c.at.ensures ∙ c.in_ok-headings.ensures c.loop-word.address in
-    let told : c.write_name.new.out.items ≡ c.loop-word.out.items ++ listings.heading (procedure_name c.args.image.now c.loop-word.address) =
+    let exposed : c.write_name.new.out.items ≡ c.loop-word.out.items ++ listings.heading (procedure_name c.args.image.now c.loop-word.address) =
     c.in_ok-write_name.ensures ∙ ap (λ n. c.loop-word.out.items ++ listings.heading n) named in
-    grind (arith, common_steps, told)
+    grind (arith, common_steps, exposed)

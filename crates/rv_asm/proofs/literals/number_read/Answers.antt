@@ -4,7 +4,7 @@ use Rattle.std.specs.Str.Parse.{digits_value}
 use Rattle.std.proofs.lemmas.Int.Digits.{digits_value_more}
 use Rattle.rv_asm.specs.Numbers as numbers
 use Rattle.rv_asm.proofs.Digits.{capped_step}
-use Rattle.rv_asm.proofs.literals.spelled.Goals as goal
+use Rattle.rv_asm.proofs.literals.number_read.Goals as goal
 
 pub loop-c-preserved : goal.loop-c-preserved
 loop-c-preserved c =

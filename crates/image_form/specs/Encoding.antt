@@ -1,4 +1,4 @@
--- The one spelling of an image: its fields in order, numbers with the lowest byte first.
+-- The one encoding of an image: its fields in order, numbers little-endian.
 use Rattle.std.specs.Prelude.{ℕ, ◌+◌, min, List, [], ◌∷◌, ◌++◌, length, Option, Some, None, if◌then◌else◌}
 use Rattle.std.specs.List.{flat_map, concat}
 use Rattle.std.specs.Int.{w16, w32, to_le_bytes}
@@ -18,7 +18,7 @@ use Rattle.wedge_base.specs.declared.rights.StreamKind.TheVariants as kind
 abbrev pub most_bytes : ℕ
 most_bytes = 16777216
 
--- the number that is spelled `WEDG`
+-- the number that is encoded `WEDG`
 abbrev pub magic : ℕ
 magic = 0x47444557
 
@@ -30,7 +30,7 @@ unfoldable pub number : ℕ → List ℕ
 number n = to_le_bytes w32 n
 
 -- The bytes of a text after their length in two bytes. A text of more than 65,535 bytes, which no
--- rule allows, is told as one of 65,535.
+-- rule allows, is written with the length 65,535.
 unfoldable pub string : List ℕ → List ℕ
 string text = to_le_bytes w16 (min (length text) 65535) ++ text
 
@@ -70,8 +70,8 @@ fd f = concat (string f.name ∷ number (kind_code f.kind) ∷ number (bits_code
 abbrev pub file : FileEntry → List ℕ
 file f = concat (string f.path ∷ number f.owner ∷ number f.mode ∷ number (kind_code f.kind) ∷ content f.content ∷ [])
 
-unfoldable pub spelling : Image → List ℕ
-spelling i = concat (
+unfoldable pub encoding : Image → List ℕ
+encoding i = concat (
     number magic ∷ number version ∷ number i.fuel ∷ number i.base ∷ table number i.words
     ∷ table procedure i.procedures ∷ number i.entry ∷ table range i.ranges
     ∷ table tag i.tags ∷ table fd i.fds ∷ table file i.files

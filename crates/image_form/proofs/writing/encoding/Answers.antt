@@ -1,10 +1,10 @@
 use Rattle.std.proofs.Common.{[], ◌∷◌}
-use Rattle.image_form.specs.Spelling.{magic, version, number, string, table, procedure, range, tag, fd, file, spelling}
+use Rattle.image_form.specs.Encoding.{magic, version, number, string, table, procedure, range, tag, fd, file, encoding}
 use Rattle.image_form.proofs.Puts.{put_more}
-use Rattle.image_form.proofs.writing.spelling.Goals as goal
+use Rattle.image_form.proofs.writing.encoding.Goals as goal
 
 pub returns : goal.returns
-unfolding spelling
+unfolding encoding
 returns c =
     let p = c.args.parts in
     let s0 = put_more [] c.new-out.result.items c.put_number.new.out.items [] (number magic) c.new-out.ensures.items c.in_ok-put_number.ensures in
