@@ -39,7 +39,7 @@ pub use limits::{
     MOST_BUFFER, MOST_FDS, MOST_LIVES, MOST_PAGES, MOST_PARTS, PAGE, PRIVATE_BASE, PRIVATE_SIZE,
     SLOTS, WINDOW, WINDOWS_BASE, WINDOWS_END,
 };
-pub use names::ActorName;
+pub use names::{ActorName, is_actor_name};
 pub use numbers::{FdNo, Slot, Stamp, TagNo};
 pub use object::Object;
 pub use outcome::{ActorLine, DenialAt, Outcome, StreamLine};

@@ -1,7 +1,9 @@
 //! Names of actors.
 
-ghost use Rattle.std.specs.Prelude.{◌≡◌, ◌≤◌, ◌++◌, ◌∷◌, [], length, IfOk, IsErrOf, IsTrue, ◌↔◌};
+ghost use Rattle.std.specs.Prelude.{◌≡◌, ◌≤◌, ◌<◌, ◌++◌, ◌∷◌, [], length, nat_lt, true, IfOk, IsErrOf, IsTrue, ◌↔◌};
+ghost use Rattle.std.specs.List.{list_all};
 ghost use Rattle.wedge_base.specs.Names.{same, root_name, most_parts};
+ghost use Rattle.wedge_base.specs.Names as names;
 
 use crate::errors::{NameFault, NoMemory};
 use crate::limits::MOST_PARTS;
@@ -10,7 +12,7 @@ use std::marker::Model;
 use std::sync::Arc;
 
 /// An actor's name: its path of start numbers. The root is `0`, and the k-th actor that `p` starts is
-/// `p.k`, with k from 1.
+/// `p.k`, with k from 1. A name has at most 32 parts.
 ///
 /// The parts are held once, by all copies of the name, so a copy takes no memory for them.
 #[derive(Clone, Debug, Drop)]
@@ -19,12 +21,15 @@ pub struct ActorName {
 }
 
 impl Model for ActorName {
-    ghost use Rattle.std.specs.Prelude.{ℕ, List};
+    ghost use Rattle.std.specs.Prelude.{ℕ, List, ◌≡◌, true};
     ghost use Rattle.std.specs.Arc.{arc_value};
+    ghost use Rattle.wedge_base.specs.Names.{is_actor_name};
 
     ghost Value = { List ℕ };
 
     ghost view = { λ n. (arc_value n.parts).items };
+
+    ghost invariant = { λ n. is_actor_name (arc_value n.parts).items ≡ true };
 }
 
 impl PartialEq for ActorName {
@@ -52,9 +57,20 @@ impl ActorName {
         })
     }
 
+    /// The name of these parts.
+    pub fn of_parts(alloc: Global, parts: &[u32]) -> Result<ActorName, NoMemory>
+        requires { names.is_actor_name parts.now ≡ true }
+        ensures { IfOk result (λ n. n ≡ parts.now) }
+    {
+        Ok(ActorName {
+            parts: Arc::new(alloc, Vec::from_slice(alloc, parts)?)?,
+        })
+    }
+
     /// Returns the parts of the name, the root's 0 first.
     pub fn parts(&self) -> &[u32]
-        ensures { result.now ≡ self.now }
+        ensures is { result.now ≡ self.now }
+        ensures named { names.is_actor_name self.now ≡ true }
     {
         self.parts.as_slice()
     }
@@ -93,4 +109,21 @@ impl ActorName {
     {
         self.parts.as_slice() == other.parts.as_slice()
     }
+}
+
+/// Whether numbers are the parts of a name.
+pub fn is_actor_name(parts: &[u32]) -> bool
+    ensures { result ≡ names.is_actor_name parts.now }
+{
+    match parts {
+        [] => false,
+        [first, others @ ..] => { *first == 0 && are_starts(others) && others.len() < MOST_PARTS }
+    }
+}
+
+/// Whether numbers are those of starts, from 1.
+fn are_starts(numbers: &[u32]) -> bool
+    ensures { result ≡ list_all (nat_lt 0) numbers.now }
+{
+    numbers.iter().all(|k| *k > 0)
 }

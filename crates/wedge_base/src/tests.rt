@@ -74,6 +74,23 @@ fn names_are_32_parts_deep(rt: HostRuntime) -> Result<(), Fail> {
     Ok(())
 }
 
+/// A name is 0 and then numbers from 1.
+#[test]
+fn parts_of_names(rt: HostRuntime) -> Result<(), Fail> {
+    let parts = [0, 1, 4_294_967_295];
+    assert!(&rt; is_actor_name(&parts));
+    if is_actor_name(&parts) {
+        let name = ActorName::of_parts(rt.alloc(), &parts)?;
+        assert_eq!(&rt; name.parts(), parts.as_slice());
+    }
+    assert!(&rt; is_actor_name(&[0]));
+    assert!(&rt; !is_actor_name(&[]));
+    assert!(&rt; !is_actor_name(&[1]));
+    assert!(&rt; !is_actor_name(&[0, 1, 0]));
+    assert!(&rt; is_actor_name(&[0, 9, 9, 9]));
+    Ok(())
+}
+
 #[test]
 fn canonical_paths(rt: HostRuntime) {
     for text in ["/", "/a", "/a/b", "/.a", "/...", "/~"] {
