@@ -1,4 +1,4 @@
--- In a world of a run every actor is between instructions.
+-- What a turn is made of, and that its event leaves the actor between instructions.
 use Rattle.std.proofs.Common.{◌≡◌, ℕ, Bool, true, false, List, [], ◌∷◌, refl, sym, ap, subst, ◌∙◌}
 use Rattle.std.specs.Prelude.{Option, Some, None, option_map, option_and_then, if◌then◌else◌}
 use Rattle.wedge_base.specs.Names.{same}
@@ -30,27 +30,6 @@ use Rattle.wedge_base.specs.declared.rights.End.TheVariants as end_
 use Rattle.sthread_life.specs.Cells.{Cells, slot_in, stream_in, kept_in, tag_in}
 use Rattle.sthread_life.specs.Worlds.{WorldState, opening, actor_named, put_actor, event_at, happened, wanting, turn_with, turn_of, Taken, Runs}
 use Rattle.sthread_life.specs.Between.{IsBetween}
-
-abbrev pub AllBetween : List ActorState → Type 0
-AllBetween [] = Unit {0}
-AllBetween (a ∷ as_) = IsBetween a.phase × AllBetween as_
-
--- the first of a name, or one of the rest
-first_or : (b a : ActorState) (rest : Option ActorState) (t : Bool) → (if t then Some b else rest) ≡ Some a → IsBetween b.phase → (rest ≡ Some a → IsBetween a.phase) → IsBetween a.phase
-first_or b a rest true e h others = let is : b ≡ a = cc in subst (λ (x : ActorState). IsBetween x.phase) is h
-first_or b a rest false e h others = others e
-
-pub named_between : (actors : List ActorState) (name : List ℕ) (a : ActorState) → AllBetween actors → actor_named actors name ≡ Some a → IsBetween a.phase
-named_between [] name a all e = absurd cc
-named_between (b ∷ bs) name a all e = first_or b a (actor_named bs name) (same b.name name) e all.0 (named_between bs name a all.1)
-
-put_or : (b a : ActorState) (bs others : List ActorState) (t : Bool) → IsBetween a.phase → IsBetween b.phase → AllBetween bs → AllBetween others → AllBetween (if t then a ∷ bs else b ∷ others)
-put_or b a bs others true h k all rest = (h, all)
-put_or b a bs others false h k all rest = (k, rest)
-
-put_between : (actors : List ActorState) (a : ActorState) → AllBetween actors → IsBetween a.phase → AllBetween (put_actor actors a)
-put_between [] a all h = (h, tt)
-put_between (b ∷ bs) a all h = put_or b a bs (put_actor bs a) (same b.name a.name) h all.0 all.1 (put_between bs a all.1 h)
 
 -- a load that has its value leaves the actor running
 loaded_by : (ins : Instr) (n : Need) (a : ActorState) (value : ℕ) → a.phase ≡ phase.Running → (loads_by ins n a value).phase ≡ phase.Running
@@ -145,24 +124,6 @@ pub turn_parts : (w : WorldState) (name : List ℕ) (e : Event) (new : WorldStat
 unfolding turn_of
 turn_parts w name e new t = parts_named w name (actor_named w.actors name) e new refl t
 
-pub turn_between : (w : WorldState) (name : List ℕ) (e : Event) (new : WorldState) → AllBetween w.actors → turn_of w name ≡ Some (record { event = e; world = new }) → AllBetween new.actors
-turn_between w name e new all t =
-    let p = turn_parts w name e new t in
-    let b = rest w.image p.actor in
-    subst (λ (x : WorldState). AllBetween x.actors) (sym p.new_is) (put_between w.actors (takes w.image b e) all (takes_between w.image b e))
-
 -- and its event is the one of its want
 pub parts_event_is : (w : WorldState) (name : List ℕ) (e : Event) (new : WorldState) (p : TurnParts w name e new) → e ≡ event_for w.cells (rest w.image p.actor) p.want
 parts_event_is w name e new p = event_is_for w.cells (rest w.image p.actor) p.want e p.comes
-
-pub opening_between : (i : Image) → AllBetween (opening i).actors
-unfolding root
-opening_between i = (tt, tt)
-
-runs_between : (old : WorldState) (turns : List Turn) (new : WorldState) → AllBetween old.actors → Runs old turns new → AllBetween new.actors
-runs_between old [] new all run = subst (λ (w : WorldState). AllBetween w.actors) (sym run) all
-runs_between old (t ∷ ts) new all run = runs_between run.0 ts new (turn_between old t.actor t.event run.0 all run.1) run.2
-
--- in a world to which a run leads no actor is within an instruction
-pub run_between : (i : Image) (turns : List Turn) (new : WorldState) → Runs (opening i) turns new → AllBetween new.actors
-run_between i turns new run = runs_between (opening i) turns new (opening_between i) run

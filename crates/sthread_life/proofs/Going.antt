@@ -16,6 +16,8 @@ use Rattle.rv_hart.specs.declared.Hart.{Hart}
 use Rattle.rv_hart.specs.declared.Need.{Need}
 use Rattle.rv_hart.specs.declared.Need.TheVariants as need
 use Rattle.rv_hart.specs.Local.{local, next_pc}
+use Rattle.sthread_life.specs.declared.phase.Phase.{Phase}
+use Rattle.sthread_life.specs.declared.phase.Phase.TheVariants as phase
 use Rattle.sthread_life.specs.Actors.{ActorState, ends, refuses}
 use Rattle.sthread_life.specs.Private.{loads, stores, load_window, load_range, store_window, store_range, has_loaded, fits_read}
 use Rattle.sthread_life.specs.Calls.{serves, exit, fd_append, a0, a1, a2, a7}
@@ -23,94 +25,97 @@ use Rattle.sthread_life.specs.Local.{needed, executed, fuelled, fetched, step, i
 use Rattle.sthread_life.specs.Worlds.{WorldState, actor_named, put_actor}
 use Rattle.sthread_life.specs.Moments.{with_actor}
 use Rattle.sthread_life.specs.Allowed.{next_word}
-use Rattle.sthread_life.specs.Ends.{NeedGoesOn, WordGoesOn, GoesOn}
+use Rattle.sthread_life.specs.Ends.{GoesTo, NeedGoesOn, WordGoesOn, GoesOn}
 use Rattle.sthread_life.proofs.Named.{put_put, named_put}
 
--- if it runs it is at the next word
-abbrev pub IsNext : ℕ → ActorState → Type 0
-IsNext pc x = is_running x.phase ≡ true → x.hart.pc ≡ next_pc pc
+-- if it runs it is at the next word, and if not its hart is as it was
+abbrev pub IsNext : Hart → ActorState → Type 0
+IsNext h x = (is_running x.phase ≡ true → x.hart.pc ≡ next_pc h.pc) × (is_running x.phase ≡ false → x.hart ≡ h)
 
-next_if : (pc : ℕ) (x y : ActorState) (t : Bool) → IsNext pc x → IsNext pc y → IsNext pc (if t then x else y)
-next_if pc x y true h k = h
-next_if pc x y false h k = k
+next_if : (h0 : Hart) (x y : ActorState) (t : Bool) → IsNext h0 x → IsNext h0 y → IsNext h0 (if t then x else y)
+next_if h0 x y true h k = h
+next_if h0 x y false h k = k
 
-next_load_window : (a : ActorState) (width : ℕ) (p : Option Place) → IsNext a.hart.pc (load_window a width p)
-next_load_window a width None = λ e. absurd cc
-next_load_window a width (Some p) = λ e. absurd cc
+next_load_window : (a : ActorState) (width : ℕ) (p : Option Place) → IsNext a.hart (load_window a width p)
+next_load_window a width None = (λ e. absurd cc, λ e. refl)
+next_load_window a width (Some p) = (λ e. absurd cc, λ e. refl)
 
-next_load_range : (ins : Instr) (s : Bool) (a : ActorState) (address width : ℕ) (r : Option MemoryRange) → IsNext a.hart.pc (load_range ins s a address width r)
-next_load_range ins s a address width (Some r) = λ e. refl
-next_load_range ins s a address width None = next_load_window a width (slot_of address)
+runs_not : {X : Type 0} (p : Phase) → p ≡ phase.Running → is_running p ≡ false → X
+runs_not p run e = let both : true ≡ false = sym (ap is_running run) ∙ e in absurd cc
 
-next_load : (i : Image) (ins : Instr) (s : Bool) (a : ActorState) (address width : ℕ) → IsNext a.hart.pc (loads i ins s a address width)
-next_load i ins s a address width =
-    next_if a.hart.pc (ends a end_.Misaligned) _ _ (λ e. absurd cc)
-    (next_if a.hart.pc (has_loaded ins s a width (number_of (read_text i address width))) _ (in_text i address width) (λ e. refl) (next_load_range ins s a address width (range_at a.memory address width)))
+next_load_range : (ins : Instr) (s : Bool) (a : ActorState) (address width : ℕ) (r : Option MemoryRange) → a.phase ≡ phase.Running → IsNext a.hart (load_range ins s a address width r)
+next_load_range ins s a address width (Some r) run = (λ e. refl, runs_not a.phase run)
+next_load_range ins s a address width None run = next_load_window a width (slot_of address)
 
-next_store_window : (a : ActorState) (width value : ℕ) (p : Option Place) → IsNext a.hart.pc (store_window a width value p)
-next_store_window a width value None = λ e. absurd cc
-next_store_window a width value (Some p) = λ e. absurd cc
+next_load : (i : Image) (ins : Instr) (s : Bool) (a : ActorState) (address width : ℕ) → a.phase ≡ phase.Running → IsNext a.hart (loads i ins s a address width)
+next_load i ins s a address width run =
+    next_if a.hart (ends a end_.Misaligned) _ _ (λ e. absurd cc, λ e. refl)
+    (next_if a.hart (has_loaded ins s a width (number_of (read_text i address width))) _ (in_text i address width) (λ e. refl, runs_not a.phase run) (next_load_range ins s a address width (range_at a.memory address width) run))
 
-next_store_range : (a : ActorState) (address width value : ℕ) (r : Option MemoryRange) → IsNext a.hart.pc (store_range a address width value r)
-next_store_range a address width value (Some r) = λ e. refl
-next_store_range a address width value None = next_store_window a width value (slot_of address)
+next_store_window : (a : ActorState) (width value : ℕ) (p : Option Place) → IsNext a.hart (store_window a width value p)
+next_store_window a width value None = (λ e. absurd cc, λ e. refl)
+next_store_window a width value (Some p) = (λ e. absurd cc, λ e. refl)
 
-next_store : (i : Image) (a : ActorState) (address width value : ℕ) → IsNext a.hart.pc (stores i a address width value)
-next_store i a address width value =
-    next_if a.hart.pc (ends a end_.Misaligned) _ _ (λ e. absurd cc)
-    (next_if a.hart.pc (ends a end_.TextStore) _ (in_text i address width) (λ e. absurd cc) (next_store_range a address width value (range_at a.memory address width)))
+next_store_range : (a : ActorState) (address width value : ℕ) (r : Option MemoryRange) → a.phase ≡ phase.Running → IsNext a.hart (store_range a address width value r)
+next_store_range a address width value (Some r) run = (λ e. refl, runs_not a.phase run)
+next_store_range a address width value None run = next_store_window a width value (slot_of address)
 
-next_append : (i : Image) (a : ActorState) → IsNext a.hart.pc (fd_append i a)
+next_store : (i : Image) (a : ActorState) (address width value : ℕ) → a.phase ≡ phase.Running → IsNext a.hart (stores i a address width value)
+next_store i a address width value run =
+    next_if a.hart (ends a end_.Misaligned) _ _ (λ e. absurd cc, λ e. refl)
+    (next_if a.hart (ends a end_.TextStore) _ (in_text i address width) (λ e. absurd cc, λ e. refl) (next_store_range a address width value (range_at a.memory address width) run))
+
+next_append : (i : Image) (a : ActorState) → IsNext a.hart (fd_append i a)
 next_append i a =
-    next_if a.hart.pc (refuses a code.Bad) _ (not (fits_read i a (a1 a) (a2 a))) (λ e. refl)
-    (next_if a.hart.pc (refuses a code.FuelShort) _ (nat_lt a.fuel (a2 a)) (λ e. refl)
-    (next_if a.hart.pc (refuses a code.NoSuch) _ (nat_le most_fds (a0 a)) (λ e. refl) (λ e. absurd cc)))
+    next_if a.hart (refuses a code.Bad) _ (not (fits_read i a (a1 a) (a2 a))) (λ e. refl, λ e. absurd cc)
+    (next_if a.hart (refuses a code.FuelShort) _ (nat_lt a.fuel (a2 a)) (λ e. refl, λ e. absurd cc)
+    (next_if a.hart (refuses a code.NoSuch) _ (nat_le most_fds (a0 a)) (λ e. refl, λ e. absurd cc) (λ e. absurd cc, λ e. refl)))
 
-next_call : (i : Image) (a : ActorState) (n : ℕ) → IsNext a.hart.pc (serves i a n)
+next_call : (i : Image) (a : ActorState) (n : ℕ) → IsNext a.hart (serves i a n)
 unfolding serves
 next_call i a n =
-    next_if a.hart.pc (exit a) _ (n == 0) (λ e. absurd cc)
-    (next_if a.hart.pc (fd_append i a) _ (n == 16) (next_append i a) (λ e. refl))
+    next_if a.hart (exit a) _ (n == 0) (λ e. absurd cc, λ e. refl)
+    (next_if a.hart (fd_append i a) _ (n == 16) (next_append i a) (λ e. refl, λ e. absurd cc))
 
 -- the actor that was put is at the next word if it runs
-pub put_next : (w : WorldState) (b x a : ActorState) → actor_named w.actors b.name ≡ Some a → x.name ≡ b.name → IsNext b.hart.pc x
-    → IsSomeAnd (actor_named (put_actor w.actors x) b.name) (λ y. is_running y.phase ≡ true → y.hart.pc ≡ next_word b)
+pub put_next : (w : WorldState) (b x a : ActorState) → actor_named w.actors b.name ≡ Some a → x.name ≡ b.name → IsNext b.hart x
+    → IsSomeAnd (actor_named (put_actor w.actors x) b.name) (GoesTo b (next_word b))
 put_next w b x a named n h =
     let found = named_put w.actors x a (subst (λ m. actor_named w.actors m ≡ Some a) (sym n) named) in
-    subst (λ m. IsSomeAnd (actor_named (put_actor w.actors x) m) (λ y. is_running y.phase ≡ true → y.hart.pc ≡ next_word b)) n
-    (subst (λ f. IsSomeAnd f (λ y. is_running y.phase ≡ true → y.hart.pc ≡ next_word b)) (sym found) h)
+    subst (λ m. IsSomeAnd (actor_named (put_actor w.actors x) m) (GoesTo b (next_word b))) n
+    (subst (λ f. IsSomeAnd f (GoesTo b (next_word b))) (sym found) h)
 
 named_as : (w : WorldState) (b p a : ActorState) → actor_named w.actors b.name ≡ Some a → p.name ≡ b.name → actor_named w.actors p.name ≡ Some a
 named_as w b p a named pn = subst (λ m. actor_named w.actors m ≡ Some a) (sym pn) named
 
-need_goes : (w : WorldState) (b p a : ActorState) (ins : Instr) (h : Hart) (n : Need) → actor_named w.actors b.name ≡ Some a → p.name ≡ b.name → (needed w.image ins p h n).name ≡ b.name
+need_goes : (w : WorldState) (b p a : ActorState) (ins : Instr) (h : Hart) (n : Need) → actor_named w.actors b.name ≡ Some a → p.name ≡ b.name → (needed w.image ins p h n).name ≡ b.name → p.phase ≡ phase.Running
     → NeedGoesOn (with_actor w b) p h n (with_actor w (needed w.image ins p h n))
-need_goes w b p a ins h need.Done named pn xn = ap (λ (as_ : List ActorState). record w { actors = as_ }) (sym (put_put w.actors b (record p { hart = h }) pn))
-need_goes w b p a ins h (need.Load address width s) named pn xn = put_next w p (loads w.image ins s p address width) a (named_as w b p a named pn) (xn ∙ sym pn) (next_load w.image ins s p address width)
-need_goes w b p a ins h (need.Store address width value) named pn xn = put_next w p (stores w.image p address width value) a (named_as w b p a named pn) (xn ∙ sym pn) (next_store w.image p address width value)
-need_goes w b p a ins h need.Call named pn xn = put_next w p (serves w.image p (a7 p)) a (named_as w b p a named pn) (xn ∙ sym pn) (next_call w.image p (a7 p))
-need_goes w b p a ins h need.Break named pn xn = put_next w p (ends p end_.Break) a (named_as w b p a named pn) (xn ∙ sym pn) (λ e. absurd cc)
-need_goes w b p a ins h need.JumpMisaligned named pn xn = put_next w p (ends p end_.JumpMisaligned) a (named_as w b p a named pn) (xn ∙ sym pn) (λ e. absurd cc)
+need_goes w b p a ins h need.Done named pn xn run = ap (λ (as_ : List ActorState). record w { actors = as_ }) (sym (put_put w.actors b (record p { hart = h }) pn))
+need_goes w b p a ins h (need.Load address width s) named pn xn run = put_next w p (loads w.image ins s p address width) a (named_as w b p a named pn) (xn ∙ sym pn) (next_load w.image ins s p address width run)
+need_goes w b p a ins h (need.Store address width value) named pn xn run = put_next w p (stores w.image p address width value) a (named_as w b p a named pn) (xn ∙ sym pn) (next_store w.image p address width value run)
+need_goes w b p a ins h need.Call named pn xn run = put_next w p (serves w.image p (a7 p)) a (named_as w b p a named pn) (xn ∙ sym pn) (next_call w.image p (a7 p))
+need_goes w b p a ins h need.Break named pn xn run = put_next w p (ends p end_.Break) a (named_as w b p a named pn) (xn ∙ sym pn) (λ e. absurd cc, λ e. refl)
+need_goes w b p a ins h need.JumpMisaligned named pn xn run = put_next w p (ends p end_.JumpMisaligned) a (named_as w b p a named pn) (xn ∙ sym pn) (λ e. absurd cc, λ e. refl)
 
-instr_goes : (w : WorldState) (b a : ActorState) (ins : Option Instr) (n : ℕ) → actor_named w.actors b.name ≡ Some a → (executed w.image (record b { fuel = n }) ins).name ≡ b.name
+instr_goes : (w : WorldState) (b a : ActorState) (ins : Option Instr) (n : ℕ) → actor_named w.actors b.name ≡ Some a → (executed w.image (record b { fuel = n }) ins).name ≡ b.name → b.phase ≡ phase.Running
     → WordGoesOn (with_actor w b) b ins (suc n) (with_actor w (executed w.image (record b { fuel = n }) ins))
-instr_goes w b a None n named xn = put_next w b (ends (record b { fuel = n }) end_.BadInstruction) a named refl (λ e. absurd cc)
-instr_goes w b a (Some ins) n named xn = need_goes w b (record b { fuel = n }) a ins (local ins b.hart).hart (local ins b.hart).need named refl xn
+instr_goes w b a None n named xn run = put_next w b (ends (record b { fuel = n }) end_.BadInstruction) a named refl (λ e. absurd cc, λ e. refl)
+instr_goes w b a (Some ins) n named xn run = need_goes w b (record b { fuel = n }) a ins (local ins b.hart).hart (local ins b.hart).need named refl xn run
 
 -- an actor with no fuel ends
 out_goes : (w : WorldState) (b a : ActorState) (ins : Option Instr) (e : End) → actor_named w.actors b.name ≡ Some a → WordGoesOn (with_actor w b) b ins zero (with_actor w (ends b e))
-out_goes w b a None e named = put_next w b (ends b e) a named refl (λ f. absurd cc)
-out_goes w b a (Some ins) e named = put_next w b (ends b e) a named refl (λ f. absurd cc)
+out_goes w b a None e named = put_next w b (ends b e) a named refl (λ e. absurd cc, λ e. refl)
+out_goes w b a (Some ins) e named = put_next w b (ends b e) a named refl (λ e. absurd cc, λ e. refl)
 
-word_goes : (w : WorldState) (b a : ActorState) (n : ℕ) (o : Option ℕ) → actor_named w.actors b.name ≡ Some a → b.fuel ≡ n → (fetched w.image b o).name ≡ b.name
+word_goes : (w : WorldState) (b a : ActorState) (n : ℕ) (o : Option ℕ) → actor_named w.actors b.name ≡ Some a → b.fuel ≡ n → (fetched w.image b o).name ≡ b.name → b.phase ≡ phase.Running
     → WordGoesOn (with_actor w b) b (option_and_then decode o) n (with_actor w (fetched w.image b o))
-word_goes w b a n None named has xn = put_next w b (ends b end_.FetchFault) a named refl (λ e. absurd cc)
-word_goes w b a zero (Some word) named has xn = subst (λ x. WordGoesOn (with_actor w b) b (decode word) zero (with_actor w x)) (sym (ap (fuelled w.image b word) has)) (out_goes w b a (decode word) end_.FuelOut named)
-word_goes w b a (suc n) (Some word) named has xn =
+word_goes w b a n None named has xn run = put_next w b (ends b end_.FetchFault) a named refl (λ e. absurd cc, λ e. refl)
+word_goes w b a zero (Some word) named has xn run = subst (λ x. WordGoesOn (with_actor w b) b (decode word) zero (with_actor w x)) (sym (ap (fuelled w.image b word) has)) (out_goes w b a (decode word) end_.FuelOut named)
+word_goes w b a (suc n) (Some word) named has xn run =
     let left : n ≡ b.fuel - 1 = omega (arith, has) in
     let is : executed w.image (record b { fuel = n }) (decode word) ≡ fuelled w.image b word b.fuel = ap (λ m. executed w.image (record b { fuel = m }) (decode word)) left ∙ sym (ap (fuelled w.image b word) has) in
-    subst (λ x. WordGoesOn (with_actor w b) b (decode word) (suc n) (with_actor w x)) is (instr_goes w b a (decode word) n named (ap (λ (x : ActorState). x.name) is ∙ xn))
+    subst (λ x. WordGoesOn (with_actor w b) b (decode word) (suc n) (with_actor w x)) is (instr_goes w b a (decode word) n named (ap (λ (x : ActorState). x.name) is ∙ xn) run)
 
-pub step_goes : (w : WorldState) (b a : ActorState) → actor_named w.actors b.name ≡ Some a → (step w.image b).name ≡ b.name → GoesOn (with_actor w b) b None (with_actor w (step w.image b))
+pub step_goes : (w : WorldState) (b a : ActorState) → actor_named w.actors b.name ≡ Some a → (step w.image b).name ≡ b.name → b.phase ≡ phase.Running → GoesOn (with_actor w b) b None (with_actor w (step w.image b))
 unfolding step
-step_goes w b a named xn = word_goes w b a b.fuel (fetch w.image b.hart.pc) named refl xn
+step_goes w b a named xn run = word_goes w b a b.fuel (fetch w.image b.hart.pc) named refl xn run

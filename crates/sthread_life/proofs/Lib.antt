@@ -3,9 +3,12 @@ pub mod Resting
 pub mod Between
 pub mod Named
 pub mod Meeting
+pub mod Settling
 pub mod Going
 pub mod Keeping
 pub mod Mediating
+pub mod OneCell
+pub mod CellChanging
 pub mod Writing
 pub mod Opening
 pub mod Distinct

@@ -53,10 +53,11 @@ use Rattle.sthread_life.specs.Remembering.{WordRemembers, EventRemembers}
 use Rattle.sthread_life.specs.Laws.{IsLawful, MomentsAreLawful}
 use Rattle.sthread_life.proofs.Named.{found_name, put_put, named_put, same_noted}
 use Rattle.sthread_life.proofs.Keeping.{step_remembers, event_remembers}
+use Rattle.sthread_life.proofs.Settling.{AllReady, named_ready, turn_ready, opening_ready}
 use Rattle.sthread_life.proofs.Meeting.{request_for, refusal_for, IsRequest, WantsAs, ReadsAs, InstrLoads, NeedLoads, LoadsAt, stuck, step_comes, rest_reads}
 use Rattle.sthread_life.proofs.Going.{IsNext, put_next, step_goes}
 use Rattle.sthread_life.proofs.Resting.{steps_step, stays, goes_on, running_is, rest-stops}
-use Rattle.sthread_life.proofs.Between.{AllBetween, named_between, turn_between, run_between, opening_between, event_for, parts_event_is, turn_parts, loaded_runs}
+use Rattle.sthread_life.proofs.Between.{event_for, parts_event_is, turn_parts, loaded_runs}
 
 -- putting what a place holds there changes nothing
 pub set_held : {X : Type 0} (xs : List (Option X)) (n : ℕ) (x : Option X) → held (slice_get xs n) ≡ x → slice_set xs n x ≡ xs
@@ -349,51 +350,51 @@ ends_by w b (phase.Ending x) q reads e =
     subst (λ y. (end_of (takes w.image b (event_for w.cells b y)).phase ≡ end_by (phase.Ending x) (event_for w.cells b y)) × ((takes w.image b (event_for w.cells b y)).name ≡ b.name)) is (refl, refl)
 ends_by w b (phase.Ended x) q reads e = absurd cc
 
--- the pc after an event
-load_next : (i : Image) (b : ActorState) (slot offset width : ℕ) (o : Option Live) (g : Option Segment) (rd : ℕ) (s : Bool) → LoadsAt i b.hart rd s width → IsNext b.hart.pc (takes i b (event.Slot slot (slot_ask.Load offset width o) (slot_reply_of g (slot_ask.Load offset width o))))
+-- the hart after an event
+load_next : (i : Image) (b : ActorState) (slot offset width : ℕ) (o : Option Live) (g : Option Segment) (rd : ℕ) (s : Bool) → LoadsAt i b.hart rd s width → IsNext b.hart (takes i b (event.Slot slot (slot_ask.Load offset width o) (slot_reply_of g (slot_ask.Load offset width o))))
 unfolding takes
-load_next i b slot offset width o None rd s h = λ e. absurd cc
+load_next i b slot offset width o None rd s h = (λ e. absurd cc, λ e. refl)
 load_next i b slot offset width o (Some g) rd s h = by_tests _ _
   where
-    by_tests : (u t : Bool) → IsNext b.hart.pc (takes i b (event.Slot slot (slot_ask.Load offset width o) (if not u then slot_reply.Unmapped else if t then slot_reply.Loaded (number_of (slice_range g.bytes offset (offset + width))) else slot_reply.Denied g.tag right.Read)))
-    by_tests false t = λ e. absurd cc
-    by_tests true false = λ e. absurd cc
-    by_tests true true = λ e. ap (λ (x : ActorState). x.hart.pc) (loads_as b (option_and_then decode (fetch i b.hart.pc)) width rd s (number_of (slice_range g.bytes offset (offset + width))) h)
+    by_tests : (u t : Bool) → IsNext b.hart (takes i b (event.Slot slot (slot_ask.Load offset width o) (if not u then slot_reply.Unmapped else if t then slot_reply.Loaded (number_of (slice_range g.bytes offset (offset + width))) else slot_reply.Denied g.tag right.Read)))
+    by_tests false t = (λ e. absurd cc, λ e. refl)
+    by_tests true false = (λ e. absurd cc, λ e. refl)
+    by_tests true true = subst (IsNext b.hart) (sym (loads_as b (option_and_then decode (fetch i b.hart.pc)) width rd s (number_of (slice_range g.bytes offset (offset + width))) h)) (λ e. refl, λ e. absurd cc)
 
-store_next : (i : Image) (b : ActorState) (slot offset width value : ℕ) (o : Option Live) (g : Option Segment) → IsNext b.hart.pc (takes i b (event.Slot slot (slot_ask.Store offset width value o) (slot_reply_of g (slot_ask.Store offset width value o))))
+store_next : (i : Image) (b : ActorState) (slot offset width value : ℕ) (o : Option Live) (g : Option Segment) → IsNext b.hart (takes i b (event.Slot slot (slot_ask.Store offset width value o) (slot_reply_of g (slot_ask.Store offset width value o))))
 unfolding takes
-store_next i b slot offset width value o None = λ e. absurd cc
+store_next i b slot offset width value o None = (λ e. absurd cc, λ e. refl)
 store_next i b slot offset width value o (Some g) = by_tests _ _
   where
-    by_tests : (u t : Bool) → IsNext b.hart.pc (takes i b (event.Slot slot (slot_ask.Store offset width value o) (if not u then slot_reply.Unmapped else if t then slot_reply.Stored else slot_reply.Denied g.tag right.ReadWrite)))
-    by_tests false t = λ e. absurd cc
-    by_tests true false = λ e. absurd cc
-    by_tests true true = λ e. refl
+    by_tests : (u t : Bool) → IsNext b.hart (takes i b (event.Slot slot (slot_ask.Store offset width value o) (if not u then slot_reply.Unmapped else if t then slot_reply.Stored else slot_reply.Denied g.tag right.ReadWrite)))
+    by_tests false t = (λ e. absurd cc, λ e. refl)
+    by_tests true false = (λ e. absurd cc, λ e. refl)
+    by_tests true true = (λ e. refl, λ e. absurd cc)
 
-append_next : (i : Image) (b : ActorState) (fd : ℕ) (bits : FdBits) (bytes : List ℕ) (s : Option Stream) → IsNext b.hart.pc (takes i b (event.Fd fd (stream_ask.Append bits bytes) (stream_reply_of s (stream_ask.Append bits bytes))))
+append_next : (i : Image) (b : ActorState) (fd : ℕ) (bits : FdBits) (bytes : List ℕ) (s : Option Stream) → IsNext b.hart (takes i b (event.Fd fd (stream_ask.Append bits bytes) (stream_reply_of s (stream_ask.Append bits bytes))))
 unfolding takes
-append_next i b fd bits bytes None = λ e. refl
+append_next i b fd bits bytes None = (λ e. refl, λ e. absurd cc)
 append_next i b fd bits bytes (Some s) = by_tests s.live bits.append s.kind
   where
-    by_tests : (v t : Bool) (k : StreamKind) → IsNext b.hart.pc (takes i b (event.Fd fd (stream_ask.Append bits bytes) (if v then (if t then append_reply k else reply.Denied append_bit) else reply.NoSuch)))
-    by_tests false t k = λ e. refl
-    by_tests true false k = λ e. refl
-    by_tests true true kind.Append = λ e. refl
-    by_tests true true kind.Source = λ e. refl
+    by_tests : (v t : Bool) (k : StreamKind) → IsNext b.hart (takes i b (event.Fd fd (stream_ask.Append bits bytes) (if v then (if t then append_reply k else reply.Denied append_bit) else reply.NoSuch)))
+    by_tests false t k = (λ e. refl, λ e. absurd cc)
+    by_tests true false k = (λ e. refl, λ e. absurd cc)
+    by_tests true true kind.Append = (λ e. refl, λ e. absurd cc)
+    by_tests true true kind.Source = (λ e. refl, λ e. absurd cc)
 
-want_next : (w : WorldState) (b : ActorState) (rd : ℕ) (s : Bool) (q : Want) → IsRequest (LoadsAt w.image b.hart rd s) b q → IsNext b.hart.pc (takes w.image b (event_for w.cells b q))
+want_next : (w : WorldState) (b : ActorState) (rd : ℕ) (s : Bool) (q : Want) → IsRequest (LoadsAt w.image b.hart rd s) b q → IsNext b.hart (takes w.image b (event_for w.cells b q))
 want_next w b rd s (want.Slot slot (slot_want.Load offset width)) own = load_next w.image b slot offset width _ (slot_in w.cells slot) rd s own
 want_next w b rd s (want.Slot slot (slot_want.Store offset width value)) own = store_next w.image b slot offset width value _ (slot_in w.cells slot)
 want_next w b rd s (want.Fd fd (stream_ask.Append bits bytes)) own = append_next w.image b fd bits bytes (stream_in w.cells fd)
 want_next w b rd s q own = absurd own
 
-next_by : (w : WorldState) (b : ActorState) (ph : Phase) (q : Want) → ReadsAs w.image b ph → wanted_at ph ≡ Some q → IsNext b.hart.pc (takes w.image b (event_for w.cells b q))
+next_by : (w : WorldState) (b : ActorState) (ph : Phase) (q : Want) → ReadsAs w.image b ph → wanted_at ph ≡ Some q → IsNext b.hart (takes w.image b (event_for w.cells b q))
 unfolding takes
 next_by w b phase.Running q reads e = absurd cc
 next_by w b (phase.Within x) q reads e = let is : x ≡ q = cc in want_next w b reads.0 reads.1 q (subst (IsRequest (LoadsAt w.image b.hart reads.0 reads.1) b) is reads.3)
 next_by w b (phase.Ending x) q reads e =
     let is : want.Lives (lives_ask.Release x) ≡ q = cc in
-    subst (λ y. IsNext b.hart.pc (takes w.image b (event_for w.cells b y))) is (λ f. absurd cc)
+    subst (λ y. IsNext b.hart (takes w.image b (event_for w.cells b y))) is (λ e. absurd cc, λ e. refl)
 next_by w b (phase.Ended x) q reads e = absurd cc
 
 -- an end is reached by its event alone
@@ -461,7 +462,7 @@ put_such Q w b x a named n q = subst (λ f. IsSomeAnd f Q) (sym (put_there w b x
 -- ---- turns
 
 -- what holds of the moments of a turn, from what holds of an instruction and of an event
-turn_has : (P : WorldState → ActorState → Option Event → WorldState → Type 0) (w : WorldState) (t : Turn) (new : WorldState) → AllBetween w.actors → turn_of w t.actor ≡ Some (record { event = t.event; world = new })
+turn_has : (P : WorldState → ActorState → Option Event → WorldState → Type 0) (w : WorldState) (t : Turn) (new : WorldState) → AllReady w → turn_of w t.actor ≡ Some (record { event = t.event; world = new })
     → ((a b : ActorState) → actor_named w.actors b.name ≡ Some a → b.phase ≡ phase.Running → P (with_actor w b) b None (with_actor w (step w.image b)))
     → ((a b : ActorState) (q : Want) → actor_named w.actors b.name ≡ Some a → ReadsAs w.image b b.phase → wanted b ≡ Some q → P (with_actor w b) b (Some (event_for w.cells b q)) (after w b (event_for w.cells b q)))
     → TurnHas P w t new
@@ -475,7 +476,7 @@ turn_has P w t new all e instructs happens a named =
     let wants : wanted b ≡ Some p.want = ap (λ (x : ActorState). wanted (rest w.image x)) (sym same_actor) ∙ p.wants in
     let event_is : t.event ≡ event_for w.cells b p.want = parts_event_is w t.actor t.event new p ∙ ap (λ (x : ActorState). event_for w.cells (rest w.image x) p.want) same_actor in
     let new_is : new ≡ after w b (event_for w.cells b p.want) = p.new_is ∙ (ap (λ (x : ActorState). after w (rest w.image x) t.event) same_actor ∙ ap (after w b) event_is) in
-    let done = happens a b p.want (here (a.fuel + 1)) (rest_reads w.image a (named_between w.actors t.actor a all named)) wants in
+    let done = happens a b p.want (here (a.fuel + 1)) (named_ready w t.actor a all named) wants in
     record {
       instructions = λ n runs.
           let x = run_local w.image n a in
@@ -483,7 +484,8 @@ turn_has P w t new all e instructs happens a named =
       event = (a.fuel + 1, rest-stops w.image a, subst (λ y. P (with_actor w b) b (Some y) new) (sym event_is) (subst (λ y. P (with_actor w b) b (Some (event_for w.cells b p.want)) y) (sym new_is) done));
     }
 
-turn_lawful : (w : WorldState) (t : Turn) (new : WorldState) → AllBetween w.actors → turn_of w t.actor ≡ Some (record { event = t.event; world = new }) → TurnHas IsLawful w t new
+-- a turn of a world whose actors rest as those of a run do is lawful
+pub turn_lawful : (w : WorldState) (t : Turn) (new : WorldState) → AllReady w → turn_of w t.actor ≡ Some (record { event = t.event; world = new }) → TurnHas IsLawful w t new
 turn_lawful w t new all e =
     turn_has IsLawful w t new all e
     (λ a b named run.
@@ -492,7 +494,7 @@ turn_lawful w t new all e =
     record {
       mediated = met w b _ refl run;
       ends = put_such (λ y. (end_of y.phase ≡ end_at w.image b) × (has_ended y.phase ≡ false)) w b x a named name (step_end w.image b _ refl run, (steps_step w.image b).live (ap has_ended run));
-      goes = step_goes w b a named name;
+      goes = step_goes w b a named name run;
       refuses = refuses_in w b _ refl run;
       remembers = put_such (WordRemembers w.image b (option_and_then decode (fetch w.image b.hart.pc)) b.fuel) w b x a named name (step_remembers w.image b);
     })
@@ -508,14 +510,9 @@ turn_lawful w t new all e =
       remembers = put_such (EventRemembers b e) w b x a named k.1 (event_remembers w.image b e);
     })
 
-each_lawful : (old : WorldState) (turns : List Turn) (new : WorldState) → AllBetween old.actors → Runs old turns new → EachMoment IsLawful old turns
+each_lawful : (old : WorldState) (turns : List Turn) (new : WorldState) → AllReady old → Runs old turns new → EachMoment IsLawful old turns
 each_lawful old [] new all run = tt
-each_lawful old (t ∷ ts) new all run = (run.0, run.1, turn_lawful old t run.0 all run.1, each_lawful run.0 ts new (turn_between old t.actor t.event run.0 all run.1) run.2)
+each_lawful old (t ∷ ts) new all run = (run.0, run.1, turn_lawful old t run.0 all run.1, each_lawful run.0 ts new (turn_ready old t.actor t.event run.0 all run.1) run.2)
 
 pub moments_lawful : MomentsAreLawful
-moments_lawful i turns new run = each_lawful (opening i) turns new (opening_between i) run
-
--- a turn from a world to which a run leads is lawful
-pub run_turn_lawful : (i : Image) (turns : List Turn) (mid : WorldState) (t : Turn) (new : WorldState) → Runs (opening i) turns mid
-    → turn_of mid t.actor ≡ Some (record { event = t.event; world = new }) → TurnHas IsLawful mid t new
-run_turn_lawful i turns mid t new run e = turn_lawful mid t new (run_between i turns mid run) e
+moments_lawful i turns new run = each_lawful (opening i) turns new (opening_ready i) run

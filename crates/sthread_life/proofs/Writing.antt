@@ -41,45 +41,11 @@ use Rattle.sthread_life.specs.Moments.{EachStep}
 use Rattle.sthread_life.specs.Written.{bytes_in, BytesFollow, stores_in, StepWritesOwn, flow_in, FlowsFollow, appends_to, StepAppendsOwn}
 use Rattle.sthread_life.specs.Laws.{RunsWriteTheirOwn}
 use Rattle.sthread_life.proofs.Resting.{rests, rest-stays}
-use Rattle.sthread_life.proofs.Between.{AllBetween, named_between, turn_between, opening_between, event_for, parts_event_is, turn_parts}
+use Rattle.sthread_life.proofs.Between.{event_for, parts_event_is, turn_parts}
+use Rattle.sthread_life.proofs.Settling.{AllReady, named_ready, turn_ready, opening_ready, run_ready}
 use Rattle.sthread_life.proofs.Meeting.{IsRequest, ReadsAs, LoadsAt, rest_reads}
-use Rattle.sthread_life.proofs.Mediating.{set_held}
-
--- ---- one cell among others: what is put there, and what it shows
-
-get_put_same : {X : Type 0} (xs : List (Option X)) (s : ℕ) (old : X) (new : Option X) → held (slice_get xs s) ≡ Some old → held (slice_get (slice_set xs s new) s) ≡ new
-get_put_same [] s old new e = absurd cc
-get_put_same (y ∷ ys) zero old new e = refl
-get_put_same (y ∷ ys) (suc m) old new e = get_put_same ys m old new e
-
-get_put_other : {X : Type 0} (xs : List (Option X)) (s n : ℕ) (new : Option X) → (s ≡ n → ⊥) → slice_get (slice_set xs s new) n ≡ slice_get xs n
-get_put_other [] s n new ne = refl
-get_put_other (y ∷ ys) zero zero new ne = absurd (ne refl)
-get_put_other (y ∷ ys) zero (suc n) new ne = refl
-get_put_other (y ∷ ys) (suc m) zero new ne = refl
-get_put_other (y ∷ ys) (suc m) (suc n) new ne = get_put_other ys m n new (λ e. ne (ap suc e))
-
-not_equal : (s n : ℕ) → (s == n) ≡ false → s ≡ n → ⊥
-not_equal s n eq e = let both : true ≡ false = sym (eq-eqb s n e) ∙ eq in cc
-
--- The cell s goes on to new, and shows f of what it showed; each other cell shows what it did. A cell with
--- nothing in it stays so.
-follows : {X F : Type 0} (view : Option X → F) (f : F → F) (xs : List (Option X)) (s n : ℕ) (old new : Option X) (t : Bool)
-    → held (slice_get xs s) ≡ old → (s == n) ≡ t → (old ≡ None → new ≡ None) → view new ≡ f (view old)
-    → view (held (slice_get (slice_set xs s new) n)) ≡ (if t then f (view (held (slice_get xs n))) else view (held (slice_get xs n)))
-follows view f xs s n None new true there eq stays shows =
-    let same : s ≡ n = eqb-true s n eq in
-    let here : held (slice_get xs n) ≡ None = subst (λ m. held (slice_get xs m) ≡ None) same there in
-    ap (λ x. view (held (slice_get (slice_set xs s x) n))) (stays refl) ∙ ap (λ ys. view (held (slice_get ys n))) (set_held xs s None there)
-    ∙ ap view here ∙ (sym (ap view (stays refl)) ∙ (shows ∙ ap (λ x. f (view x)) (sym here)))
-follows view f xs s n None new false there eq stays shows =
-    ap (λ x. view (held (slice_get (slice_set xs s x) n))) (stays refl) ∙ ap (λ ys. view (held (slice_get ys n))) (set_held xs s None there)
-follows view f xs s n (Some old) new true there eq stays shows =
-    let same : s ≡ n = eqb-true s n eq in
-    let here : held (slice_get xs n) ≡ Some old = subst (λ m. held (slice_get xs m) ≡ Some old) same there in
-    let put : held (slice_get (slice_set xs s new) n) ≡ new = subst (λ m. held (slice_get (slice_set xs s new) m) ≡ new) same (get_put_same xs s old new there) in
-    ap view put ∙ (shows ∙ ap (λ x. f (view x)) (sym here))
-follows view f xs s n (Some old) new false there eq stays shows = ap (λ x. view (held x)) (get_put_other xs s n new (not_equal s n eq))
+use Rattle.sthread_life.proofs.OneCell.{follows}
+use Rattle.sthread_life.proofs.CellChanging.{turn_cells, cells_follow}
 
 -- ---- what a reply makes of the bytes of a tag, and of a stream
 
@@ -157,35 +123,31 @@ rest_follows i c b (phase.Within x) q reads e = let is : x ≡ q = cc in subst (
 rest_follows i c b (phase.Ending x) q reads e = let is : want.Lives (lives_ask.Release x) ≡ q = cc in subst (IsFollowed c b) is (record { tags = λ slot. refl; streams = λ fd. refl })
 rest_follows i c b (phase.Ended x) q reads e = absurd cc
 
--- a turn's event makes the cells
-turn_cells : (w : WorldState) (t : Turn) (new : WorldState) → turn_of w t.actor ≡ Some (record { event = t.event; world = new }) → new.cells ≡ cells_after w.cells t.event
-turn_cells w t new e = let p = turn_parts w t.actor t.event new e in ap (λ (x : WorldState). x.cells) p.new_is
-
 record TurnFollows (w : WorldState) (e : Event) (new : WorldState) : Type 0 where
   tags : (slot : ℕ) → bytes_in new.cells slot ≡ bytes_after_event slot (bytes_in w.cells slot) e
   streams : (fd : ℕ) → flow_in new.cells fd ≡ flow_after_event fd (flow_in w.cells fd) e
 
-turn_follows : (w : WorldState) (t : Turn) (new : WorldState) → AllBetween w.actors → turn_of w t.actor ≡ Some (record { event = t.event; world = new }) → TurnFollows w t.event new
+turn_follows : (w : WorldState) (t : Turn) (new : WorldState) → AllReady w → turn_of w t.actor ≡ Some (record { event = t.event; world = new }) → TurnFollows w t.event new
 turn_follows w t new all e =
     let p = turn_parts w t.actor t.event new e in
     let b = rest w.image p.actor in
     let is = parts_event_is w t.actor t.event new p in
     let cells = turn_cells w t new e in
-    let f = rest_follows w.image w.cells b b.phase p.want (rest_reads w.image p.actor (named_between w.actors t.actor p.actor all p.named)) p.wants in
+    let f = rest_follows w.image w.cells b b.phase p.want (named_ready w t.actor p.actor all p.named) p.wants in
     record {
       tags = λ slot. ap (λ (c : Cells). bytes_in c slot) cells ∙ subst (λ x. bytes_in (cells_after w.cells x) slot ≡ bytes_after_event slot (bytes_in w.cells slot) x) (sym is) (f.tags slot);
       streams = λ fd. ap (λ (c : Cells). flow_in c fd) cells ∙ subst (λ x. flow_in (cells_after w.cells x) fd ≡ flow_after_event fd (flow_in w.cells fd) x) (sym is) (f.streams fd);
     }
 
-bytes_follow : (old : WorldState) (turns : List Turn) (new : WorldState) → AllBetween old.actors → Runs old turns new → BytesFollow old.cells turns new.cells
+bytes_follow : (old : WorldState) (turns : List Turn) (new : WorldState) → AllReady old → Runs old turns new → BytesFollow old.cells turns new.cells
 bytes_follow old [] new all run slot = ap (λ (w : WorldState). bytes_in w.cells slot) run
 bytes_follow old (t ∷ ts) new all run slot =
-    bytes_follow run.0 ts new (turn_between old t.actor t.event run.0 all run.1) run.2 slot ∙ ap (λ bytes. bytes_after slot bytes ts) ((turn_follows old t run.0 all run.1).tags slot)
+    bytes_follow run.0 ts new (turn_ready old t.actor t.event run.0 all run.1) run.2 slot ∙ ap (λ bytes. bytes_after slot bytes ts) ((turn_follows old t run.0 all run.1).tags slot)
 
-flows_follow : (old : WorldState) (turns : List Turn) (new : WorldState) → AllBetween old.actors → Runs old turns new → FlowsFollow old.cells turns new.cells
+flows_follow : (old : WorldState) (turns : List Turn) (new : WorldState) → AllReady old → Runs old turns new → FlowsFollow old.cells turns new.cells
 flows_follow old [] new all run fd = ap (λ (w : WorldState). flow_in w.cells fd) run
 flows_follow old (t ∷ ts) new all run fd =
-    flows_follow run.0 ts new (turn_between old t.actor t.event run.0 all run.1) run.2 fd ∙ ap (λ f. flow_after fd f ts) ((turn_follows old t run.0 all run.1).streams fd)
+    flows_follow run.0 ts new (turn_ready old t.actor t.event run.0 all run.1) run.2 fd ∙ ap (λ f. flow_after fd f ts) ((turn_follows old t run.0 all run.1).streams fd)
 
 -- ---- who writes
 
@@ -261,12 +223,12 @@ record StepOwns (w : WorldState) (t : Turn) (new : WorldState) : Type 0 where
   stores : StepWritesOwn w t new
   appends : StepAppendsOwn w t new
 
-step_owns : (w : WorldState) (t : Turn) (new : WorldState) → AllBetween w.actors → turn_of w t.actor ≡ Some (record { event = t.event; world = new }) → StepOwns w t new
+step_owns : (w : WorldState) (t : Turn) (new : WorldState) → AllReady w → turn_of w t.actor ≡ Some (record { event = t.event; world = new }) → StepOwns w t new
 step_owns w t new all e =
     let p = turn_parts w t.actor t.event new e in
     let b = rest w.image p.actor in
     let is = parts_event_is w t.actor t.event new p in
-    let own = rest_own w.image w.cells b b.phase p.want (rest_reads w.image p.actor (named_between w.actors t.actor p.actor all p.named)) p.wants in
+    let own = rest_own w.image w.cells b b.phase p.want (named_ready w t.actor p.actor all p.named) p.wants in
     let same = rest_rights w.image p.actor _ refl in
     record {
       stores = λ slot stored.
@@ -277,24 +239,25 @@ step_owns w t new all e =
           (p.actor, p.named, ap (λ x. x.append) (sym (same.bits fd)) ∙ o);
     }
 
-pub step_writes_own : (w : WorldState) (t : Turn) (new : WorldState) → AllBetween w.actors → turn_of w t.actor ≡ Some (record { event = t.event; world = new }) → StepWritesOwn w t new
+pub step_writes_own : (w : WorldState) (t : Turn) (new : WorldState) → AllReady w → turn_of w t.actor ≡ Some (record { event = t.event; world = new }) → StepWritesOwn w t new
 step_writes_own w t new all e = (step_owns w t new all e).stores
 
-pub step_appends_own : (w : WorldState) (t : Turn) (new : WorldState) → AllBetween w.actors → turn_of w t.actor ≡ Some (record { event = t.event; world = new }) → StepAppendsOwn w t new
+pub step_appends_own : (w : WorldState) (t : Turn) (new : WorldState) → AllReady w → turn_of w t.actor ≡ Some (record { event = t.event; world = new }) → StepAppendsOwn w t new
 step_appends_own w t new all e = (step_owns w t new all e).appends
 
-each_writes_own : (old : WorldState) (turns : List Turn) (new : WorldState) → AllBetween old.actors → Runs old turns new → EachStep StepWritesOwn old turns
+each_writes_own : (old : WorldState) (turns : List Turn) (new : WorldState) → AllReady old → Runs old turns new → EachStep StepWritesOwn old turns
 each_writes_own old [] new all run = tt
-each_writes_own old (t ∷ ts) new all run = (run.0, run.1, step_writes_own old t run.0 all run.1, each_writes_own run.0 ts new (turn_between old t.actor t.event run.0 all run.1) run.2)
+each_writes_own old (t ∷ ts) new all run = (run.0, run.1, step_writes_own old t run.0 all run.1, each_writes_own run.0 ts new (turn_ready old t.actor t.event run.0 all run.1) run.2)
 
-each_appends_own : (old : WorldState) (turns : List Turn) (new : WorldState) → AllBetween old.actors → Runs old turns new → EachStep StepAppendsOwn old turns
+each_appends_own : (old : WorldState) (turns : List Turn) (new : WorldState) → AllReady old → Runs old turns new → EachStep StepAppendsOwn old turns
 each_appends_own old [] new all run = tt
-each_appends_own old (t ∷ ts) new all run = (run.0, run.1, step_appends_own old t run.0 all run.1, each_appends_own run.0 ts new (turn_between old t.actor t.event run.0 all run.1) run.2)
+each_appends_own old (t ∷ ts) new all run = (run.0, run.1, step_appends_own old t run.0 all run.1, each_appends_own run.0 ts new (turn_ready old t.actor t.event run.0 all run.1) run.2)
 
 pub runs_write_their_own : RunsWriteTheirOwn
 runs_write_their_own i turns new run = record {
-  follow = bytes_follow (opening i) turns new (opening_between i) run;
-  writers = each_writes_own (opening i) turns new (opening_between i) run;
-  flows = flows_follow (opening i) turns new (opening_between i) run;
-  appenders = each_appends_own (opening i) turns new (opening_between i) run;
+  follow = bytes_follow (opening i) turns new (opening_ready i) run;
+  writers = each_writes_own (opening i) turns new (opening_ready i) run;
+  flows = flows_follow (opening i) turns new (opening_ready i) run;
+  appenders = each_appends_own (opening i) turns new (opening_ready i) run;
+  cells = cells_follow (opening i) turns new (opening_ready i) run;
 }

@@ -92,9 +92,13 @@ abbrev pub EndsByCause : WorldState → ActorState → Option Event → WorldSta
 EndsByCause old a e new = IsSomeAnd (actor_named new.actors a.name) (λ b. (end_of b.phase ≡ end_after old.image a e) × (has_ended b.phase ≡ is_end_event e))
 
 -- An actor goes on: an instruction that needs nothing is the hart's and nothing else, so that none is passed
--- over; after each other instruction and each event, an actor that runs is at the next word.
+-- over; after each other instruction and each event, an actor that runs is at the next word, and one that does
+-- not run, since it comes to an event or to its end, has its registers and pc as they were.
+abbrev pub GoesTo : ActorState → ℕ → ActorState → Type 0
+GoesTo a pc b = (is_running b.phase ≡ true → b.hart.pc ≡ pc) × (is_running b.phase ≡ false → b.hart ≡ a.hart)
+
 abbrev pub RunsAt : WorldState → ActorState → ℕ → WorldState → Type 0
-RunsAt old a pc new = IsSomeAnd (actor_named new.actors a.name) (λ b. is_running b.phase ≡ true → b.hart.pc ≡ pc)
+RunsAt old a pc new = IsSomeAnd (actor_named new.actors a.name) (GoesTo a pc)
 
 abbrev pub NeedGoesOn : WorldState → ActorState → Hart → Need → WorldState → Type 0
 NeedGoesOn old a h need.Done new = new ≡ with_actor old (record a { hart = h })

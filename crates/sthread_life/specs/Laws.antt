@@ -10,6 +10,7 @@ use Rattle.sthread_life.specs.Actors.{ActorState}
 use Rattle.sthread_life.specs.Cells.{opening_cells, slot_in, stream_in}
 use Rattle.sthread_life.specs.Worlds.{WorldState, opening, Runs}
 use Rattle.sthread_life.specs.Written.{BytesFollow, StepWritesOwn, FlowsFollow, StepAppendsOwn}
+use Rattle.sthread_life.specs.CellHistories.{CellsFollow}
 use Rattle.sthread_life.specs.Moments.{EachStep, EachMoment, IsMediated}
 use Rattle.sthread_life.specs.Ends.{EndsByCause, GoesOn}
 use Rattle.sthread_life.specs.Refusals.{RefusesByRow}
@@ -32,12 +33,14 @@ MomentsAreLawful = (i : Image) (turns : List Turn) (new : WorldState) → Runs (
 
 -- after each run the bytes in each slot are those that the image declares, with what the run wrote over
 -- them in order, and in each step of it whoever stores into a slot may store to the tag that lives there; each
--- stream is as the image declares it, with what the run added and took, and whoever appends to it may
+-- stream is as the image declares it, with what the run added and took, and whoever appends to it may; and whatever
+-- else the cells hold is changed by their own events alone
 pub record IsWrittenByOwners (i : Image) (turns : List Turn) (new : WorldState) : Type 0 where
   pub follow : BytesFollow (opening i).cells turns new.cells
   pub writers : EachStep StepWritesOwn (opening i) turns
   pub flows : FlowsFollow (opening i).cells turns new.cells
   pub appenders : EachStep StepAppendsOwn (opening i) turns
+  pub cells : CellsFollow (opening i).cells turns new.cells
 
 abbrev pub RunsWriteTheirOwn : Type 0
 RunsWriteTheirOwn = (i : Image) (turns : List Turn) (new : WorldState) → Runs (opening i) turns new → IsWrittenByOwners i turns new

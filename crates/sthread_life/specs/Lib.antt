@@ -15,5 +15,6 @@ pub mod Remembering
 pub mod Outcomes
 pub mod Between
 pub mod Written
+pub mod CellHistories
 pub mod Laws
 pub mod Resting

@@ -1,5 +1,5 @@
 -- The world, its turns and its runs.
-use Rattle.std.specs.Prelude.{◌≡◌, ℕ, Bool, false, List, [], ◌∷◌, find, Option, Some, None, option_map, if◌then◌else◌}
+use Rattle.std.specs.Prelude.{◌≡◌, ℕ, Bool, false, List, [], ◌∷◌, map, find, Option, Some, None, option_map, if◌then◌else◌}
 use Rattle.wedge_base.specs.Images.{Image}
 use Rattle.wedge_base.specs.Names.{same, root_name}
 use Rattle.wedge_base.specs.declared.events.Want.{Want}
@@ -66,3 +66,7 @@ is_ended (Some a) = has_ended a.phase
 -- a run is whole where its root has ended
 abbrev pub is_whole : WorldState → Bool
 is_whole w = is_ended (actor_named w.actors root_name)
+
+-- the world with every actor at rest: two worlds that are equal so differ in local events alone
+abbrev pub settled : WorldState → WorldState
+settled w = record w { actors = map (rest w.image) w.actors }

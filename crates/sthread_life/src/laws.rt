@@ -16,7 +16,9 @@ pub fn moments_are_lawful()
 /// In every run the bytes of each tag are those that the image declares, with the stores of the run
 /// written over them in order, and each store was made by an actor with ReadWrite on the tag; the
 /// bytes of each stream are those that the image declares, with the appends of the run behind them in order,
-/// each by an actor with the bit to append.
+/// each by an actor with the bit to append. Which tag lives in a slot, its blocks, the kind of a stream and
+/// whether it is open, and all else that the cells hold, is changed by their own events alone: no load or store
+/// changes a tag's number, no append closes a stream.
 pub fn runs_write_their_own()
     ensures { RunsWriteTheirOwn }
 {}

@@ -11,6 +11,8 @@ use Rattle.sthread_life.proofs.Mediating.{moments_lawful}
 use Rattle.sthread_life.proofs.Writing.{runs_write_their_own}
 use Rattle.wedge_base.specs.declared.events.Event.{Event}
 use Rattle.std.proofs.lemmas.List.{map-append, length-map}
+use Rattle.sthread_life.proofs.Settling.{whole_alike, outcome_alike}
+use Rattle.wedge_core.specs.Progress.{LeadsTo}
 use Rattle.wedge_core.specs.Serial.{IsWholeRun, IsNumbered, Notes}
 
 abbrev pub entry : ℕ → Turn → LogEntry
@@ -28,14 +30,6 @@ turns_of-numbered stamp (t ∷ ts) = ap (λ us. t ∷ us) (turns_of-numbered (st
 pub is_numbered : (ts : List Turn) (entries : List LogEntry) → entries ≡ numbered 1 ts → IsNumbered entries
 is_numbered ts entries is = is ∙ ap (numbered 1) (sym (ap turns_of is ∙ turns_of-numbered 1 ts))
 
--- the entries of a whole run's turns tell it
-pub whole_run : (i : Image) (w : WorldState) (ts : List Turn) (entries : List LogEntry) (outcome : Outcome) → w.image ≡ i → Runs (opening w.image) ts w → is_whole w ≡ true
-    → entries ≡ numbered 1 ts → outcome ≡ outcome_of w → IsWholeRun i entries outcome
-whole_run i w ts entries outcome image run whole is ends =
-    let told : turns_of entries ≡ ts = ap turns_of is ∙ turns_of-numbered 1 ts in
-    let here : Runs (opening i) (turns_of entries) w = subst (λ (us : List Turn). Runs (opening i) us w) (sym told) (subst (λ (j : Image). Runs (opening j) ts w) image run) in
-    record { last = w; run = here; whole = whole; ends = ends; lawful = moments_lawful i (turns_of entries) w here; written = runs_write_their_own i (turns_of entries) w here }
-
 -- an entry that is added tells its turn, and is numbered by its place
 pub notes_turns : (old new : List LogEntry) (name : List ℕ) (e : Event) → Notes old name e new → turns_of new ≡ turns_of old ++ record { actor = name; event = e } ∷ []
 notes_turns old new name e noted =
@@ -50,7 +44,16 @@ notes_numbered old new name e noted numbered_old =
     ∙ ap (λ n. numbered 1 (turns_of old) ++ entry n t ∷ []) place
     ∙ sym (numbered-push 1 (turns_of old) t) ∙ ap (numbered 1) (sym (notes_turns old new name e noted))
 
--- the entries of a whole run tell it
-pub whole_run_of : (i : Image) (w : WorldState) (entries : List LogEntry) (outcome : Outcome) → w.image ≡ i → Runs (opening w.image) (turns_of entries) w → is_whole w ≡ true
-    → IsNumbered entries → outcome ≡ outcome_of w → IsWholeRun i entries outcome
-whole_run_of i w entries outcome image run whole is ends = whole_run i w (turns_of entries) entries outcome image run whole is ends
+-- entries whose turns lead to a state in which the root has ended are those of a complete run
+pub whole_run_of : (i : Image) (w : WorldState) (entries : List LogEntry) (outcome : Outcome) → w.image ≡ i → LeadsTo (turns_of entries) w → is_whole w ≡ true
+    → outcome ≡ outcome_of w → IsWholeRun i entries outcome
+whole_run_of i w entries outcome image leads whole ends =
+    let run : Runs (opening i) (turns_of entries) leads.last = subst (λ (j : Image). Runs (opening j) (turns_of entries) leads.last) image leads.run in
+    record {
+      last = leads.last;
+      run = run;
+      whole = sym (whole_alike w leads.last leads.alike) ∙ whole;
+      ends = ends ∙ outcome_alike w leads.last leads.alike;
+      lawful = moments_lawful i (turns_of entries) leads.last run;
+      written = runs_write_their_own i (turns_of entries) leads.last run;
+    }

@@ -1,18 +1,18 @@
 -- How a run begins and goes on.
-use Rattle.std.proofs.Common.{◌≡◌, false, List, [], ◌∷◌, ◌++◌, refl, subst}
+use Rattle.std.proofs.Common.{◌≡◌, false, List, [], ◌∷◌, ◌++◌, refl, ap, subst}
 use Rattle.std.specs.Prelude.{Some}
 use Rattle.wedge_base.specs.Images.{Image}
 use Rattle.wedge_base.specs.declared.events.Turn.{Turn}
 use Rattle.sthread_life.specs.Actors.{ActorState, root}
 use Rattle.sthread_life.specs.Cells.{Cells, opening_cells}
-use Rattle.sthread_life.specs.Worlds.{WorldState, opening, turn_of, Runs}
+use Rattle.sthread_life.specs.Worlds.{WorldState, opening, turn_of, Runs, settled}
 use Rattle.wedge_core.specs.Progress.{IsRun, state_of}
 
 pub opened_is_run : (i : Image) (cells : Cells) (actors : List ActorState) (turns : List Turn) → cells ≡ opening_cells i → actors ≡ root i ∷ [] → turns ≡ []
     → IsRun (record { state = state_of i cells actors; turns = turns; stopped = false })
 opened_is_run i cells actors turns c a t =
     let state : state_of i cells actors ≡ opening i = cc in
-    rw t (record { last = opening i; run = refl; current = λ e. state })
+    rw t (record { last = opening i; run = refl; current = λ e. ap settled state })
 
 -- a run goes on by a turn from where it leads
 pub Runs-push : (old mid new : WorldState) (turns : List Turn) (t : Turn) → Runs old turns mid → turn_of mid t.actor ≡ Some (record { event = t.event; world = new }) → Runs old (turns ++ t ∷ []) new

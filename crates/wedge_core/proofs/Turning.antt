@@ -10,6 +10,7 @@ use Rattle.sthread_life.specs.Local.{rest, has_ended}
 use Rattle.sthread_life.specs.Taking.{wanted, takes}
 use Rattle.sthread_life.specs.Cells.{Cells, cells_after}
 use Rattle.sthread_life.specs.Worlds.{opening, actor_named, put_actor, event_at, happened, wanting, turn_with, turn_of, Runs}
+use Rattle.sthread_life.proofs.Settling.{turns_alike}
 use Rattle.wedge_core.specs.Progress.{IsRun, IsTurn, HasEnded, IsFound, IsPlaceOf, state_of}
 use Rattle.wedge_core.proofs.Runs.{Runs-push}
 
@@ -42,11 +43,13 @@ pub run_goes_on : (i : Image) (cells new_cells : Cells) (actors new_actors : Lis
     → IsRun (record { state = state_of i cells actors; turns = turns; stopped = stopped }) → stopped ≡ false
     → IsTurn (state_of i cells actors) name e (state_of i new_cells new_actors) → new_turns ≡ turns ++ record { actor = name; event = e } ∷ []
     → IsRun (record { state = state_of i new_cells new_actors; turns = new_turns; stopped = stopped })
-run_goes_on i cells new_cells actors new_actors turns new_turns name e stopped run going took noted = record {
-  last = state_of i new_cells new_actors;
-  run = rw noted (Runs-push (opening i) (state_of i cells actors) (state_of i new_cells new_actors) turns (record { actor = name; event = e }) (subst (λ w. Runs (opening i) turns w) (sym (run.current going)) run.run) took);
-  current = λ s. refl;
-}
+run_goes_on i cells new_cells actors new_actors turns new_turns name e stopped run going took noted =
+    let t = turns_alike (state_of i cells actors) run.last name e (state_of i new_cells new_actors) (run.current going) took in
+    record {
+      last = t.to;
+      run = rw noted (Runs-push (opening i) run.last t.to turns (record { actor = name; event = e }) run.run t.turn);
+      current = λ s. t.alike;
+    }
 
 -- the actor at a place is the one that was found there
 one_at : (actors : List ActorState) (name : List ℕ) (place : ℕ) (a x : ActorState) → IsFound actors name place x → slice_get actors place ≡ Some a → IsFound actors name place a

@@ -1,5 +1,5 @@
 -- Each turn of the root takes work away, and leaves the root there.
-use Rattle.std.proofs.Common.{◌≡◌, ℕ, ◌+◌, ◌<◌, ◌≤◌, Bool, true, false, List, [], ◌∷◌, refl, sym, ap, subst, ◌∙◌, arith}
+use Rattle.std.proofs.Common.{◌≡◌, ℕ, ◌+◌, ◌*◌, ◌<◌, ◌≤◌, Bool, true, false, List, [], ◌∷◌, refl, sym, ap, subst, ◌∙◌, arith}
 use Rattle.std.specs.Prelude.{Option, Some, None, option_and_then, if◌then◌else◌}
 use Rattle.wedge_base.specs.Names.{root_name, same}
 use Rattle.wedge_base.specs.Images.{Image, fetch}
@@ -17,6 +17,7 @@ use Rattle.rv_isa.specs.Table.{decode}
 use Rattle.rv_hart.specs.declared.Need.{Need}
 use Rattle.rv_hart.specs.declared.Need.TheVariants as need
 use Rattle.rv_hart.specs.Local.{local}
+use Rattle.wedge_base.specs.declared.rights.End.{End}
 use Rattle.sthread_life.specs.declared.phase.Phase.{Phase}
 use Rattle.sthread_life.specs.declared.phase.Phase.TheVariants as phase
 use Rattle.sthread_life.specs.Actors.{ActorState, root}
@@ -25,18 +26,17 @@ use Rattle.sthread_life.specs.Taking.{wanted, wanted_at, runs, loads_by, loads_a
 use Rattle.sthread_life.specs.Cells.{Cells}
 use Rattle.sthread_life.specs.Worlds.{WorldState, opening, actor_named, put_actor, event_at}
 use Rattle.sthread_life.specs.Between.{IsBetween}
-use Rattle.sthread_life.proofs.Resting.{HasPaid, rests, rest-name, rest-stays}
-use Rattle.sthread_life.proofs.Between.{AllBetween, named_between, run_between, turn_parts, event_for, parts_event_is}
+use Rattle.sthread_life.proofs.Resting.{HasPaid, rests, running_is, rest-name, rest-stays}
+use Rattle.sthread_life.proofs.Between.{takes_between, turn_parts, event_for, parts_event_is}
 use Rattle.sthread_life.proofs.Named.{named_put, found_name}
-use Rattle.wedge_core.specs.Progress.{Progress, IsRun, IsTurn, IsFound}
-use Rattle.wedge_core.specs.Serial.{HasRoot, work, root_work}
+use Rattle.wedge_core.specs.Progress.{Progress, IsTurn, IsFound}
+use Rattle.wedge_core.specs.Serial.{HasRoot, phase_work, work, root_work}
 
-work_le : (a : ActorState) → work a ≤ a.fuel + 1
-work_le a = by_end (has_ended a.phase)
-  where
-    by_end : (t : Bool) → (if t then a.fuel else a.fuel + 1) ≤ a.fuel + 1
-    by_end true = omega arith
-    by_end false = omega arith
+between_work : (p : Phase) → IsBetween p → phase_work p ≤ 2
+between_work phase.Running h = omega arith
+between_work (phase.Within q) h = absurd h
+between_work (phase.Ending x) h = omega arith
+between_work (phase.Ended x) h = omega arith
 
 loaded_fuel : (ins : Instr) (n : Need) (a : ActorState) (value : ℕ) → (loads_by ins n a value).fuel ≡ a.fuel
 loaded_fuel ins need.Done a value = refl
@@ -68,43 +68,35 @@ takes_fuel i b (event.Lives lives_ask.Claim r) = omega arith
 takes_fuel i b (event.Lives (lives_ask.Release e) r) = omega arith
 takes_fuel i b e = omega arith
 
+-- an event leaves at most the work of an actor that runs with the same fuel
+taken_work : (i : Image) (b : ActorState) (e : Event) → work (takes i b e) ≤ 2 * b.fuel + 2
+taken_work i b e = omega (arith, takes_fuel i b e, between_work (takes i b e).phase (takes_between i b e))
+
 -- the end of an actor that is about to end
-released_work : (i : Image) (b : ActorState) (c : Cells) (q : Want) (x : Phase) → wanted_at x ≡ Some q → is_running x ≡ false → has_ended x ≡ false → IsBetween x → work (takes i b (event_for c b q)) ≤ b.fuel
+released_work : (i : Image) (b : ActorState) (c : Cells) (q : Want) (x : End) → want.Lives (lives_ask.Release x) ≡ q → work (takes i b (event_for c b q)) ≤ 2 * b.fuel
 unfolding takes
-released_work i b c q phase.Running w r l h = cc
-released_work i b c q (phase.Within y) w r l h = absurd h
-released_work i b c q (phase.Ending x) w r l h =
-    let is : q ≡ want.Lives (lives_ask.Release x) = cc in
-    subst (λ (z : Want). work (takes i b (event_for c b z)) ≤ b.fuel) (sym is) (omega arith)
-released_work i b c q (phase.Ended x) w r l h = cc
+released_work i b c q x is = subst (λ (z : Want). work (takes i b (event_for c b z)) ≤ 2 * b.fuel) is (omega arith)
 
 -- at rest with this phase, having paid from so much fuel, the event leaves less work
-paid_work : (i : Image) (f : ℕ) (b : ActorState) (c : Cells) (q : Want) (p : Phase) → wanted_at p ≡ Some q → HasPaid f b.fuel p → work (takes i b (event_for c b q)) < f + 1
+paid_work : (i : Image) (f : ℕ) (b : ActorState) (c : Cells) (q : Want) (p : Phase) → wanted_at p ≡ Some q → HasPaid f b.fuel p → work (takes i b (event_for c b q)) < 2 * f + 2
 paid_work i f b c q phase.Running w paid = cc
-paid_work i f b c q (phase.Within y) w paid = omega (arith, work_le (takes i b (event_for c b q)), takes_fuel i b (event_for c b q))
-paid_work i f b c q (phase.Ending x) w paid = omega (arith, released_work i b c q (phase.Ending x) w refl refl tt)
+paid_work i f b c q (phase.Within y) w paid = omega (arith, taken_work i b (event_for c b q))
+paid_work i f b c q (phase.Ending x) w paid = omega (arith, released_work i b c q x cc)
 paid_work i f b c q (phase.Ended x) w paid = cc
 
-live_work : (a : ActorState) → has_ended a.phase ≡ false → work a ≡ a.fuel + 1
-live_work a e = ap (λ t. if t then a.fuel else a.fuel + 1) e
+resting_work : (i : Image) (a : ActorState) (c : Cells) (q : Want) (p : Phase) → a.phase ≡ p → is_running p ≡ false → wanted_at p ≡ Some q → work (takes i a (event_for c a q)) < work a
+resting_work i a c q phase.Running is r w = cc
+resting_work i a c q (phase.Within y) is r w = omega (arith, taken_work i a (event_for c a q), ap phase_work is)
+resting_work i a c q (phase.Ending x) is r w = omega (arith, released_work i a c q x cc, ap phase_work is)
+resting_work i a c q (phase.Ended x) is r w = cc
 
-run_live : (p : Phase) → is_running p ≡ true → has_ended p ≡ false
-run_live phase.Running e = refl
-run_live (phase.Within q) e = refl
-run_live (phase.Ending x) e = refl
-run_live (phase.Ended x) e = cc
-
-resting_work : (i : Image) (a : ActorState) (c : Cells) (q : Want) (p : Phase) → a.phase ≡ p → IsBetween p → is_running p ≡ false → wanted_at p ≡ Some q → work (takes i a (event_for c a q)) < work a
-resting_work i a c q phase.Running is h r w = cc
-resting_work i a c q (phase.Within y) is h r w = absurd h
-resting_work i a c q (phase.Ending x) is h r w = rw (live_work a (ap has_ended is)) (paid_work i a.fuel a c q (phase.Ending x) w (omega arith))
-resting_work i a c q (phase.Ended x) is h r w = cc
-
-less_work : (i : Image) (a : ActorState) (c : Cells) (q : Want) (t : Bool) → is_running a.phase ≡ t → IsBetween a.phase → wanted (rest i a) ≡ Some q → work (takes i (rest i a) (event_for c (rest i a) q)) < work a
-less_work i a c q true r h w = rw (live_work a (run_live a.phase r)) (paid_work i a.fuel (rest i a) c q (rest i a).phase w (rests i a r).paid)
-less_work i a c q false r h w =
+less_work : (i : Image) (a : ActorState) (c : Cells) (q : Want) (t : Bool) → is_running a.phase ≡ t → wanted (rest i a) ≡ Some q → work (takes i (rest i a) (event_for c (rest i a) q)) < work a
+less_work i a c q true r w =
+    let paid = paid_work i a.fuel (rest i a) c q (rest i a).phase w (rests i a r).paid in
+    omega (arith, paid, ap phase_work (running_is a.phase r))
+less_work i a c q false r w =
     let stays = rest-stays i a r in
-    rw stays (resting_work i a c q a.phase refl h r (ap (λ (x : ActorState). wanted x) (sym stays) ∙ w))
+    rw stays (resting_work i a c q a.phase refl r (ap (λ (x : ActorState). wanted x) (sym stays) ∙ w))
 
 loaded_name : (ins : Instr) (n : Need) (a : ActorState) (value : ℕ) → (loads_by ins n a value).name ≡ a.name
 loaded_name ins need.Done a value = refl
@@ -156,8 +148,8 @@ put_first (z ∷ zs) a b x found named is =
     let put : put_actor (z ∷ zs) b ≡ b ∷ zs = found.put b is in
     (b, subst (λ ys. IsFound ys root_name 0 b) (sym put) (first_found b zs root_name (ap (λ n. same n root_name) is)))
 
-pub root_worked : (old : WorldState) (e : Event) (new : WorldState) → AllBetween old.actors → HasRoot old → IsTurn old root_name e new → RootWorked old new
-root_worked old e new all root turn =
+pub root_worked : (old : WorldState) (e : Event) (new : WorldState) → HasRoot old → IsTurn old root_name e new → RootWorked old new
+root_worked old e new root turn =
     let p = turn_parts old root_name e new turn in
     let r = rest old.image p.actor in
     let f = event_for old.cells r p.want in
@@ -170,27 +162,21 @@ root_worked old e new all root turn =
     let found : actor_named new.actors root_name ≡ Some b = ap (λ ys. actor_named ys root_name) actors ∙ ap (actor_named (put_actor old.actors b)) (sym name) ∙ named_put old.actors b p.actor was in
     record {
       there = subst (λ ys. (y : ActorState) × IsFound ys root_name 0 y) (sym actors) (put_first old.actors p.actor b root.0 root.1 p.named name);
-      less = rw (found, p.named) (less_work old.image p.actor old.cells p.want _ refl (named_between old.actors root_name p.actor all p.named) p.wants);
+      less = rw (found, p.named) (less_work old.image p.actor old.cells p.want _ refl p.wants);
     }
-
--- the same of a world that has not stopped
-pub turn_worked : (p : Progress) (name : List ℕ) (e : Event) (new : WorldState) → IsRun p → p.stopped ≡ false → name ≡ root_name → HasRoot p.state → IsTurn p.state name e new → RootWorked p.state new
-turn_worked p name e new run going is root turn =
-    let between : AllBetween p.state.actors = subst (λ (w : WorldState). AllBetween w.actors) (sym (run.current going)) (run_between p.state.image p.turns run.last run.run) in
-    root_worked p.state e new between root (subst (λ (n : List ℕ). IsTurn p.state n e new) is turn)
 
 -- what a turn of the root leaves, if it was taken
 pub record RootStays (b : Bool) (old new : WorldState) : Type 0 where
   pub there : HasRoot new
   pub less : b ≡ true → root_work new < root_work old
 
-pub root_stays : (b : Bool) (p q : Progress) (name : List ℕ) → IsRun p → p.stopped ≡ false → name ≡ root_name → HasRoot p.state
+pub root_stays : (b : Bool) (p q : Progress) (name : List ℕ) → name ≡ root_name → HasRoot p.state
     → (b ≡ true → (e : Event) × IsTurn p.state name e q.state) → (b ≡ false → q ≡ p) → RootStays b p.state q.state
-root_stays true p q name run going is root took same =
+root_stays true p q name is root took same =
     let t = took refl in
-    let worked = turn_worked p name t.0 q.state run going is root t.1 in
+    let worked = root_worked p.state t.0 q.state root (subst (λ (n : List ℕ). IsTurn p.state n t.0 q.state) is t.1) in
     record { there = worked.there; less = λ e. worked.less }
-root_stays false p q name run going is root took same =
+root_stays false p q name is root took same =
     record { there = subst (λ (r : Progress). HasRoot r.state) (sym (same refl)) root; less = λ e. absurd cc }
 
 pub opening_root : (i : Image) → HasRoot (opening i)

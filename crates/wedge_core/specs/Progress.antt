@@ -5,7 +5,7 @@ use Rattle.wedge_base.specs.declared.events.Turn.{Turn}
 use Rattle.wedge_base.specs.Gates.{Kept}
 use Rattle.wedge_base.specs.declared.grants.GateId.{GateId}
 use Rattle.sthread_life.specs.Cells.{Cells, GateCell, kept_among, put_kept}
-use Rattle.sthread_life.specs.Worlds.{WorldState, opening, actor_named, put_actor, turn_of, Runs}
+use Rattle.sthread_life.specs.Worlds.{WorldState, opening, actor_named, put_actor, turn_of, Runs, settled}
 use Rattle.sthread_life.specs.Actors.{ActorState}
 use Rattle.sthread_life.specs.Local.{has_ended}
 use Rattle.wedge_base.specs.declared.events.Event.{Event}
@@ -16,12 +16,18 @@ pub record Progress : Type 0 where
   pub turns : List Turn
   pub stopped : Bool
 
--- the turns are a run from the initial state, and the state of a world that has not stopped is where
--- that run leads
+-- The turns are a run from the initial state, and the state of a world that has not stopped is where that run
+-- leads, but for local events of its actors: a turn that is refused may have made those that come before its event.
 pub record IsRun (p : Progress) : Type 0 where
   pub last : WorldState
   pub run : Runs (opening p.state.image) p.turns last
-  pub current : p.stopped ≡ false → p.state ≡ last
+  pub current : p.stopped ≡ false → settled p.state ≡ settled last
+
+-- these turns lead to a state, but for local events
+pub record LeadsTo (turns : List Turn) (state : WorldState) : Type 0 where
+  pub last : WorldState
+  pub run : Runs (opening state.image) turns last
+  pub alike : settled state ≡ settled last
 
 -- the parts of a state put together
 abbrev pub state_of : Image → Cells → List ActorState → WorldState

@@ -1,5 +1,5 @@
 -- Whole runs.
-use Rattle.std.specs.Prelude.{◌≡◌, ◌+◌, ◌++◌, ◌∷◌, [], length, ℕ, true, List, Option, Some, None, if◌then◌else◌}
+use Rattle.std.specs.Prelude.{◌≡◌, ◌+◌, ◌*◌, ◌++◌, ◌∷◌, [], length, ℕ, true, List, Option, Some, None}
 use Rattle.wedge_base.specs.Images.{Image}
 use Rattle.wedge_base.specs.Names.{root_name}
 use Rattle.wedge_base.specs.Journals.{turns_of, numbered}
@@ -7,7 +7,8 @@ use Rattle.wedge_base.specs.declared.events.LogEntry.{LogEntry}
 use Rattle.wedge_base.specs.declared.events.Event.{Event}
 use Rattle.wedge_base.specs.declared.outcome.Outcome.{Outcome}
 use Rattle.sthread_life.specs.Actors.{ActorState}
-use Rattle.sthread_life.specs.Local.{has_ended}
+use Rattle.sthread_life.specs.declared.phase.Phase.{Phase}
+use Rattle.sthread_life.specs.declared.phase.Phase.TheVariants as phase
 use Rattle.sthread_life.specs.Taking.{takes}
 use Rattle.wedge_base.specs.declared.events.Want.{Want}
 use Rattle.sthread_life.specs.Moments.{EachMoment}
@@ -48,9 +49,16 @@ pub record IsMade (i : Image) (cells : Cells) (a : ActorState) (q : Want) (entri
 abbrev pub HasRoot : WorldState → Type 0
 HasRoot w = IsPlaceOf w.actors root_name 0
 
--- the work that an actor has left at most: its fuel, and its end
+-- the work that an actor has left: two for each unit of fuel, and what its phase has still to do, of which each event
+-- takes some away
+abbrev pub phase_work : Phase → ℕ
+phase_work phase.Running = 2
+phase_work (phase.Within q) = 3
+phase_work (phase.Ending e) = 1
+phase_work (phase.Ended e) = 0
+
 abbrev pub work : ActorState → ℕ
-work a = if has_ended a.phase then a.fuel else a.fuel + 1
+work a = 2 * a.fuel + phase_work a.phase
 
 abbrev pub work_in : Option ActorState → ℕ
 work_in None = 0

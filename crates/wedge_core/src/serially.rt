@@ -43,8 +43,6 @@ fn take_turn(world: &mut World<'_>, root: &ActorName) -> Result<bool, NoMemory>
     ensures whole { IfOk result (λ b. b ≡ false → worlds.is_whole world.new.state ≡ true) }
     ensures image { world.new.state.image ≡ world.old.state.image }
 {
-    // The world is opened here, so that what its type keeps is at hand.
-    let _ = &world.entries;
     let took = advance(world, root, 0)?;
     Ok(took)
 }

@@ -1,8 +1,7 @@
 //! The world of a run.
 
 ghost use Rattle.std.specs.Prelude.{◌≡◌, IfOk, false};
-ghost use Rattle.sthread_life.specs.Worlds.{opening, Runs};
-ghost use Rattle.wedge_core.specs.Progress.{opened};
+ghost use Rattle.wedge_core.specs.Progress.{LeadsTo, opened};
 ghost use Rattle.wedge_core.specs.Serial.{IsNumbered};
 ghost use Rattle.wedge_base.specs.Journals.{turns_of};
 
@@ -16,8 +15,8 @@ use sthread_life::Actor;
 use wedge_base::{LogEntry, NoMemory};
 
 /// The world of a run: every actor and every cell, and the turns taken so far. Its turns are always a
-/// run from the initial state of its image, and its state is where that run leads, unless it has
-/// stopped because it ran out of memory.
+/// run from the initial state of its image, and its state is where that run leads, but for local events
+/// of its actors, unless it has stopped because it ran out of memory.
 #[derive(Drop)]
 pub struct World<'a> {
     pub(crate) program: Program<'a>,
@@ -61,7 +60,7 @@ impl<'a> World<'a> {
     /// Consumes the world and returns the entries of the turns taken so far.
     pub(crate) fn into_entries(self) -> Vec<LogEntry>
         ensures numbered { IsNumbered result.items }
-        ensures run { self.entry.stopped ≡ false → Runs (opening self.entry.state.image) (turns_of result.items) self.entry.state }
+        ensures run { self.entry.stopped ≡ false → LeadsTo (turns_of result.items) self.entry.state }
     {
         let World { entries, .. } = self;
         entries

@@ -19,6 +19,5 @@ loop-goes_on-init c =
 pub returns-clause-run : goal.returns-clause-run
 returns-clause-run c =
     let whole : is_whole c.loop-goes_on.world.state ≡ true = search rules in
-    let numbered = c.into_entries.ensures.numbered in
     rw c.new.ensures (whole_run_of c.args.image.now c.loop-goes_on.world.state c.into_entries.result.items c.in_ok-outcome.outcome
-    c.loop-goes_on.invariant.image (c.into_entries.ensures.run c.loop-goes_on.invariant.going) whole numbered c.in_ok-outcome.ensures)
+    c.loop-goes_on.invariant.image (c.into_entries.ensures.run c.loop-goes_on.invariant.going) whole c.in_ok-outcome.ensures)

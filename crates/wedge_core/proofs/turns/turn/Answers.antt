@@ -3,10 +3,9 @@ use Rattle.wedge_base.specs.declared.events.Turn.{Turn}
 use Rattle.wedge_base.specs.Journals.{turns_of}
 use Rattle.sthread_life.specs.Moments.{TurnHas}
 use Rattle.sthread_life.specs.Laws.{IsLawful}
-use Rattle.sthread_life.specs.Worlds.{opening, Runs}
 use Rattle.sthread_life.specs.Written.{StepAppendsOwn, StepWritesOwn}
-use Rattle.sthread_life.proofs.Between.{run_between}
-use Rattle.sthread_life.proofs.Mediating.{run_turn_lawful}
+use Rattle.sthread_life.proofs.Settling.{AllReady, ready_alike, run_ready}
+use Rattle.sthread_life.proofs.Mediating.{turn_lawful}
 use Rattle.sthread_life.proofs.Writing.{step_appends_own, step_writes_own}
 use Rattle.wedge_core.specs.Progress.{Progress, state_of}
 use Rattle.wedge_core.proofs.Turning.{run_goes_on}
@@ -24,11 +23,12 @@ invariant_of-world c =
           c.world.invariant.run c.if-world.false c.in-Ok.ensures.took (notes_turns old new c.args.name.now c.in-Ok.event c.in-Ok.ensures.noted);
     }
 
--- where the run leads
-run_here : (c : goal.In-Ok) → Runs (opening c.world.inside.program) (turns_of c.world.inside.entries.items) (state_of c.world.inside.program c.world.inside.cells c.world.inside.residents.items)
-run_here c =
+-- every actor rests as those of a run do
+ready : (c : goal.In-Ok) → AllReady (state_of c.world.inside.program c.world.inside.cells c.world.inside.residents.items)
+ready c =
     let w = c.world.inside in
-    subst (λ s. Runs (opening w.program) (turns_of w.entries.items) s) (sym (c.world.invariant.run.current c.if-world.false)) c.world.invariant.run.run
+    let run = c.world.invariant.run in
+    ready_alike (state_of w.program w.cells w.residents.items) run.last (run.current c.if-world.false) (run_ready w.program (turns_of w.entries.items) run.last run.run)
 
 pub returns-in-Ok-clause-lawful : goal.returns-in-Ok-clause-lawful
 returns-in-Ok-clause-lawful c =
@@ -36,7 +36,7 @@ returns-in-Ok-clause-lawful c =
     let i = w.program in
     let t : Turn = record { actor = c.args.name.now; event = c.in-Ok.event } in
     let new = state_of i c.turn_over.new.cells c.turn_over.new.residents.items in
-    let lawful = run_turn_lawful i (turns_of w.entries.items) (state_of i w.cells w.residents.items) t new (run_here c) c.in-Ok.ensures.took in
+    let lawful = turn_lawful (state_of i w.cells w.residents.items) t new (ready c) c.in-Ok.ensures.took in
     subst (λ (p : Progress). TurnHas IsLawful p.state t new) c.world.view_is lawful
 
 pub returns-in-Ok-clause-owned : goal.returns-in-Ok-clause-owned
@@ -45,7 +45,7 @@ returns-in-Ok-clause-owned c =
     let t : Turn = record { actor = c.args.name.now; event = c.in-Ok.event } in
     let old = state_of w.program w.cells w.residents.items in
     let new = state_of w.program c.turn_over.new.cells c.turn_over.new.residents.items in
-    let owned = step_writes_own old t new (run_between w.program (turns_of w.entries.items) old (run_here c)) c.in-Ok.ensures.took in
+    let owned = step_writes_own old t new (ready c) c.in-Ok.ensures.took in
     subst (λ (p : Progress). StepWritesOwn p.state t new) c.world.view_is owned
 
 pub returns-in-Ok-clause-appended : goal.returns-in-Ok-clause-appended
@@ -54,5 +54,5 @@ returns-in-Ok-clause-appended c =
     let t : Turn = record { actor = c.args.name.now; event = c.in-Ok.event } in
     let old = state_of w.program w.cells w.residents.items in
     let new = state_of w.program c.turn_over.new.cells c.turn_over.new.residents.items in
-    let owned = step_appends_own old t new (run_between w.program (turns_of w.entries.items) old (run_here c)) c.in-Ok.ensures.took in
+    let owned = step_appends_own old t new (ready c) c.in-Ok.ensures.took in
     subst (λ (p : Progress). StepAppendsOwn p.state t new) c.world.view_is owned

@@ -1,0 +1,143 @@
+-- Whatever a cell holds beside its bytes is changed by its own events alone.
+use Rattle.std.proofs.Common.{◌≡◌, ℕ, ◌==◌, Bool, true, false, List, [], ◌∷◌, refl, sym, ap, subst, ◌∙◌}
+use Rattle.std.specs.Prelude.{Option, Some, None, option_map, if◌then◌else◌}
+use Rattle.wedge_base.specs.Images.{Image}
+use Rattle.wedge_base.specs.Directories.{Directory}
+use Rattle.wedge_base.specs.Gates.{Kept}
+use Rattle.wedge_base.specs.Slots.{Segment, slot_reply as slot_reply_of, slot_after, stored}
+use Rattle.wedge_base.specs.Streams.{Stream, stream_reply as stream_reply_of, stream_after, grown}
+use Rattle.wedge_base.specs.declared.grants.GateId.{GateId}
+use Rattle.wedge_base.specs.declared.rights.FdBits.{FdBits}
+use Rattle.wedge_base.specs.declared.events.SlotWant.TheVariants as slot_want
+use Rattle.wedge_base.specs.declared.events.Want.{Want}
+use Rattle.wedge_base.specs.declared.events.Want.TheVariants as want
+use Rattle.wedge_base.specs.declared.events.Event.{Event}
+use Rattle.wedge_base.specs.declared.events.Turn.{Turn}
+use Rattle.wedge_base.specs.declared.cells.Live.{Live}
+use Rattle.wedge_base.specs.declared.cells.LivesAsk.TheVariants as lives_ask
+use Rattle.wedge_base.specs.declared.cells.SlotAsk.TheVariants as slot_ask
+use Rattle.wedge_base.specs.declared.cells.SlotReply.{SlotReply}
+use Rattle.wedge_base.specs.declared.cells.SlotReply.TheVariants as slot_reply
+use Rattle.wedge_base.specs.declared.cells.StreamAsk.TheVariants as stream_ask
+use Rattle.wedge_base.specs.declared.cells.StreamReply.{StreamReply}
+use Rattle.wedge_base.specs.declared.cells.StreamReply.TheVariants as reply
+use Rattle.sthread_life.specs.declared.phase.Phase.{Phase}
+use Rattle.sthread_life.specs.declared.phase.Phase.TheVariants as phase
+use Rattle.sthread_life.specs.Actors.{ActorState}
+use Rattle.sthread_life.specs.Local.{rest}
+use Rattle.sthread_life.specs.Taking.{wanted_at, pair}
+use Rattle.sthread_life.specs.Cells.{Cells, slot_in, stream_in, kept_in, cells_after}
+use Rattle.sthread_life.specs.Worlds.{WorldState, turn_of, Runs}
+use Rattle.sthread_life.specs.CellHistories.{after_turns, Occupant, occupant, occupant_in, occupant_by, occupant_after_event, Mode, mode, mode_in, mode_by, mode_after_event, places_after_event, numbers_after_event, lives_after_event, kept_after_event, CellsFollow}
+use Rattle.sthread_life.proofs.Between.{event_for, parts_event_is, turn_parts}
+use Rattle.sthread_life.proofs.Settling.{AllReady, named_ready, turn_ready, opening_ready, run_ready}
+use Rattle.sthread_life.proofs.Meeting.{IsRequest, ReadsAs, LoadsAt, rest_reads}
+use Rattle.sthread_life.proofs.OneCell.{follows}
+
+-- what an event makes of everything that the cells hold beside bytes
+record IsChanged (old : Cells) (e : Event) (new : Cells) : Type 0 where
+  occupants : (slot : ℕ) → occupant_in new slot ≡ occupant_after_event slot (occupant_in old slot) e
+  modes : (fd : ℕ) → mode_in new fd ≡ mode_after_event fd (mode_in old fd) e
+  places : new.places ≡ places_after_event old.places e
+  numbers : new.numbers ≡ numbers_after_event old.numbers e
+  lives : new.lives ≡ lives_after_event old.lives e
+  gates : (id : GateId) → kept_in new id ≡ kept_after_event id (kept_in old id) e
+
+-- ---- what lives in a slot, and what a stream is
+
+abbrev occupant_of : Option Segment → Option Occupant
+occupant_of g = option_map (λ x. occupant x.tag x.blocks) g
+
+abbrev mode_of : Option Stream → Option Mode
+mode_of s = option_map (λ x. mode x.kind x.live) s
+
+stored_occupant : (offset width value : ℕ) (g : Option Segment) → occupant_of (option_map (stored offset width value) g) ≡ occupant_of g
+stored_occupant offset width value None = refl
+stored_occupant offset width value (Some g) = refl
+
+store_shows : (offset width value : ℕ) (live : Option Live) (g : Option Segment) (r : SlotReply) → occupant_of (slot_after g (slot_ask.Store offset width value live) r) ≡ occupant_of g
+store_shows offset width value live g slot_reply.Stored = stored_occupant offset width value g
+store_shows offset width value live g r = refl
+
+store_stays : (offset width value : ℕ) (live : Option Live) (g : Option Segment) (r : SlotReply) → g ≡ None → slot_after g (slot_ask.Store offset width value live) r ≡ None
+store_stays offset width value live g slot_reply.Stored e = ap (option_map (stored offset width value)) e
+store_stays offset width value live g r e = e
+
+grown_mode : (bytes : List ℕ) (s : Option Stream) → mode_of (option_map (grown bytes) s) ≡ mode_of s
+grown_mode bytes None = refl
+grown_mode bytes (Some s) = refl
+
+append_shows : (bits : FdBits) (bytes : List ℕ) (s : Option Stream) (r : StreamReply) → mode_of (stream_after s (stream_ask.Append bits bytes) r) ≡ mode_of s
+append_shows bits bytes s reply.Appended = grown_mode bytes s
+append_shows bits bytes s r = refl
+
+append_stays : (bits : FdBits) (bytes : List ℕ) (s : Option Stream) (r : StreamReply) → s ≡ None → stream_after s (stream_ask.Append bits bytes) r ≡ None
+append_stays bits bytes s reply.Appended e = ap (option_map (grown bytes)) e
+append_stays bits bytes s r e = e
+
+-- ---- what an event that an actor comes to makes of them
+
+want_changes : (N : ℕ → Type 0) (c : Cells) (b : ActorState) (q : Want) → IsRequest N b q → IsChanged c (event_for c b q) (cells_after c (event_for c b q))
+want_changes N c b (want.Slot s (slot_want.Load offset width)) own = record {
+    occupants = λ slot. follows occupant_of (λ x. x) c.slots s slot (slot_in c s) (slot_in c s) _ refl refl (λ e. e) refl;
+    modes = λ fd. refl; places = refl; numbers = refl; lives = refl; gates = λ id. refl;
+  }
+want_changes N c b (want.Slot s (slot_want.Store offset width value)) own =
+    let live = pair b (option_map (λ g. g.tag) (slot_in c s)) in
+    let q = slot_ask.Store offset width value live in
+    let r = slot_reply_of (slot_in c s) q in
+    record {
+      occupants = λ slot. follows occupant_of (λ x. x) c.slots s slot (slot_in c s) (slot_after (slot_in c s) q r) _ refl refl (store_stays offset width value live (slot_in c s) r) (store_shows offset width value live (slot_in c s) r);
+      modes = λ fd. refl; places = refl; numbers = refl; lives = refl; gates = λ id. refl;
+    }
+want_changes N c b (want.Fd fd (stream_ask.Append bits bytes)) own =
+    let r = stream_reply_of (stream_in c fd) (stream_ask.Append bits bytes) in
+    record {
+      occupants = λ slot. refl;
+      modes = λ n. follows mode_of (λ x. x) c.streams fd n (stream_in c fd) (stream_after (stream_in c fd) (stream_ask.Append bits bytes) r) _ refl refl (append_stays bits bytes (stream_in c fd) r) (append_shows bits bytes (stream_in c fd) r);
+      places = refl; numbers = refl; lives = refl; gates = λ id. refl;
+    }
+want_changes N c b q own = absurd own
+
+rest_changes : (i : Image) (c : Cells) (b : ActorState) (ph : Phase) (q : Want) → ReadsAs i b ph → wanted_at ph ≡ Some q → IsChanged c (event_for c b q) (cells_after c (event_for c b q))
+rest_changes i c b phase.Running q reads e = absurd cc
+rest_changes i c b (phase.Within x) q reads e =
+    let is : x ≡ q = cc in
+    subst (λ y. IsChanged c (event_for c b y) (cells_after c (event_for c b y))) is (want_changes (LoadsAt i b.hart reads.0 reads.1) c b x reads.3)
+rest_changes i c b (phase.Ending x) q reads e =
+    let is : want.Lives (lives_ask.Release x) ≡ q = cc in
+    subst (λ y. IsChanged c (event_for c b y) (cells_after c (event_for c b y))) is
+    (record { occupants = λ slot. refl; modes = λ fd. refl; places = refl; numbers = refl; lives = refl; gates = λ id. refl })
+rest_changes i c b (phase.Ended x) q reads e = absurd cc
+
+-- a turn's event makes the cells
+pub turn_cells : (w : WorldState) (t : Turn) (new : WorldState) → turn_of w t.actor ≡ Some (record { event = t.event; world = new }) → new.cells ≡ cells_after w.cells t.event
+turn_cells w t new e = let p = turn_parts w t.actor t.event new e in ap (λ (x : WorldState). x.cells) p.new_is
+
+turn_changes : (w : WorldState) (t : Turn) (new : WorldState) → AllReady w → turn_of w t.actor ≡ Some (record { event = t.event; world = new }) → IsChanged w.cells t.event new.cells
+turn_changes w t new all e =
+    let p = turn_parts w t.actor t.event new e in
+    let b = rest w.image p.actor in
+    let is = parts_event_is w t.actor t.event new p in
+    let reads = named_ready w t.actor p.actor all p.named in
+    let changed = rest_changes w.image w.cells b b.phase p.want reads p.wants in
+    subst (IsChanged w.cells t.event) (sym (turn_cells w t new e)) (subst (λ x. IsChanged w.cells x (cells_after w.cells x)) (sym is) changed)
+
+-- what a run leaves of something, if each of its turns leaves what its event does
+turns_leave : {X : Type 0} (by : X → Event → X) (view : Cells → X)
+    → ((w : WorldState) (t : Turn) (new : WorldState) → AllReady w → turn_of w t.actor ≡ Some (record { event = t.event; world = new }) → view new.cells ≡ by (view w.cells) t.event)
+    → (old : WorldState) (turns : List Turn) (new : WorldState) → AllReady old → Runs old turns new → view new.cells ≡ after_turns by (view old.cells) turns
+turns_leave by view each old [] new all run = ap (λ (w : WorldState). view w.cells) run
+turns_leave by view each old (t ∷ ts) new all run =
+    turns_leave by view each run.0 ts new (turn_ready old t.actor t.event run.0 all run.1) run.2
+    ∙ ap (λ x. after_turns by x ts) (each old t run.0 all run.1)
+
+pub cells_follow : (old : WorldState) (turns : List Turn) (new : WorldState) → AllReady old → Runs old turns new → CellsFollow old.cells turns new.cells
+cells_follow old turns new all run = record {
+  occupants = λ slot. turns_leave (occupant_after_event slot) (λ c. occupant_in c slot) (λ w t x a e. (turn_changes w t x a e).occupants slot) old turns new all run;
+  modes = λ fd. turns_leave (mode_after_event fd) (λ c. mode_in c fd) (λ w t x a e. (turn_changes w t x a e).modes fd) old turns new all run;
+  places = turns_leave places_after_event (λ c. c.places) (λ w t x a e. (turn_changes w t x a e).places) old turns new all run;
+  numbers = turns_leave numbers_after_event (λ c. c.numbers) (λ w t x a e. (turn_changes w t x a e).numbers) old turns new all run;
+  lives = turns_leave lives_after_event (λ c. c.lives) (λ w t x a e. (turn_changes w t x a e).lives) old turns new all run;
+  gates = λ id. turns_leave (kept_after_event id) (λ c. kept_in c id) (λ w t x a e. (turn_changes w t x a e).gates id) old turns new all run;
+}

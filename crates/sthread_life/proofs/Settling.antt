@@ -1,0 +1,177 @@
+-- Worlds that differ in local events alone: they take the same turns, and such turns lead to worlds that again differ
+-- in local events alone; and what every actor of a run is in as it rests.
+use Rattle.std.proofs.Common.{◌≡◌, ℕ, Bool, true, false, List, [], ◌∷◌, refl, sym, ap, subst, ◌∙◌}
+use Rattle.std.specs.Prelude.{map, Option, Some, None, option_map, if◌then◌else◌}
+use Rattle.wedge_base.specs.Names.{same, root_name}
+use Rattle.wedge_base.specs.Images.{Image}
+use Rattle.wedge_base.specs.declared.events.Event.{Event}
+use Rattle.wedge_base.specs.declared.events.Turn.{Turn}
+use Rattle.wedge_base.specs.declared.outcome.ActorLine.{ActorLine}
+use Rattle.sthread_life.specs.declared.phase.Phase.{Phase}
+use Rattle.sthread_life.specs.declared.phase.Phase.TheVariants as phase
+use Rattle.sthread_life.specs.Actors.{ActorState, root}
+use Rattle.sthread_life.specs.Local.{rest, has_ended}
+use Rattle.sthread_life.specs.Taking.{wanted, takes}
+use Rattle.sthread_life.specs.Cells.{cells_after}
+use Rattle.sthread_life.specs.Worlds.{WorldState, opening, actor_named, put_actor, event_at, happened, wanting, turn_with, turn_of, Runs, is_ended, is_whole, settled}
+use Rattle.sthread_life.specs.Outcomes.{with_actor, lines_of, streams_of, outcome_of}
+use Rattle.sthread_life.proofs.Resting.{rest-name, rest-ended, ended-stays}
+use Rattle.sthread_life.proofs.Between.{takes_between, turn_parts}
+use Rattle.sthread_life.proofs.Meeting.{ReadsAs, rest_reads}
+
+-- ---- actors by name, each at rest
+
+if_map : {X : Type 0} (f : X → X) (a : X) (o : Option X) (t : Bool) → (if t then Some (f a) else option_map f o) ≡ option_map f (if t then Some a else o)
+if_map f a o true = refl
+if_map f a o false = refl
+
+map_named : (i : Image) (actors : List ActorState) (name : List ℕ) → actor_named (map (rest i) actors) name ≡ option_map (rest i) (actor_named actors name)
+map_named i [] name = refl
+map_named i (a ∷ as_) name =
+    ap (λ (n : List ℕ). if same n name then Some (rest i a) else actor_named (map (rest i) as_) name) (rest-name i a)
+    ∙ ap (λ o. if same a.name name then Some (rest i a) else o) (map_named i as_ name)
+    ∙ if_map (rest i) a (actor_named as_ name) (same a.name name)
+
+if_put : {X : Type 0} (f : X → X) (a b : X) (as_ bs : List X) (t : Bool) → map f (if t then a ∷ as_ else b ∷ bs) ≡ (if t then f a ∷ map f as_ else f b ∷ map f bs)
+if_put f a b as_ bs true = refl
+if_put f a b as_ bs false = refl
+
+map_put : (i : Image) (actors : List ActorState) (x : ActorState) → map (rest i) (put_actor actors x) ≡ put_actor (map (rest i) actors) (rest i x)
+map_put i [] x = refl
+map_put i (a ∷ as_) x =
+    if_put (rest i) x a as_ (put_actor as_ x) (same a.name x.name)
+    ∙ ap (λ ys. if same a.name x.name then rest i x ∷ map (rest i) as_ else rest i a ∷ ys) (map_put i as_ x)
+    ∙ ap (λ (n : List ℕ). if same n x.name then rest i x ∷ map (rest i) as_ else rest i a ∷ put_actor (map (rest i) as_) (rest i x)) (sym (rest-name i a))
+    ∙ ap (λ (n : List ℕ). if same (rest i a).name n then rest i x ∷ map (rest i) as_ else rest i a ∷ put_actor (map (rest i) as_) (rest i x)) (sym (rest-name i x))
+
+record IsImage {X : Type 0} (f : X → X) (o : Option X) (y : X) : Type 0 where
+  from : X
+  there : o ≡ Some from
+  is : f from ≡ y
+
+image_of : {X : Type 0} (f : X → X) (o : Option X) (y : X) → option_map f o ≡ Some y → IsImage f o y
+image_of f None y e = absurd cc
+image_of f (Some x) y e = record { from = x; there = refl; is = cc }
+
+-- the actor of a name in one of two worlds that are equal settled rests as that in the other
+rests_alike : (v w : WorldState) (name : List ℕ) (a : ActorState) → settled v ≡ settled w → actor_named v.actors name ≡ Some a
+    → IsImage (rest w.image) (actor_named w.actors name) (rest v.image a)
+rests_alike v w name a alike named = image_of (rest w.image) (actor_named w.actors name) (rest v.image a)
+    (sym (map_named w.image w.actors name) ∙ ap (λ (x : WorldState). actor_named x.actors name) (sym alike)
+    ∙ map_named v.image v.actors name ∙ ap (option_map (rest v.image)) named)
+
+-- ---- the same turns
+
+-- a settled world after an event of an actor at rest
+settled_after : WorldState → ActorState → Event → WorldState
+settled_after x b e = record { image = x.image; cells = cells_after x.cells e; actors = put_actor x.actors (rest x.image (takes x.image b e)) }
+
+settles_after : (w : WorldState) (b : ActorState) (e : Event) → settled (happened w b e).world ≡ settled_after (settled w) b e
+unfolding settled_after
+settles_after w b e = ap (λ as_. record { image = w.image; cells = cells_after w.cells e; actors = as_ }) (map_put w.image w.actors (takes w.image b e))
+
+-- a turn with this event, to a world that differs from another in local events alone
+pub record TurnsAlike (w : WorldState) (name : List ℕ) (e : Event) (new : WorldState) : Type 0 where
+  pub to : WorldState
+  pub turn : turn_of w name ≡ Some (record { event = e; world = to })
+  pub alike : settled new ≡ settled to
+
+pub turns_alike : (v w : WorldState) (name : List ℕ) (e : Event) (new : WorldState) → settled v ≡ settled w → turn_of v name ≡ Some (record { event = e; world = new }) → TurnsAlike w name e new
+unfolding turn_of
+turns_alike v w name e new alike t =
+    let p = turn_parts v name e new t in
+    let b = rest v.image p.actor in
+    let other = rests_alike v w name p.actor alike p.named in
+    let c = rest w.image other.from in
+    let wants : wanted c ≡ Some p.want = ap (λ (x : ActorState). wanted x) other.is ∙ p.wants in
+    let comes : event_at w.cells c p.want ≡ Some e = ap (λ (x : ActorState). event_at w.cells x p.want) other.is
+        ∙ ap (λ (x : WorldState). event_at x.cells b p.want) (sym alike) ∙ p.comes in
+    record {
+      to = (happened w c e).world;
+      turn = ap (turn_with w) other.there ∙ ap (wanting w c) wants ∙ ap (option_map (happened w c)) comes;
+      alike = ap settled p.new_is ∙ settles_after v b e ∙ ap (λ x. settled_after x b e) alike
+          ∙ ap (λ (x : ActorState). settled_after (settled w) x e) (sym other.is) ∙ sym (settles_after w c e);
+    }
+
+-- ---- the same end
+
+pub whole_alike : (v w : WorldState) → settled v ≡ settled w → is_whole v ≡ is_whole w
+whole_alike v w alike = sym (at_rest v) ∙ ap (λ (x : WorldState). is_whole x) alike ∙ at_rest w
+  where
+    ended_at_rest : (i : Image) (o : Option ActorState) → is_ended (option_map (rest i) o) ≡ is_ended o
+    ended_at_rest i None = refl
+    ended_at_rest i (Some a) = rest-ended i a
+    at_rest : (x : WorldState) → is_whole (settled x) ≡ is_whole x
+    at_rest x = ap is_ended (map_named x.image x.actors root_name) ∙ ended_at_rest x.image (actor_named x.actors root_name)
+
+no_line : (i : Image) (a : ActorState) (p : Phase) (ls : List ActorLine) → has_ended p ≡ false → with_actor i a p ls ≡ ls
+no_line i a phase.Running ls e = refl
+no_line i a (phase.Within q) ls e = refl
+no_line i a (phase.Ending x) ls e = refl
+no_line i a (phase.Ended x) ls e = absurd cc
+
+line_at_rest : (i : Image) (a : ActorState) (ls : List ActorLine) (t : Bool) → has_ended a.phase ≡ t → with_actor i (rest i a) (rest i a).phase ls ≡ with_actor i a a.phase ls
+line_at_rest i a ls true e = ap (λ (x : ActorState). with_actor i x x.phase ls) (ended-stays i a e)
+line_at_rest i a ls false e = no_line i (rest i a) (rest i a).phase ls (rest-ended i a ∙ e) ∙ sym (no_line i a a.phase ls e)
+
+lines_at_rest : (i : Image) (actors : List ActorState) → lines_of i (map (rest i) actors) ≡ lines_of i actors
+lines_at_rest i [] = refl
+lines_at_rest i (a ∷ as_) = ap (with_actor i (rest i a) (rest i a).phase) (lines_at_rest i as_) ∙ line_at_rest i a (lines_of i as_) _ refl
+
+pub outcome_alike : (v w : WorldState) → settled v ≡ settled w → outcome_of v ≡ outcome_of w
+outcome_alike v w alike = sym (at_rest v) ∙ ap (λ (x : WorldState). outcome_of x) alike ∙ at_rest w
+  where
+    at_rest : (x : WorldState) → outcome_of (settled x) ≡ outcome_of x
+    at_rest x = ap (λ ls. record { actors = ls; streams = streams_of x.image 0 x.cells.streams }) (lines_at_rest x.image x.actors)
+
+-- ---- what every actor of a run is in as it rests
+
+abbrev pub AllRead : Image → List ActorState → Type 0
+AllRead i [] = Unit {0}
+AllRead i (b ∷ bs) = ReadsAs i b b.phase × AllRead i bs
+
+-- every actor rests at its request, at its end, or at none
+abbrev pub AllReady : WorldState → Type 0
+AllReady w = AllRead w.image (settled w).actors
+
+pub ready_alike : (v w : WorldState) → settled v ≡ settled w → AllReady w → AllReady v
+ready_alike v w alike all = subst (λ (x : WorldState). AllRead x.image x.actors) (sym alike) all
+
+first_reads : (i : Image) (b a : ActorState) (o : Option ActorState) (t : Bool) → (if t then Some b else o) ≡ Some a → ReadsAs i b b.phase → (o ≡ Some a → ReadsAs i a a.phase) → ReadsAs i a a.phase
+first_reads i b a o true e h others = let is : b ≡ a = cc in subst (λ (x : ActorState). ReadsAs i x x.phase) is h
+first_reads i b a o false e h others = others e
+
+named_reads : (i : Image) (bs : List ActorState) (name : List ℕ) (b : ActorState) → AllRead i bs → actor_named bs name ≡ Some b → ReadsAs i b b.phase
+named_reads i [] name b all e = absurd cc
+named_reads i (x ∷ xs) name b all e = first_reads i x b (actor_named xs name) (same x.name name) e all.0 (named_reads i xs name b all.1)
+
+pub named_ready : (w : WorldState) (name : List ℕ) (a : ActorState) → AllReady w → actor_named w.actors name ≡ Some a → ReadsAs w.image (rest w.image a) (rest w.image a).phase
+named_ready w name a all named =
+    named_reads w.image (settled w).actors name (rest w.image a) all (map_named w.image w.actors name ∙ ap (option_map (rest w.image)) named)
+
+put_or_reads : (i : Image) (x b : ActorState) (bs others : List ActorState) (t : Bool) → ReadsAs i x x.phase → ReadsAs i b b.phase → AllRead i bs → AllRead i others → AllRead i (if t then x ∷ bs else b ∷ others)
+put_or_reads i x b bs others true h k all rest_ = (h, all)
+put_or_reads i x b bs others false h k all rest_ = (k, rest_)
+
+put_reads : (i : Image) (bs : List ActorState) (x : ActorState) → AllRead i bs → ReadsAs i x x.phase → AllRead i (put_actor bs x)
+put_reads i [] x all h = (h, tt)
+put_reads i (b ∷ bs) x all h = put_or_reads i x b bs (put_actor bs x) (same b.name x.name) h all.0 all.1 (put_reads i bs x all.1 h)
+
+pub turn_ready : (w : WorldState) (name : List ℕ) (e : Event) (new : WorldState) → AllReady w → turn_of w name ≡ Some (record { event = e; world = new }) → AllReady new
+turn_ready w name e new all t =
+    let p = turn_parts w name e new t in
+    let b = rest w.image p.actor in
+    let x = takes w.image b e in
+    subst AllReady (sym p.new_is) (subst (AllRead w.image) (sym (map_put w.image w.actors x))
+    (put_reads w.image (settled w).actors (rest w.image x) all (rest_reads w.image x (takes_between w.image b e))))
+
+pub opening_ready : (i : Image) → AllReady (opening i)
+unfolding root
+opening_ready i = (rest_reads i (root i) tt, tt)
+
+runs_ready : (old : WorldState) (turns : List Turn) (new : WorldState) → AllReady old → Runs old turns new → AllReady new
+runs_ready old [] new all run = subst AllReady (sym run) all
+runs_ready old (t ∷ ts) new all run = runs_ready run.0 ts new (turn_ready old t.actor t.event run.0 all run.1) run.2
+
+pub run_ready : (i : Image) (turns : List Turn) (new : WorldState) → Runs (opening i) turns new → AllReady new
+run_ready i turns new run = runs_ready (opening i) turns new (opening_ready i) run
