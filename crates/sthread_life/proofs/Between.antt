@@ -63,6 +63,34 @@ takes_between i a (event.Lives lives_ask.Claim r) = tt
 takes_between i a (event.Lives (lives_ask.Release e) r) = tt
 takes_between i a e = tt
 
+loaded_name : (ins : Instr) (n : Need) (a : ActorState) (value : ℕ) → (loads_by ins n a value).name ≡ a.name
+loaded_name ins need.Done a value = refl
+loaded_name ins (need.Load address width s) a value = refl
+loaded_name ins (need.Store address width v) a value = refl
+loaded_name ins need.Call a value = refl
+loaded_name ins need.Break a value = refl
+loaded_name ins need.JumpMisaligned a value = refl
+
+loads_name : (a : ActorState) (ins : Option Instr) (value : ℕ) → (loads_at a ins value).name ≡ a.name
+loads_name a None value = refl
+loads_name a (Some ins) value = loaded_name ins (local ins a.hart).need a value
+
+-- an event leaves the name of the actor that did it
+pub takes_name : (i : Image) (b : ActorState) (e : Event) → (takes i b e).name ≡ b.name
+unfolding takes
+takes_name i b (event.Slot slot q (slot_reply.Loaded value)) = loads_name (runs b) (option_and_then decode (fetch i b.hart.pc)) value
+takes_name i b (event.Slot slot q r) = refl
+takes_name i b (event.Fd fd q stream_reply.Opened) = refl
+takes_name i b (event.Fd fd q (stream_reply.Given bytes)) = refl
+takes_name i b (event.Fd fd q stream_reply.Appended) = refl
+takes_name i b (event.Fd fd q stream_reply.Closed) = refl
+takes_name i b (event.Fd fd q stream_reply.NoSuch) = refl
+takes_name i b (event.Fd fd q (stream_reply.Denied wants)) = refl
+takes_name i b (event.Fd fd q stream_reply.Bad) = refl
+takes_name i b (event.Lives lives_ask.Claim r) = refl
+takes_name i b (event.Lives (lives_ask.Release e) r) = refl
+takes_name i b e = refl
+
 -- the event of a want that is of a cell; of the others there is none
 abbrev pub event_for : Cells → ActorState → Want → Event
 event_for c b (want.Slots q) = event.Slots q (directory_reply c.places q)

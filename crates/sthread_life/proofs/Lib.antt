@@ -4,6 +4,7 @@ pub mod Between
 pub mod Named
 pub mod Meeting
 pub mod Settling
+pub mod Walking
 pub mod Going
 pub mod Keeping
 pub mod Mediating

@@ -80,3 +80,15 @@ same_noted [] a b name n d = ap (λ (m : List ℕ). noted_by (if same m name the
 same_noted (y ∷ ys) a b name n d =
     ap (λ (m : List ℕ). noted (if same y.name m then b ∷ ys else y ∷ put_actor ys b) name) n
     ∙ put_noted y a b ys name (same y.name a.name) n d (same_noted ys a b name n d)
+
+-- where another is put, it is found as it was
+put_other : (y b : ActorState) (ys : List ActorState) (name : List ℕ) (t : Bool) → same y.name b.name ≡ t → same b.name name ≡ false → actor_named (put_actor ys b) name ≡ actor_named ys name
+    → actor_named (if t then b ∷ ys else y ∷ put_actor ys b) name ≡ (if same y.name name then Some y else actor_named ys name)
+put_other y b ys name true is apart h =
+    ap (λ u. if u then Some b else actor_named ys name) apart
+    ∙ sym (ap (λ u. if u then Some y else actor_named ys name) (ap (λ n. same n name) (same_equal y.name b.name is) ∙ apart))
+put_other y b ys name false is apart h = ap (λ o. if same y.name name then Some y else o) h
+
+pub named_put_other : (ys : List ActorState) (b : ActorState) (name : List ℕ) → same b.name name ≡ false → actor_named (put_actor ys b) name ≡ actor_named ys name
+named_put_other [] b name apart = ap (λ u. if u then Some b else None) apart
+named_put_other (y ∷ ys) b name apart = put_other y b ys name _ refl apart (named_put_other ys b name apart)

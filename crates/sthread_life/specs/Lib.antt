@@ -16,5 +16,6 @@ pub mod Outcomes
 pub mod Between
 pub mod Written
 pub mod CellHistories
+pub mod Walks
 pub mod Laws
 pub mod Resting

@@ -2,6 +2,7 @@
 
 ghost use Rattle.wedge_base.specs.Images.{Image};
 ghost use Rattle.sthread_life.specs.Laws.{CellsOpen, MomentsAreLawful, NamesAreDistinct, RunsWriteTheirOwn};
+ghost use Rattle.sthread_life.specs.Walks.{RootsWalk};
 
 /// In every run, whatever the image and the order of the turns, each request that an instruction makes
 /// takes place exactly where the actor's sheet allows it and nothing else refuses it; a denial names the
@@ -31,4 +32,10 @@ pub fn cells_open_by_their_rules()
 /// In every world of a run each actor has a name of its own.
 pub fn names_are_distinct()
     ensures { NamesAreDistinct }
+{}
+
+/// In every run the entries of an actor are a walk of its own: each is an event that it asks at rest, and they
+/// lead to what it is in the end, whatever the cells and the other actors do.
+pub fn actors_walk()
+    ensures { RootsWalk }
 {}

@@ -27,7 +27,7 @@ use Rattle.sthread_life.specs.Cells.{Cells}
 use Rattle.sthread_life.specs.Worlds.{WorldState, opening, actor_named, put_actor, event_at}
 use Rattle.sthread_life.specs.Between.{IsBetween}
 use Rattle.sthread_life.proofs.Resting.{HasPaid, rests, running_is, rest-name, rest-stays}
-use Rattle.sthread_life.proofs.Between.{takes_between, turn_parts, event_for, parts_event_is}
+use Rattle.sthread_life.proofs.Between.{takes_name, takes_between, turn_parts, event_for, parts_event_is}
 use Rattle.sthread_life.proofs.Named.{named_put, found_name}
 use Rattle.wedge_core.specs.Progress.{Progress, IsTurn, IsFound}
 use Rattle.wedge_core.specs.Serial.{HasRoot, phase_work, work, root_work}
@@ -97,33 +97,6 @@ less_work i a c q true r w =
 less_work i a c q false r w =
     let stays = rest-stays i a r in
     rw stays (resting_work i a c q a.phase refl r (ap (λ (x : ActorState). wanted x) (sym stays) ∙ w))
-
-loaded_name : (ins : Instr) (n : Need) (a : ActorState) (value : ℕ) → (loads_by ins n a value).name ≡ a.name
-loaded_name ins need.Done a value = refl
-loaded_name ins (need.Load address width s) a value = refl
-loaded_name ins (need.Store address width v) a value = refl
-loaded_name ins need.Call a value = refl
-loaded_name ins need.Break a value = refl
-loaded_name ins need.JumpMisaligned a value = refl
-
-loads_name : (a : ActorState) (ins : Option Instr) (value : ℕ) → (loads_at a ins value).name ≡ a.name
-loads_name a None value = refl
-loads_name a (Some ins) value = loaded_name ins (local ins a.hart).need a value
-
-takes_name : (i : Image) (b : ActorState) (e : Event) → (takes i b e).name ≡ b.name
-unfolding takes
-takes_name i b (event.Slot slot q (slot_reply.Loaded value)) = loads_name (runs b) (option_and_then decode (fetch i b.hart.pc)) value
-takes_name i b (event.Slot slot q r) = refl
-takes_name i b (event.Fd fd q reply.Opened) = refl
-takes_name i b (event.Fd fd q (reply.Given bytes)) = refl
-takes_name i b (event.Fd fd q reply.Appended) = refl
-takes_name i b (event.Fd fd q reply.Closed) = refl
-takes_name i b (event.Fd fd q reply.NoSuch) = refl
-takes_name i b (event.Fd fd q (reply.Denied wants)) = refl
-takes_name i b (event.Fd fd q reply.Bad) = refl
-takes_name i b (event.Lives lives_ask.Claim r) = refl
-takes_name i b (event.Lives (lives_ask.Release e) r) = refl
-takes_name i b e = refl
 
 -- ---- the root in its place
 
