@@ -84,8 +84,11 @@ impl Opened {
 
     /// Whether it may be read with bits.
     pub fn check_read(&self, bits: FdBits) -> Result<(), StreamFault>
-        ensures ok { OnOk result ((count : ℕ) → streams.stream_reply (Some self.now) (ask.Read bits count) ≡ reply.Given (take count (drop self.now.position self.now.bytes))) }
-        ensures fault { IfErr result (λ e. (count : ℕ) → reply_of e ≡ Some (streams.stream_reply (Some self.now) (ask.Read bits count))) }
+        ensures ok { OnOk result ((count : ℕ)
+            → streams.stream_reply (Some self.now) (ask.Read bits count)
+            ≡ reply.Given (take count (drop self.now.position self.now.bytes))) }
+        ensures fault { IfErr result (λ e. (count : ℕ)
+            → reply_of e ≡ Some (streams.stream_reply (Some self.now) (ask.Read bits count))) }
     {
         if !self.live {
             return Err(StreamFault::NoSuch);
@@ -119,10 +122,14 @@ impl Opened {
 
     /// Adds bytes at the end.
     pub fn append(&mut self, bits: FdBits, bytes: &[u8]) -> Result<(), StreamFault>
-        ensures ok { OnOk result (streams.stream_reply (Some self.old) (ask.Append bits bytes.now) ≡ reply.Appended) }
+        ensures ok { OnOk result (streams.stream_reply (Some self.old) (ask.Append bits bytes.now)
+            ≡ reply.Appended) }
         ensures next { OnOk result (self.new ≡ streams.grown bytes.now self.old) }
-        ensures fault { IfErr result (λ e. e ≢ StreamFault.NoMemory → reply_of e ≡ Some (streams.stream_reply (Some self.old) (ask.Append bits bytes.now))) }
-        ensures memory { result ≡ Err StreamFault.NoMemory → streams.stream_reply (Some self.old) (ask.Append bits bytes.now) ≡ reply.Appended }
+        ensures fault { IfErr result (λ e. e ≢ StreamFault.NoMemory
+            → reply_of e ≡ Some (streams.stream_reply (Some self.old)
+            (ask.Append bits bytes.now))) }
+        ensures memory { result ≡ Err StreamFault.NoMemory
+            → streams.stream_reply (Some self.old) (ask.Append bits bytes.now) ≡ reply.Appended }
         ensures err { OnErr result (self.new ≡ self.old) }
     {
         if !self.live {
@@ -144,7 +151,8 @@ impl Opened {
     pub fn close(&mut self, bits: FdBits) -> Result<(), StreamFault>
         ensures ok { OnOk result (streams.stream_reply (Some self.old) (ask.Close bits) ≡ reply.Closed) }
         ensures next { OnOk result (self.new ≡ streams.closed self.old) }
-        ensures fault { IfErr result (λ e. reply_of e ≡ Some (streams.stream_reply (Some self.old) (ask.Close bits))) }
+        ensures fault { IfErr result (λ e. reply_of e
+            ≡ Some (streams.stream_reply (Some self.old) (ask.Close bits))) }
         ensures err { OnErr result (self.new ≡ self.old) }
     {
         if !self.live {

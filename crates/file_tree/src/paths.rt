@@ -30,7 +30,8 @@ pub fn resolve(alloc: Global, root: &PathText, path: &[u8]) -> Result<PathText, 
 
 /// The text of the parts of a root and those that a path adds to them.
 fn under_root(alloc: Global, root: &[u8], path: &[u8]) -> Result<Bytes, NoMemory>
-    ensures { IfOk result (λ t. t ≡ paths.text_of (paths.parts_of root.now ++ paths.walked [] (paths.pieces path.now))) }
+    ensures { IfOk result (λ t. t ≡ paths.text_of
+        (paths.parts_of root.now ++ paths.walked [] (paths.pieces path.now))) }
 {
     let mut parts = parts_of(alloc, root)?;
     let added = walked(alloc, path)?;

@@ -35,7 +35,8 @@ impl MemSink {
     /// An empty sink with room for so many bytes, which are reserved here. The calls of `write` whose
     /// numbers, from 1, are listed will fail.
     pub fn new(alloc: Global, room: usize, fails: Vec<u64>) -> Result<MemSink, NoMemory>
-        ensures { IfOk result (λ s. s ≡ record { bytes = []; room = room; fails = fails.items; calls = 0; faults = 0 }) }
+        ensures { IfOk result (λ s. s ≡ record
+            { bytes = []; room = room; fails = fails.items; calls = 0; faults = 0 }) }
     {
         Ok(MemSink {
             bytes: Vec::with_capacity(alloc, room)?,
@@ -61,12 +62,14 @@ impl Sink for MemSink {
     fn write(&mut self, piece: &[u8]) -> Result<usize, Failed>
         ensures within { IfOk result (λ n. n ≤ length piece.now) }
         ensures some { IfOk result (λ n. 0 < length piece.now → 0 < n) }
-        ensures written { IfOk result (λ n. Some self.new.bytes ≡ grown_by (Some self.old.bytes) (take n piece.now)) }
+        ensures written { IfOk result (λ n. Some self.new.bytes
+            ≡ grown_by (Some self.old.bytes) (take n piece.now)) }
         ensures failed { OnErr result (Some self.new.bytes ≡ Some self.old.bytes) }
         ensures counts { Counts result self.old.faults self.new.faults }
 
         // It fails where it is to fail and where it is full, and nowhere else. Else it takes what fits.
-        ensures refused { IsErr result ↔ (IsTrue (is_due self.old.fails self.old.calls) ⊎ IsFull self.old piece.now) }
+        ensures refused { IsErr result ↔ (IsTrue (is_due self.old.fails self.old.calls)
+            ⊎ IsFull self.old piece.now) }
         ensures fits { IfOk result (λ n. n ≡ fitting self.old piece.now) }
         ensures after { self.new ≡ after_write self.old piece.now result }
     {

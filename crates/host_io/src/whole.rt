@@ -27,7 +27,8 @@ pub fn read_whole<F: Files>(
     name: &str,
     limit: u64,
 ) -> Result<Vec<u8>, ReadFault>
-    ensures bytes { IfOk result (λ v. WhereExposed (F.content files.old name.now) (λ exposed. v.items ≡ exposed)) }
+    ensures bytes { IfOk result (λ v. WhereExposed (F.content files.old name.now)
+        (λ exposed. v.items ≡ exposed)) }
     ensures within { IfOk result (λ v. vec_len v ≤ limit) }
     ensures too_long { (most : ℕ) → result ≡ Err (ReadFault.TooLong most) → most ≡ limit }
     ensures longer { (most : ℕ) → result ≡ Err (ReadFault.TooLong most)

@@ -71,7 +71,8 @@ fn fd_list(
     total: usize,
     bytes: &[u8],
 ) -> Result<(Vec<FdEntry>, &[u8]), ImageError>
-    ensures { Gives (λ x. (x.0.items, x.1.now)) result (reading.entries_at (reading.fd_at total) count [] bytes.now) }
+    ensures { Gives (λ x. (x.0.items, x.1.now)) result
+        (reading.entries_at (reading.fd_at total) count [] bytes.now) }
 {
     let mut fds = Vec::new(alloc);
     let mut rest = bytes;

@@ -85,7 +85,8 @@ pub(crate) fn name_after<'a>(
     total: usize,
     bytes: &'a [u8],
 ) -> Result<(&'a [u8], &'a [u8]), ImageError>
-    ensures { Gives (λ x. (x.0.now, x.1.now)) result (reading.key_at texts.is_name before.now total bytes.now) }
+    ensures { Gives (λ x. (x.0.now, x.1.now)) result
+        (reading.key_at texts.is_name before.now total bytes.now) }
 {
     let (name, rest) = string(total, bytes)?;
     if !is_name(name) {
@@ -104,7 +105,8 @@ pub(crate) fn path_after<'a>(
     total: usize,
     bytes: &'a [u8],
 ) -> Result<(&'a [u8], &'a [u8]), ImageError>
-    ensures { Gives (λ x. (x.0.now, x.1.now)) result (reading.key_at forms.is_path before.now total bytes.now) }
+    ensures { Gives (λ x. (x.0.now, x.1.now)) result
+        (reading.key_at forms.is_path before.now total bytes.now) }
 {
     let (path, rest) = string(total, bytes)?;
     if !is_path(path) {
@@ -149,7 +151,8 @@ pub(crate) fn stream_content(
     total: usize,
     bytes: &[u8],
 ) -> Result<(Bytes, &[u8]), ImageError>
-    ensures { Gives (λ x. (x.0, x.1.now)) result (reading.content_at (rules.may_hold kind) total bytes.now) }
+    ensures { Gives (λ x. (x.0, x.1.now)) result
+        (reading.content_at (rules.may_hold kind) total bytes.now) }
 {
     let (length, after) = number(total, bytes)?;
     if kind == StreamKind::Append && length != 0 {

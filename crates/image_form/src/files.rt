@@ -26,7 +26,8 @@ fn last_path(front: &[FileEntry]) -> &[u8]
 /// The mode of a file.
 #[tactic(auto, unfolding(crate::specs::Reading::checked_at))]
 fn mode(total: usize, bytes: &[u8]) -> Result<(u32, &[u8]), ImageError>
-    ensures { Gives (λ x. (x.0, x.1.now)) result (reading.checked_at (λ n. nat_le n 15) why.Range total bytes.now) }
+    ensures { Gives (λ x. (x.0, x.1.now)) result
+        (reading.checked_at (λ n. nat_le n 15) why.Range total bytes.now) }
 {
     let (mode, rest) = number(total, bytes)?;
     if 15 < mode {
@@ -70,7 +71,8 @@ fn file_list(
     total: usize,
     bytes: &[u8],
 ) -> Result<(Vec<FileEntry>, &[u8]), ImageError>
-    ensures { Gives (λ x. (x.0.items, x.1.now)) result (reading.entries_at (reading.file_at total) count [] bytes.now) }
+    ensures { Gives (λ x. (x.0.items, x.1.now)) result
+        (reading.entries_at (reading.file_at total) count [] bytes.now) }
 {
     let mut files = Vec::new(alloc);
     let mut rest = bytes;

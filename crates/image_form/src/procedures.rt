@@ -55,7 +55,8 @@ fn procedure<'a>(
     bytes: &'a [u8],
 ) -> Result<(Procedure, &'a [u8]), ImageError>
     requires { (q : ℕ) → contains nat_cmp seen.now q ≡ is_among (addresses front.now) q }
-    ensures { Gives (λ x. (x.0, x.1.now)) result (reading.procedure_at text.base text.count total front.now bytes.now) }
+    ensures { Gives (λ x. (x.0, x.1.now)) result
+        (reading.procedure_at text.base text.count total front.now bytes.now) }
 {
     let (name, after) = name_after(last_name(front), total, bytes)?;
     let (address, rest) = number(total, after)?;
@@ -77,7 +78,9 @@ fn procedure_list(
     total: usize,
     bytes: &[u8],
 ) -> Result<(Vec<Procedure>, &[u8]), ImageError>
-    ensures { Gives (λ x. (x.0.items, x.1.now)) result (reading.entries_at (reading.procedure_at text.base text.count total) count [] bytes.now) }
+    ensures { Gives (λ x. (x.0.items, x.1.now)) result
+        (reading.entries_at (reading.procedure_at text.base text.count total) count []
+        bytes.now) }
 {
     let mut procedures = Vec::new(alloc);
     let mut seen = BTreeSet::new(alloc);
@@ -99,7 +102,8 @@ pub(crate) fn procedures(
     total: usize,
     bytes: &[u8],
 ) -> Result<(Vec<Procedure>, &[u8]), ImageError>
-    ensures { Gives (λ x. (x.0.items, x.1.now)) result (reading.procedures_at text.base text.count total bytes.now) }
+    ensures { Gives (λ x. (x.0.items, x.1.now)) result
+        (reading.procedures_at text.base text.count total bytes.now) }
 {
     let (count, after) = limited(MOST_PROCEDURES, total, bytes)?;
     let (procedures, rest) = procedure_list(alloc, text, count, total, after)?;
@@ -116,7 +120,8 @@ pub(crate) fn entry<'a>(
     total: usize,
     bytes: &'a [u8],
 ) -> Result<(u32, &'a [u8]), ImageError>
-    ensures { Gives (λ x. (x.0, x.1.now)) result (reading.checked_at (rules.begins_at procedures.now) why.Range total bytes.now) }
+    ensures { Gives (λ x. (x.0, x.1.now)) result
+        (reading.checked_at (rules.begins_at procedures.now) why.Range total bytes.now) }
 {
     let (entry, rest) = number(total, bytes)?;
     if !begins_at(procedures, entry) {

@@ -70,7 +70,8 @@ fn range_length<'a>(
     total: usize,
     bytes: &'a [u8],
 ) -> Result<(u32, &'a [u8]), ImageError>
-    ensures is { Gives (λ x. (x.0, x.1.now)) result (reading.range_length_at base before.now.ranges.items total bytes.now) }
+    ensures is { Gives (λ x. (x.0, x.1.now)) result
+        (reading.range_length_at base before.now.ranges.items total bytes.now) }
     ensures small { IfOk result (λ x. before.now.sum + x.0 ≤ rules.most_range_bytes) }
     ensures low { IfOk result (λ x. base + x.0 ≤ rules.high_end) }
 {
@@ -93,7 +94,8 @@ fn range<'a>(
     total: usize,
     bytes: &'a [u8],
 ) -> Result<(MemoryRange, &'a [u8]), ImageError>
-    ensures is { Gives (λ x. (x.0, x.1.now)) result (reading.range_at text.base text.count total before.now.ranges.items bytes.now) }
+    ensures is { Gives (λ x. (x.0, x.1.now)) result
+        (reading.range_at text.base text.count total before.now.ranges.items bytes.now) }
     ensures small { IfOk result (λ x. before.now.sum + length x.0.bytes ≤ rules.most_range_bytes) }
     ensures low { IfOk result (λ x. rules.end_of x.0 ≤ rules.high_end) }
 {
@@ -115,7 +117,8 @@ fn range_list(
     total: usize,
     bytes: &[u8],
 ) -> Result<(Vec<MemoryRange>, &[u8]), ImageError>
-    ensures { Gives (λ x. (x.0.items, x.1.now)) result (reading.entries_at (reading.range_at text.base text.count total) count [] bytes.now) }
+    ensures { Gives (λ x. (x.0.items, x.1.now)) result
+        (reading.entries_at (reading.range_at text.base text.count total) count [] bytes.now) }
 {
     let mut before = RangesRead {
         ranges: Vec::new(alloc),
@@ -139,7 +142,8 @@ pub(crate) fn ranges(
     total: usize,
     bytes: &[u8],
 ) -> Result<(Vec<MemoryRange>, &[u8]), ImageError>
-    ensures { Gives (λ x. (x.0.items, x.1.now)) result (reading.ranges_at text.base text.count total bytes.now) }
+    ensures { Gives (λ x. (x.0.items, x.1.now)) result
+        (reading.ranges_at text.base text.count total bytes.now) }
 {
     let (count, rest) = limited(MOST_RANGES, total, bytes)?;
     range_list(alloc, text, count, total, rest)

@@ -38,7 +38,8 @@ pub(crate) const MOST_BYTES: usize = 16777216;
 /// The magic number and the version.
 #[tactic(auto, unfolding(crate::specs::Reading::checked_at))]
 fn magic(total: usize, bytes: &[u8]) -> Result<(u32, &[u8]), ImageError>
-    ensures { Gives (λ x. (x.0, x.1.now)) result (reading.checked_at (λ n. n == encoded.magic) why.Magic total bytes.now) }
+    ensures { Gives (λ x. (x.0, x.1.now)) result
+        (reading.checked_at (λ n. n == encoded.magic) why.Magic total bytes.now) }
 {
     let (number, rest) = number(total, bytes)?;
     if number != MAGIC {
@@ -50,7 +51,8 @@ fn magic(total: usize, bytes: &[u8]) -> Result<(u32, &[u8]), ImageError>
 /// The version of the form.
 #[tactic(auto, unfolding(crate::specs::Reading::checked_at))]
 fn version(total: usize, bytes: &[u8]) -> Result<(u32, &[u8]), ImageError>
-    ensures { Gives (λ x. (x.0, x.1.now)) result (reading.checked_at (λ n. n == encoded.version) why.Version total bytes.now) }
+    ensures { Gives (λ x. (x.0, x.1.now)) result
+        (reading.checked_at (λ n. n == encoded.version) why.Version total bytes.now) }
 {
     let (number, rest) = number(total, bytes)?;
     if number != VERSION {

@@ -27,7 +27,8 @@ fn last_name(front: &[TagEntry]) -> &[u8]
 /// How many pages a tag has.
 #[tactic(auto, unfolding(crate::specs::Reading::checked_at))]
 fn pages(total: usize, bytes: &[u8]) -> Result<(u32, &[u8]), ImageError>
-    ensures is { Gives (λ x. (x.0, x.1.now)) result (reading.checked_at reading.is_page_count why.Range total bytes.now) }
+    ensures is { Gives (λ x. (x.0, x.1.now)) result
+        (reading.checked_at reading.is_page_count why.Range total bytes.now) }
     ensures few { IfOk result (λ x. x.0 ≤ 16) }
 {
     let (pages, rest) = number(total, bytes)?;
@@ -61,7 +62,8 @@ fn tag_content(
     bytes: &[u8],
 ) -> Result<(Bytes, &[u8]), ImageError>
     requires { pages ≤ 16 }
-    ensures { Gives (λ x. (x.0, x.1.now)) result (reading.content_at (λ n. nat_le n (pages * page)) total bytes.now) }
+    ensures { Gives (λ x. (x.0, x.1.now)) result
+        (reading.content_at (λ n. nat_le n (pages * page)) total bytes.now) }
 {
     let (length, after) = number(total, bytes)?;
     if pages * PAGE < length {
@@ -104,7 +106,8 @@ fn tag_list(
     total: usize,
     bytes: &[u8],
 ) -> Result<(Vec<TagEntry>, &[u8]), ImageError>
-    ensures { Gives (λ x. (x.0.items, x.1.now)) result (reading.entries_at (reading.tag_at total) count [] bytes.now) }
+    ensures { Gives (λ x. (x.0.items, x.1.now)) result
+        (reading.entries_at (reading.tag_at total) count [] bytes.now) }
 {
     let mut tags = Vec::new(alloc);
     let mut rest = bytes;

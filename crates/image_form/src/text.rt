@@ -19,7 +19,8 @@ pub(crate) const HIGH_END: u32 = 0x10000000;
 /// The address of the first word.
 #[tactic(auto, unfolding(crate::specs::Reading::checked_at))]
 pub(crate) fn base(total: usize, bytes: &[u8]) -> Result<(u32, &[u8]), ImageError>
-    ensures { Gives (λ x. (x.0, x.1.now)) result (reading.checked_at reading.is_base why.Range total bytes.now) }
+    ensures { Gives (λ x. (x.0, x.1.now)) result
+        (reading.checked_at reading.is_base why.Range total bytes.now) }
 {
     let (base, rest) = number(total, bytes)?;
     if base % 4 != 0 || base < LOW_END || HIGH_END <= base {
@@ -35,7 +36,8 @@ fn word_list(
     total: usize,
     bytes: &[u8],
 ) -> Result<(Vec<u32>, &[u8]), ImageError>
-    ensures is { Gives (λ x. (x.0.items, x.1.now)) result (reading.entries_at (λ _. reading.number_at total) count [] bytes.now) }
+    ensures is { Gives (λ x. (x.0.items, x.1.now)) result
+        (reading.entries_at (λ _. reading.number_at total) count [] bytes.now) }
     ensures long { IfOk result (λ x. length x.0.items ≡ count) }
 {
     let mut words = Vec::new(alloc);

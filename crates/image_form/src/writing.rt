@@ -66,7 +66,8 @@ fn put_procedure(out: &mut Vec<u8>, p: &Procedure) -> Result<(), NoMemory>
 
 fn put_procedures(out: &mut Vec<u8>, procedures: &[Procedure]) -> Result<(), NoMemory>
     requires { fitting.TableFits fitting.ProcedureFits procedures.now }
-    ensures { OnOk result (out.new.items ≡ out.old.items ++ encoded.table encoded.procedure procedures.now) }
+    ensures { OnOk result (out.new.items
+        ≡ out.old.items ++ encoded.table encoded.procedure procedures.now) }
 {
     put_number(out, procedures.len() as u32)?;
     for procedure in procedures {

@@ -45,7 +45,9 @@ fn lesser<'a>(best: Option<&'a str>, name: &'a str) -> Option<&'a str>
 
 /// The lesser of two names, if the second is that of a fault.
 fn lesser_if<'a>(fault: bool, best: Option<&'a str>, name: &'a str) -> Option<&'a str>
-    ensures { option_copied result ≡ (if fault then faults.lesser (option_copied best.entry) name.now else option_copied best.entry) }
+    ensures { option_copied result ≡
+        (if fault then faults.lesser
+        (option_copied best.entry) name.now else option_copied best.entry) }
 {
     if fault { lesser(best, name) } else { best }
 }
@@ -59,7 +61,8 @@ fn is_missing(table: &Table, field: Field) -> bool
 
 /// The least of a name and of those of keys that must be there and are not.
 fn least_missing<'a>(first: Option<&'a str>, fields: &[Field], table: &Table) -> Option<&'a str>
-    ensures { option_copied result ≡ fold faults.lesser (option_copied first.entry) (faults.missing fields.now (table_view table.now)) }
+    ensures { option_copied result ≡ fold faults.lesser (option_copied first.entry)
+        (faults.missing fields.now (table_view table.now)) }
 {
     let mut best = first;
     for field in fields {
@@ -77,7 +80,8 @@ fn is_known(fields: &[Field], name: &str) -> bool
 
 /// The least of a name and of those keys that a table may not have.
 fn least_unknown<'a>(first: Option<&'a str>, fields: &[Field], table: &'a Table) -> Option<&'a str>
-    ensures { option_copied result ≡ fold faults.lesser (option_copied first.entry) (faults.unknown fields.now (table_view table.now)) }
+    ensures { option_copied result ≡ fold faults.lesser (option_copied first.entry)
+        (faults.unknown fields.now (table_view table.now)) }
 {
     let mut best = first;
     for key in table.keys() {

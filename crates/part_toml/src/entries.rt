@@ -63,7 +63,9 @@ fn entries_at<T: Entry + Drop>(alloc: Global, top: &Table, key: Key) -> Result<V
 
 /// The entries that the tables of the array at a key name, in their order.
 fn sorted_entries<T: Entry + Drop>(alloc: Global, top: &Table, key: Key) -> Result<Vec<T>, NoMemory>
-    ensures { IfOk result (λ v. v.items ≡ sorting.sorted T.comes_before (map T.entry_of (values.tables_at key (table_view top.now)))) }
+    ensures { IfOk result (λ v. v.items
+        ≡ sorting.sorted T.comes_before
+        (map T.entry_of (values.tables_at key (table_view top.now)))) }
 {
     let mut entries = entries_at(alloc, top, key)?;
     sort(&mut entries)?;

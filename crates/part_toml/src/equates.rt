@@ -16,7 +16,8 @@ fn push(
     name: &[u8],
     value: u32,
 ) -> Result<(), NoMemory>
-    ensures { OnOk result (equates.new.items ≡ equates.old.items ++ parts.equate prefix.now name.now value ∷ []) }
+    ensures { OnOk result (equates.new.items
+        ≡ equates.old.items ++ parts.equate prefix.now name.now value ∷ []) }
 {
     let mut full = Vec::from_slice(alloc, prefix.as_bytes())?;
     full.extend_from_slice(name)?;
@@ -34,7 +35,8 @@ fn tag_address(place: u32) -> u32
 
 /// Adds the numbers of tags.
 fn push_tags(alloc: Global, equates: &mut Vec<Equate>, tags: &[TagEntry]) -> Result<(), NoMemory>
-    ensures { OnOk result (equates.new.items ≡ equates.old.items ++ parts.placed parts.tag_equate 0 tags.now) }
+    ensures { OnOk result (equates.new.items
+        ≡ equates.old.items ++ parts.placed parts.tag_equate 0 tags.now) }
 {
     let mut place: u32 = 0;
     for tag in tags {
@@ -46,7 +48,8 @@ fn push_tags(alloc: Global, equates: &mut Vec<Equate>, tags: &[TagEntry]) -> Res
 
 /// Adds the addresses of tags.
 fn push_windows(alloc: Global, equates: &mut Vec<Equate>, tags: &[TagEntry]) -> Result<(), NoMemory>
-    ensures { OnOk result (equates.new.items ≡ equates.old.items ++ parts.placed parts.window_equate 0 tags.now) }
+    ensures { OnOk result (equates.new.items
+        ≡ equates.old.items ++ parts.placed parts.window_equate 0 tags.now) }
 {
     let mut place: u32 = 0;
     for tag in tags {
@@ -64,7 +67,8 @@ fn push_windows(alloc: Global, equates: &mut Vec<Equate>, tags: &[TagEntry]) -> 
 
 /// Adds the numbers of descriptors.
 fn push_fds(alloc: Global, equates: &mut Vec<Equate>, fds: &[FdEntry]) -> Result<(), NoMemory>
-    ensures { OnOk result (equates.new.items ≡ equates.old.items ++ parts.placed parts.fd_equate 0 fds.now) }
+    ensures { OnOk result (equates.new.items
+        ≡ equates.old.items ++ parts.placed parts.fd_equate 0 fds.now) }
 {
     let mut place: u32 = 0;
     for fd in fds {

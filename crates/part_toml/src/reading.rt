@@ -100,7 +100,8 @@ fn finish(
     entry: u32,
 ) -> Result<Image, PartFault>
     requires { AreEntries entries (table_view top.now) }
-    ensures { IsAnswer result (partition.by_image (reading (encoding (partition.image_of (table_view top.now) text entry)))) }
+    ensures { IsAnswer result (partition.by_image
+        (reading (encoding (partition.image_of (table_view top.now) text entry)))) }
 {
     let parts = image_parts(alloc, top, entries, text, entry)?;
     Ok(finish_image(alloc, parts)?)

@@ -48,7 +48,8 @@ pub(crate) fn text_at<'a>(table: &'a Table, key: Key) -> &'a str
 
 /// Those of some values that are tables.
 fn tables_of<'a>(alloc: Global, items: &'a [Value]) -> Result<Vec<&'a Table>, NoMemory>
-    ensures { IfOk result (λ v. map (λ t. table_view t.now) v.items ≡ values.tables_of (items_view items.now)) }
+    ensures { IfOk result (λ v. map (λ t. table_view t.now) v.items
+        ≡ values.tables_of (items_view items.now)) }
 {
     let mut tables = Vec::new(alloc);
     for item in items {
@@ -65,7 +66,8 @@ pub(crate) fn tables_at<'a>(
     table: &'a Table,
     key: Key,
 ) -> Result<Vec<&'a Table>, NoMemory>
-    ensures { IfOk result (λ v. map (λ t. table_view t.now) v.items ≡ values.tables_at key (table_view table.now)) }
+    ensures { IfOk result (λ v. map (λ t. table_view t.now) v.items
+        ≡ values.tables_at key (table_view table.now)) }
 {
     match at(table, key) {
         Some(value) => match value.as_array() {

@@ -1,12 +1,20 @@
-//! The texts of a run: its report.
+//! The texts of a run: its report, and its schedule.
 #![tactic(auto)]
 
+mod fault;
 mod lines;
 mod numbers;
+mod reading;
+#[cfg(test)]
+mod schedule_tests;
 #[cfg(test)]
 mod tests;
 mod text;
 mod words;
+mod writing;
 
+pub use fault::ScheduleFault;
 pub use numbers::write_address;
+pub use reading::read_schedule;
 pub use text::report;
+pub use writing::write_schedule;

@@ -26,7 +26,8 @@ fn lines_of(alloc: Global, text: &[u8]) -> Result<Vec<&[u8]>, NoMemory>
 
 /// The statements of lines.
 fn statements_of<'a>(alloc: Global, lines: &[&'a [u8]]) -> Result<Vec<Statement<'a>>, NoMemory>
-    ensures { IfOk result (λ v. map statement_view v.items ≡ map (λ line. statement_of line.now) lines.now) }
+    ensures { IfOk result (λ v. map statement_view v.items
+        ≡ map (λ line. statement_of line.now) lines.now) }
 {
     let statements = lines.iter().map(|line| statement_of(line)).collect(alloc)?;
     Ok(statements)
@@ -51,7 +52,9 @@ fn note<'a>(
     label: Label,
     statement: &Statement<'a>,
 ) -> Result<(), NoMemory>
-    ensures { OnOk result (labels_view labels.new ≡ assembly.given (equates_view equates.now) label.line label.address (labels_view labels.old) (assembly.name_given (statement_view statement.now))) }
+    ensures { OnOk result (labels_view labels.new
+        ≡ assembly.given (equates_view equates.now) label.line label.address
+        (labels_view labels.old) (assembly.name_given (statement_view statement.now))) }
 {
     let Some(name) = name_given(statement) else {
         return Ok(());
@@ -69,7 +72,9 @@ fn labels_of<'a>(
     base: u32,
     statements: &[Statement<'a>],
 ) -> Result<Labels<'a>, NoMemory>
-    ensures { IfOk result (λ l. labels_view l ≡ assembly.labels_from (equates_view equates.now) assembly.no_labels 1 base (map statement_view statements.now)) }
+    ensures { IfOk result (λ l. labels_view l
+        ≡ assembly.labels_from (equates_view equates.now) assembly.no_labels 1 base
+        (map statement_view statements.now)) }
 {
     let mut labels = Labels::new(alloc);
     let mut line = 0;
@@ -103,7 +108,8 @@ fn push_procedure(
     at: u32,
     statement: &Statement<'_>,
 ) -> Result<(), NoMemory>
-    ensures { OnOk result (procedures.new ≡ procedures.old ++ assembly.procedures at (statement_view statement.now)) }
+    ensures { OnOk result (procedures.new
+        ≡ procedures.old ++ assembly.procedures at (statement_view statement.now)) }
 {
     match *statement {
         Statement::Procedure { name, .. } => {
@@ -122,7 +128,8 @@ fn emitted(
     base: u32,
     statements: &[Statement<'_>],
 ) -> Result<Assembled, AsmError>
-    ensures { IsAnswer result (assembly.assembled_from (equates_view equates.now) (labels_view labels.now) assembly.nothing 1 base (map statement_view statements.now)) }
+    ensures { IsAnswer result (assembly.assembled_from (equates_view equates.now)
+        (labels_view labels.now) assembly.nothing 1 base (map statement_view statements.now)) }
 {
     let mut front = Assembled {
         words: Items::new(Vec::new(alloc)),

@@ -43,7 +43,8 @@ fn target(
     at: u32,
     number: Number<'_>,
 ) -> Result<i64, Why>
-    ensures { result ≡ assembly.target (equates_view equates.now) (labels_view labels.now) at (number_view number.entry) }
+    ensures { result ≡ assembly.target (equates_view equates.now) (labels_view labels.now) at
+        (number_view number.entry) }
 {
     match number {
         Number::Literal(z) => Ok(z),
@@ -62,7 +63,8 @@ fn wanted(
     at: u32,
     number: Number<'_>,
 ) -> Result<i64, Why>
-    ensures { result ≡ assembly.wanted form (equates_view equates.now) (labels_view labels.now) at (number_view number.entry) }
+    ensures { result ≡ assembly.wanted form (equates_view equates.now) (labels_view labels.now) at
+        (number_view number.entry) }
 {
     match form {
         Form::Jump | Form::Branch => target(equates, labels, at, number),
@@ -78,7 +80,9 @@ fn instruction(
     at: u32,
     template: Template<'_>,
 ) -> Result<Code, Why>
-    ensures { Gives code_view result (assembly.instruction (equates_view equates.now) (labels_view labels.now) at (template_view template.entry)) }
+    ensures { Gives code_view result
+        (assembly.instruction (equates_view equates.now) (labels_view labels.now) at
+        (template_view template.entry)) }
 {
     let form = template.op.form();
     let z = wanted(form, equates, labels, at, template.imm)?;
@@ -145,7 +149,8 @@ fn word(equates: &Equates<'_>, number: Number<'_>) -> Result<Code, Why>
 
 /// A register gets a number that is written.
 fn number_loaded(equates: &Equates<'_>, rd: Register, number: Number<'_>) -> Result<Code, Why>
-    ensures { Gives code_view result (assembly.number_loaded (equates_view equates.now) rd.number (number_view number.entry)) }
+    ensures { Gives code_view result
+        (assembly.number_loaded (equates_view equates.now) rd.number (number_view number.entry)) }
 {
     let z = integer(equates, number)?;
     if !is_word(z) {
@@ -176,7 +181,9 @@ pub(crate) fn words(
     at: u32,
     statement: &Statement<'_>,
 ) -> Result<Code, Why>
-    ensures { Gives code_view result (assembly.words (equates_view equates.now) (labels_view labels.now) line at (statement_view statement.now)) }
+    ensures { Gives code_view result
+        (assembly.words (equates_view equates.now) (labels_view labels.now) line at
+        (statement_view statement.now)) }
 {
     match *statement {
         Statement::Blank => Ok(Code::Empty),
@@ -196,7 +203,8 @@ pub(crate) fn words(
 
 /// How many words a number takes to load.
 fn number_size(equates: &Equates<'_>, number: Number<'_>) -> u32
-    ensures is { result ≡ assembly.number_size (assembly.integer (equates_view equates.now) (number_view number.entry)) }
+    ensures is { result ≡ assembly.number_size
+        (assembly.integer (equates_view equates.now) (number_view number.entry)) }
     ensures small { result ≤ 255 }
 {
     match integer(equates, number) {

@@ -71,7 +71,8 @@ impl<'a> Labels<'a> {
 
     /// Gives a name to a label.
     pub fn define(&mut self, name: &'a [u8], label: Label) -> Result<(), NoMemory>
-        ensures { OnOk result (labels_view self.new ≡ assembly.with_label name.now label (labels_view self.old)) }
+        ensures { OnOk result (labels_view self.new
+            ≡ assembly.with_label name.now label (labels_view self.old)) }
     {
         self.map.insert(name, label)?;
         Ok(())

@@ -122,7 +122,8 @@ pub(crate) fn two(text: &[u8]) -> Option<(&[u8], &[u8])>
 /// The operands of a text that has three.
 #[tactic(auto, using(crate::proofs::Commas::three_none, crate::proofs::Commas::three_one, crate::proofs::Commas::three_comma, crate::proofs::Commas::three_alone))]
 pub(crate) fn three(text: &[u8]) -> Option<(&[u8], &[u8], &[u8])>
-    ensures { option_map (λ x. (x.0.now, x.1.now, x.2.now)) result ≡ lexing.three (lexing.operands text.now) }
+    ensures { option_map (λ x. (x.0.now, x.1.now, x.2.now)) result
+        ≡ lexing.three (lexing.operands text.now) }
 {
     let (first, rest) = at_comma(text)?;
     let (second, third) = at_comma(rest)?;

@@ -104,7 +104,8 @@ pub(crate) fn two_registers(text: &[u8]) -> Option<(u8, u8)>
 /// Two registers and a number.
 #[tactic(auto, unfolding(crate::specs::Operands::two_registers_number))]
 pub(crate) fn two_registers_number(text: &[u8]) -> Option<(u8, u8, Number<'_>)>
-    ensures is { option_map (λ x. (x.0, x.1, number_view x.2)) result ≡ operands.two_registers_number text.now }
+    ensures is { option_map (λ x. (x.0, x.1, number_view x.2)) result
+        ≡ operands.two_registers_number text.now }
     ensures first { IfSome result (λ x. x.0 < 32) }
     ensures second { IfSome result (λ x. x.1 < 32) }
 {

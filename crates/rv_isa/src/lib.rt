@@ -194,5 +194,6 @@ pub fn instructions_are_those_in_range()
 
 /// No word has the fixed fields of two rows: a word is at most one instruction.
 pub fn rows_are_apart()
-    ensures { (word : ℕ) (o p : Op) → has_fields word (row_for o) ≡ true → has_fields word (row_for p) ≡ true → o ≡ p }
+    ensures { (word : ℕ) (o p : Op) → has_fields word (row_for o) ≡ true
+        → has_fields word (row_for p) ≡ true → o ≡ p }
 {}

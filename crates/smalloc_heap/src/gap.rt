@@ -20,7 +20,8 @@ pub fn first_gap(blocks: &[Block], room: u32, size: u64) -> Option<Gap>
     requires size { size < 2 ^ 33 }
     ensures fit { option_map (λ g. g.offset) result ≡ first_fit 0 size room blocks.now }
     ensures within { IfSome result (λ g. g.place ≤ length blocks.now) }
-    ensures place { IfSome result (λ g. insert blocks.now g.place (block g.offset size) ≡ with_block (block g.offset size) blocks.now) }
+    ensures place { IfSome result (λ g. insert blocks.now g.place (block g.offset size)
+        ≡ with_block (block g.offset size) blocks.now) }
 {
     let mut low = 0;
     for (place, block) in blocks.iter().enumerate() {

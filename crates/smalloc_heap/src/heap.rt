@@ -58,13 +58,21 @@ impl Heap {
     /// when out of memory; the heap is then as it was.
     pub fn smalloc(&mut self, size: u32) -> Result<u32, SmallocFault>
         requires { 1 ≤ size }
-        ensures fit { IfOk result (λ offset. blocks.first_fit 0 (blocks.rounded size) self.old.room self.old.blocks ≡ Some offset) }
-        ensures next { IfOk result (λ offset. self.new ≡ record self.old { blocks = blocks.with_block (blocks.block offset (blocks.rounded size)) self.old.blocks }) }
+        ensures fit { IfOk result (λ offset. blocks.first_fit 0
+            (blocks.rounded size) self.old.room self.old.blocks ≡ Some offset) }
+        ensures next { IfOk result (λ offset. self.new
+            ≡ record self.old {
+              blocks = blocks.with_block
+                  (blocks.block offset (blocks.rounded size)) self.old.blocks;
+            }) }
 
         // No multiple of 8 below it would do, and where it refuses no offset at all.
-        ensures least { IfOk result (λ offset. blocks.IsFirstFit self.old.blocks self.old.room (blocks.rounded size) offset) }
-        ensures no_space { IsErrOf result SmallocFault.NoSpace ↔ (blocks.first_fit 0 (blocks.rounded size) self.old.room self.old.blocks ≡ None) }
-        ensures full { result ≡ Err SmallocFault.NoSpace → (offset : ℕ) → blocks.AreFree self.old.blocks self.old.room offset (blocks.rounded size) → ⊥ }
+        ensures least { IfOk result (λ offset. blocks.IsFirstFit self.old.blocks self.old.room
+            (blocks.rounded size) offset) }
+        ensures no_space { IsErrOf result SmallocFault.NoSpace
+            ↔ (blocks.first_fit 0 (blocks.rounded size) self.old.room self.old.blocks ≡ None) }
+        ensures full { result ≡ Err SmallocFault.NoSpace → (offset : ℕ)
+            → blocks.AreFree self.old.blocks self.old.room offset (blocks.rounded size) → ⊥ }
         ensures err { OnErr result (self.new ≡ self.old) }
     {
         let wanted = rounded(size);
@@ -82,7 +90,8 @@ impl Heap {
     /// Takes back the block that begins at an offset. It refuses where none does, and the heap is
     /// then as it was.
     pub fn sfree(&mut self, offset: u32) -> Result<(), BadFree>
-        ensures ok { OnOk result (self.new ≡ record self.old { blocks = blocks.without_block offset self.old.blocks }) }
+        ensures ok { OnOk result (self.new
+            ≡ record self.old { blocks = blocks.without_block offset self.old.blocks }) }
         ensures bad { IsErr result ↔ (blocks.block_at self.old.blocks offset ≡ None) }
         ensures err { OnErr result (self.new ≡ self.old) }
     {
@@ -96,7 +105,8 @@ impl Heap {
     // The place of the block that begins at an offset, or the place at which it would stand.
     fn place_of(&self, offset: u32) -> Result<usize, usize>
         ensures within { IfOk result (λ i. i < length self.now.blocks) }
-        ensures removed { IfOk result (λ i. remove self.now.blocks i ≡ blocks.without_block offset self.now.blocks) }
+        ensures removed { IfOk result (λ i. remove self.now.blocks i
+            ≡ blocks.without_block offset self.now.blocks) }
         ensures some { OnOk result (IsSome (blocks.block_at self.now.blocks offset)) }
         ensures none { OnErr result (blocks.block_at self.now.blocks offset ≡ None) }
     {

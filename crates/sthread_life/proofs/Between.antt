@@ -1,13 +1,11 @@
 -- What a turn is made of, and that its event leaves the actor between instructions.
-use Rattle.std.proofs.Common.{◌≡◌, ℕ, Bool, true, false, List, [], ◌∷◌, refl, sym, ap, subst, ◌∙◌}
-use Rattle.std.specs.Prelude.{Option, Some, None, option_map, option_and_then, if◌then◌else◌}
-use Rattle.wedge_base.specs.Names.{same}
+use Rattle.std.proofs.Common.{◌≡◌, ℕ, List, refl, sym, ap, subst, ◌∙◌}
+use Rattle.std.specs.Prelude.{Option, Some, None, option_map, option_and_then}
 use Rattle.wedge_base.specs.Images.{Image, fetch}
 use Rattle.wedge_base.specs.declared.events.Want.{Want}
 use Rattle.wedge_base.specs.declared.events.Want.TheVariants as want
 use Rattle.wedge_base.specs.declared.events.Event.{Event}
 use Rattle.wedge_base.specs.declared.events.Event.TheVariants as event
-use Rattle.wedge_base.specs.declared.events.Turn.{Turn}
 use Rattle.wedge_base.specs.declared.cells.SlotReply.TheVariants as slot_reply
 use Rattle.rv_isa.specs.declared.Instr.{Instr}
 use Rattle.rv_isa.specs.Table.{decode}
@@ -17,7 +15,7 @@ use Rattle.rv_hart.specs.Local.{local}
 use Rattle.wedge_base.specs.declared.cells.StreamReply.TheVariants as stream_reply
 use Rattle.wedge_base.specs.declared.cells.LivesAsk.TheVariants as lives_ask
 use Rattle.sthread_life.specs.declared.phase.Phase.TheVariants as phase
-use Rattle.sthread_life.specs.Actors.{ActorState, root}
+use Rattle.sthread_life.specs.Actors.{ActorState}
 use Rattle.sthread_life.specs.Local.{rest}
 use Rattle.sthread_life.specs.Taking.{wanted, pair, runs, loads_by, loads_at, takes}
 use Rattle.wedge_base.specs.Directories.{directory_reply}
@@ -28,7 +26,7 @@ use Rattle.wedge_base.specs.Streams.{stream_reply as stream_reply_of}
 use Rattle.wedge_base.specs.Wants.{slot_ask_with}
 use Rattle.wedge_base.specs.declared.rights.End.TheVariants as end_
 use Rattle.sthread_life.specs.Cells.{Cells, slot_in, stream_in, kept_in, tag_in}
-use Rattle.sthread_life.specs.Worlds.{WorldState, opening, actor_named, put_actor, event_at, happened, wanting, turn_with, turn_of, Taken, Runs}
+use Rattle.sthread_life.specs.Worlds.{WorldState, actor_named, event_at, happened, wanting, turn_with, turn_of, Taken}
 use Rattle.sthread_life.specs.Between.{IsBetween}
 
 -- a load that has its value leaves the actor running

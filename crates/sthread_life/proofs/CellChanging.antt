@@ -1,9 +1,7 @@
 -- Whatever a cell holds beside its bytes is changed by its own events alone.
-use Rattle.std.proofs.Common.{◌≡◌, ℕ, ◌==◌, Bool, true, false, List, [], ◌∷◌, refl, sym, ap, subst, ◌∙◌}
-use Rattle.std.specs.Prelude.{Option, Some, None, option_map, if◌then◌else◌}
+use Rattle.std.proofs.Common.{◌≡◌, ℕ, List, [], ◌∷◌, refl, sym, ap, subst, ◌∙◌}
+use Rattle.std.specs.Prelude.{Option, Some, None, option_map}
 use Rattle.wedge_base.specs.Images.{Image}
-use Rattle.wedge_base.specs.Directories.{Directory}
-use Rattle.wedge_base.specs.Gates.{Kept}
 use Rattle.wedge_base.specs.Slots.{Segment, slot_reply as slot_reply_of, slot_after, stored}
 use Rattle.wedge_base.specs.Streams.{Stream, stream_reply as stream_reply_of, stream_after, grown}
 use Rattle.wedge_base.specs.declared.grants.GateId.{GateId}
@@ -28,10 +26,10 @@ use Rattle.sthread_life.specs.Local.{rest}
 use Rattle.sthread_life.specs.Taking.{wanted_at, pair}
 use Rattle.sthread_life.specs.Cells.{Cells, slot_in, stream_in, kept_in, cells_after}
 use Rattle.sthread_life.specs.Worlds.{WorldState, turn_of, Runs}
-use Rattle.sthread_life.specs.CellHistories.{after_turns, Occupant, occupant, occupant_in, occupant_by, occupant_after_event, Mode, mode, mode_in, mode_by, mode_after_event, places_after_event, numbers_after_event, lives_after_event, kept_after_event, CellsFollow}
+use Rattle.sthread_life.specs.CellHistories.{after_turns, Occupant, occupant, occupant_in, occupant_after_event, Mode, mode, mode_in, mode_after_event, places_after_event, numbers_after_event, lives_after_event, kept_after_event, CellsFollow}
 use Rattle.sthread_life.proofs.Between.{event_for, parts_event_is, turn_parts}
-use Rattle.sthread_life.proofs.Settling.{AllReady, named_ready, turn_ready, opening_ready, run_ready}
-use Rattle.sthread_life.proofs.Meeting.{IsRequest, ReadsAs, LoadsAt, rest_reads}
+use Rattle.sthread_life.proofs.Settling.{AllReady, named_ready, turn_ready}
+use Rattle.sthread_life.proofs.Meeting.{IsRequest, ReadsAs, LoadsAt}
 use Rattle.sthread_life.proofs.OneCell.{follows}
 
 -- what an event makes of everything that the cells hold beside bytes
@@ -79,23 +77,34 @@ append_stays bits bytes s r e = e
 
 want_changes : (N : ℕ → Type 0) (c : Cells) (b : ActorState) (q : Want) → IsRequest N b q → IsChanged c (event_for c b q) (cells_after c (event_for c b q))
 want_changes N c b (want.Slot s (slot_want.Load offset width)) own = record {
-    occupants = λ slot. follows occupant_of (λ x. x) c.slots s slot (slot_in c s) (slot_in c s) _ refl refl (λ e. e) refl;
-    modes = λ fd. refl; places = refl; numbers = refl; lives = refl; gates = λ id. refl;
-  }
+  occupants = λ slot. follows occupant_of (λ x. x) c.slots s slot (slot_in c s) (slot_in c s) _ refl refl (λ e. e) refl;
+  modes = λ fd. refl;
+  places = refl;
+  numbers = refl;
+  lives = refl;
+  gates = λ id. refl;
+}
 want_changes N c b (want.Slot s (slot_want.Store offset width value)) own =
     let live = pair b (option_map (λ g. g.tag) (slot_in c s)) in
     let q = slot_ask.Store offset width value live in
     let r = slot_reply_of (slot_in c s) q in
     record {
       occupants = λ slot. follows occupant_of (λ x. x) c.slots s slot (slot_in c s) (slot_after (slot_in c s) q r) _ refl refl (store_stays offset width value live (slot_in c s) r) (store_shows offset width value live (slot_in c s) r);
-      modes = λ fd. refl; places = refl; numbers = refl; lives = refl; gates = λ id. refl;
+      modes = λ fd. refl;
+      places = refl;
+      numbers = refl;
+      lives = refl;
+      gates = λ id. refl;
     }
 want_changes N c b (want.Fd fd (stream_ask.Append bits bytes)) own =
     let r = stream_reply_of (stream_in c fd) (stream_ask.Append bits bytes) in
     record {
       occupants = λ slot. refl;
       modes = λ n. follows mode_of (λ x. x) c.streams fd n (stream_in c fd) (stream_after (stream_in c fd) (stream_ask.Append bits bytes) r) _ refl refl (append_stays bits bytes (stream_in c fd) r) (append_shows bits bytes (stream_in c fd) r);
-      places = refl; numbers = refl; lives = refl; gates = λ id. refl;
+      places = refl;
+      numbers = refl;
+      lives = refl;
+      gates = λ id. refl;
     }
 want_changes N c b q own = absurd own
 

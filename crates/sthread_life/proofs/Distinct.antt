@@ -1,13 +1,12 @@
 -- No two actors of a world have one name.
 use Rattle.std.proofs.Common.{◌≡◌, ℕ, Bool, true, false, true≢false, List, [], ◌∷◌, refl, sym, ap, subst, ◌∙◌}
-use Rattle.std.specs.Prelude.{Some, if◌then◌else◌}
-use Rattle.wedge_base.specs.Images.{Image}
+use Rattle.std.specs.Prelude.{if◌then◌else◌}
 use Rattle.wedge_base.specs.Names.{same}
 use Rattle.wedge_base.specs.declared.events.Turn.{Turn}
 use Rattle.sthread_life.specs.Actors.{ActorState}
 use Rattle.sthread_life.specs.Local.{rest}
 use Rattle.sthread_life.specs.Taking.{takes}
-use Rattle.sthread_life.specs.Worlds.{WorldState, opening, put_actor, turn_of, Runs}
+use Rattle.sthread_life.specs.Worlds.{WorldState, opening, put_actor, Runs}
 use Rattle.sthread_life.specs.Laws.{IsNew, AreDistinct, NamesAreDistinct}
 use Rattle.sthread_life.proofs.Named.{same_self, same_equal}
 use Rattle.sthread_life.proofs.Between.{turn_parts}

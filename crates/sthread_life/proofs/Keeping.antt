@@ -1,8 +1,8 @@
 -- Private memory over an instruction and over an event.
-use Rattle.std.proofs.Common.{◌≡◌, ℕ, zero, suc, ◌-◌, Bool, true, false, [], refl, sym, ap, subst, ◌∙◌, arith}
+use Rattle.std.proofs.Common.{◌≡◌, ℕ, zero, suc, ◌-◌, Bool, true, false, refl, sym, ap, subst, ◌∙◌, arith}
 use Rattle.std.specs.Prelude.{Option, Some, None, option_map, option_and_then, not, ◌&&◌, ◌==◌, nat_lt, nat_le, if◌then◌else◌}
 use Rattle.wedge_base.specs.Bytes.{number_of, bytes_of}
-use Rattle.wedge_base.specs.Images.{Image, fetch, in_text, read_text, slot_of}
+use Rattle.wedge_base.specs.Images.{Image, fetch, read_text, slot_of}
 use Rattle.wedge_base.specs.Memory.{range_at, read_range}
 use Rattle.wedge_base.specs.Streams.{most_fds}
 use Rattle.wedge_base.specs.declared.address.Place.{Place}
@@ -20,13 +20,12 @@ use Rattle.rv_hart.specs.declared.Hart.{Hart}
 use Rattle.rv_hart.specs.declared.Need.{Need}
 use Rattle.rv_hart.specs.declared.Need.TheVariants as need
 use Rattle.rv_hart.specs.Local.{local}
-use Rattle.sthread_life.specs.Actors.{ActorState, ends, refuses, spends}
+use Rattle.sthread_life.specs.Actors.{ActorState, ends, refuses}
 use Rattle.sthread_life.specs.Private.{load_window, load_range, store_window, store_range, has_loaded, fits_read}
 use Rattle.sthread_life.specs.Calls.{serves, exit, fd_append, a0, a1, a2, a7}
 use Rattle.sthread_life.specs.Local.{needed, executed, fuelled, fetched, step}
 use Rattle.sthread_life.specs.Taking.{runs, loads_by, loads_at, takes}
-use Rattle.sthread_life.specs.Ends.{is_end_event}
-use Rattle.sthread_life.specs.Remembering.{bytes_in, LoadGives, StoreWrites, NeedRemembers, InstrRemembers, WordRemembers, EventRemembers}
+use Rattle.sthread_life.specs.Remembering.{LoadGives, StoreWrites, NeedRemembers, InstrRemembers, WordRemembers, EventRemembers}
 use Rattle.sthread_life.proofs.WritingRanges.{length-bytes_of, written_at}
 
 -- what keeps private memory

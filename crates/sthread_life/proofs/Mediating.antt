@@ -54,7 +54,7 @@ use Rattle.sthread_life.specs.Laws.{IsLawful, MomentsAreLawful}
 use Rattle.sthread_life.proofs.Named.{found_name, put_put, named_put, same_noted}
 use Rattle.sthread_life.proofs.Keeping.{step_remembers, event_remembers}
 use Rattle.sthread_life.proofs.Settling.{AllReady, named_ready, turn_ready, opening_ready}
-use Rattle.sthread_life.proofs.Meeting.{request_for, refusal_for, IsRequest, WantsAs, ReadsAs, InstrLoads, NeedLoads, LoadsAt, stuck, step_comes, rest_reads}
+use Rattle.sthread_life.proofs.Meeting.{request_for, refusal_for, IsRequest, WantsAs, ReadsAs, InstrLoads, NeedLoads, LoadsAt, stuck, step_comes}
 use Rattle.sthread_life.proofs.Going.{IsNext, put_next, step_goes}
 use Rattle.sthread_life.proofs.Resting.{steps_step, stays, goes_on, running_is, rest-stops}
 use Rattle.sthread_life.proofs.Between.{event_for, parts_event_is, turn_parts, loaded_runs}

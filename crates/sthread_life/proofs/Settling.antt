@@ -85,7 +85,7 @@ turns_alike v w name e new alike t =
     let c = rest w.image other.from in
     let wants : wanted c ≡ Some p.want = ap (λ (x : ActorState). wanted x) other.is ∙ p.wants in
     let comes : event_at w.cells c p.want ≡ Some e = ap (λ (x : ActorState). event_at w.cells x p.want) other.is
-        ∙ ap (λ (x : WorldState). event_at x.cells b p.want) (sym alike) ∙ p.comes in
+    ∙ ap (λ (x : WorldState). event_at x.cells b p.want) (sym alike) ∙ p.comes in
     record {
       to = (happened w c e).world;
       turn = ap (turn_with w) other.there ∙ ap (wanting w c) wants ∙ ap (option_map (happened w c)) comes;
@@ -101,6 +101,7 @@ whole_alike v w alike = sym (at_rest v) ∙ ap (λ (x : WorldState). is_whole x)
     ended_at_rest : (i : Image) (o : Option ActorState) → is_ended (option_map (rest i) o) ≡ is_ended o
     ended_at_rest i None = refl
     ended_at_rest i (Some a) = rest-ended i a
+
     at_rest : (x : WorldState) → is_whole (settled x) ≡ is_whole x
     at_rest x = ap is_ended (map_named x.image x.actors root_name) ∙ ended_at_rest x.image (actor_named x.actors root_name)
 

@@ -1,9 +1,9 @@
 -- In each run the entries of an actor are a walk of its own.
-use Rattle.std.proofs.Common.{◌≡◌, ℕ, ◌+◌, ◌<◌, ◌≤◌, Bool, true, false, List, [], ◌∷◌, refl, sym, ap, subst, ◌∙◌, arith}
-use Rattle.std.specs.Prelude.{Option, Some, None, if◌then◌else◌}
+use Rattle.std.proofs.Common.{◌≡◌, ℕ, ◌+◌, ◌<◌, Bool, true, false, List, [], ◌∷◌, refl, sym, ap, subst, ◌∙◌, arith}
+use Rattle.std.specs.Prelude.{Some, if◌then◌else◌}
 use Rattle.wedge_base.specs.Images.{Image}
-use Rattle.wedge_base.specs.Names.{same, root_name}
-use Rattle.wedge_base.specs.Journals.{asked, numbered}
+use Rattle.wedge_base.specs.Names.{same}
+use Rattle.wedge_base.specs.Journals.{asked}
 use Rattle.wedge_base.specs.declared.events.Ask.{Ask}
 use Rattle.wedge_base.specs.declared.events.Ask.TheVariants as ask
 use Rattle.wedge_base.specs.declared.events.Event.{Event}
@@ -14,10 +14,10 @@ use Rattle.sthread_life.specs.Local.{rest}
 use Rattle.sthread_life.specs.Taking.{takes}
 use Rattle.sthread_life.specs.Cells.{Cells, live_at, event_of}
 use Rattle.sthread_life.specs.Worlds.{WorldState, opening, actor_named, put_actor, turn_of, Runs}
-use Rattle.sthread_life.specs.Walks.{Asks, IsEntryOf, gone, IsWalk, entries_of, entries_in, Walked, RootsWalk}
+use Rattle.sthread_life.specs.Walks.{Asks, gone, IsWalk, entries_in, RootsWalk}
 use Rattle.sthread_life.proofs.Resting.{rest-name}
-use Rattle.sthread_life.proofs.Between.{TurnParts, turn_parts, takes_name}
-use Rattle.sthread_life.proofs.Named.{same_self, same_equal, found_name, named_put, named_put_other}
+use Rattle.sthread_life.proofs.Between.{turn_parts, takes_name}
+use Rattle.sthread_life.proofs.Named.{same_equal, found_name, named_put, named_put_other}
 
 -- an event is that of the ask of which it came
 asked_of : (c : Cells) (q : Ask) (e : Event) → event_of c q ≡ Some e → asked e ≡ q
@@ -89,21 +89,21 @@ actor_walks old (t ∷ ts) new a clock stamp above named run =
     let e : LogEntry = record { stamp = stamp; actor = t.actor; event = t.event } in
     with_entry old.image a clock e (entries_in a.name (stamp + 1) ts) new (same t.actor a.name) refl
     (λ is.
-        let own_name : t.actor ≡ a.name = same_equal t.actor a.name is in
-        let o = own_turn old t.actor a t.event run.0 named own_name run.1 in
-        let b = rest old.image a in
-        let x = takes old.image b t.event in
-        let name : x.name ≡ a.name = takes_name old.image b t.event ∙ rest-name old.image a in
-        let rest_ = actor_walks run.0 ts new x stamp (stamp + 1) (omega arith) (ap (actor_named run.0.actors) name ∙ o.now) run.2 in
-        let walked : Walks old.image x stamp (entries_in a.name (stamp + 1) ts) new =
-            subst (λ j. Walks j x stamp (entries_in a.name (stamp + 1) ts) new) o.image (subst (λ n. Walks run.0.image x stamp (entries_in n (stamp + 1) ts) new) name rest_) in
-        record {
-          walk = (record { above = above; own = own_name ∙ sym (rest-name old.image a); event = o.event }, walked.walk);
-          leads = ap (actor_named new.actors) (sym name) ∙ walked.leads;
-        })
+    let own_name : t.actor ≡ a.name = same_equal t.actor a.name is in
+    let o = own_turn old t.actor a t.event run.0 named own_name run.1 in
+    let b = rest old.image a in
+    let x = takes old.image b t.event in
+    let name : x.name ≡ a.name = takes_name old.image b t.event ∙ rest-name old.image a in
+    let rest_ = actor_walks run.0 ts new x stamp (stamp + 1) (omega arith) (ap (actor_named run.0.actors) name ∙ o.now) run.2 in
+    let walked : Walks old.image x stamp (entries_in a.name (stamp + 1) ts) new =
+    subst (λ j. Walks j x stamp (entries_in a.name (stamp + 1) ts) new) o.image (subst (λ n. Walks run.0.image x stamp (entries_in n (stamp + 1) ts) new) name rest_) in
+    record {
+      walk = (record { above = above; own = own_name ∙ sym (rest-name old.image a); event = o.event }, walked.walk);
+      leads = ap (actor_named new.actors) (sym name) ∙ walked.leads;
+    })
     (λ is.
-        let o = other_turn old t.actor a.name t.event run.0 is run.1 in
-        subst (λ j. Walks j a clock (entries_in a.name (stamp + 1) ts) new) o.image (actor_walks run.0 ts new a clock (stamp + 1) (omega (arith, above)) (o.now ∙ named) run.2))
+    let o = other_turn old t.actor a.name t.event run.0 is run.1 in
+    subst (λ j. Walks j a clock (entries_in a.name (stamp + 1) ts) new) o.image (actor_walks run.0 ts new a clock (stamp + 1) (omega (arith, above)) (o.now ∙ named) run.2))
 
 pub roots_walk : RootsWalk
 unfolding root

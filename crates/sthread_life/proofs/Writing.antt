@@ -1,7 +1,7 @@
 -- Bytes of tags and of streams by the history of a run, and who wrote them.
-use Rattle.std.proofs.Common.{◌≡◌, ℕ, zero, suc, ◌==◌, Bool, true, false, true≢false, List, [], ◌∷◌, ◌++◌, ◌+◌, length, refl, sym, ap, subst, ◌∙◌}
-use Rattle.std.proofs.lemmas.Bool.{eqb-true, eq-eqb}
-use Rattle.std.specs.Prelude.{Option, Some, None, option_map, not, slice_get, slice_set, nat_lt, if◌then◌else◌}
+use Rattle.std.proofs.Common.{◌≡◌, ℕ, ◌==◌, Bool, true, false, true≢false, List, [], ◌∷◌, ◌++◌, length, refl, sym, ap, subst, ◌∙◌}
+use Rattle.std.proofs.lemmas.Bool.{eqb-true}
+use Rattle.std.specs.Prelude.{Option, Some, None, option_map, not, nat_lt, if◌then◌else◌}
 use Rattle.wedge_base.specs.Bytes.{written, bytes_of}
 use Rattle.wedge_base.specs.Images.{Image}
 use Rattle.wedge_base.specs.Rights.{at_least, append_bit}
@@ -24,7 +24,6 @@ use Rattle.wedge_base.specs.declared.cells.SlotAsk.{SlotAsk}
 use Rattle.wedge_base.specs.declared.cells.SlotAsk.TheVariants as slot_ask
 use Rattle.wedge_base.specs.declared.cells.SlotReply.{SlotReply}
 use Rattle.wedge_base.specs.declared.cells.SlotReply.TheVariants as slot_reply
-use Rattle.wedge_base.specs.declared.cells.StreamAsk.{StreamAsk}
 use Rattle.wedge_base.specs.declared.cells.StreamAsk.TheVariants as stream_ask
 use Rattle.wedge_base.specs.declared.cells.StreamReply.{StreamReply}
 use Rattle.wedge_base.specs.declared.cells.StreamReply.TheVariants as reply
@@ -42,8 +41,8 @@ use Rattle.sthread_life.specs.Written.{bytes_in, BytesFollow, stores_in, StepWri
 use Rattle.sthread_life.specs.Laws.{RunsWriteTheirOwn}
 use Rattle.sthread_life.proofs.Resting.{rests, rest-stays}
 use Rattle.sthread_life.proofs.Between.{event_for, parts_event_is, turn_parts}
-use Rattle.sthread_life.proofs.Settling.{AllReady, named_ready, turn_ready, opening_ready, run_ready}
-use Rattle.sthread_life.proofs.Meeting.{IsRequest, ReadsAs, LoadsAt, rest_reads}
+use Rattle.sthread_life.proofs.Settling.{AllReady, named_ready, turn_ready, opening_ready}
+use Rattle.sthread_life.proofs.Meeting.{IsRequest, ReadsAs, LoadsAt}
 use Rattle.sthread_life.proofs.OneCell.{follows}
 use Rattle.sthread_life.proofs.CellChanging.{turn_cells, cells_follow}
 

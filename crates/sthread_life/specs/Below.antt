@@ -1,5 +1,5 @@
 -- Private memory lies below the windows of tags.
-use Rattle.std.specs.Prelude.{ℕ, ◌+◌, ◌≤◌, List, [], ◌∷◌, length}
+use Rattle.std.specs.Prelude.{◌+◌, ◌≤◌, List, [], ◌∷◌, length}
 use Rattle.wedge_base.specs.Images.{windows_base}
 use Rattle.wedge_base.specs.declared.image.MemoryRange.{MemoryRange}
 

@@ -1,5 +1,5 @@
 -- The cells of a world, the event that comes of an ask, and what it makes of its cell.
-use Rattle.std.specs.Prelude.{◌≡◌, ℕ, ◌-◌, ◌<◌, not, List, [], ◌∷◌, ◌++◌, length, map, replicate, find, slice_get, slice_set, Option, Some, None, option_map, unwrap_or, if◌then◌else◌}
+use Rattle.std.specs.Prelude.{ℕ, ◌-◌, ◌<◌, List, [], ◌∷◌, ◌++◌, length, map, replicate, find, slice_get, slice_set, Option, Some, None, option_map, unwrap_or, if◌then◌else◌}
 use Rattle.wedge_base.specs.Images.{Image, slots as most_slots}
 use Rattle.wedge_base.specs.Directories.{Directory, directory_reply, directory_next, slots_opening, fds_opening}
 use Rattle.wedge_base.specs.Slots.{Segment, slot_reply, slot_after, declared_slots, SlotFits}
@@ -7,7 +7,6 @@ use Rattle.wedge_base.specs.Streams.{Stream, stream_reply, stream_after, declare
 use Rattle.wedge_base.specs.Lives.{lives_reply, lives_next, lives_opening}
 use Rattle.wedge_base.specs.Gates.{Kept, same_gate, gate_opening, gate_reply, gate_next, GateFits}
 use Rattle.wedge_base.specs.declared.grants.GateId.{GateId}
-use Rattle.wedge_base.specs.declared.cells.GateAsk.{GateAsk}
 use Rattle.wedge_base.specs.declared.events.Want.{Want}
 use Rattle.wedge_base.specs.declared.events.Want.TheVariants as want
 use Rattle.wedge_base.specs.declared.events.Ask.{Ask}

@@ -1,7 +1,7 @@
 -- The code with which a call is refused, by the row of the call: in its instruction, before its denial, or at
 -- its event, before or behind it. A second statement, beside the calls; the codes are numbers, as programs
 -- see them.
-use Rattle.std.specs.Prelude.{◌≡◌, ℕ, zero, suc, ◌==◌, Bool, not, List, Option, Some, None, nat_le, nat_lt, if◌then◌else◌}
+use Rattle.std.specs.Prelude.{◌≡◌, ℕ, zero, suc, ◌==◌, not, List, Option, Some, None, nat_le, nat_lt, if◌then◌else◌}
 use Rattle.wedge_base.specs.Images.{Image, fetch}
 use Rattle.wedge_base.specs.Streams.{Stream, most_fds}
 use Rattle.wedge_base.specs.declared.events.Event.{Event}

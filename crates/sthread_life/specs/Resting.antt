@@ -1,5 +1,5 @@
 -- What an actor at rest wants, or how it has ended.
-use Rattle.std.specs.Prelude.{Bool, true, false, Option, Some, None}
+use Rattle.std.specs.Prelude.{Option, Some, None}
 use Rattle.wedge_base.specs.declared.rights.End.{End}
 use Rattle.wedge_base.specs.declared.events.Want.{Want}
 use Rattle.sthread_life.specs.Between.{WantFits}

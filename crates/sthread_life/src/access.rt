@@ -31,7 +31,8 @@ impl Actor {
         requires registers { HasRegisters instr }
         requires width { private.IsWidth width }
         requires needed { (hart.local instr self.old.hart).need ≡ Need.Load address width signed }
-        ensures { whole self.new memory.now ≡ private.loads program.now instr signed (whole self.old memory.now) address width }
+        ensures { whole self.new memory.now
+            ≡ private.loads program.now instr signed (whole self.old memory.now) address width }
     {
         if address % u32::from(width) != 0 {
             self.end(End::Misaligned);
@@ -60,7 +61,8 @@ impl Actor {
     fn load_window(&mut self, address: u32, width: u8)
         requires width { private.IsWidth width }
         requires aligned { address % width ≡ 0 }
-        ensures { (m : List ARange) → whole self.new m ≡ private.load_window (whole self.old m) width (slot_of address) }
+        ensures { (m : List ARange) → whole self.new m
+            ≡ private.load_window (whole self.old m) width (slot_of address) }
     {
         match slot_of(address) {
             None => self.end(End::Unmapped),
@@ -76,7 +78,8 @@ impl Actor {
     fn store_window(&mut self, address: u32, width: u8, value: u32)
         requires width { private.IsWidth width }
         requires aligned { address % width ≡ 0 }
-        ensures { (m : List ARange) → whole self.new m ≡ private.store_window (whole self.old m) width value (slot_of address) }
+        ensures { (m : List ARange) → whole self.new m
+            ≡ private.store_window (whole self.old m) width value (slot_of address) }
     {
         match slot_of(address) {
             None => self.end(End::Unmapped),
@@ -102,7 +105,8 @@ impl Actor {
         value: u32,
     )
         requires { private.IsWidth width }
-        ensures { whole self.new memory.new ≡ private.stores program.now (whole self.old memory.old) address width value }
+        ensures { whole self.new memory.new
+            ≡ private.stores program.now (whole self.old memory.old) address width value }
     {
         if address % u32::from(width) != 0 {
             self.end(End::Misaligned);

@@ -165,7 +165,8 @@ impl Actor {
 
     /// Answers a service call with a value and a code.
     pub(crate) fn answer(&mut self, value: u32, code: u32)
-        ensures { self.new ≡ record self.old { hart = answered self.old.hart value code; phase = phase.Running } }
+        ensures { self.new ≡ record self.old
+            { hart = answered self.old.hart value code; phase = phase.Running } }
     {
         self.hart.answer(value, code, None);
         self.phase = Phase::Running;
@@ -173,7 +174,8 @@ impl Actor {
 
     /// Refuses a service call.
     pub(crate) fn refuse(&mut self, code: Code)
-        ensures { self.new ≡ record self.old { hart = answered self.old.hart 0 (actors.code_number code); phase = phase.Running } }
+        ensures { self.new ≡ record self.old
+            { hart = answered self.old.hart 0 (actors.code_number code); phase = phase.Running } }
     {
         self.answer(0, code_number(code));
     }
@@ -188,7 +190,11 @@ impl Actor {
     /// Notes a denial of the instruction at hand.
     #[inline(never)]
     pub(crate) fn note(&mut self, denial: Denial) -> Result<(), NoMemory>
-        ensures ok { OnOk result (self.new ≡ record self.old { denials = self.old.denials ++ record { pc = self.old.hart.pc; denial = denial } ∷ [] }) }
+        ensures ok { OnOk result (self.new
+            ≡ record self.old {
+              denials = self.old.denials
+                  ++ record { pc = self.old.hart.pc; denial = denial } ∷ [];
+            }) }
         ensures err { OnErr result (self.new ≡ self.old) }
     {
         let pc = self.hart.pc;

@@ -28,7 +28,9 @@ impl Actor {
     #[inline(never)]
     #[tactic(auto, unfolding(crate::specs::Calls::serves))]
     pub(crate) fn serve(&mut self, image: &Image, memory: &Memory) -> Result<(), NoMemory>
-        ensures { OnOk result (whole self.new memory.now ≡ calls.serves image.now (whole self.old memory.now) (calls.a7 (whole self.old memory.now))) }
+        ensures { OnOk result (whole self.new memory.now
+            ≡ calls.serves image.now (whole self.old memory.now)
+            (calls.a7 (whole self.old memory.now))) }
     {
         let number = self.hart.reg(A7);
         if number == Service::Exit.number() {
@@ -44,7 +46,8 @@ impl Actor {
 
     /// The call that adds the bytes of a buffer to a stream.
     fn fd_append(&mut self, image: &Image, memory: &Memory) -> Result<(), NoMemory>
-        ensures { OnOk result (whole self.new memory.now ≡ calls.fd_append image.now (whole self.old memory.now)) }
+        ensures { OnOk result (whole self.new memory.now
+            ≡ calls.fd_append image.now (whole self.old memory.now)) }
     {
         let fd = self.hart.reg(A0);
         let pointer = self.hart.reg(A1);
@@ -87,7 +90,8 @@ impl Actor {
         length: u32,
     ) -> Result<Bytes, NoMemory>
         requires { private.fits_read image.now (whole self.now memory.now) pointer length ≡ true }
-        ensures { IfOk result (λ b. b ≡ private.buffer image.now (whole self.now memory.now) pointer length) }
+        ensures { IfOk result (λ b. b ≡ private.buffer image.now
+            (whole self.now memory.now) pointer length) }
     {
         if length == 0 {
             return Ok(Bytes::new(Vec::new(self.alloc)));

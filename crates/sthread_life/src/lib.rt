@@ -14,7 +14,8 @@ mod take;
 
 pub use actor::Actor;
 pub use laws::{
-    actors_walk, cells_open_by_their_rules, moments_are_lawful, names_are_distinct, runs_write_their_own,
+    actors_walk, cells_open_by_their_rules, moments_are_lawful, names_are_distinct,
+    runs_write_their_own,
 };
 pub use lives::Lives;
 pub use local::Next;

@@ -30,7 +30,8 @@ impl Actor {
     /// actor that runs out of memory has stopped: from then on each call of it answers `NoMemory`.
     #[inline(always)]
     pub fn local(&mut self, program: &Program<'_>, memory: &mut Memory) -> Result<Next, NoMemory>
-        ensures rests { OnOk result (whole self.new memory.new ≡ local.rest program.now (whole self.old memory.old)) }
+        ensures rests { OnOk result (whole self.new memory.new
+            ≡ local.rest program.now (whole self.old memory.old)) }
         ensures next { IfOk result (λ n. want_in n ≡ wanted (whole self.new memory.new)) }
         ensures ended { IfOk result (λ n. end_in n ≡ end_reached self.new.phase) }
         ensures name { OnOk result (self.new.name ≡ self.old.name) }
@@ -38,7 +39,8 @@ impl Actor {
         ensures fits { IfOk result NextFits }
         ensures going { OnOk result ((self.old.stopped ≡ false) × (self.new.stopped ≡ false)) }
         ensures stops { OnErr result (self.new.stopped ≡ true) }
-        ensures stays { local.has_ended self.old.phase ≡ true → OnOk result (whole self.new memory.new ≡ whole self.old memory.old) }
+        ensures stays { local.has_ended self.old.phase ≡ true
+            → OnOk result (whole self.new memory.new ≡ whole self.old memory.old) }
     {
         if self.stopped {
             return Err(NoMemory);
@@ -51,13 +53,15 @@ impl Actor {
     /// Runs to the next shared event.
     #[inline(always)]
     fn come_to_rest(&mut self, program: &Program<'_>, memory: &mut Memory) -> Result<Next, NoMemory>
-        ensures rests { OnOk result (whole self.new memory.new ≡ local.rest program.now (whole self.old memory.old)) }
+        ensures rests { OnOk result (whole self.new memory.new
+            ≡ local.rest program.now (whole self.old memory.old)) }
         ensures next { IfOk result (λ n. want_in n ≡ wanted_at self.new.phase) }
         ensures ended { IfOk result (λ n. end_in n ≡ end_reached self.new.phase) }
         ensures name { OnOk result (self.new.name ≡ self.old.name) }
         ensures live { OnOk result (local.has_ended self.new.phase ≡ local.has_ended self.old.phase) }
         ensures fits { IfOk result NextFits }
-        ensures stays { local.has_ended self.old.phase ≡ true → OnOk result (whole self.new memory.new ≡ whole self.old memory.old) }
+        ensures stays { local.has_ended self.old.phase ≡ true
+            → OnOk result (whole self.new memory.new ≡ whole self.old memory.old) }
     {
         self.run(program, memory)?;
         self.next()
@@ -66,7 +70,8 @@ impl Actor {
     /// Runs instructions until it no longer runs: each takes a unit of fuel.
     #[inline(never)]
     fn run(&mut self, program: &Program<'_>, memory: &mut Memory) -> Result<(), NoMemory>
-        ensures rests { OnOk result (whole self.new memory.new ≡ local.rest program.now (whole self.old memory.old)) }
+        ensures rests { OnOk result (whole self.new memory.new
+            ≡ local.rest program.now (whole self.old memory.old)) }
         ensures stops { OnOk result (local.is_running self.new.phase ≡ false) }
     {
         while self.is_running() {
@@ -103,7 +108,8 @@ impl Actor {
     #[inline(always)]
     #[tactic(auto, unfolding(crate::specs::Local::step))]
     fn step(&mut self, program: &Program<'_>, memory: &mut Memory) -> Result<(), NoMemory>
-        ensures { OnOk result (whole self.new memory.new ≡ local.step program.now (whole self.old memory.old)) }
+        ensures { OnOk result (whole self.new memory.new
+            ≡ local.step program.now (whole self.old memory.old)) }
     {
         let Some(found) = program.fetch(self.hart.pc) else {
             self.end(End::FetchFault);
@@ -130,7 +136,9 @@ impl Actor {
         instr: &Instr,
     ) -> Result<(), NoMemory>
         requires { HasRegisters instr.now }
-        ensures { OnOk result (whole self.new memory.new ≡ local.proceeds program.now instr.now (whole self.old memory.old) (hart.local instr.now self.old.hart)) }
+        ensures { OnOk result (whole self.new memory.new
+            ≡ local.proceeds program.now instr.now (whole self.old memory.old)
+            (hart.local instr.now self.old.hart)) }
     {
         match self.hart.begin(instr) {
             Need::Done => {}

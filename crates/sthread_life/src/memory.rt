@@ -76,7 +76,8 @@ impl Memory {
     #[inline(always)]
     pub fn load(&self, address: u32, width: u8) -> Option<u32>
         requires { (width ≡ 1) ⊎ (width ≡ 2) ⊎ (width ≡ 4) }
-        ensures { result ≡ option_map (λ r. number_of (read_range r address width)) (range_at self.now address width) }
+        ensures { result ≡ option_map (λ r. number_of (read_range r address width))
+            (range_at self.now address width) }
     {
         match range_at(self.ranges.as_slice(), address, u32::from(width)) {
             None => None,
@@ -86,7 +87,8 @@ impl Memory {
 
     /// A copy of so many bytes at an address, if they lie in one range.
     pub fn copy_of(&self, alloc: Global, address: u32, size: u32) -> Result<Option<Bytes>, NoMemory>
-        ensures { IfOk result (λ b. b ≡ option_map (λ r. read_range r address size) (range_at self.now address size)) }
+        ensures { IfOk result (λ b. b ≡ option_map (λ r. read_range r address size)
+            (range_at self.now address size)) }
     {
         match range_at(self.ranges.as_slice(), address, size) {
             None => Ok(None),

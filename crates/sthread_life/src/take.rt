@@ -25,7 +25,8 @@ impl Actor {
         memory: &mut Memory,
         event: &Event,
     ) -> Result<(), NoMemory>
-        ensures takes { OnOk result (whole self.new memory.new ≡ taking.takes program.now (whole self.old memory.old) event.now) }
+        ensures takes { OnOk result (whole self.new memory.new
+            ≡ taking.takes program.now (whole self.old memory.old) event.now) }
         ensures name { OnOk result (self.new.name ≡ self.old.name) }
         ensures going { OnOk result ((self.old.stopped ≡ false) × (self.new.stopped ≡ false)) }
         ensures stops { OnErr result (self.new.stopped ≡ true) }
@@ -47,7 +48,8 @@ impl Actor {
         memory: &mut Memory,
         event: &Event,
     ) -> Result<(), NoMemory>
-        ensures takes { OnOk result (whole self.new memory.new ≡ taking.takes program.now (whole self.old memory.old) event.now) }
+        ensures takes { OnOk result (whole self.new memory.new
+            ≡ taking.takes program.now (whole self.old memory.old) event.now) }
         ensures name { OnOk result (self.new.name ≡ self.old.name) }
     {
         match event {
@@ -67,7 +69,8 @@ impl Actor {
     /// What a slot's reply makes of it.
     #[inline(always)]
     fn take_slot(&mut self, program: &Program<'_>, reply: &SlotReply) -> Result<(), NoMemory>
-        ensures takes { OnOk result ((m : List ARange) → whole self.new m ≡ taking.takes_slot program.now (whole self.old m) reply.now) }
+        ensures takes { OnOk result ((m : List ARange)
+            → whole self.new m ≡ taking.takes_slot program.now (whole self.old m) reply.now) }
         ensures name { OnOk result (self.new.name ≡ self.old.name) }
     {
         match reply {
@@ -95,7 +98,9 @@ impl Actor {
     /// The load at hand has its value.
     #[inline(always)]
     fn take_load(&mut self, program: &Program<'_>, value: u32)
-        ensures takes { (m : List ARange) → whole self.new m ≡ taking.loads_at (whole self.old m) (option_and_then decode (fetch program.now self.old.hart.pc)) value }
+        ensures takes { (m : List ARange) → whole self.new m
+            ≡ taking.loads_at (whole self.old m)
+            (option_and_then decode (fetch program.now self.old.hart.pc)) value }
         ensures name { self.new.name ≡ self.old.name }
     {
         let Some(Some(instr)) = program.fetch(self.hart.pc) else {
@@ -109,7 +114,8 @@ impl Actor {
     /// What a stream's reply makes of it.
     #[inline(never)]
     fn take_stream(&mut self, fd: FdNo, reply: &StreamReply) -> Result<(), NoMemory>
-        ensures takes { OnOk result ((m : List ARange) → whole self.new m ≡ taking.takes_stream (whole self.old m) fd reply.now) }
+        ensures takes { OnOk result ((m : List ARange)
+            → whole self.new m ≡ taking.takes_stream (whole self.old m) fd reply.now) }
         ensures name { OnOk result (self.new.name ≡ self.old.name) }
     {
         match reply {

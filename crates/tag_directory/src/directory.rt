@@ -70,7 +70,8 @@ impl Directory {
     /// Gives out the place released last, or the least place never used, with the next number. `Full`
     /// exactly where no place is left, or no number below 4,294,967,295.
     pub fn claim(&mut self) -> Result<Claimed, ClaimFault>
-        ensures ok { IfOk result (λ c. reply.Claimed c.place c.number ≡ directories.claim_reply self.old (directories.claim self.old)) }
+        ensures ok { IfOk result (λ c. reply.Claimed c.place c.number
+            ≡ directories.claim_reply self.old (directories.claim self.old)) }
         ensures next { OnOk result (self.new ≡ directories.claim_next self.old (directories.claim self.old)) }
         ensures before { IfOk result (λ c. directories.is_claimed self.old c.place ≡ false) }
         ensures after { IfOk result (λ c. directories.is_claimed self.new c.place ≡ true) }

@@ -1,11 +1,10 @@
 -- What an actor wants fits the cells.
-use Rattle.std.proofs.Common.{◌≡◌, ℕ, refl}
+use Rattle.std.proofs.Common.{refl}
 use Rattle.std.specs.Prelude.{Option, Some, None, option_map}
 use Rattle.wedge_base.specs.Slots.{Segment, IsPair}
 use Rattle.wedge_base.specs.declared.events.SlotWant.TheVariants as slot_want
 use Rattle.wedge_base.specs.declared.events.Want.{Want}
 use Rattle.wedge_base.specs.declared.events.Want.TheVariants as want
-use Rattle.wedge_base.specs.declared.cells.LivesAsk.TheVariants as lives_ask
 use Rattle.wedge_base.specs.declared.cells.StreamAsk.TheVariants as stream_ask
 use Rattle.sthread_life.specs.Actors.{ActorState}
 use Rattle.sthread_life.specs.Between.{WantFits}

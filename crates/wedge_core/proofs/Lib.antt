@@ -6,3 +6,5 @@ pub mod Numbering
 pub mod CellPlaces
 pub mod Fitting
 pub mod Advancing
+pub mod Alone
+pub mod Replays

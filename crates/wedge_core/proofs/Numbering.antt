@@ -1,5 +1,5 @@
 -- Entries by their places.
-use Rattle.std.proofs.Common.{◌≡◌, ℕ, ◌+◌, List, [], ◌∷◌, ◌++◌, length, refl, sym, ap, subst, ◌∙◌, true, append_assoc, arith}
+use Rattle.std.proofs.Common.{◌≡◌, ℕ, ◌+◌, List, [], ◌∷◌, ◌++◌, length, refl, sym, ap, subst, ◌∙◌, true, arith}
 use Rattle.wedge_base.specs.Journals.{turns_of, numbered}
 use Rattle.wedge_base.specs.declared.events.Turn.{Turn}
 use Rattle.wedge_base.specs.declared.events.LogEntry.{LogEntry}
@@ -7,13 +7,13 @@ use Rattle.wedge_base.specs.declared.outcome.Outcome.{Outcome}
 use Rattle.wedge_base.specs.Images.{Image}
 use Rattle.sthread_life.specs.Worlds.{WorldState, opening, is_whole, Runs}
 use Rattle.sthread_life.specs.Outcomes.{outcome_of}
-use Rattle.sthread_life.proofs.Mediating.{moments_lawful}
-use Rattle.sthread_life.proofs.Writing.{runs_write_their_own}
 use Rattle.wedge_base.specs.declared.events.Event.{Event}
 use Rattle.std.proofs.lemmas.List.{map-append, length-map}
 use Rattle.sthread_life.proofs.Settling.{whole_alike, outcome_alike}
 use Rattle.wedge_core.specs.Progress.{LeadsTo}
 use Rattle.wedge_core.specs.Serial.{IsWholeRun, IsNumbered, Notes}
+use Rattle.wedge_core.proofs.Alone.{root_goes_on}
+use Rattle.wedge_core.proofs.Replays.{complete_of}
 
 abbrev pub entry : ℕ → Turn → LogEntry
 entry stamp t = record { stamp = stamp; actor = t.actor; event = t.event }
@@ -49,11 +49,9 @@ pub whole_run_of : (i : Image) (w : WorldState) (entries : List LogEntry) (outco
     → outcome ≡ outcome_of w → IsWholeRun i entries outcome
 whole_run_of i w entries outcome image leads whole ends =
     let run : Runs (opening i) (turns_of entries) leads.last = subst (λ (j : Image). Runs (opening j) (turns_of entries) leads.last) image leads.run in
+    let ended = sym (whole_alike w leads.last leads.alike) ∙ whole in
     record {
       last = leads.last;
-      run = run;
-      whole = sym (whole_alike w leads.last leads.alike) ∙ whole;
+      complete = complete_of i (turns_of entries) leads.last run ended (root_goes_on i (turns_of entries) leads.last run);
       ends = ends ∙ outcome_alike w leads.last leads.alike;
-      lawful = moments_lawful i (turns_of entries) leads.last run;
-      written = runs_write_their_own i (turns_of entries) leads.last run;
     }

@@ -1,5 +1,5 @@
 -- What makes a turn.
-use Rattle.std.proofs.Common.{◌≡◌, ℕ, Bool, true, false, List, [], ◌∷◌, ◌++◌, refl, sym, ap, subst, ◌∙◌}
+use Rattle.std.proofs.Common.{◌≡◌, ℕ, Bool, true, false, List, [], ◌∷◌, ◌++◌, sym, ap, subst, ◌∙◌}
 use Rattle.std.specs.Prelude.{Option, Some, None, IsSomeAnd, option_map, slice_get, slice_set}
 use Rattle.wedge_base.specs.Images.{Image}
 use Rattle.wedge_base.specs.declared.events.Want.{Want}
@@ -9,7 +9,7 @@ use Rattle.sthread_life.specs.Actors.{ActorState}
 use Rattle.sthread_life.specs.Local.{rest, has_ended}
 use Rattle.sthread_life.specs.Taking.{wanted, takes}
 use Rattle.sthread_life.specs.Cells.{Cells, cells_after}
-use Rattle.sthread_life.specs.Worlds.{opening, actor_named, put_actor, event_at, happened, wanting, turn_with, turn_of, Runs}
+use Rattle.sthread_life.specs.Worlds.{opening, actor_named, put_actor, event_at, happened, wanting, turn_with, turn_of}
 use Rattle.sthread_life.proofs.Settling.{turns_alike}
 use Rattle.wedge_core.specs.Progress.{IsRun, IsTurn, HasEnded, IsFound, IsPlaceOf, state_of}
 use Rattle.wedge_core.proofs.Runs.{Runs-push}

@@ -11,7 +11,6 @@ use Rattle.wedge_base.specs.declared.cells.SlotReply.TheVariants as slot_reply
 use Rattle.wedge_base.specs.declared.cells.StreamReply.{StreamReply}
 use Rattle.wedge_base.specs.declared.cells.StreamReply.TheVariants as reply
 use Rattle.wedge_base.specs.declared.cells.LivesAsk.TheVariants as lives_ask
-use Rattle.wedge_base.specs.Lives.{lives_reply}
 use Rattle.rv_isa.specs.declared.Instr.{Instr}
 use Rattle.rv_isa.specs.Table.{decode}
 use Rattle.rv_hart.specs.declared.Need.{Need}
@@ -21,10 +20,10 @@ use Rattle.wedge_base.specs.declared.rights.End.{End}
 use Rattle.sthread_life.specs.declared.phase.Phase.{Phase}
 use Rattle.sthread_life.specs.declared.phase.Phase.TheVariants as phase
 use Rattle.sthread_life.specs.Actors.{ActorState, root}
-use Rattle.sthread_life.specs.Local.{rest, is_running, has_ended}
+use Rattle.sthread_life.specs.Local.{rest, is_running}
 use Rattle.sthread_life.specs.Taking.{wanted, wanted_at, runs, loads_by, loads_at, takes, takes_stream}
 use Rattle.sthread_life.specs.Cells.{Cells}
-use Rattle.sthread_life.specs.Worlds.{WorldState, opening, actor_named, put_actor, event_at}
+use Rattle.sthread_life.specs.Worlds.{WorldState, opening, actor_named, put_actor}
 use Rattle.sthread_life.specs.Between.{IsBetween}
 use Rattle.sthread_life.proofs.Resting.{HasPaid, rests, running_is, rest-name, rest-stays}
 use Rattle.sthread_life.proofs.Between.{takes_name, takes_between, turn_parts, event_for, parts_event_is}

@@ -1,3 +1,4 @@
 pub mod Progress
 pub mod Serial
 pub mod Built
+pub mod Replay

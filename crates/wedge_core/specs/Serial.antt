@@ -1,5 +1,5 @@
--- Whole runs.
-use Rattle.std.specs.Prelude.{◌≡◌, ◌+◌, ◌*◌, ◌++◌, ◌∷◌, [], length, ℕ, true, List, Option, Some, None}
+-- Complete runs.
+use Rattle.std.specs.Prelude.{◌≡◌, ◌+◌, ◌*◌, ◌++◌, ◌∷◌, [], length, ℕ, true, false, List, Option, Some, None, if◌then◌else◌}
 use Rattle.wedge_base.specs.Images.{Image}
 use Rattle.wedge_base.specs.Names.{root_name}
 use Rattle.wedge_base.specs.Journals.{turns_of, numbered}
@@ -9,24 +9,44 @@ use Rattle.wedge_base.specs.declared.outcome.Outcome.{Outcome}
 use Rattle.sthread_life.specs.Actors.{ActorState}
 use Rattle.sthread_life.specs.declared.phase.Phase.{Phase}
 use Rattle.sthread_life.specs.declared.phase.Phase.TheVariants as phase
+use Rattle.sthread_life.specs.Local.{has_ended}
 use Rattle.sthread_life.specs.Taking.{takes}
 use Rattle.wedge_base.specs.declared.events.Want.{Want}
-use Rattle.sthread_life.specs.Moments.{EachMoment}
+use Rattle.wedge_base.specs.declared.events.Turn.{Turn}
+use Rattle.sthread_life.specs.Moments.{EachStep, EachMoment}
 use Rattle.sthread_life.specs.Laws.{IsLawful, IsWrittenByOwners}
 use Rattle.sthread_life.specs.Cells.{Cells, cells_after}
 use Rattle.sthread_life.specs.Worlds.{event_at, WorldState, opening, actor_named, Runs, is_whole}
 use Rattle.wedge_core.specs.Progress.{IsPlaceOf}
 use Rattle.sthread_life.specs.Outcomes.{outcome_of}
 
--- entries tell a complete run of the image with this outcome: each moment of it is lawful, and the bytes of
--- each tag and of each stream come from those who may write them alone
+-- before each of these turns the root has not ended
+abbrev pub RootGoesOn : WorldState → List Turn → Type 0
+RootGoesOn w turns = EachStep (λ old t new. is_whole old ≡ false) w turns
+
+-- the turns are a complete run of the image, up to the end of its root: each moment of it is lawful, and the
+-- bytes of each tag and of each stream come from those who may write them alone
+pub record IsCompleteRun (i : Image) (turns : List Turn) (last : WorldState) : Type 0 where
+  pub run : Runs (opening i) turns last
+  pub whole : is_whole last ≡ true
+  pub goes_on : RootGoesOn (opening i) turns
+  pub lawful : EachMoment IsLawful (opening i) turns
+  pub written : IsWrittenByOwners i turns last
+
+-- entries tell a complete run of the image with this outcome
 pub record IsWholeRun (i : Image) (entries : List LogEntry) (outcome : Outcome) : Type 0 where
   pub last : WorldState
-  pub run : Runs (opening i) (turns_of entries) last
-  pub whole : is_whole last ≡ true
+  pub complete : IsCompleteRun i (turns_of entries) last
   pub ends : outcome ≡ outcome_of last
-  pub lawful : EachMoment IsLawful (opening i) (turns_of entries)
-  pub written : IsWrittenByOwners i (turns_of entries) last
+
+-- the name of the actor that was started last and has not ended: an actor is added behind the others as it starts
+abbrev pub newest : List ActorState → Option (List ℕ)
+newest [] = None
+newest (a ∷ as_) = elim (newest as_) [ Some name ↦ Some name | None ↦ if has_ended a.phase then None else Some a.name ]
+
+-- each turn is that of the actor that was started last and has not ended
+abbrev pub InSerialOrder : WorldState → List Turn → Type 0
+InSerialOrder w turns = EachStep (λ old t new. newest old.actors ≡ Some t.actor) w turns
 
 -- stamps are the places of the entries, from 1
 abbrev pub IsNumbered : List LogEntry → Type 0

@@ -156,7 +156,9 @@ fn ask_slot(slots: &mut Vec<SlotState>, slot: Slot, ask: &SlotAsk) -> Result<Slo
     requires inside { slot < length slots.old.items }
     requires fits { SlotFits (held (slice_get slots.old.items slot)) ask.now }
     ensures is { IfOk result (λ r. r ≡ slot_reply (held (slice_get slots.old.items slot)) ask.now) }
-    ensures after { OnOk result (slots.new.items ≡ slice_set slots.old.items slot (slot_next (held (slice_get slots.old.items slot)) ask.now)) }
+    ensures after { OnOk result (slots.new.items
+        ≡ slice_set slots.old.items slot
+        (slot_next (held (slice_get slots.old.items slot)) ask.now)) }
     ensures err { OnErr result (slots.new.items ≡ slots.old.items) }
     ensures count { length slots.new.items ≡ length slots.old.items }
 {
@@ -169,7 +171,9 @@ fn ask_slot(slots: &mut Vec<SlotState>, slot: Slot, ask: &SlotAsk) -> Result<Slo
 fn ask_stream(streams: &mut Vec<Stream>, fd: u32, ask: &StreamAsk) -> Result<StreamReply, NoMemory>
     requires { fd < length streams.old.items }
     ensures is { IfOk result (λ r. r ≡ stream_reply (held (slice_get streams.old.items fd)) ask.now) }
-    ensures after { OnOk result (streams.new.items ≡ slice_set streams.old.items fd (stream_next (held (slice_get streams.old.items fd)) ask.now)) }
+    ensures after { OnOk result (streams.new.items
+        ≡ slice_set streams.old.items fd
+        (stream_next (held (slice_get streams.old.items fd)) ask.now)) }
     ensures err { OnErr result (streams.new.items ≡ streams.old.items) }
     ensures count { length streams.new.items ≡ length streams.old.items }
 {
@@ -181,7 +185,8 @@ fn ask_stream(streams: &mut Vec<Stream>, fd: u32, ask: &StreamAsk) -> Result<Str
 fn opening_slots(alloc: Global, tags: &[TagEntry]) -> Result<Vec<SlotState>, NoMemory>
     requires few { length tags.now ≤ 256 }
     requires each { AllByRecursion IsTag tags.now }
-    ensures is { IfOk result (λ v. v.items ≡ declared_slots 0 tags.now ++ nothings (most_slots - length tags.now)) }
+    ensures is { IfOk result (λ v. v.items
+        ≡ declared_slots 0 tags.now ++ nothings (most_slots - length tags.now)) }
     ensures all { IfOk result (λ v. length v.items ≡ most_slots) }
 {
     let mut slots = declared_slots(alloc, tags)?;
@@ -210,7 +215,8 @@ fn declared_slots(alloc: Global, tags: &[TagEntry]) -> Result<Vec<SlotState>, No
 /// The streams as a run begins: those of the declared descriptors, and then none.
 fn opening_streams(alloc: Global, fds: &[FdEntry]) -> Result<Vec<Stream>, NoMemory>
     requires { length fds.now ≤ most_fds }
-    ensures is { IfOk result (λ v. v.items ≡ map (λ f. Some (declared_stream f)) fds.now ++ nothings (most_fds - length fds.now)) }
+    ensures is { IfOk result (λ v. v.items
+        ≡ map (λ f. Some (declared_stream f)) fds.now ++ nothings (most_fds - length fds.now)) }
     ensures all { IfOk result (λ v. length v.items ≡ most_fds) }
 {
     let mut streams = declared_streams(alloc, fds)?;

@@ -58,7 +58,8 @@ fn add_actor(
     resident: &Resident,
     lines: &mut Vec<ActorLine>,
 ) -> Result<(), NoMemory>
-    ensures { OnOk result (lines.new.items ≡ outcomes.with_actor image.now resident.now resident.now.phase lines.old.items) }
+    ensures { OnOk result (lines.new.items
+        ≡ outcomes.with_actor image.now resident.now resident.now.phase lines.old.items) }
 {
     match resident.actor.phase() {
         Phase::Ended(end) => {
@@ -130,7 +131,8 @@ fn add_stream(
     stream: &Stream,
     lines: &mut Vec<StreamLine>,
 ) -> Result<(), NoMemory>
-    ensures { OnOk result (lines.new.items ≡ lines.old.items ++ outcomes.with_stream image.now number stream.now []) }
+    ensures { OnOk result (lines.new.items
+        ≡ lines.old.items ++ outcomes.with_stream image.now number stream.now []) }
 {
     match stream.kind() {
         None | Some(StreamKind::Source) => Ok(()),
@@ -148,7 +150,11 @@ fn stream_line(
     number: u32,
     stream: &Stream,
 ) -> Result<StreamLine, NoMemory>
-    ensures { IfOk result (λ l. l ≡ record { number = number; label = outcomes.label_of image.now number; bytes = unwrap_or (option_map (λ s. s.bytes) stream.now) [] }) }
+    ensures { IfOk result (λ l. l ≡ record {
+      number = number;
+      label = outcomes.label_of image.now number;
+      bytes = unwrap_or (option_map (λ s. s.bytes) stream.now) [];
+    }) }
 {
     Ok(StreamLine {
         number: FdNo(number),

@@ -1,7 +1,8 @@
-//! Why there is no turn.
+//! Why there is no turn, and why a schedule is rejected.
 
 ghost use Rattle.std.specs.Prelude.{◌≡◌};
 ghost use Rattle.wedge_core.specs.declared.error.NoTurn.TheVariants as errors;
+ghost use Rattle.wedge_core.specs.declared.error.ReplayFault.TheVariants as faults;
 
 use wedge_base::NoMemory;
 
@@ -21,5 +22,36 @@ impl From<NoMemory> for NoTurn {
 
     fn from(_e: NoMemory) -> NoTurn {
         NoTurn::NoMemory
+    }
+}
+
+/// Why a schedule is rejected at one of its names.
+#[derive(Clone, Copy, Debug, PartialEq, Eq)]
+pub enum Why {
+    /// No actor of that name has started.
+    Unknown,
+    /// The actor has ended.
+    Ended,
+    /// No name is left, and the root has not ended.
+    Short,
+    /// The root has ended before this name.
+    Extra,
+}
+
+/// Why a schedule has no replay.
+#[derive(Clone, Copy, Debug, PartialEq, Eq)]
+pub enum ReplayFault {
+    /// Out of memory.
+    NoMemory,
+    /// The schedule is rejected at the name of this number, from 1. A schedule that is too short is rejected at
+    /// the number of its names plus 1.
+    BadSchedule { at: usize, why: Why },
+}
+
+impl From<NoMemory> for ReplayFault {
+    ghost from_gives = { λ _ e. e ≡ faults.NoMemory };
+
+    fn from(_e: NoMemory) -> ReplayFault {
+        ReplayFault::NoMemory
     }
 }

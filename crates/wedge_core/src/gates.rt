@@ -43,7 +43,9 @@ pub(crate) fn ask_gate(
 ) -> Result<GateReply, NoMemory>
     requires { GateFits (kept_among gates.old.items id.now) ask.now }
     ensures is { IfOk result (λ r. r ≡ gate_reply (kept_among gates.old.items id.now) ask.now) }
-    ensures after { OnOk result (gates.new.items ≡ put_kept gates.old.items id.now (gate_next (kept_among gates.old.items id.now) ask.now)) }
+    ensures after { OnOk result (gates.new.items
+        ≡ put_kept gates.old.items id.now
+        (gate_next (kept_among gates.old.items id.now) ask.now)) }
     ensures err { OnErr result (gates.new.items ≡ gates.old.items) }
 {
     match place_of(gates, id) {
@@ -62,7 +64,9 @@ fn ask_at(
     requires there { IsGateAt gates.old.items id.now place }
     requires fits { GateFits (kept_among gates.old.items id.now) ask.now }
     ensures is { IfOk result (λ r. r ≡ gate_reply (kept_among gates.old.items id.now) ask.now) }
-    ensures after { OnOk result (gates.new.items ≡ put_kept gates.old.items id.now (gate_next (kept_among gates.old.items id.now) ask.now)) }
+    ensures after { OnOk result (gates.new.items
+        ≡ put_kept gates.old.items id.now
+        (gate_next (kept_among gates.old.items id.now) ask.now)) }
     ensures err { OnErr result (gates.new.items ≡ gates.old.items) }
 {
     let cell = &mut gates[place];
@@ -78,7 +82,8 @@ fn ask_new(
 ) -> Result<GateReply, NoMemory>
     requires { GateFits gate_opening ask.now }
     ensures is { IfOk result (λ r. r ≡ gate_reply gate_opening ask.now) }
-    ensures after { OnOk result (gates.new.items ≡ gates.old.items ++ record { id = id.now; kept = gate_next gate_opening ask.now } ∷ []) }
+    ensures after { OnOk result (gates.new.items
+        ≡ gates.old.items ++ record { id = id.now; kept = gate_next gate_opening ask.now } ∷ []) }
     ensures err { OnErr result (gates.new.items ≡ gates.old.items) }
 {
     let mut kept = Kept::new(alloc);
@@ -92,7 +97,8 @@ fn ask_new(
 fn place_of(gates: &[GateCell], id: &GateId) -> Option<usize>
     ensures found { IfSome result (IsGateAt gates.now id.now) }
     ensures unknown { IfNone result (kept_among gates.now id.now ≡ gate_opening) }
-    ensures behind { IfNone result ((k : AKept) → put_kept gates.now id.now k ≡ gates.now ++ record { id = id.now; kept = k } ∷ []) }
+    ensures behind { IfNone result ((k : AKept)
+        → put_kept gates.now id.now k ≡ gates.now ++ record { id = id.now; kept = k } ∷ []) }
 {
     for i in 0..gates.len() {
         if gates[i].is_of(id) {

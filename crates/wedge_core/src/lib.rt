@@ -1,4 +1,4 @@
-//! The core: a world of actors and cells, its turns, and whole runs of it on one thread.
+//! The core: a world of actors and cells, its turns, and complete runs of it on one thread.
 #![tactic(auto)]
 
 mod built;
@@ -6,6 +6,7 @@ mod cells;
 mod ending;
 mod error;
 mod gates;
+mod replaying;
 mod residents;
 mod serially;
 #[cfg(test)]
@@ -16,7 +17,8 @@ mod world;
 pub use built::is_built;
 pub use cells::Cells;
 pub use ending::outcome;
-pub use error::NoTurn;
+pub use error::{NoTurn, ReplayFault, Why};
+pub use replaying::{complete_runs_replay, replay};
 pub use serially::serial;
 pub use turns::{Taken, turn};
 pub use world::{World, open_world};

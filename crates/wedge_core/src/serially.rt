@@ -1,9 +1,10 @@
-//! Whole runs on one thread.
+//! Complete runs on one thread.
 
 ghost use Rattle.std.specs.Prelude.{◌≡◌, ◌<◌, ◌≤◌, ◌^◌, length, IfOk, OnOk, true, false};
 ghost use Rattle.wedge_base.specs.Names.{root_name};
 ghost use Rattle.sthread_life.specs.Worlds as worlds;
-ghost use Rattle.wedge_core.specs.Serial.{IsWholeRun, IsNumbered, HasRoot, root_work};
+ghost use Rattle.wedge_core.specs.Serial.{IsWholeRun, IsNumbered, InSerialOrder, HasRoot, root_work};
+ghost use Rattle.wedge_base.specs.Journals.{turns_of};
 
 use crate::ending::outcome;
 use crate::turns::advance;
@@ -12,11 +13,13 @@ use image_form::Image;
 use std::alloc::Global;
 use wedge_base::{ActorName, Items, Journal, NoMemory, Outcome};
 
-/// A whole run of an image, on the calling thread: its journal and its outcome. The stamps of the
-/// journal are the places of its entries, from 1.
+/// A complete run of an image, on the calling thread: its journal and its outcome. The stamps of the
+/// journal are the places of its entries, from 1. Each turn is that of the actor that was started last and
+/// has not ended.
 pub fn serial(alloc: Global, image: &Image) -> Result<(Journal, Outcome), NoMemory>
     ensures run { IfOk result (λ r. IsWholeRun image.now r.0.entries r.1) }
     ensures stamps { IfOk result (λ r. IsNumbered r.0.entries) }
+    ensures order { IfOk result (λ r. InSerialOrder (worlds.opening image.now) (turns_of r.0.entries)) }
 {
     let root = ActorName::root(alloc)?;
     let mut world = open_world(alloc, image)?;

@@ -4,7 +4,8 @@ use std::alloc::Global;
 use std::process::Abort;
 use std::test::Fail;
 use wedge_base::{
-    ActorName, Bytes, FdEntry, Items, MemoryRange, NoMemory, Procedure, Right, Slot, TagEntry,
+    ActorName, Bytes, FdEntry, Items, Journal, MemoryRange, NoMemory, Outcome, Procedure, Right,
+    Slot, TagEntry,
 };
 
 /// LUI t0, 0x40000; ADDI t0, t0, 0; ADDI t1, zero, 5; SW t1, 0(t0).
@@ -86,5 +87,91 @@ fn a_slot_without_a_tag_has_no_bytes(rt: HostRuntime) -> Result<(), Fail> {
     let world = open_world(rt.alloc(), &image).ok().ok_or("a world")?;
     assert!(rt; world.cells().bytes(Slot(1)).is_none());
     assert!(rt; world.cells().bytes(Slot(4095)).is_none());
+    Ok(())
+}
+
+/// The names of the actors of a journal's entries.
+fn schedule_of(alloc: Global, journal: &Journal) -> Result<Vec<ActorName>, NoMemory> {
+    let mut names = Vec::new(alloc);
+    for entry in journal.entries.as_slice() {
+        names.push(entry.actor.copy()?)?;
+    }
+    Ok(names)
+}
+
+/// The names of the actors of a run of an image, and the fuel that is left at its end.
+fn run_of(alloc: Global, image: &Image) -> Result<(Vec<ActorName>, Option<u32>), NoMemory> {
+    let (journal, outcome) = serial(alloc, image)?;
+    let names = schedule_of(alloc, &journal)?;
+    Ok((names, fuel_left(&outcome)))
+}
+
+/// The fuel that the first actor of an outcome has left.
+fn fuel_left(outcome: &Outcome) -> Option<u32> {
+    Some(outcome.actors.as_slice().first()?.fuel)
+}
+
+/// The same of the replay of a schedule, or why it has none.
+fn replay_of(
+    alloc: Global,
+    image: &Image,
+    names: &[ActorName],
+) -> Result<Option<u32>, ReplayFault> {
+    let world = replay(alloc, image, names)?;
+    let outcome = outcome(alloc, &world)?;
+    Ok(fuel_left(&outcome))
+}
+
+#[test]
+fn the_schedule_of_a_run_replays_to_its_outcome(rt: HostRuntime) -> Result<(), Fail> {
+    let image = image(rt.alloc(), Some(Right::ReadWrite))?;
+    let (names, fuel) = run_of(rt.alloc(), &image)?;
+    assert_eq!(rt; names.len(), 2);
+    assert_eq!(rt; fuel, Some(96));
+    let replayed = replay_of(rt.alloc(), &image, &names);
+    assert_eq!(rt; replayed, Ok(fuel));
+    Ok(())
+}
+
+/// A schedule: the root for 0, and its k-th child for k.
+fn schedule(alloc: Global, numbers: &[u32]) -> Result<Vec<ActorName>, Fail> {
+    let mut names = Vec::new(alloc);
+    for number in numbers {
+        names.push(name_of(alloc, *number)?)?;
+    }
+    Ok(names)
+}
+
+/// The root for 0, and its k-th child for k.
+fn name_of(alloc: Global, number: u32) -> Result<ActorName, Fail> {
+    let root = ActorName::root(alloc)?;
+    if number == 0 {
+        return Ok(root);
+    }
+    Ok(root.child(alloc, number).ok().ok_or("a name")?)
+}
+
+/// What a schedule replays to, over the image whose root has two turns.
+fn try_schedule(alloc: Global, numbers: &[u32]) -> Result<Result<Option<u32>, ReplayFault>, Fail> {
+    let image = image(alloc, Some(Right::ReadWrite))?;
+    let names = schedule(alloc, numbers)?;
+    Ok(replay_of(alloc, &image, &names))
+}
+
+#[test]
+fn a_schedule_is_rejected_at_its_first_bad_name(rt: HostRuntime) -> Result<(), Fail> {
+    let cases: [(&[u32], usize, Why); 7] = [
+        (&[], 1, Why::Short),
+        (&[0], 2, Why::Short),
+        (&[0, 0, 0], 3, Why::Extra),
+        (&[0, 0, 1], 3, Why::Extra),
+        (&[1], 1, Why::Unknown),
+        (&[0, 1], 2, Why::Unknown),
+        (&[0, 2, 0, 0], 2, Why::Unknown),
+    ];
+    for (numbers, at, why) in cases {
+        let got = try_schedule(rt.alloc(), numbers)?;
+        assert_eq!(rt; got, Err(ReplayFault::BadSchedule { at, why }));
+    }
     Ok(())
 }

@@ -33,13 +33,19 @@ pub struct Taken {
 /// After `Unknown` or `Ended` the world is unchanged; after `NoMemory` it has stopped.
 pub fn turn(world: &mut World<'_>, name: &ActorName) -> Result<Taken, NoTurn>
     ensures took { IfOk result (λ t. IsTurn world.old.state name.now t.event world.new.state) }
-    ensures noted { IfOk result (λ t. world.new.turns ≡ world.old.turns ++ record { actor = name.now; event = t.event } ∷ []) }
-    ensures lawful { IfOk result (λ t. TurnHas IsLawful world.old.state (record { actor = name.now; event = t.event }) world.new.state) }
-    ensures owned { IfOk result (λ t. StepWritesOwn world.old.state (record { actor = name.now; event = t.event }) world.new.state) }
-    ensures appended { IfOk result (λ t. StepAppendsOwn world.old.state (record { actor = name.now; event = t.event }) world.new.state) }
+    ensures noted { IfOk result (λ t. world.new.turns
+        ≡ world.old.turns ++ record { actor = name.now; event = t.event } ∷ []) }
+    ensures lawful { IfOk result (λ t. TurnHas IsLawful world.old.state
+        (record { actor = name.now; event = t.event }) world.new.state) }
+    ensures owned { IfOk result (λ t. StepWritesOwn world.old.state
+        (record { actor = name.now; event = t.event }) world.new.state) }
+    ensures appended { IfOk result (λ t. StepAppendsOwn world.old.state
+        (record { actor = name.now; event = t.event }) world.new.state) }
 
-    ensures unknown { IsErrOf result NoTurn.Unknown ↔ ((world.old.stopped ≡ false) × (actor_named world.old.state.actors name.now ≡ None)) }
-    ensures ended { IsErrOf result NoTurn.Ended ↔ ((world.old.stopped ≡ false) × HasEnded world.old.state.actors name.now) }
+    ensures unknown { IsErrOf result NoTurn.Unknown
+        ↔ ((world.old.stopped ≡ false) × (actor_named world.old.state.actors name.now ≡ None)) }
+    ensures ended { IsErrOf result NoTurn.Ended
+        ↔ ((world.old.stopped ≡ false) × HasEnded world.old.state.actors name.now) }
     ensures unchanged { IsErrOf result NoTurn.Unknown ⊎ IsErrOf result NoTurn.Ended → world.new ≡ world.old }
 
     // out of memory
@@ -77,7 +83,8 @@ pub(crate) fn advance(
 ) -> Result<bool, NoMemory>
     requires going { world.old.stopped ≡ false }
     requires there { IsPlaceOf world.old.state.actors name.now place }
-    ensures took { IfOk result (λ b. b ≡ true → (e : AnEvent) × IsTurn world.old.state name.now e world.new.state) }
+    ensures took { IfOk result (λ b. b ≡ true
+        → (e : AnEvent) × IsTurn world.old.state name.now e world.new.state) }
     ensures ended { IfOk result (λ b. b ≡ false → HasEnded world.old.state.actors name.now) }
     ensures unchanged { IfOk result (λ b. b ≡ false → world.new ≡ world.old) }
     ensures going { OnOk result (world.new.stopped ≡ false) }
@@ -108,13 +115,15 @@ fn turn_over(
     entries: &mut Vec<LogEntry>,
     name: &ActorName,
 ) -> Result<Event, NoTurn>
-    ensures took { IfOk result (λ e. IsTurn (state_of program.now cells.old residents.old.items) name.now e (state_of program.now cells.new residents.new.items)) }
+    ensures took { IfOk result (λ e. IsTurn (state_of program.now cells.old residents.old.items) name.now e
+        (state_of program.now cells.new residents.new.items)) }
     ensures noted { IfOk result (λ e. Notes entries.old.items name.now e entries.new.items) }
     ensures kept { OnErr result (entries.new.items ≡ entries.old.items) }
     ensures unknown { IsErrOf result NoTurn.Unknown ↔ (actor_named residents.old.items name.now ≡ None) }
     ensures ended { IsErrOf result NoTurn.Ended ↔ HasEnded residents.old.items name.now }
     ensures same_cells { IsErrOf result NoTurn.Unknown ⊎ IsErrOf result NoTurn.Ended → cells.new ≡ cells.old }
-    ensures same_actors { IsErrOf result NoTurn.Unknown ⊎ IsErrOf result NoTurn.Ended → residents.new.items ≡ residents.old.items }
+    ensures same_actors { IsErrOf result NoTurn.Unknown ⊎ IsErrOf result NoTurn.Ended
+        → residents.new.items ≡ residents.old.items }
 {
     let event = turn_event(program, cells, residents, name)?;
     let copy = event.copy(*entries.allocator())?;
@@ -132,7 +141,10 @@ fn advance_over(
     place: usize,
 ) -> Result<bool, NoMemory>
     requires { IsPlaceOf residents.old.items name.now place }
-    ensures took { IfOk result (λ b. b ≡ true → (e : AnEvent) × IsTurn (state_of program.now cells.old residents.old.items) name.now e (state_of program.now cells.new residents.new.items) × Notes entries.old.items name.now e entries.new.items) }
+    ensures took { IfOk result (λ b. b ≡ true
+        → (e : AnEvent) × IsTurn (state_of program.now cells.old residents.old.items) name.now e
+        (state_of program.now cells.new residents.new.items)
+        × Notes entries.old.items name.now e entries.new.items) }
     ensures ended { IfOk result (λ b. b ≡ false → HasEnded residents.old.items name.now) }
     ensures same_cells { IfOk result (λ b. b ≡ false → cells.new ≡ cells.old) }
     ensures same_actors { IfOk result (λ b. b ≡ false → residents.new.items ≡ residents.old.items) }
@@ -157,7 +169,10 @@ fn advance_one(
     name: &ActorName,
 ) -> Result<(), NoMemory>
     requires { has_ended resident.old.phase ≡ false }
-    ensures asks { OnOk result ((q : AWant) × (wanted (rest program.now resident.old) ≡ Some q) × IsMade program.now cells.old (rest program.now resident.old) q entries.old.items name.now cells.new resident.new entries.new.items) }
+    ensures asks { OnOk result ((q : AWant) × (wanted (rest program.now resident.old) ≡ Some q)
+        × IsMade program.now cells.old
+        (rest program.now resident.old) q entries.old.items name.now cells.new resident.new
+        entries.new.items) }
     ensures kept { OnErr result (entries.new.items ≡ entries.old.items) }
 {
     match resident.actor.local(program, &mut resident.memory)? {
@@ -177,7 +192,8 @@ fn do_want(
     want: Want,
 ) -> Result<(), NoMemory>
     requires { WantFits want }
-    ensures made { OnOk result (IsMade program.now cells.old resident.old want entries.old.items name.now cells.new resident.new entries.new.items) }
+    ensures made { OnOk result (IsMade program.now cells.old resident.old want entries.old.items name.now
+        cells.new resident.new entries.new.items) }
     ensures kept { OnErr result (entries.new.items ≡ entries.old.items) }
 {
     match want {
@@ -198,7 +214,9 @@ fn do_slot(
     want: SlotWant,
 ) -> Result<(), NoMemory>
     requires { WantFits (AWant.Slot slot want) }
-    ensures made { OnOk result (IsMade program.now cells.old resident.old (AWant.Slot slot want) entries.old.items name.now cells.new resident.new entries.new.items) }
+    ensures made { OnOk result (IsMade program.now cells.old resident.old
+        (AWant.Slot slot want) entries.old.items name.now cells.new resident.new
+        entries.new.items) }
     ensures kept { OnErr result (entries.new.items ≡ entries.old.items) }
 {
     match want {
@@ -236,7 +254,9 @@ fn load(
     width: u8,
 ) -> Result<(), NoMemory>
     requires { WantFits (AWant.Slot slot (ASlotWant.Load offset width)) }
-    ensures made { OnOk result (IsMade program.now cells.old resident.old (AWant.Slot slot (ASlotWant.Load offset width)) entries.old.items name.now cells.new resident.new entries.new.items) }
+    ensures made { OnOk result (IsMade program.now cells.old resident.old
+        (AWant.Slot slot (ASlotWant.Load offset width)) entries.old.items name.now cells.new
+        resident.new entries.new.items) }
     ensures kept { OnErr result (entries.new.items ≡ entries.old.items) }
 {
     let want = SlotWant::Load { offset, width };
@@ -264,7 +284,9 @@ fn store(
     value: u32,
 ) -> Result<(), NoMemory>
     requires { WantFits (AWant.Slot slot (ASlotWant.Store offset width value)) }
-    ensures made { OnOk result (IsMade program.now cells.old resident.old (AWant.Slot slot (ASlotWant.Store offset width value)) entries.old.items name.now cells.new resident.new entries.new.items) }
+    ensures made { OnOk result (IsMade program.now cells.old resident.old
+        (AWant.Slot slot (ASlotWant.Store offset width value)) entries.old.items name.now
+        cells.new resident.new entries.new.items) }
     ensures kept { OnErr result (entries.new.items ≡ entries.old.items) }
 {
     let want = SlotWant::Store {
@@ -293,7 +315,8 @@ fn do_other(
     want: Want,
 ) -> Result<(), NoMemory>
     requires { WantFits want }
-    ensures made { OnOk result (IsMade program.now cells.old resident.old want entries.old.items name.now cells.new resident.new entries.new.items) }
+    ensures made { OnOk result (IsMade program.now cells.old resident.old want entries.old.items name.now
+        cells.new resident.new entries.new.items) }
     ensures kept { OnErr result (entries.new.items ≡ entries.old.items) }
 {
     do_and_note(program, cells, resident, entries, name, want)
@@ -310,7 +333,8 @@ fn do_and_note(
     want: Want,
 ) -> Result<(), NoMemory>
     requires { WantFits want }
-    ensures made { OnOk result (IsMade program.now cells.old resident.old want entries.old.items name.now cells.new resident.new entries.new.items) }
+    ensures made { OnOk result (IsMade program.now cells.old resident.old want entries.old.items name.now
+        cells.new resident.new entries.new.items) }
     ensures kept { OnErr result (entries.new.items ≡ entries.old.items) }
 {
     let event = do_event(program, cells, resident, want)?;
@@ -344,11 +368,13 @@ fn turn_event(
     residents: &mut Vec<Resident>,
     name: &ActorName,
 ) -> Result<Event, NoTurn>
-    ensures took { IfOk result (λ e. IsTurn (state_of program.now cells.old residents.old.items) name.now e (state_of program.now cells.new residents.new.items)) }
+    ensures took { IfOk result (λ e. IsTurn (state_of program.now cells.old residents.old.items) name.now e
+        (state_of program.now cells.new residents.new.items)) }
     ensures unknown { IsErrOf result NoTurn.Unknown ↔ (actor_named residents.old.items name.now ≡ None) }
     ensures ended { IsErrOf result NoTurn.Ended ↔ HasEnded residents.old.items name.now }
     ensures same_cells { IsErrOf result NoTurn.Unknown ⊎ IsErrOf result NoTurn.Ended → cells.new ≡ cells.old }
-    ensures same_actors { IsErrOf result NoTurn.Unknown ⊎ IsErrOf result NoTurn.Ended → residents.new.items ≡ residents.old.items }
+    ensures same_actors { IsErrOf result NoTurn.Unknown ⊎ IsErrOf result NoTurn.Ended
+        → residents.new.items ≡ residents.old.items }
 {
     let Some(place) = place_of(residents, name) else {
         return Err(NoTurn::Unknown);
@@ -368,7 +394,8 @@ fn step(
     resident: &mut Resident,
 ) -> Result<Event, NoMemory>
     requires { has_ended resident.old.phase ≡ false }
-    ensures asks { IfOk result (λ r. (q : AWant) × (wanted (rest program.now resident.old) ≡ Some q) × (event_at cells.old (rest program.now resident.old) q ≡ Some r)) }
+    ensures asks { IfOk result (λ r. (q : AWant) × (wanted (rest program.now resident.old) ≡ Some q)
+        × (event_at cells.old (rest program.now resident.old) q ≡ Some r)) }
     ensures cells { IfOk result (λ r. cells.new ≡ cells_after cells.old r) }
     ensures takes { IfOk result (λ r. resident.new ≡ takes program.now (rest program.now resident.old) r) }
     ensures name { OnOk result (resident.new.name ≡ resident.old.name) }

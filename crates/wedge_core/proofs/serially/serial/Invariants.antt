@@ -1,5 +1,4 @@
 use Rattle.std.proofs.Common.{◌≡◌, ◌+◌, ℕ, Bool, true, false}
-use Rattle.std.specs.Prelude.{cond}
 use Rattle.sthread_life.specs.Worlds.{is_whole}
 use Rattle.wedge_core.specs.Serial.{HasRoot, root_work}
 use Rattle.wedge_core.proofs.serially.serial.Given as goal

@@ -1,4 +1,4 @@
-use Rattle.std.proofs.Common.{◌≡◌, sym, subst}
+use Rattle.std.proofs.Common.{subst}
 use Rattle.wedge_base.specs.declared.events.Turn.{Turn}
 use Rattle.wedge_base.specs.Journals.{turns_of}
 use Rattle.sthread_life.specs.Moments.{TurnHas}

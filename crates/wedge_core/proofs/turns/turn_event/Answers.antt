@@ -1,5 +1,4 @@
-use Rattle.std.proofs.Common.{◌≡◌, ◌∙◌, false, sym, subst, rules}
-use Rattle.std.specs.Prelude.{Some, slice_get}
+use Rattle.std.proofs.Common.{◌≡◌, ◌∙◌, false, subst, rules}
 use Rattle.sthread_life.specs.Local.{has_ended}
 use Rattle.sthread_life.proofs.Named.{found_name}
 use Rattle.wedge_core.specs.Progress.{IsFound, IsPlaceOf}

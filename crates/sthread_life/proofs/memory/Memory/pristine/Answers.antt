@@ -1,8 +1,7 @@
-use Rattle.std.proofs.Common.{◌≡◌, ◌∙◌, ◌∷◌, ◌++◌, ◌≤◌, [], drop, length, append-nil, sym, ap, subst, arith}
+use Rattle.std.proofs.Common.{◌∙◌, ◌∷◌, ◌++◌, ◌≤◌, length, append-nil, sym, ap, subst, arith}
 use Rattle.std.proofs.lemmas.List.{drop_all}
 use Rattle.wedge_base.specs.Bytes.{zeros}
 use Rattle.wedge_base.specs.Images.{private_base, private_size}
-use Rattle.sthread_life.specs.Actors.{pristine}
 use Rattle.sthread_life.specs.Below.{AreBelow}
 use Rattle.sthread_life.proofs.LyingBelow.{pristine_below}
 use Rattle.sthread_life.proofs.memory.Memory.pristine.Goals as goal

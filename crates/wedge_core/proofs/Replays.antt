@@ -1,0 +1,202 @@
+-- What a schedule replays to.
+use Rattle.std.proofs.Common.{◌≡◌, ℕ, zero, suc, ◌+◌, ◌<◌, ◌≤◌, Bool, true, false, List, [], ◌∷◌, ◌++◌, length, get_or, take, drop, refl, sym, ap, subst, ◌∙◌, arith}
+use Rattle.std.specs.Prelude.{Option, Some, None, Ok, Err, IsSomeAnd, if◌then◌else◌}
+use Rattle.std.proofs.lemmas.List.{map-append}
+use Rattle.wedge_base.specs.Images.{Image}
+use Rattle.wedge_base.specs.Journals.{turns_of}
+use Rattle.wedge_base.specs.declared.events.Event.{Event}
+use Rattle.wedge_base.specs.declared.events.Turn.{Turn}
+use Rattle.sthread_life.specs.Actors.{ActorState}
+use Rattle.sthread_life.specs.Local.{has_ended}
+use Rattle.sthread_life.specs.Moments.{EachStep}
+use Rattle.sthread_life.specs.Taking.{wanted}
+use Rattle.sthread_life.specs.Worlds.{WorldState, Taken, opening, actor_named, wanting, turn_with, turn_of, Runs, is_whole}
+use Rattle.sthread_life.proofs.Mediating.{moments_lawful}
+use Rattle.sthread_life.proofs.Writing.{runs_write_their_own}
+use Rattle.sthread_life.proofs.Resting.{ended-stays}
+use Rattle.wedge_core.specs.declared.error.Why.TheVariants as why
+use Rattle.wedge_core.specs.Progress.{Progress, IsTurn, HasEnded}
+use Rattle.wedge_core.specs.Serial.{IsCompleteRun, RootGoesOn}
+use Rattle.wedge_core.specs.Replay.{why_of, why_none, replayed, names_of, Follows, CompleteRunsReplay, ReplaysAreComplete, JournalsReplay}
+use Rattle.wedge_core.proofs.Alone.{ended_rest_wants}
+use Rattle.wedge_core.proofs.Runs.{Runs-push}
+
+-- ---- one name
+
+-- what comes of a name, by its turn, before the end of the root
+by_taken : (w : WorldState) (at : ℕ) (name : List ℕ) (names : List (List ℕ)) (o : Option Taken) → is_whole w ≡ false → turn_of w name ≡ o
+    → replayed w at (name ∷ names) ≡ elim o [ None ↦ Err (at, why_none w name) | Some t ↦ replayed t.world (at + 1) names ]
+by_taken w at name names o going turn =
+    ap (λ b. if b then Err (at, why.Extra) else elim (turn_of w name) [ None ↦ Err (at, why_none w name) | Some t ↦ replayed t.world (at + 1) names ]) going
+    ∙ ap (λ (x : Option Taken). elim x [ None ↦ Err (at, why_none w name) | Some t ↦ replayed t.world (at + 1) names ]) turn
+
+pub replayed_on : (w : WorldState) (at : ℕ) (name : List ℕ) (names : List (List ℕ)) (e : Event) (new : WorldState) → is_whole w ≡ false → IsTurn w name e new
+    → replayed w at (name ∷ names) ≡ replayed new (at + 1) names
+replayed_on w at name names e new going turn = by_taken w at name names (Some (record { event = e; world = new })) going turn
+
+pub replayed_none : (w : WorldState) (at : ℕ) (name : List ℕ) (names : List (List ℕ)) → is_whole w ≡ false → turn_of w name ≡ None
+    → replayed w at (name ∷ names) ≡ Err (at, why_none w name)
+replayed_none w at name names going turn = by_taken w at name names None going turn
+
+pub replayed_extra : (w : WorldState) (at : ℕ) (name : List ℕ) (names : List (List ℕ)) → is_whole w ≡ true → replayed w at (name ∷ names) ≡ Err (at, why.Extra)
+replayed_extra w at name names whole =
+    ap (λ b. if b then Err (at, why.Extra) else elim (turn_of w name) [ None ↦ Err (at, why_none w name) | Some t ↦ replayed t.world (at + 1) names ]) whole
+
+pub replayed_whole : (w : WorldState) (at : ℕ) → is_whole w ≡ true → replayed w at [] ≡ Ok w
+replayed_whole w at whole = ap (λ b. if b then Ok w else Err (at, why.Short)) whole
+
+pub replayed_short : (w : WorldState) (at : ℕ) → is_whole w ≡ false → replayed w at [] ≡ Err (at, why.Short)
+replayed_short w at going = ap (λ b. if b then Ok w else Err (at, why.Short)) going
+
+-- no actor of the name
+unknown_turn : (w : WorldState) (name : List ℕ) → actor_named w.actors name ≡ None → turn_of w name ≡ None
+unfolding turn_of
+unknown_turn w name none = ap (turn_with w) none
+
+pub replayed_unknown : (w : WorldState) (at : ℕ) (name : List ℕ) (names : List (List ℕ)) → is_whole w ≡ false → actor_named w.actors name ≡ None
+    → replayed w at (name ∷ names) ≡ Err (at, why.Unknown)
+replayed_unknown w at name names going none = replayed_none w at name names going (unknown_turn w name none) ∙ ap (λ o. Err (at, why_of o)) none
+
+-- an actor that has ended
+ended_turn : (w : WorldState) (o : Option ActorState) → IsSomeAnd o (λ (a : ActorState). has_ended a.phase ≡ true) → turn_with w o ≡ None
+ended_turn w None h = absurd h
+ended_turn w (Some a) h = ap (λ (x : ActorState). wanting w x (wanted x)) (ended-stays w.image a h) ∙ ap (wanting w a) (ap (λ (x : ActorState). wanted x) (sym (ended-stays w.image a h)) ∙ ended_rest_wants w.image a h)
+
+ended_why : (o : Option ActorState) → IsSomeAnd o (λ (a : ActorState). has_ended a.phase ≡ true) → why_of o ≡ why.Ended
+ended_why None h = absurd h
+ended_why (Some a) h = refl
+
+pub replayed_ended : (w : WorldState) (at : ℕ) (name : List ℕ) (names : List (List ℕ)) → is_whole w ≡ false → HasEnded w.actors name
+    → replayed w at (name ∷ names) ≡ Err (at, why.Ended)
+unfolding turn_of
+replayed_ended w at name names going h = replayed_none w at name names going (ended_turn w (actor_named w.actors name) h) ∙ ap (λ y. Err (at, y)) (ended_why (actor_named w.actors name) h)
+
+-- ---- runs
+
+-- a turn leads to one world
+one_world : (w a b : WorldState) (t : Turn) → turn_of w t.actor ≡ Some (record { event = t.event; world = a }) → turn_of w t.actor ≡ Some (record { event = t.event; world = b }) → a ≡ b
+one_world w a b t to_a to_b =
+    let one : record { event = t.event; world = a } ≡ record { event = t.event; world = b } = cc in ap (λ (x : Taken). x.world) one
+
+-- what holds of each step so far and of the next holds of each
+pub EachStep-push : (P : WorldState → Turn → WorldState → Type 0) (old mid new : WorldState) (turns : List Turn) (t : Turn) → EachStep P old turns → Runs old turns mid
+    → turn_of mid t.actor ≡ Some (record { event = t.event; world = new }) → P mid t new → EachStep P old (turns ++ t ∷ [])
+EachStep-push P old mid new [] t each run e h =
+    subst (λ w. (m : WorldState) × (turn_of w t.actor ≡ Some (record { event = t.event; world = m })) × P w t m × Unit {0}) run (new, e, h, tt)
+EachStep-push P old mid new (u ∷ us) t each run e h =
+    let is = one_world old run.0 each.0 u run.1 each.1 in
+    (each.0, each.1, each.2, EachStep-push P each.0 mid new us t each.3 (subst (λ w. Runs w us mid) is run.2) e h)
+
+complete_replays : (w : WorldState) (at : ℕ) (turns : List Turn) (last : WorldState) → Runs w turns last → is_whole last ≡ true → RootGoesOn w turns → replayed w at (names_of turns) ≡ Ok last
+complete_replays w at [] last run whole goes = replayed_whole w at (ap is_whole (sym run) ∙ whole) ∙ ap (λ x. Ok x) (sym run)
+complete_replays w at (t ∷ ts) last run whole goes =
+    let is = one_world w goes.0 run.0 t goes.1 run.1 in
+    replayed_on w at t.actor (names_of ts) t.event run.0 goes.2 run.1
+    ∙ complete_replays run.0 (at + 1) ts last run.2 whole (subst (λ m. RootGoesOn m ts) is goes.3)
+
+pub complete_runs_replay : CompleteRunsReplay
+complete_runs_replay i turns last run whole goes = complete_replays (opening i) 1 turns last run whole goes
+
+pub journals_replay : JournalsReplay
+journals_replay i entries outcome whole = (whole.last, complete_runs_replay i (turns_of entries) whole.last whole.complete.run whole.complete.whole whole.complete.goes_on, whole.ends)
+
+-- a complete run by these names
+record IsBy (names : List (List ℕ)) (old last : WorldState) : Type 0 where
+  turns : List Turn
+  by_names : names_of turns ≡ names
+  run : Runs old turns last
+  whole : is_whole last ≡ true
+  goes_on : RootGoesOn old turns
+
+none_left : (w : WorldState) (at : ℕ) (last : WorldState) (t : Bool) → is_whole w ≡ t → replayed w at [] ≡ Ok last → IsBy [] w last
+none_left w at last false e r = let short = replayed_short w at e in absurd cc
+none_left w at last true e r =
+    let here = replayed_whole w at e in
+    let is : w ≡ last = cc in
+    record { turns = []; by_names = refl; run = sym is; whole = subst (λ x. is_whole x ≡ true) is e; goes_on = tt }
+
+by_first : (w : WorldState) (name : List ℕ) (names : List (List ℕ)) (t : Taken) (last : WorldState) → is_whole w ≡ false → turn_of w name ≡ Some t → IsBy names t.world last → IsBy (name ∷ names) w last
+by_first w name names t last going turn rest = record {
+  turns = record { actor = name; event = t.event } ∷ rest.turns;
+  by_names = ap (λ ns. name ∷ ns) rest.by_names;
+  run = (t.world, turn, rest.run);
+  whole = rest.whole;
+  goes_on = (t.world, turn, going, rest.goes_on);
+}
+
+by_turn : (w : WorldState) (at : ℕ) (name : List ℕ) (names : List (List ℕ)) (last : WorldState) (o : Option Taken) → is_whole w ≡ false → turn_of w name ≡ o
+    → ((new : WorldState) → replayed new (at + 1) names ≡ Ok last → IsBy names new last) → replayed w at (name ∷ names) ≡ Ok last → IsBy (name ∷ names) w last
+by_turn w at name names last None going turn rest r = let none = replayed_none w at name names going turn in absurd cc
+by_turn w at name names last (Some t) going turn rest r =
+    by_first w name names t last going turn (rest t.world (sym (replayed_on w at name names t.event t.world going turn) ∙ r))
+
+by_end : (w : WorldState) (at : ℕ) (name : List ℕ) (names : List (List ℕ)) (last : WorldState) (t : Bool) → is_whole w ≡ t
+    → ((new : WorldState) → replayed new (at + 1) names ≡ Ok last → IsBy names new last) → replayed w at (name ∷ names) ≡ Ok last → IsBy (name ∷ names) w last
+by_end w at name names last true e rest r = let extra = replayed_extra w at name names e in absurd cc
+by_end w at name names last false e rest r = by_turn w at name names last (turn_of w name) e refl rest r
+
+replays_by : (names : List (List ℕ)) (w : WorldState) (at : ℕ) (last : WorldState) → replayed w at names ≡ Ok last → IsBy names w last
+replays_by [] w at last r = none_left w at last (is_whole w) refl r
+replays_by (name ∷ names) w at last r = by_end w at name names last (is_whole w) refl (λ new. replays_by names new (at + 1) last) r
+
+pub complete_of : (i : Image) (turns : List Turn) (last : WorldState) → Runs (opening i) turns last → is_whole last ≡ true → RootGoesOn (opening i) turns → IsCompleteRun i turns last
+complete_of i turns last run whole goes = record { run = run; whole = whole; goes_on = goes; lawful = moments_lawful i turns last run; written = runs_write_their_own i turns last run }
+
+pub replays_are_complete : ReplaysAreComplete
+replays_are_complete i names last r =
+    let by = replays_by names (opening i) 1 last r in
+    (by.turns, by.by_names, complete_of i by.turns last by.run by.whole by.goes_on)
+
+-- ---- a schedule so far
+
+take_more : {X : Type 0} (xs : List X) (n : ℕ) (x : X) → n < length xs → x ≡ get_or xs n x → take (suc n) xs ≡ take n xs ++ x ∷ []
+take_more [] n x lt is = absurd (omega (arith, lt))
+take_more (y ∷ ys) zero x lt is = ap (λ z. z ∷ []) (sym is)
+take_more (y ∷ ys) (suc n) x lt is = ap (λ zs. y ∷ zs) (take_more ys n x (omega (arith, lt)) is)
+
+drop_at : {X : Type 0} (xs : List X) (n : ℕ) (x : X) → n < length xs → x ≡ get_or xs n x → drop n xs ≡ x ∷ drop (suc n) xs
+drop_at [] n x lt is = absurd (omega (arith, lt))
+drop_at (y ∷ ys) zero x lt is = ap (λ z. z ∷ ys) (sym is)
+drop_at (y ∷ ys) (suc n) x lt is = drop_at ys n x (omega (arith, lt)) is
+
+take_all : {X : Type 0} (xs : List X) (n : ℕ) → length xs ≤ n → take n xs ≡ xs
+take_all [] zero le = refl
+take_all [] (suc n) le = refl
+take_all (x ∷ xs) zero le = absurd (omega (arith, le))
+take_all (x ∷ xs) (suc n) le = ap (λ ys. x ∷ ys) (take_all xs n (omega (arith, le)))
+
+drop_all : {X : Type 0} (xs : List X) (n : ℕ) → length xs ≤ n → drop n xs ≡ []
+drop_all [] zero le = refl
+drop_all [] (suc n) le = refl
+drop_all (x ∷ xs) zero le = absurd (omega (arith, le))
+drop_all (x ∷ xs) (suc n) le = drop_all xs n (omega (arith, le))
+
+-- so many names of a schedule are replayed
+pub record IsReplaying (i : Image) (names : List (List ℕ)) (n : ℕ) (p : Progress) : Type 0 where
+  pub going : p.stopped ≡ false
+  pub told : replayed (opening i) 1 names ≡ replayed p.state (n + 1) (drop n names)
+  pub by_names : names_of p.turns ≡ take n names
+  pub run : Runs (opening i) p.turns p.state
+  pub goes_on : RootGoesOn (opening i) p.turns
+
+pub replaying_first : (i : Image) (names : List (List ℕ)) (p : Progress) → p ≡ record { state = opening i; turns = []; stopped = false } → IsReplaying i names 0 p
+replaying_first i names p is = subst (λ q. IsReplaying i names 0 q) (sym is) (record { going = refl; told = refl; by_names = refl; run = refl; goes_on = tt })
+
+pub replaying_next : (i : Image) (names : List (List ℕ)) (n : ℕ) (name : List ℕ) (p q : Progress) → n < length names → name ≡ get_or names n name
+    → IsReplaying i names n p → Follows p name q → IsReplaying i names (n + 1) q
+replaying_next i names n name p q lt is was f =
+    let t : Turn = record { actor = name; event = f.event } in
+    let one : suc n ≡ n + 1 = omega arith in
+    let left : drop n names ≡ name ∷ drop (n + 1) names = drop_at names n name lt is ∙ ap (λ k. name ∷ drop k names) one in
+    record {
+      going = f.going;
+      told = was.told ∙ ap (replayed p.state (n + 1)) left ∙ replayed_on p.state (n + 1) name (drop (n + 1) names) f.event q.state f.goes_on f.turn;
+      by_names = ap names_of f.noted ∙ map-append (λ (x : Turn). x.actor) p.turns (t ∷ []) ∙ ap (λ ns. ns ++ name ∷ []) was.by_names ∙ sym (take_more names n name lt is) ∙ ap (λ k. take k names) one;
+      run = rw f.noted (Runs-push (opening i) p.state q.state p.turns t was.run f.turn);
+      goes_on = rw f.noted (EachStep-push _ (opening i) p.state q.state p.turns t was.goes_on was.run f.turn f.goes_on);
+    }
+
+-- a name that is rejected
+pub replaying_rest : (i : Image) (names : List (List ℕ)) (n : ℕ) (name : List ℕ) (p : Progress) → n < length names → name ≡ get_or names n name → IsReplaying i names n p
+    → replayed (opening i) 1 names ≡ replayed p.state (n + 1) (name ∷ drop (suc n) names)
+replaying_rest i names n name p lt is was = was.told ∙ ap (replayed p.state (n + 1)) (drop_at names n name lt is)

@@ -1,0 +1,78 @@
+-- Schedules: the names of actors, each of which takes a turn, replayed over an image.
+use Rattle.std.specs.Prelude.{◌≡◌, ℕ, ◌+◌, true, false, List, [], ◌∷◌, ◌++◌, map, Option, Some, None, Result, Ok, Err, if◌then◌else◌}
+use Rattle.wedge_base.specs.Images.{Image}
+use Rattle.wedge_base.specs.declared.events.Event.{Event}
+use Rattle.wedge_base.specs.declared.events.Turn.{Turn}
+use Rattle.wedge_base.specs.declared.events.LogEntry.{LogEntry}
+use Rattle.wedge_base.specs.declared.outcome.Outcome.{Outcome}
+use Rattle.wedge_base.specs.Journals.{turns_of}
+use Rattle.sthread_life.specs.Actors.{ActorState}
+use Rattle.sthread_life.specs.Outcomes.{outcome_of}
+use Rattle.sthread_life.specs.Worlds.{WorldState, opening, actor_named, turn_of, Runs, is_whole}
+use Rattle.wedge_core.specs.declared.error.Why.{Why}
+use Rattle.wedge_core.specs.declared.error.Why.TheVariants as why
+use Rattle.wedge_core.specs.declared.error.ReplayFault.{ReplayFault}
+use Rattle.wedge_core.specs.declared.error.ReplayFault.TheVariants as fault
+use Rattle.wedge_core.specs.Progress.{Progress, IsTurn}
+use Rattle.wedge_core.specs.Serial.{IsCompleteRun, IsWholeRun, RootGoesOn}
+
+-- why an actor has no turn
+abbrev pub why_of : Option ActorState → Why
+why_of None = why.Unknown
+why_of (Some a) = why.Ended
+
+abbrev pub why_none : WorldState → List ℕ → Why
+why_none w name = why_of (actor_named w.actors name)
+
+-- the state to which the turns of these actors lead, the last of them the end of the root; or the number of
+-- the first name that has no turn, and why. The first of the names has the number `at`.
+abbrev pub replayed : WorldState → ℕ → List (List ℕ) → Result WorldState (ℕ × Why)
+replayed w at [] = if is_whole w then Ok w else Err (at, why.Short)
+replayed w at (name ∷ names) = if is_whole w then Err (at, why.Extra) else elim (turn_of w name) [
+  | None ↦ Err (at, why_none w name)
+  | Some t ↦ replayed t.world (at + 1) names
+]
+
+-- what a schedule replays to over an image
+abbrev pub replay_of : Image → List (List ℕ) → Result WorldState (ℕ × Why)
+replay_of i names = replayed (opening i) 1 names
+
+-- a fault is that of a replay; the machine may run out of memory at any time
+abbrev pub IsFaultOf : Result WorldState (ℕ × Why) → ReplayFault → Type 0
+IsFaultOf r fault.NoMemory = Unit {0}
+IsFaultOf r (fault.BadSchedule at cause) = r ≡ Err (at, cause)
+
+-- the names of the actors of turns, in order
+abbrev pub names_of : List Turn → List (List ℕ)
+names_of turns = map (λ t. t.actor) turns
+
+-- ---- laws
+
+-- the names of each complete run replay to its last state
+abbrev pub CompleteRunsReplay : Type 0
+CompleteRunsReplay = (i : Image) (turns : List Turn) (last : WorldState) → Runs (opening i) turns last → is_whole last ≡ true
+    → RootGoesOn (opening i) turns → replay_of i (names_of turns) ≡ Ok last
+
+-- and what a schedule replays to is the last state of a complete run by its names
+abbrev pub ReplaysAreComplete : Type 0
+ReplaysAreComplete = (i : Image) (names : List (List ℕ)) (last : WorldState) → replay_of i names ≡ Ok last
+    → (turns : List Turn) × (names_of turns ≡ names) × IsCompleteRun i turns last
+
+-- so the names in the journal of a complete run replay to its outcome
+abbrev pub JournalsReplay : Type 0
+JournalsReplay = (i : Image) (entries : List LogEntry) (outcome : Outcome) → IsWholeRun i entries outcome
+    → (last : WorldState) × (replay_of i (names_of (turns_of entries)) ≡ Ok last) × (outcome ≡ outcome_of last)
+
+-- ---- one name
+
+-- its turn is taken, and noted
+pub record Follows (old : Progress) (name : List ℕ) (new : Progress) : Type 0 where
+  pub event : Event
+  pub goes_on : is_whole old.state ≡ false
+  pub turn : IsTurn old.state name event new.state
+  pub noted : new.turns ≡ old.turns ++ record { actor = name; event = event } ∷ []
+  pub going : new.stopped ≡ false
+
+-- a schedule is rejected at it, whatever names come after it
+abbrev pub IsRejected : WorldState → ℕ → List ℕ → ReplayFault → Type 0
+IsRejected w at name e = (names : List (List ℕ)) → IsFaultOf (replayed w at (name ∷ names)) e
