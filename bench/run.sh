@@ -1,5 +1,6 @@
 #!/bin/sh
-# Measures the program: local instructions, shared accesses, reading a large image, assembling a long text.
+# Measures the program: local instructions, shared accesses, a schedule printed and replayed, reading a large image,
+# assembling a long text.
 # It prints the seconds that each takes and, where valgrind is there, the host instructions that an instruction
 # of the program costs, and fails where that is more than its bound. The program is the one that bin/wedge builds, or $WEDGE.
 root=$(cd "$(dirname "$(readlink -f "$0")")/.." && pwd) || exit 1
@@ -36,6 +37,14 @@ measure 'local instructions' 16777216 "$wedge" run "$work/local.wedge"
 printf '.proc main\nli t0, seg_box\nagain:\nlw a0, 0(t0)\nsw a0, 4(t0)\nj again\n' | partition 300002 > "$work/shared.toml"
 "$wedge" build "$work/shared.toml" > "$work/shared.wedge" || exit 1
 measure 'shared accesses' 200000 "$wedge" run "$work/shared.wedge"
+
+# A million turns with their schedule, which is then replayed, and gives the same report.
+printf '.proc main\nli t0, seg_box\nagain:\nlw a0, 0(t0)\nsw a0, 4(t0)\nj again\n' | partition 1500002 > "$work/turns.toml"
+"$wedge" build "$work/turns.toml" > "$work/turns.wedge" || exit 1
+measure 'turns, with their schedule' 1000000 "$wedge" run "$work/turns.wedge" --schedule 2> "$work/report"
+mv "$work/out" "$work/schedule"
+measure 'turns, replayed' 1000000 "$wedge" replay "$work/turns.wedge" "$work/schedule"
+cmp "$work/out" "$work/report" || exit 1
 
 # An image of nearly 16 MiB: 255 tags with 65,536 bytes of content each.
 {

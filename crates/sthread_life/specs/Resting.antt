@@ -12,7 +12,7 @@ abbrev pub want_in : Next → Option Want
 want_in (next.Shared q) = Some q
 want_in (next.Ended e) = None
 
--- the end that is told, and the end of an actor that has ended
+-- the end in an answer, and the end of an actor that has ended
 abbrev pub end_in : Next → Option End
 end_in (next.Shared q) = None
 end_in (next.Ended e) = Some e

@@ -1,3 +1,6 @@
 pub mod TooLong
 pub mod Partitions
+pub mod Written
 pub mod Statuses
+pub mod Replays
+pub mod Again

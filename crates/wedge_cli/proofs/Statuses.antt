@@ -1,146 +1,343 @@
 -- Which cause each status has.
-use Rattle.std.proofs.Common.{◌≡◌, ◌⊎◌, inl, inr, ℕ, ◌<◌, ◌≤◌, List, refl, sym, ◌∙◌, arith}
-use Rattle.std.specs.Prelude.{Option, Some, None}
+use Rattle.std.proofs.Common.{◌≡◌, ◌⊎◌, inl, inr, ℕ, ◌<◌, List, refl, sym, ap, subst, ◌∙◌, arith}
+use Rattle.std.specs.Prelude.{Option, Some, None, Result, Ok, Err, IsErr}
 use Rattle.host_io.specs.Exposed.{WhereExposed}
-use Rattle.wedge_cli.specs.declared.top.Ended.{Ended}
+use Rattle.wedge_base.specs.Images.{Image}
+use Rattle.wedge_base.specs.declared.events.Journal.{Journal}
+use Rattle.wedge_cli.specs.declared.status.Ended.{Ended}
+use Rattle.wedge_cli.specs.declared.words.RunFlag.TheVariants.{Plain, Schedule}
 use Rattle.wedge_cli.specs.declared.refusal.Refusal.{Refusal}
 use Rattle.wedge_cli.specs.declared.refusal.Refusal.TheVariants as refusal
-use Rattle.wedge_cli.specs.Lines.{line, usage_line, write_fault_line, refusal_text, status_of}
-use Rattle.wedge_cli.specs.Loading.{IsRefused}
-use Rattle.wedge_cli.specs.declared.words.Command.{Command}
-use Rattle.wedge_cli.specs.Words.{Asked}
-use Rattle.wedge_cli.specs.Ended.{Device, Rises, Tried, FailsAndSays, IsUsage, IsDone}
-use Rattle.wedge_cli.specs.Causes.{Said, SaysRefusal, IsRefusal, IsUnfit, IsAnswer}
+use Rattle.wedge_cli.specs.declared.writing.Text.{Text}
+use Rattle.wedge_cli.specs.Lines.{line, usage_line, refusal_text, status_of}
+use Rattle.wedge_cli.specs.Loading.{run_image_of, image_of, built_of, IsRefusedBy}
+use Rattle.wedge_cli.specs.Replaying.{replay_text}
+use Rattle.wedge_cli.specs.Words.{Asked, Run, Show, Build, Replay}
+use Rattle.image_form.specs.Rules.{Encodes}
+use Rattle.report_text.specs.Reports.{report_of}
+use Rattle.report_text.specs.Schedules.{actors_of, schedule_of}
+use Rattle.wedge_cli.specs.Outside.{Device, Sinks, Outside, Rises, Takes}
+use Rattle.wedge_cli.specs.Ended.{AreTaken, IsReported, IsSaid, IsRunDone, IsScheduleDone, IsCutShort, IsReplayEnd}
+use Rattle.wedge_cli.specs.Causes.{IsReplayRefused, IsRefused, IsUnfit, IsRejected, IsUnreadable, SaysRefusal, IsRefusal, IsDone, IsUsage, IsAnswer}
+use Rattle.wedge_cli.proofs.Written.{Rise, written_status, said_status, took_out, took_err, took_both}
+use Rattle.wedge_cli.proofs.Again.{schedule_replays}
 
--- what was done with an image: it was refused, or it was run
-abbrev IsEither : Command → List ℕ → Option (List ℕ) → ℕ → ℕ → Ended → Device → Device → Device → Device → Type 0
-IsEither c name content before after ended o p e f = IsRefusal c name content before after ended o p e f ⊎ IsDone c content ended o p e f
+-- what was done with a command: it was refused, or its texts were written
+abbrev IsEither : Asked → Ended → Outside → Outside → Type 0
+IsEither a ended before after = IsRefusal a ended before after ⊎ IsDone a ended before after
 
--- a sink that was tried has no fewer faults
-tried_rises : (text : List ℕ) (e f : Device) → Tried text e f → e.faults ≤ f.faults
-tried_rises text e f (inl took) = let same = took.1 in omega arith
-tried_rises text e f (inr fails) = let more = fails.rises in omega arith
+-- the status of a refusal, of out of memory for its line, or of a fault
+abbrev IsRefusalStatus : Refusal → ℕ → Device → Device → Type 0
+IsRefusalStatus why status e f = (status ≡ status_of why) ⊎ (status ≡ 6) ⊎ ((status ≡ 5) × Rises e f)
 
--- one that failed, and was tried again, has more
-says_rises : (text : List ℕ) (e f : Device) → FailsAndSays text e f → Rises e f
-says_rises text e f r =
-    let first = r.fails.rises in
-    let second = tried_rises write_fault_line r.between f r.says in
-    omega arith
+refusal_status : (why : Refusal) (ended : Ended) (e f : Device) → SaysRefusal why ended e f → IsRefusalStatus why ended.status e f
+refusal_status why ended e f (inl said) =
+    elim (said_status (status_of why) (line (refusal_text why)) ended e f said) [ inl is ↦ inl is | inr fault ↦ inr (inr fault) ]
+refusal_status why ended e f (inr said) =
+    elim (said_status 6 (line (refusal_text refusal.NoMemory)) ended e f said) [ inl is ↦ inr (inl is) | inr fault ↦ inr (inr fault) ]
 
-said_status : (status : ℕ) (text : List ℕ) (ended : Ended) (e f : Device) → Said status text ended e f → (ended.status ≡ status) ⊎ ((ended.status ≡ 5) × Rises e f)
-said_status status text ended e f (inl said) = inl said.1
-said_status status text ended e f (inr fault) = inr (fault.1, says_rises text e f fault.0)
-
-refusal_status : (name : List ℕ) (r : Refusal) (ended : Ended) (e f : Device) → SaysRefusal name r ended e f → (ended.status ≡ status_of r) ⊎ (ended.status ≡ 6) ⊎ ((ended.status ≡ 5) × Rises e f)
-refusal_status name r ended e f (inl said) =
-    elim (said_status (status_of r) (line (refusal_text name r)) ended e f said) [ inl is ↦ inl is | inr fault ↦ inr (inr fault) ]
-refusal_status name r ended e f (inr said) =
-    elim (said_status 6 (line (refusal_text name refusal.NoMemory)) ended e f said) [ inl is ↦ inr (inl is) | inr fault ↦ inr (inr fault) ]
-
--- a run has status 0, or 5 where the output's count of faults rose
-run_status : (c : Command) (content : Option (List ℕ)) (ended : Ended) (o p e f : Device) → IsDone c content ended o p e f → (ended.status ≡ 0) ⊎ ((ended.status ≡ 5) × Rises o p)
-run_status c content ended o p e f r = elim r.written.out [ inl done ↦ inl done.2 | inr fault ↦ inr (fault.2, fault.0.rises) ]
+-- what is done has status 0, or 5 where a count of faults rose
+done_status : (a : Asked) (ended : Ended) (before after : Outside) → IsDone a ended before after → (ended.status ≡ 0) ⊎ ((ended.status ≡ 5) × Rise before.sinks after.sinks)
+done_status a ended before after d = written_status 0 d.kept d.texts ended before.sinks after.sinks d.written
 
 -- whether a status is another one
 abbrev Not : ℕ → ℕ → Type 0
 Not status n = status ≡ n → ⊥
 
-refusal_of_3 : (c : Command) (r : Refusal) (content : Option (List ℕ)) (before after : ℕ) → IsRefused c content before after r → status_of r ≡ 3 → WhereExposed content (IsUnfit c)
-refusal_of_3 c refusal.NoMemory content before after cause e = absurd (omega arith)
-refusal_of_3 c refusal.Read content before after cause e = absurd (omega arith)
-refusal_of_3 c (refusal.Image fault) content before after cause e = λ bytes exposed. (refusal.Image fault, cause bytes exposed)
-refusal_of_3 c refusal.Unbuilt content before after cause e = λ bytes exposed. (refusal.Unbuilt, cause bytes exposed)
-refusal_of_3 c (refusal.Partition p) content before after cause e = λ bytes exposed. (refusal.Partition p, cause bytes exposed)
+-- no refusal has the status 0, 2 or 5
+other_than : (r : Refusal) (n : ℕ) → (n ≡ 0) ⊎ (n ≡ 2) ⊎ (n ≡ 5) → Not (status_of r) n
+other_than refusal.NoMemory n h e = absurd (omega arith)
+other_than (refusal.Read file) n h e = absurd (omega arith)
+other_than (refusal.Image fault) n h e = absurd (omega arith)
+other_than refusal.Unbuilt n h e = absurd (omega arith)
+other_than (refusal.Partition p) n h e = absurd (omega arith)
+other_than (refusal.Schedule s) n h e = absurd (omega arith)
 
-refusal_of_4 : (c : Command) (r : Refusal) (content : Option (List ℕ)) (before after : ℕ) → IsRefused c content before after r → status_of r ≡ 4 → before < after
-refusal_of_4 c refusal.NoMemory content before after cause e = absurd (omega arith)
-refusal_of_4 c refusal.Read content before after cause e = cause
-refusal_of_4 c (refusal.Image fault) content before after cause e = absurd (omega arith)
-refusal_of_4 c refusal.Unbuilt content before after cause e = absurd (omega arith)
-refusal_of_4 c (refusal.Partition p) content before after cause e = absurd (omega arith)
+-- ---- 3
 
-refusal_not_2 : (r : Refusal) → Not (status_of r) 2
-refusal_not_2 refusal.NoMemory e = absurd (omega arith)
-refusal_not_2 refusal.Read e = absurd (omega arith)
-refusal_not_2 (refusal.Image fault) e = absurd (omega arith)
-refusal_not_2 refusal.Unbuilt e = absurd (omega arith)
-refusal_not_2 (refusal.Partition p) e = absurd (omega arith)
+is_err_of : (meant : Result Image Refusal) (r : Refusal) → meant ≡ Err r → IsErr meant
+is_err_of (Ok i) r e = absurd cc
+is_err_of (Err q) r e = refl
 
-refusal_not_5 : (r : Refusal) → Not (status_of r) 5
-refusal_not_5 refusal.NoMemory e = absurd (omega arith)
-refusal_not_5 refusal.Read e = absurd (omega arith)
-refusal_not_5 (refusal.Image fault) e = absurd (omega arith)
-refusal_not_5 refusal.Unbuilt e = absurd (omega arith)
-refusal_not_5 (refusal.Partition p) e = absurd (omega arith)
+unfit_by : (meant : List ℕ → Result Image Refusal) (name : List ℕ) (content : Option (List ℕ)) (before after : ℕ) (r : Refusal)
+    → IsRefusedBy meant name content before after r → status_of r ≡ 3 → WhereExposed content (λ bytes. IsErr (meant bytes))
+unfit_by meant name content before after refusal.NoMemory h e = absurd (omega arith)
+unfit_by meant name content before after (refusal.Read file) h e = absurd (omega arith)
+unfit_by meant name content before after (refusal.Image fault) h e = λ bytes exposed. is_err_of (meant bytes) (refusal.Image fault) (h bytes exposed)
+unfit_by meant name content before after refusal.Unbuilt h e = λ bytes exposed. is_err_of (meant bytes) refusal.Unbuilt (h bytes exposed)
+unfit_by meant name content before after (refusal.Partition p) h e = λ bytes exposed. is_err_of (meant bytes) (refusal.Partition p) (h bytes exposed)
+unfit_by meant name content before after (refusal.Schedule s) h e = absurd h
 
-done_not_2 : (c : Command) (name : List ℕ) (content : Option (List ℕ)) (before after : ℕ) (ended : Ended) (o p e f : Device) → IsEither c name content before after ended o p e f → Not ended.status 2
-done_not_2 c name content before after ended o p e f (inl r) is =
-    elim (refusal_status name r.why ended e f r.err) [
-      | inl status ↦ refusal_not_2 r.why (sym status ∙ is)
+unfit_replay : (image schedule : List ℕ) (files : List ℕ → Option (List ℕ)) (before after : List ℕ → ℕ) (r : Refusal)
+    → IsReplayRefused image schedule files before after r → status_of r ≡ 3 → WhereExposed (files image) (λ bytes. IsErr (run_image_of bytes))
+unfit_replay image schedule files before after refusal.NoMemory h e = absurd (omega arith)
+unfit_replay image schedule files before after (refusal.Read file) h e = absurd (omega arith)
+unfit_replay image schedule files before after (refusal.Image fault) h e = λ bytes exposed. is_err_of (run_image_of bytes) (refusal.Image fault) (h.1 bytes exposed)
+unfit_replay image schedule files before after refusal.Unbuilt h e = λ bytes exposed. is_err_of (run_image_of bytes) refusal.Unbuilt (h.1 bytes exposed)
+unfit_replay image schedule files before after (refusal.Partition p) h e = absurd h
+unfit_replay image schedule files before after (refusal.Schedule s) h e = absurd (omega arith)
+
+unfit : (a : Asked) (files : List ℕ → Option (List ℕ)) (before after : List ℕ → ℕ) (r : Refusal) → IsRefused a files before after r → status_of r ≡ 3 → IsUnfit a files
+unfit (Run image flag) files before after r h e = unfit_by run_image_of image (files image) (before image) (after image) r h e
+unfit (Show image) files before after r h e = unfit_by image_of image (files image) (before image) (after image) r h e
+unfit (Build part) files before after r h e = unfit_by built_of part (files part) (before part) (after part) r h e
+unfit (Replay image schedule) files before after r h e = unfit_replay image schedule files before after r h e
+
+pub image_only : (a : Asked) (ended : Ended) (before after : Outside) → IsEither a ended before after → ended.status ≡ 3 → IsUnfit a before.files
+image_only a ended before after (inl r) is =
+    elim (refusal_status r.why ended before.sinks.err after.sinks.err r.err) [
+      | inl status ↦ unfit a before.files before.reads after.reads r.why r.cause (sym status ∙ is)
       | inr (inl status) ↦ absurd (omega (arith, status, is))
       | inr (inr fault) ↦ absurd (omega (arith, fault.0, is))
     ]
-done_not_2 c name content before after ended o p e f (inr r) is =
-    elim (run_status c content ended o p e f r) [
-      | inl status ↦ absurd (omega (arith, status, is))
-      | inr fault ↦ absurd (omega (arith, fault.0, is))
-    ]
+image_only a ended before after (inr d) is =
+    elim (done_status a ended before after d) [ inl status ↦ absurd (omega (arith, status, is)) | inr fault ↦ absurd (omega (arith, fault.0, is)) ]
 
-usage_by : (asked : Asked) (status : ℕ) → ((c : Command) (name : List ℕ) → asked ≡ Some (c, name) → Not status 2) → status ≡ 2 → asked ≡ None
-usage_by None status done is = refl
-usage_by (Some (c, name)) status done is = absurd (done c name refl is)
+-- ---- 4
 
-pub image_by : (c : Command) (name : List ℕ) (content : Option (List ℕ)) (before after : ℕ) (ended : Ended) (o p e f : Device) → IsEither c name content before after ended o p e f → ended.status ≡ 3 → WhereExposed content (IsUnfit c)
-image_by c name content before after ended o p e f (inl r) is =
-    elim (refusal_status name r.why ended e f r.err) [
-      | inl status ↦ refusal_of_3 c r.why content before after r.cause (sym status ∙ is)
+unread_by : (meant : List ℕ → Result Image Refusal) (name : List ℕ) (content : Option (List ℕ)) (before after : ℕ) (r : Refusal)
+    → IsRefusedBy meant name content before after r → status_of r ≡ 4 → before < after
+unread_by meant name content before after refusal.NoMemory h e = absurd (omega arith)
+unread_by meant name content before after (refusal.Read file) h e = h.rose
+unread_by meant name content before after (refusal.Image fault) h e = absurd (omega arith)
+unread_by meant name content before after refusal.Unbuilt h e = absurd (omega arith)
+unread_by meant name content before after (refusal.Partition p) h e = absurd (omega arith)
+unread_by meant name content before after (refusal.Schedule s) h e = absurd h
+
+unread_replay : (image schedule : List ℕ) (files : List ℕ → Option (List ℕ)) (before after : List ℕ → ℕ) (r : Refusal)
+    → IsReplayRefused image schedule files before after r → status_of r ≡ 4 → IsUnreadable (Replay image schedule) before after
+unread_replay image schedule files before after refusal.NoMemory h e = absurd (omega arith)
+unread_replay image schedule files before after (refusal.Read file) (inl h) e = inl h.rose
+unread_replay image schedule files before after (refusal.Read file) (inr h) e = inr h.0.rose
+unread_replay image schedule files before after (refusal.Image fault) h e = absurd (omega arith)
+unread_replay image schedule files before after refusal.Unbuilt h e = absurd (omega arith)
+unread_replay image schedule files before after (refusal.Partition p) h e = absurd (omega arith)
+unread_replay image schedule files before after (refusal.Schedule s) h e = absurd (omega arith)
+
+unread : (a : Asked) (files : List ℕ → Option (List ℕ)) (before after : List ℕ → ℕ) (r : Refusal) → IsRefused a files before after r → status_of r ≡ 4 → IsUnreadable a before after
+unread (Run image flag) files before after r h e = unread_by run_image_of image (files image) (before image) (after image) r h e
+unread (Show image) files before after r h e = unread_by image_of image (files image) (before image) (after image) r h e
+unread (Build part) files before after r h e = unread_by built_of part (files part) (before part) (after part) r h e
+unread (Replay image schedule) files before after r h e = unread_replay image schedule files before after r h e
+
+pub read_only : (a : Asked) (ended : Ended) (before after : Outside) → IsEither a ended before after → ended.status ≡ 4 → IsUnreadable a before.reads after.reads
+read_only a ended before after (inl r) is =
+    elim (refusal_status r.why ended before.sinks.err after.sinks.err r.err) [
+      | inl status ↦ unread a before.files before.reads after.reads r.why r.cause (sym status ∙ is)
       | inr (inl status) ↦ absurd (omega (arith, status, is))
       | inr (inr fault) ↦ absurd (omega (arith, fault.0, is))
     ]
-image_by c name content before after ended o p e f (inr r) is =
-    elim (run_status c content ended o p e f r) [
-      | inl status ↦ absurd (omega (arith, status, is))
-      | inr fault ↦ absurd (omega (arith, fault.0, is))
-    ]
+read_only a ended before after (inr d) is =
+    elim (done_status a ended before after d) [ inl status ↦ absurd (omega (arith, status, is)) | inr fault ↦ absurd (omega (arith, fault.0, is)) ]
 
-pub read_by : (c : Command) (name : List ℕ) (content : Option (List ℕ)) (before after : ℕ) (ended : Ended) (o p e f : Device) → IsEither c name content before after ended o p e f → ended.status ≡ 4 → before < after
-read_by c name content before after ended o p e f (inl r) is =
-    elim (refusal_status name r.why ended e f r.err) [
-      | inl status ↦ refusal_of_4 c r.why content before after r.cause (sym status ∙ is)
+-- ---- 8
+
+rejected_by : (meant : List ℕ → Result Image Refusal) (name : List ℕ) (content : Option (List ℕ)) (before after : ℕ) (r : Refusal)
+    → IsRefusedBy meant name content before after r → status_of r ≡ 8 → ⊥
+rejected_by meant name content before after refusal.NoMemory h e = omega arith
+rejected_by meant name content before after (refusal.Read file) h e = omega arith
+rejected_by meant name content before after (refusal.Image fault) h e = omega arith
+rejected_by meant name content before after refusal.Unbuilt h e = omega arith
+rejected_by meant name content before after (refusal.Partition p) h e = omega arith
+rejected_by meant name content before after (refusal.Schedule s) h e = h
+
+rejected_replay : (image schedule : List ℕ) (files : List ℕ → Option (List ℕ)) (before after : List ℕ → ℕ) (r : Refusal)
+    → IsReplayRefused image schedule files before after r → status_of r ≡ 8 → IsRejected (Replay image schedule) files
+rejected_replay image schedule files before after refusal.NoMemory h e = absurd (omega arith)
+rejected_replay image schedule files before after (refusal.Read file) h e = absurd (omega arith)
+rejected_replay image schedule files before after (refusal.Image fault) h e = absurd (omega arith)
+rejected_replay image schedule files before after refusal.Unbuilt h e = absurd (omega arith)
+rejected_replay image schedule files before after (refusal.Partition p) h e = absurd h
+rejected_replay image schedule files before after (refusal.Schedule s) h e = (s, h)
+
+rejected : (a : Asked) (files : List ℕ → Option (List ℕ)) (before after : List ℕ → ℕ) (r : Refusal) → IsRefused a files before after r → status_of r ≡ 8 → IsRejected a files
+rejected (Run image flag) files before after r h e = rejected_by run_image_of image (files image) (before image) (after image) r h e
+rejected (Show image) files before after r h e = rejected_by image_of image (files image) (before image) (after image) r h e
+rejected (Build part) files before after r h e = rejected_by built_of part (files part) (before part) (after part) r h e
+rejected (Replay image schedule) files before after r h e = rejected_replay image schedule files before after r h e
+
+pub schedule_only : (a : Asked) (ended : Ended) (before after : Outside) → IsEither a ended before after → ended.status ≡ 8 → IsRejected a before.files
+schedule_only a ended before after (inl r) is =
+    elim (refusal_status r.why ended before.sinks.err after.sinks.err r.err) [
+      | inl status ↦ rejected a before.files before.reads after.reads r.why r.cause (sym status ∙ is)
       | inr (inl status) ↦ absurd (omega (arith, status, is))
       | inr (inr fault) ↦ absurd (omega (arith, fault.0, is))
     ]
-read_by c name content before after ended o p e f (inr r) is =
-    elim (run_status c content ended o p e f r) [
-      | inl status ↦ absurd (omega (arith, status, is))
-      | inr fault ↦ absurd (omega (arith, fault.0, is))
-    ]
+schedule_only a ended before after (inr d) is =
+    elim (done_status a ended before after d) [ inl status ↦ absurd (omega (arith, status, is)) | inr fault ↦ absurd (omega (arith, fault.0, is)) ]
 
-done_5 : (c : Command) (name : List ℕ) (content : Option (List ℕ)) (before after : ℕ) (ended : Ended) (o p e f : Device) → IsEither c name content before after ended o p e f → ended.status ≡ 5 → Rises o p ⊎ Rises e f
-done_5 c name content before after ended o p e f (inl r) is =
-    elim (refusal_status name r.why ended e f r.err) [
-      | inl status ↦ absurd (refusal_not_5 r.why (sym status ∙ is))
+-- ---- 2
+
+not_2 : (a : Asked) (ended : Ended) (before after : Outside) → IsEither a ended before after → Not ended.status 2
+not_2 a ended before after (inl r) is =
+    elim (refusal_status r.why ended before.sinks.err after.sinks.err r.err) [
+      | inl status ↦ other_than r.why 2 (inr (inl refl)) (sym status ∙ is)
+      | inr (inl status) ↦ absurd (omega (arith, status, is))
+      | inr (inr fault) ↦ absurd (omega (arith, fault.0, is))
+    ]
+not_2 a ended before after (inr d) is =
+    elim (done_status a ended before after d) [ inl status ↦ absurd (omega (arith, status, is)) | inr fault ↦ absurd (omega (arith, fault.0, is)) ]
+
+none_unless : (asked : Option Asked) → ((a : Asked) → asked ≡ Some a → ⊥) → asked ≡ None
+none_unless None h = refl
+none_unless (Some a) h = absurd (h a refl)
+
+pub usage_only : (asked : Option Asked) (ended : Ended) (before after : Outside) → IsAnswer asked ended before after → ended.status ≡ 2 → asked ≡ None
+usage_only asked ended before after w is = none_unless asked (λ a h. not_2 a ended before after (w.command a h) is)
+
+-- arguments that are no command
+pub usage_answer : (asked : Option Asked) (ended : Ended) (before after : Outside) → asked ≡ None → IsUsage ended before after → IsAnswer asked ended before after
+usage_answer asked ended before after none said = record { usage = λ same. said; command = λ a some. absurd cc }
+
+-- ---- 5
+
+rises_by : (a : Asked) (ended : Ended) (before after : Outside) → IsEither a ended before after → ended.status ≡ 5 → Rise before.sinks after.sinks
+rises_by a ended before after (inl r) is =
+    elim (refusal_status r.why ended before.sinks.err after.sinks.err r.err) [
+      | inl status ↦ absurd (other_than r.why 5 (inr (inr refl)) (sym status ∙ is))
       | inr (inl status) ↦ absurd (omega (arith, status, is))
       | inr (inr fault) ↦ inr fault.1
     ]
-done_5 c name content before after ended o p e f (inr r) is =
-    elim (run_status c content ended o p e f r) [
+rises_by a ended before after (inr d) is =
+    elim (done_status a ended before after d) [ inl status ↦ absurd (omega (arith, status, is)) | inr fault ↦ fault.1 ]
+
+pub write_only : (asked : Option Asked) (ended : Ended) (before after : Outside) → IsAnswer asked ended before after → ended.status ≡ 5 → Rise before.sinks after.sinks
+write_only None ended before after w is =
+    elim (said_status 2 usage_line ended before.sinks.err after.sinks.err (w.usage refl).err) [
       | inl status ↦ absurd (omega (arith, status, is))
-      | inr fault ↦ inl fault.1
+      | inr fault ↦ inr fault.1
+    ]
+write_only (Some a) ended before after w is = rises_by a ended before after (w.command a refl) is
+
+-- ---- a run with the status 0
+
+reported : (i : Image) (kept : Option Journal) (texts : List Text) (bytes : List ℕ) (s u : Sinks)
+    → Encodes i bytes → IsReported i Plain kept texts → AreTaken texts s u → IsRunDone bytes kept s u
+reported i None texts bytes s u encoded r taken = absurd r
+reported i (Some journal) texts bytes s u encoded r taken =
+    let took : Takes (report_of r.outcome) s.out u.out × (u.err ≡ s.err) = took_out (report_of r.outcome) s u (subst (λ ts. AreTaken ts s u) r.are taken) in
+    record {
+      image = i;
+      encoded = encoded;
+      journal = journal;
+      kept_is = refl;
+      outcome = r.outcome;
+      run = r.run;
+      stamps = r.stamps;
+      out = took.0;
+      err = took.1;
+    }
+
+done_0 : (image bytes : List ℕ) (ended : Ended) (before after : Outside) → IsDone (Run image Plain) ended before after
+    → before.files image ≡ Some bytes → ended.status ≡ 0 → IsRunDone bytes ended.journal before.sinks after.sinks
+done_0 image bytes ended before after d exposed is =
+    elim d.written.cases [
+      | inl done ↦ subst (λ kept. IsRunDone bytes kept before.sinks after.sinks) (sym d.written.journal)
+          (reported d.made.image d.kept d.texts bytes before.sinks after.sinks (d.made.encoded bytes exposed) d.made.reported done.0)
+      | inr fault ↦ absurd (omega (arith, fault.1, is))
     ]
 
-usage_5 : (ended : Ended) (o p e f : Device) → IsUsage ended o p e f → ended.status ≡ 5 → Rises o p ⊎ Rises e f
-usage_5 ended o p e f u is = elim u.err [ inl said ↦ absurd (omega (arith, said.1, is)) | inr fault ↦ inr (says_rises usage_line e f fault.0) ]
+-- a command that is refused has another status
+refused_not_0 : (a : Asked) (ended : Ended) (before after : Outside) → IsRefusal a ended before after → ended.status ≡ 0 → ⊥
+refused_not_0 a ended before after r is =
+    elim (refusal_status r.why ended before.sinks.err after.sinks.err r.err) [
+      | inl status ↦ other_than r.why 0 (inl refl) (sym status ∙ is)
+      | inr (inl status) ↦ absurd (omega (arith, status, is))
+      | inr (inr fault) ↦ absurd (omega (arith, fault.0, is))
+    ]
 
-pub usage_only : (asked : Asked) (content : List ℕ → Option (List ℕ)) (before after : List ℕ → ℕ) (ended : Ended) (o p e f : Device) → IsAnswer asked content before after ended o p e f
-    → ended.status ≡ 2 → asked ≡ None
-usage_only asked content before after ended o p e f a is = usage_by asked ended.status (λ c name h. done_not_2 c name (content name) (before name) (after name) ended o p e f (a.file c name h)) is
+pub run_done : (image bytes : List ℕ) (ended : Ended) (before after : Outside) → IsEither (Run image Plain) ended before after
+    → before.files image ≡ Some bytes → ended.status ≡ 0 → IsRunDone bytes ended.journal before.sinks after.sinks
+run_done image bytes ended before after (inl r) exposed is = absurd (refused_not_0 (Run image Plain) ended before after r is)
+run_done image bytes ended before after (inr d) exposed is = done_0 image bytes ended before after d exposed is
 
-write_by : (asked : Asked) (ended : Ended) (o p e f : Device) → (asked ≡ None → IsUsage ended o p e f) → ((c : Command) (name : List ℕ) → asked ≡ Some (c, name) → Rises o p ⊎ Rises e f) → ended.status ≡ 5 → Rises o p ⊎ Rises e f
-write_by None ended o p e f usage image is = usage_5 ended o p e f (usage refl) is
-write_by (Some (c, name)) ended o p e f usage image is = image c name refl
+-- ---- a run with its schedule and the status 0
 
-pub write_only : (asked : Asked) (content : List ℕ → Option (List ℕ)) (before after : List ℕ → ℕ) (ended : Ended) (o p e f : Device) → IsAnswer asked content before after ended o p e f
-    → ended.status ≡ 5 → Rises o p ⊎ Rises e f
-write_only asked content before after ended o p e f a is = write_by asked ended o p e f a.usage (λ c name h. done_5 c name (content name) (before name) (after name) ended o p e f (a.file c name h) is) is
+scheduled : (i : Image) (kept : Option Journal) (texts : List Text) (bytes : List ℕ) (s u : Sinks)
+    → Encodes i bytes → run_image_of bytes ≡ Ok i → IsReported i Schedule kept texts → AreTaken texts s u → IsScheduleDone bytes kept s u
+scheduled i None texts bytes s u encoded accepted r taken = absurd r
+scheduled i (Some journal) texts bytes s u encoded accepted r taken =
+    let schedule = schedule_of (actors_of journal.entries) in
+    let took = took_both schedule (report_of r.outcome) s u (subst (λ ts. AreTaken ts s u) r.are taken) in
+    record {
+      image = i;
+      encoded = encoded;
+      journal = journal;
+      kept_is = refl;
+      outcome = r.outcome;
+      run = r.run;
+      stamps = r.stamps;
+      schedule = schedule;
+      schedule_is = refl;
+      out = took.0;
+      err = took.1;
+      replays = λ short. schedule_replays i bytes schedule journal.entries r.outcome encoded accepted r.run r.again short;
+    }
+
+pub schedule_done : (image bytes : List ℕ) (ended : Ended) (before after : Outside) → IsEither (Run image Schedule) ended before after
+    → before.files image ≡ Some bytes → ended.status ≡ 0 → IsScheduleDone bytes ended.journal before.sinks after.sinks
+schedule_done image bytes ended before after (inl r) exposed is = absurd (refused_not_0 (Run image Schedule) ended before after r is)
+schedule_done image bytes ended before after (inr d) exposed is =
+    elim d.written.cases [
+      | inl done ↦ subst (λ kept. IsScheduleDone bytes kept before.sinks after.sinks) (sym d.written.journal)
+          (scheduled d.made.image d.kept d.texts bytes before.sinks after.sinks (d.made.encoded bytes exposed) (d.made.accepted bytes exposed) d.made.reported done.0)
+      | inr fault ↦ absurd (omega (arith, fault.1, is))
+    ]
+
+-- ---- a replay
+
+-- the answer of both files is this refusal, or memory ran out, or a read failed
+replay_refusal : (image schedule bytes names : List ℕ) (files : List ℕ → Option (List ℕ)) (before after : List ℕ → ℕ) (r : Refusal)
+    → IsReplayRefused image schedule files before after r → files image ≡ Some bytes → files schedule ≡ Some names
+    → IsCutShort (status_of r) ⊎ (replay_text bytes names ≡ Err r)
+replay_refusal image schedule bytes names files before after refusal.NoMemory h image_is schedule_is = inl (inr (inr refl))
+replay_refusal image schedule bytes names files before after (refusal.Read file) h image_is schedule_is = inl (inl refl)
+replay_refusal image schedule bytes names files before after (refusal.Image fault) h image_is schedule_is = inr (h.0 bytes names image_is schedule_is)
+replay_refusal image schedule bytes names files before after refusal.Unbuilt h image_is schedule_is = inr (h.0 bytes names image_is schedule_is)
+replay_refusal image schedule bytes names files before after (refusal.Partition p) h image_is schedule_is = absurd h
+replay_refusal image schedule bytes names files before after (refusal.Schedule s) h image_is schedule_is = inr (h bytes names image_is schedule_is)
+
+-- a line that was said with its status, or the status of a write that failed
+said_line : (status : ℕ) (text : List ℕ) (ended : Ended) (e f : Device) → IsSaid status text ended e f
+    → ((ended.status ≡ status) × Takes text e f) ⊎ (ended.status ≡ 5)
+said_line status text ended e f said =
+    elim (said e).cases [
+      | inl done ↦ inl (done.1, took_err text (record { out = e; err = e }) (record { out = e; err = f }) done.0)
+      | inr fault ↦ inr fault.1
+    ]
+
+-- the end of a replay that was refused
+refused_end : (image schedule bytes names : List ℕ) (ended : Ended) (before after : Outside) (r : IsRefusal (Replay image schedule) ended before after)
+    → before.files image ≡ Some bytes → before.files schedule ≡ Some names → ended.status ≡ status_of r.why
+    → Takes (line (refusal_text r.why)) before.sinks.err after.sinks.err
+    → IsCutShort ended.status ⊎ IsReplayEnd (replay_text bytes names) ended.status before.sinks after.sinks
+refused_end image schedule bytes names ended before after r image_is schedule_is status took =
+    elim (replay_refusal image schedule bytes names before.files before.reads after.reads r.why r.cause image_is schedule_is) [
+      | inl short ↦ inl (subst IsCutShort (sym status) short)
+      | inr answer ↦ inr (subst (λ meant. IsReplayEnd meant ended.status before.sinks after.sinks) (sym answer) (status, took, r.out))
+    ]
+
+pub replay_done : (image schedule bytes names : List ℕ) (ended : Ended) (before after : Outside) → IsEither (Replay image schedule) ended before after
+    → before.files image ≡ Some bytes → before.files schedule ≡ Some names
+    → IsCutShort ended.status ⊎ IsReplayEnd (replay_text bytes names) ended.status before.sinks after.sinks
+replay_done image schedule bytes names ended before after (inl r) image_is schedule_is =
+    elim r.err [
+      | inl said ↦ elim (said_line (status_of r.why) (line (refusal_text r.why)) ended before.sinks.err after.sinks.err said) [
+        | inl done ↦ refused_end image schedule bytes names ended before after r image_is schedule_is done.0 done.1
+        | inr fault ↦ inl (inr (inl fault))
+      ]
+      | inr said ↦ elim (said_line 6 (line (refusal_text refusal.NoMemory)) ended before.sinks.err after.sinks.err said) [
+        | inl done ↦ inl (inr (inr done.0))
+        | inr fault ↦ inl (inr (inl fault))
+      ]
+    ]
+replay_done image schedule bytes names ended before after (inr d) image_is schedule_is =
+    let same : replay_text bytes names ≡ Ok d.made.text =
+    ap (λ b. replay_text b names) (sym (d.made.bytes_are bytes image_is)) ∙ ap (λ n. replay_text d.made.bytes n) (sym (d.made.names_are names schedule_is)) ∙ d.made.meant in
+    elim d.written.cases [
+      | inl done ↦
+          let took : Takes d.made.text before.sinks.out after.sinks.out × (after.sinks.err ≡ before.sinks.err) =
+          took_out d.made.text before.sinks after.sinks (subst (λ ts. AreTaken ts before.sinks after.sinks) d.made.are done.0) in
+          inr (subst (λ meant. IsReplayEnd meant ended.status before.sinks after.sinks) (sym same) (done.1, took.0, took.1))
+      | inr fault ↦ inl (inr (inl fault.1))
+    ]

@@ -1,27 +1,61 @@
--- A file of too many bytes is refused.
-use Rattle.std.proofs.Common.{◌≡◌, ℕ, ◌<◌, true, false, List, length, refl, sym, subst}
-use Rattle.std.specs.Prelude.{Option, Err, nat_le, nat_lt}
+-- Why the image of a file is not had, from why its bytes were not read or not accepted.
+use Rattle.std.proofs.Common.{◌≡◌, ℕ, ◌<◌, true, false, List, length, refl, sym, ap, ◌∙◌}
+use Rattle.std.specs.Prelude.{Option, Result, Ok, Err, IfErr, nat_le, nat_lt}
 use Rattle.std.proofs.lemmas.Bool.{lt-leb, lt-ltb}
 use Rattle.host_io.specs.Exposed.{WhereExposed}
+use Rattle.wedge_base.specs.Images.{Image}
 use Rattle.image_form.specs.Encoding.{most_bytes}
 use Rattle.image_form.specs.Reading.{reading}
-use Rattle.wedge_cli.specs.declared.words.Command.{Command}
-use Rattle.wedge_cli.specs.declared.words.Command.TheVariants.{Run, Show, Build}
+use Rattle.wedge_cli.specs.declared.loading.FileKind.{FileKind}
+use Rattle.wedge_cli.specs.declared.loading.FileKind.TheVariants as kind
+use Rattle.wedge_cli.specs.declared.refusal.ScheduleRefusal.{ScheduleRefusal}
 use Rattle.wedge_cli.specs.declared.refusal.Refusal.{Refusal}
 use Rattle.wedge_cli.specs.declared.refusal.Refusal.TheVariants as refusal
-use Rattle.wedge_cli.specs.declared.refusal.PartRefusal.TheVariants as part
-use Rattle.wedge_cli.specs.Loading.{accepted, accepted_of, long_image, built_of, most_of, most_partition, too_long, IsRefused}
+use Rattle.wedge_cli.specs.Loading.{image_of, run_image_of, built_of, most_of, most_partition, too_long, IsRefusalOf, IsUnread, IsRefusedBy}
 
-long_read : (c : Command) (bytes : List ℕ) → most_bytes < length bytes → accepted_of c (reading bytes) ≡ Err long_image
+-- files of too many bytes are refused
+pub long_image : (bytes : List ℕ) → most_of kind.Image < length bytes → image_of bytes ≡ Err (too_long kind.Image)
 unfolding reading
-long_read c bytes lt = let long : nat_le (length bytes) most_bytes ≡ false = lt-leb (length bytes) most_bytes lt in rw long refl
+long_image bytes lt = let long : nat_le (length bytes) most_bytes ≡ false = lt-leb (length bytes) most_bytes lt in rw long refl
 
-long_built : (bytes : List ℕ) → most_partition < length bytes → built_of bytes ≡ Err (refusal.Partition part.Limit)
+pub long_run_image : (bytes : List ℕ) → most_of kind.Image < length bytes → run_image_of bytes ≡ Err (too_long kind.Image)
+unfolding reading
+long_run_image bytes lt = let long : nat_le (length bytes) most_bytes ≡ false = lt-leb (length bytes) most_bytes lt in rw long refl
+
+pub long_built : (bytes : List ℕ) → most_of kind.Partition < length bytes → built_of bytes ≡ Err (too_long kind.Partition)
 unfolding built_of
 long_built bytes lt = let long : nat_lt most_partition (length bytes) ≡ true = lt-ltb most_partition (length bytes) lt in rw long refl
 
-pub refused_long : (c : Command) (content : Option (List ℕ)) (before after : ℕ) (r : Refusal) → r ≡ too_long c → WhereExposed content (λ bytes. most_of c < length bytes)
-    → IsRefused c content before after r
-refused_long Run content before after r is longer = subst (IsRefused Run content before after) (sym is) (λ bytes exposed. long_read Run bytes (longer bytes exposed))
-refused_long Show content before after r is longer = subst (IsRefused Show content before after) (sym is) (λ bytes exposed. long_read Show bytes (longer bytes exposed))
-refused_long Build content before after r is longer = subst (IsRefused Build content before after) (sym is) (λ bytes exposed. long_built bytes (longer bytes exposed))
+-- no image and no partition is refused as a schedule
+pub no_image : (s : ScheduleRefusal) → refusal.Schedule s ≡ too_long kind.Image → ⊥
+no_image s e = absurd cc
+
+pub no_partition : (s : ScheduleRefusal) → refusal.Schedule s ≡ too_long kind.Partition → ⊥
+no_partition s e = absurd cc
+
+-- a file whose bytes were not read
+pub unread_by : (meant : List ℕ → Result Image Refusal) (k : FileKind) (name : List ℕ) (content : Option (List ℕ)) (before after : ℕ) (r : Refusal)
+    → ((bytes : List ℕ) → most_of k < length bytes → meant bytes ≡ Err (too_long k))
+    → ((s : ScheduleRefusal) → refusal.Schedule s ≡ too_long k → ⊥)
+    → IsUnread k name content before after r → IsRefusedBy meant name content before after r
+unread_by meant k name content before after refusal.NoMemory long unlike h = tt
+unread_by meant k name content before after (refusal.Read file) long unlike h = h
+unread_by meant k name content before after (refusal.Image fault) long unlike h = λ bytes exposed. long bytes (h.longer bytes exposed) ∙ ap (λ r. Err r) (sym h.is)
+unread_by meant k name content before after refusal.Unbuilt long unlike h = absurd h
+unread_by meant k name content before after (refusal.Partition p) long unlike h = λ bytes exposed. long bytes (h.longer bytes exposed) ∙ ap (λ r. Err r) (sym h.is)
+unread_by meant k name content before after (refusal.Schedule s) long unlike h = unlike s h.is
+
+-- a file whose bytes were read and are refused
+refused_by : (meant : List ℕ → Result Image Refusal) (name : List ℕ) (content : Option (List ℕ)) (before after : ℕ) (bytes : List ℕ) (r : Refusal)
+    → WhereExposed content (λ b. bytes ≡ b) → IsRefusalOf (meant bytes) r → IsRefusedBy meant name content before after r
+refused_by meant name content before after bytes refusal.NoMemory same h = tt
+refused_by meant name content before after bytes (refusal.Read file) same h = absurd h
+refused_by meant name content before after bytes (refusal.Image fault) same h = λ b exposed. ap meant (sym (same b exposed)) ∙ h
+refused_by meant name content before after bytes refusal.Unbuilt same h = λ b exposed. ap meant (sym (same b exposed)) ∙ h
+refused_by meant name content before after bytes (refusal.Partition p) same h = λ b exposed. ap meant (sym (same b exposed)) ∙ h
+refused_by meant name content before after bytes (refusal.Schedule s) same h = absurd h
+
+pub answer_by : (meant : List ℕ → Result Image Refusal) (name : List ℕ) (content : Option (List ℕ)) (before after : ℕ) (bytes : List ℕ) (result : Result Image Refusal)
+    → WhereExposed content (λ b. bytes ≡ b) → IfErr result (IsRefusalOf (meant bytes)) → IfErr result (IsRefusedBy meant name content before after)
+answer_by meant name content before after bytes (Ok i) same h = tt
+answer_by meant name content before after bytes (Err r) same h = refused_by meant name content before after bytes r same h

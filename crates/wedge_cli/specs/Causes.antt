@@ -1,40 +1,97 @@
--- When each status comes.
-use Rattle.std.specs.Prelude.{◌≡◌, ℕ, ◌⊎◌, List, Option, Some, None, Err}
-use Rattle.wedge_cli.specs.declared.words.Command.{Command}
+-- What the program answers to its arguments.
+use Rattle.std.specs.Prelude.{◌≡◌, ℕ, ◌<◌, ◌⊎◌, List, length, Option, Some, None, Result, Err, IsErr, ◌≤◌}
+use Rattle.host_io.specs.Exposed.{WhereExposed}
+use Rattle.wedge_base.specs.declared.events.Journal.{Journal}
 use Rattle.wedge_cli.specs.declared.refusal.Refusal.{Refusal}
-use Rattle.wedge_cli.specs.declared.top.Ended.{Ended}
 use Rattle.wedge_cli.specs.declared.refusal.Refusal.TheVariants as refusal
-use Rattle.wedge_cli.specs.Lines.{line, refusal_text, status_of}
-use Rattle.wedge_cli.specs.Loading.{IsRefused, accepted}
-use Rattle.wedge_cli.specs.Words.{Asked}
-use Rattle.wedge_cli.specs.Ended.{Device, Takes, FailsAndSays, IsUsage, IsDone}
+use Rattle.wedge_cli.specs.declared.status.Ended.{Ended}
+use Rattle.wedge_cli.specs.declared.writing.Text.{Text}
+use Rattle.wedge_cli.specs.Outside.{Device, Outside}
+use Rattle.wedge_cli.specs.Lines.{line, usage_line, refusal_text, status_of}
+use Rattle.wedge_cli.specs.declared.loading.FileKind.TheVariants as kind
+use Rattle.wedge_cli.specs.declared.refusal.ScheduleRefusal.{ScheduleRefusal}
+use Rattle.wedge_cli.specs.Loading.{image_of, run_image_of, built_of, most_of, IsReadFault, IsRefusedBy}
+use Rattle.wedge_cli.specs.Replaying.{replay_text}
+use Rattle.wedge_cli.specs.Words.{Asked, Run, Show, Build, Replay}
+use Rattle.wedge_cli.specs.Ended.{IsMade, IsWritten, IsSaid}
 
--- err takes a line; where it does not, the status is 5
-abbrev pub Said : ℕ → List ℕ → Ended → Device → Device → Type 0
-Said status text ended before after = (Takes text before after × (ended.status ≡ status)) ⊎ (FailsAndSays text before after × (ended.status ≡ 5))
+-- a read of one of the two files failed; where it is the second, the first is not too long
+abbrev pub IsReplayFault : List ℕ → List ℕ → (List ℕ → Option (List ℕ)) → (List ℕ → ℕ) → (List ℕ → ℕ) → List ℕ → Type 0
+IsReplayFault image schedule files before after file =
+    IsReadFault image (before image) (after image) file
+    ⊎ (IsReadFault schedule (before schedule) (after schedule) file
+    × WhereExposed (files image) (λ bytes. length bytes ≤ most_of kind.Image))
 
--- the line of a refusal is said, or of want of memory for that line
-abbrev pub SaysRefusal : List ℕ → Refusal → Ended → Device → Device → Type 0
-SaysRefusal name r ended before after =
-    Said (status_of r) (line (refusal_text name r)) ended before after
-    ⊎ Said (status_of refusal.NoMemory) (line (refusal_text name refusal.NoMemory)) ended before after
+-- where both files are exposed, that is the answer
+abbrev pub IsReplayAnswer : List ℕ → List ℕ → (List ℕ → Option (List ℕ)) → Result (List ℕ) Refusal → Type 0
+IsReplayAnswer image schedule files answer =
+    (bytes names : List ℕ) → files image ≡ Some bytes → files schedule ≡ Some names → replay_text bytes names ≡ answer
 
--- what is asked of the file of a name is not done: out is left alone, and err takes the line of the refusal
-pub record IsRefusal (c : Command) (name : List ℕ) (content : Option (List ℕ)) (reads_before reads_after : ℕ) (ended : Ended) (out_before out_after err_before err_after : Device) : Type 0 where
-  pub journal : ended.journal ≡ None
+-- why there is no replay
+abbrev pub IsReplayRefused : List ℕ → List ℕ → (List ℕ → Option (List ℕ)) → (List ℕ → ℕ) → (List ℕ → ℕ) → Refusal → Type 0
+IsReplayRefused image schedule files before after refusal.NoMemory = Unit {0}
+IsReplayRefused image schedule files before after (refusal.Read file) = IsReplayFault image schedule files before after file
+IsReplayRefused image schedule files before after (refusal.Image fault) =
+    IsReplayAnswer image schedule files (Err (refusal.Image fault)) × WhereExposed (files image) (λ bytes. run_image_of bytes ≡ Err (refusal.Image fault))
+IsReplayRefused image schedule files before after refusal.Unbuilt =
+    IsReplayAnswer image schedule files (Err refusal.Unbuilt) × WhereExposed (files image) (λ bytes. run_image_of bytes ≡ Err refusal.Unbuilt)
+IsReplayRefused image schedule files before after (refusal.Partition p) = ⊥
+IsReplayRefused image schedule files before after (refusal.Schedule s) = IsReplayAnswer image schedule files (Err (refusal.Schedule s))
+
+-- why a command is not done, of the files and of their counts of failed reads before and after
+abbrev pub IsRefused : Asked → (List ℕ → Option (List ℕ)) → (List ℕ → ℕ) → (List ℕ → ℕ) → Refusal → Type 0
+IsRefused (Run image flag) files before after why = IsRefusedBy run_image_of image (files image) (before image) (after image) why
+IsRefused (Show image) files before after why = IsRefusedBy image_of image (files image) (before image) (after image) why
+IsRefused (Build part) files before after why = IsRefusedBy built_of part (files part) (before part) (after part) why
+IsRefused (Replay image schedule) files before after why = IsReplayRefused image schedule files before after why
+
+-- its image or its partition is refused
+abbrev pub IsUnfit : Asked → (List ℕ → Option (List ℕ)) → Type 0
+IsUnfit (Run image flag) files = WhereExposed (files image) (λ bytes. IsErr (run_image_of bytes))
+IsUnfit (Show image) files = WhereExposed (files image) (λ bytes. IsErr (image_of bytes))
+IsUnfit (Build part) files = WhereExposed (files part) (λ bytes. IsErr (built_of bytes))
+IsUnfit (Replay image schedule) files = WhereExposed (files image) (λ bytes. IsErr (run_image_of bytes))
+
+-- its schedule is rejected
+abbrev pub IsRejected : Asked → (List ℕ → Option (List ℕ)) → Type 0
+IsRejected (Run image flag) files = ⊥
+IsRejected (Show image) files = ⊥
+IsRejected (Build part) files = ⊥
+IsRejected (Replay image schedule) files = (s : ScheduleRefusal) × IsReplayAnswer image schedule files (Err (refusal.Schedule s))
+
+-- the count of failed reads of a file of it rose
+abbrev pub IsUnreadable : Asked → (List ℕ → ℕ) → (List ℕ → ℕ) → Type 0
+IsUnreadable (Run image flag) before after = before image < after image
+IsUnreadable (Show image) before after = before image < after image
+IsUnreadable (Build part) before after = before part < after part
+IsUnreadable (Replay image schedule) before after = (before image < after image) ⊎ (before schedule < after schedule)
+
+-- the line of a refusal is said, or that memory ran out for that line
+abbrev pub SaysRefusal : Refusal → Ended → Device → Device → Type 0
+SaysRefusal why ended before after =
+    IsSaid (status_of why) (line (refusal_text why)) ended before after
+    ⊎ IsSaid (status_of refusal.NoMemory) (line (refusal_text refusal.NoMemory)) ended before after
+
+-- a command is refused: out is left alone, and err takes the line of the refusal
+pub record IsRefusal (a : Asked) (ended : Ended) (before after : Outside) : Type 0 where
   pub why : Refusal
-  pub cause : IsRefused c content reads_before reads_after why
-  pub out : out_after ≡ out_before
-  pub err : SaysRefusal name why ended err_before err_after
+  pub cause : IsRefused a before.files before.reads after.reads why
+  pub out : after.sinks.out ≡ before.sinks.out
+  pub err : SaysRefusal why ended before.sinks.err after.sinks.err
 
--- no image that is fit for the command
-abbrev pub IsUnfit : Command → List ℕ → Type 0
-IsUnfit c bytes = (why : Refusal) × (accepted c bytes ≡ Err why)
+-- a command is done: its texts are written
+pub record IsDone (a : Asked) (ended : Ended) (before after : Outside) : Type 0 where
+  pub kept : Option Journal
+  pub texts : List Text
+  pub made : IsMade a before.files kept texts
+  pub written : IsWritten 0 kept texts ended before.sinks after.sinks
 
--- what the program answers to what was asked, over its output and its error stream before and after: the words are no
--- command, or what is asked of the file of a name is refused, or it is done
-pub record IsAnswer (asked : Asked) (content : List ℕ → Option (List ℕ)) (reads_before reads_after : List ℕ → ℕ) (ended : Ended) (out_before out_after err_before err_after : Device) : Type 0 where
-  pub usage : asked ≡ None → IsUsage ended out_before out_after err_before err_after
-  pub file : (c : Command) (name : List ℕ) → asked ≡ Some (c, name)
-      → IsRefusal c name (content name) (reads_before name) (reads_after name) ended out_before out_after err_before err_after
-      ⊎ IsDone c (content name) ended out_before out_after err_before err_after
+-- the arguments are no command: out is left alone, and err takes the line of that
+pub record IsUsage (ended : Ended) (before after : Outside) : Type 0 where
+  pub out : after.sinks.out ≡ before.sinks.out
+  pub err : IsSaid 2 usage_line ended before.sinks.err after.sinks.err
+
+-- of what the arguments ask, with what lies outside before and after
+pub record IsAnswer (asked : Option Asked) (ended : Ended) (before after : Outside) : Type 0 where
+  pub usage : asked ≡ None → IsUsage ended before after
+  pub command : (a : Asked) → asked ≡ Some a → IsRefusal a ended before after ⊎ IsDone a ended before after

@@ -1,88 +1,194 @@
 -- What the program ends with.
-use Rattle.std.specs.Prelude.{◌≡◌, ℕ, ◌<◌, ◌≤◌, ◌⊎◌, List, length, take, Option, Some, None}
+use Rattle.std.specs.Prelude.{◌≡◌, ◌≤◌, ℕ, ◌⊎◌, List, [], ◌∷◌, length, Option, Some, None, Result, Ok, Err}
 use Rattle.wedge_base.specs.Images.{Image}
 use Rattle.image_form.specs.Rules.{Encodes}
+use Rattle.part_toml.specs.Partition.{partition}
 use Rattle.wedge_base.specs.declared.events.Journal.{Journal}
 use Rattle.wedge_base.specs.declared.outcome.Outcome.{Outcome}
-use Rattle.host_io.specs.Exposed.{grown_by}
+use Rattle.host_io.specs.Exposed.{WhereExposed}
 use Rattle.wedge_core.specs.Serial.{IsWholeRun, IsNumbered}
 use Rattle.report_text.specs.Reports.{report_of}
-use Rattle.wedge_cli.specs.declared.words.Command.{Command}
-use Rattle.wedge_cli.specs.declared.words.Command.TheVariants.{Run, Show, Build}
-use Rattle.wedge_cli.specs.declared.top.Ended.{Ended}
-use Rattle.wedge_cli.specs.Lines.{usage_line, write_fault_line}
+use Rattle.report_text.specs.Schedules.{actors_of, schedule_of, names_in}
+use Rattle.wedge_base.specs.declared.events.LogEntry.{LogEntry}
+use Rattle.wedge_cli.specs.declared.loading.FileKind.TheVariants as kind
+use Rattle.wedge_cli.specs.declared.words.RunFlag.{RunFlag}
+use Rattle.wedge_cli.specs.declared.words.RunFlag.TheVariants.{Plain, Schedule}
+use Rattle.wedge_cli.specs.declared.status.Ended.{Ended}
+use Rattle.wedge_cli.specs.declared.refusal.Refusal.{Refusal}
+use Rattle.wedge_cli.specs.declared.writing.SinkName.TheVariants as sink
+use Rattle.wedge_cli.specs.declared.writing.SinkName.{SinkName}
+use Rattle.wedge_cli.specs.declared.writing.Text.{Text}
+use Rattle.wedge_cli.specs.Outside.{Device, Sinks, Takes, Fails, Tried}
+use Rattle.wedge_cli.specs.Lines.{line, write_fault_line, refusal_text, status_of}
 use Rattle.wedge_cli.specs.Listing.{listing}
-use Rattle.wedge_cli.specs.Loading.{IsLoaded}
+use Rattle.wedge_cli.specs.Loading.{image_of, run_image_of, built_of, most_of}
+use Rattle.wedge_cli.specs.Replaying.{replay_text}
+use Rattle.wedge_cli.specs.Words.{Asked, Run, Show, Build, Replay}
 
--- The journal is that of a complete run of the image, each moment of it lawful, and the text is that
--- run's report.
-pub record IsReportOf (i : Image) (journal : Journal) (text : List ℕ) : Type 0 where
+-- ---- what a command makes of its files
+
+-- one text, on the output or on the error stream
+abbrev pub on_out : List ℕ → List Text
+on_out bytes = record { sink = sink.Out; bytes = bytes } ∷ []
+
+abbrev pub on_err : List ℕ → List Text
+on_err bytes = record { sink = sink.Err; bytes = bytes } ∷ []
+
+-- a text on the output, and then one on the error stream
+abbrev pub on_both : List ℕ → List ℕ → List Text
+on_both out err = record { sink = sink.Out; bytes = out } ∷ record { sink = sink.Err; bytes = err } ∷ []
+
+-- the texts of a run with this journal and this outcome
+abbrev pub run_texts : RunFlag → Journal → Outcome → List Text
+run_texts Plain journal outcome = on_out (report_of outcome)
+run_texts Schedule journal outcome = on_both (schedule_of (actors_of journal.entries)) (report_of outcome)
+
+-- a schedule that is written is read as the names of the journal's actors
+abbrev pub IsReadAgain : RunFlag → List LogEntry → Type 0
+IsReadAgain Plain entries = Unit {0}
+IsReadAgain Schedule entries = names_in (schedule_of (actors_of entries)) ≡ Ok (actors_of entries)
+
+-- The journal is that of a complete run of the image, each moment of it lawful, and the texts are of that run.
+pub record IsReportOf (i : Image) (flag : RunFlag) (journal : Journal) (texts : List Text) : Type 0 where
   pub outcome : Outcome
   pub run : IsWholeRun i journal.entries outcome
   pub stamps : IsNumbered journal.entries
-  pub report : text ≡ report_of outcome
+  pub are : texts ≡ run_texts flag journal outcome
+  pub again : IsReadAgain flag journal.entries
 
--- what a command writes of an image: a report with its journal, a listing, or the one encoding of it
-abbrev pub IsTextFor : Command → Image → Option Journal → List ℕ → Type 0
-IsTextFor Run i None text = ⊥
-IsTextFor Run i (Some journal) text = IsReportOf i journal text
-IsTextFor Show i journal text = (journal ≡ None) × (text ≡ listing i)
-IsTextFor Build i journal text = (journal ≡ None) × Encodes i text
+-- and it is kept
+abbrev pub IsReported : Image → RunFlag → Option Journal → List Text → Type 0
+IsReported i flag None texts = ⊥
+IsReported i flag (Some journal) texts = IsReportOf i flag journal texts
 
--- the same of the image of the file's bytes
-pub record IsTextOf (c : Command) (content : Option (List ℕ)) (journal : Option Journal) (text : List ℕ) : Type 0 where
+-- an image's file is run, listed, or built of a partition's
+pub record IsRun (flag : RunFlag) (content : Option (List ℕ)) (kept : Option Journal) (texts : List Text) : Type 0 where
   pub image : Image
-  pub loaded : IsLoaded c content image
-  pub text_for : IsTextFor c image journal text
+  pub encoded : WhereExposed content (λ bytes. Encodes image bytes)
+  pub accepted : WhereExposed content (λ bytes. run_image_of bytes ≡ Ok image)
+  pub reported : IsReported image flag kept texts
 
--- a sink before and after: the bytes that it has taken, where they are exposed, and its count of faults
-pub record Device : Type 0 where
-  pub written : Option (List ℕ)
-  pub faults : ℕ
+pub record IsShown (content : Option (List ℕ)) (kept : Option Journal) (texts : List Text) : Type 0 where
+  pub image : Image
+  pub encoded : WhereExposed content (λ bytes. Encodes image bytes)
+  pub accepted : WhereExposed content (λ bytes. image_of bytes ≡ Ok image)
+  pub kept_is : kept ≡ None
+  pub are : texts ≡ on_out (listing image)
 
-abbrev pub device : Option (List ℕ) → ℕ → Device
-device written faults = record { written = written; faults = faults }
+pub record IsBuilt (content : Option (List ℕ)) (kept : Option Journal) (texts : List Text) : Type 0 where
+  pub image : Image
+  pub meant : WhereExposed content (λ bytes. partition bytes ≡ Ok image)
+  pub accepted : WhereExposed content (λ bytes. built_of bytes ≡ Ok image)
+  pub kept_is : kept ≡ None
+  pub bytes : List ℕ
+  pub encoded : Encodes image bytes
+  pub are : texts ≡ on_out bytes
 
--- it took these bytes without a fault
-abbrev pub Takes : List ℕ → Device → Device → Type 0
-Takes bytes before after = (after.written ≡ grown_by before.written bytes) × (after.faults ≡ before.faults)
-
--- its count of faults rose
-abbrev pub Rises : Device → Device → Type 0
-Rises before after = before.faults < after.faults
-
--- it took a first part of these bytes and not all of them, and failed
-pub record Fails (bytes : List ℕ) (before after : Device) : Type 0 where
-  pub rises : Rises before after
-  pub part : (n : ℕ) × (n < length bytes) × (after.written ≡ grown_by before.written (take n bytes))
-
--- it was given these bytes once, and took them or failed
-abbrev pub Tried : List ℕ → Device → Device → Type 0
-Tried bytes before after = Takes bytes before after ⊎ Fails bytes before after
-
--- it failed over these bytes, and was then given the line of a write that failed, once
-pub record FailsAndSays (bytes : List ℕ) (before after : Device) : Type 0 where
-  pub between : Device
-  pub fails : Fails bytes before between
-  pub says : Tried write_fault_line between after
-
--- words that are no command: out is left alone, and err takes the line of usage; where it does not, the
--- status is 5
-pub record IsUsage (ended : Ended) (out_before out_after err_before err_after : Device) : Type 0 where
-  pub journal : ended.journal ≡ None
-  pub out : out_after ≡ out_before
-  pub err : (Takes usage_line err_before err_after × (ended.status ≡ 2)) ⊎ (FailsAndSays usage_line err_before err_after × (ended.status ≡ 5))
-
--- a text: out takes it and err is left alone; where out does not, it has a part of it, err is given the line
--- of a write that failed, once, and the status is 5
-pub record IsWritten (journal : Option Journal) (text : List ℕ) (ended : Ended) (out_before out_after err_before err_after : Device) : Type 0 where
-  pub journal_is : ended.journal ≡ journal
-  pub out : (Takes text out_before out_after × (err_after ≡ err_before) × (ended.status ≡ 0))
-      ⊎ (Fails text out_before out_after × Tried write_fault_line err_before err_after × (ended.status ≡ 5))
-
--- what a command asks of the image of the file's bytes is written
-pub record IsDone (c : Command) (content : Option (List ℕ)) (ended : Ended) (out_before out_after err_before err_after : Device) : Type 0 where
-  pub journal : Option Journal
+-- a schedule's file is replayed over an image's: what was read of the two files is that of them, where it is exposed
+pub record IsReplayed (image schedule : Option (List ℕ)) (kept : Option Journal) (texts : List Text) : Type 0 where
+  pub bytes : List ℕ
+  pub names : List ℕ
+  pub bytes_are : WhereExposed image (λ exposed. bytes ≡ exposed)
+  pub names_are : WhereExposed schedule (λ exposed. names ≡ exposed)
+  pub kept_is : kept ≡ None
   pub text : List ℕ
-  pub text_of : IsTextOf c content journal text
-  pub written : IsWritten journal text ended out_before out_after err_before err_after
+  pub meant : replay_text bytes names ≡ Ok text
+  pub are : texts ≡ on_out text
+
+-- the journal that a command keeps, and the texts that it writes
+abbrev pub IsMade : Asked → (List ℕ → Option (List ℕ)) → Option Journal → List Text → Type 0
+IsMade (Run image flag) files kept texts = IsRun flag (files image) kept texts
+IsMade (Show image) files kept texts = IsShown (files image) kept texts
+IsMade (Build part) files kept texts = IsBuilt (files part) kept texts
+IsMade (Replay image schedule) files kept texts = IsReplayed (files image) (files schedule) kept texts
+
+-- ---- how texts are written
+
+-- the sink of a text takes it, and the other is left alone
+abbrev pub TakesOn : SinkName → List ℕ → Sinks → Sinks → Type 0
+TakesOn sink.Out bytes before after = Takes bytes before.out after.out × (after.err ≡ before.err)
+TakesOn sink.Err bytes before after = Takes bytes before.err after.err × (after.out ≡ before.out)
+
+abbrev pub TakesText : Text → Sinks → Sinks → Type 0
+TakesText t before after = TakesOn t.sink t.bytes before after
+
+-- it fails over the text: it has taken a prefix, and the other is left alone
+abbrev pub FailsOn : SinkName → List ℕ → Sinks → Sinks → Type 0
+FailsOn sink.Out bytes before after = Fails bytes before.out after.out × (after.err ≡ before.err)
+FailsOn sink.Err bytes before after = Fails bytes before.err after.err × (after.out ≡ before.out)
+
+abbrev pub FailsText : Text → Sinks → Sinks → Type 0
+FailsText t before after = FailsOn t.sink t.bytes before after
+
+-- one thing, and then another
+pub record Then (first second : Sinks → Type 0) : Type 0 where
+  pub between : Sinks
+  pub one : first between
+  pub other : second between
+
+-- all texts are taken, in their order
+abbrev pub AreTaken : List Text → Sinks → Sinks → Type 0
+AreTaken [] before after = after ≡ before
+AreTaken (t ∷ ts) before after = Then (TakesText t before) (λ between. AreTaken ts between after)
+
+-- those before some text are taken, that one fails, and nothing further is written
+abbrev pub OneFails : List Text → Sinks → Sinks → Type 0
+OneFails [] before after = ⊥
+OneFails (t ∷ ts) before after = FailsText t before after ⊎ Then (TakesText t before) (λ between. OneFails ts between after)
+
+-- err is given the line of a write that failed, once
+abbrev pub TellsFault : Sinks → Sinks → Type 0
+TellsFault before after = Tried write_fault_line before.err after.err × (after.out ≡ before.out)
+
+-- Texts are written, and the program ends with this status and this journal; where one fails, err is given the line
+-- of that, and the status is 5.
+pub record IsWritten (status : ℕ) (kept : Option Journal) (texts : List Text) (ended : Ended) (before after : Sinks) : Type 0 where
+  pub journal : ended.journal ≡ kept
+  pub cases : (AreTaken texts before after × (ended.status ≡ status))
+      ⊎ (Then (OneFails texts before) (λ between. TellsFault between after) × (ended.status ≡ 5))
+
+-- a line is written on err, whatever the output
+abbrev pub IsSaid : ℕ → List ℕ → Ended → Device → Device → Type 0
+IsSaid status text ended before after =
+    (out : Device) → IsWritten status None (on_err text) ended (record { out = out; err = before }) (record { out = out; err = after })
+
+-- ---- a run, and a replay
+
+-- `run IMAGE` was done: the file's bytes encode an image, the journal is that of a complete run of it, out has
+-- grown by the report of its outcome, and err is as it was
+pub record IsRunDone (bytes : List ℕ) (kept : Option Journal) (before after : Sinks) : Type 0 where
+  pub image : Image
+  pub encoded : Encodes image bytes
+  pub journal : Journal
+  pub kept_is : kept ≡ Some journal
+  pub outcome : Outcome
+  pub run : IsWholeRun image journal.entries outcome
+  pub stamps : IsNumbered journal.entries
+  pub out : Takes (report_of outcome) before.out after.out
+  pub err : after.err ≡ before.err
+
+-- `run IMAGE --schedule` was done: besides, out has grown by the schedule of the run, and err by the report; and that
+-- schedule, if it is no longer than the file of one may be, replayed over the same image gives the same report
+pub record IsScheduleDone (bytes : List ℕ) (kept : Option Journal) (before after : Sinks) : Type 0 where
+  pub image : Image
+  pub encoded : Encodes image bytes
+  pub journal : Journal
+  pub kept_is : kept ≡ Some journal
+  pub outcome : Outcome
+  pub run : IsWholeRun image journal.entries outcome
+  pub stamps : IsNumbered journal.entries
+  pub schedule : List ℕ
+  pub schedule_is : schedule ≡ schedule_of (actors_of journal.entries)
+  pub out : Takes schedule before.out after.out
+  pub err : Takes (report_of outcome) before.err after.err
+  pub replays : length schedule ≤ most_of kind.Schedule → replay_text bytes schedule ≡ Ok (report_of outcome)
+
+-- a read or a write failed, or memory ran out
+abbrev pub IsCutShort : ℕ → Type 0
+IsCutShort status = (status ≡ 4) ⊎ (status ≡ 5) ⊎ (status ≡ 6)
+
+-- `replay` ended as the answer of its two files' bytes says: out has grown by the report, or err by the line of the refusal
+abbrev pub IsReplayEnd : Result (List ℕ) Refusal → ℕ → Sinks → Sinks → Type 0
+IsReplayEnd (Ok text) status before after = (status ≡ 0) × Takes text before.out after.out × (after.err ≡ before.err)
+IsReplayEnd (Err why) status before after =
+    (status ≡ status_of why) × Takes (line (refusal_text why)) before.err after.err × (after.out ≡ before.out)

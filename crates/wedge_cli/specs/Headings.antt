@@ -1,5 +1,5 @@
 -- What a map of headings says of an address.
-use Rattle.std.specs.Prelude.{ℕ, List, [], Option, option_map, unwrap_or, nat_eq}
+use Rattle.std.specs.Prelude.{ℕ, List, [], option_map, unwrap_or, nat_eq}
 use Rattle.std.specs.HashMap.{get}
 use Rattle.wedge_cli.specs.declared.headings.Headings.{Headings}
 

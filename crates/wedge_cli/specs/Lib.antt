@@ -1,7 +1,9 @@
 pub mod Words
+pub mod Outside
 pub mod Lines
 pub mod Refusals
 pub mod Loading
+pub mod Replaying
 pub mod Ended
 pub mod Causes
 pub mod Listing

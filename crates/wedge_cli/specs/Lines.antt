@@ -5,6 +5,10 @@ use Rattle.image_form.specs.Words as image
 use Rattle.rv_asm.specs.Words as asm
 use Rattle.wedge_cli.specs.declared.refusal.PartRefusal.{PartRefusal}
 use Rattle.wedge_cli.specs.declared.refusal.PartRefusal.TheVariants as part
+use Rattle.wedge_core.specs.declared.error.Why.{Why}
+use Rattle.wedge_core.specs.declared.error.Why.TheVariants as why
+use Rattle.wedge_cli.specs.declared.refusal.ScheduleRefusal.{ScheduleRefusal}
+use Rattle.wedge_cli.specs.declared.refusal.ScheduleRefusal.TheVariants as schedule
 use Rattle.wedge_cli.specs.declared.refusal.Refusal.{Refusal}
 use Rattle.wedge_cli.specs.declared.refusal.Refusal.TheVariants as refusal
 
@@ -30,17 +34,34 @@ part_text (part.Kind name) = codes "kind " ++ name
 part_text (part.Asm line why) = codes "line " ++ decimal line ++ codes " " ++ asm.word why
 part_text (part.Image at why) = codes "image at " ++ decimal at ++ codes ": " ++ image.word why
 
--- why what is asked of the file of a name is not done
-abbrev pub refusal_text : List ℕ → Refusal → List ℕ
-refusal_text name refusal.NoMemory = codes "out of memory"
-refusal_text name refusal.Read = codes "read fault: " ++ name
-refusal_text name (refusal.Image fault) = refused_at fault.at (image.word fault.why)
-refusal_text name refusal.Unbuilt = refused_at 0 (codes "unbuilt")
-refusal_text name (refusal.Partition p) = codes "partition refused: " ++ part_text p
+-- what is wrong with a schedule, at a line
+abbrev pub why_word : Why → List ℕ
+why_word why.Unknown = codes "unknown"
+why_word why.Ended = codes "ended"
+why_word why.Short = codes "short"
+why_word why.Extra = codes "extra"
+
+abbrev pub schedule_at : ℕ → List ℕ → List ℕ
+schedule_at line word = codes "schedule refused at " ++ decimal line ++ codes ": " ++ word
+
+abbrev pub schedule_text : ScheduleRefusal → List ℕ
+schedule_text schedule.Limit = schedule_at 0 (codes "limit")
+schedule_text (schedule.Form at) = schedule_at at (codes "form")
+schedule_text (schedule.Replay at why) = schedule_at at (why_word why)
+
+-- why a command is not done
+abbrev pub refusal_text : Refusal → List ℕ
+refusal_text refusal.NoMemory = codes "out of memory"
+refusal_text (refusal.Read file) = codes "read fault: " ++ file
+refusal_text (refusal.Image fault) = refused_at fault.at (image.word fault.why)
+refusal_text refusal.Unbuilt = refused_at 0 (codes "unbuilt")
+refusal_text (refusal.Partition p) = codes "partition refused: " ++ part_text p
+refusal_text (refusal.Schedule s) = schedule_text s
 
 abbrev pub status_of : Refusal → ℕ
 status_of refusal.NoMemory = 6
-status_of refusal.Read = 4
+status_of (refusal.Read file) = 4
 status_of (refusal.Image fault) = 3
 status_of refusal.Unbuilt = 3
 status_of (refusal.Partition p) = 3
+status_of (refusal.Schedule s) = 8

@@ -5,6 +5,11 @@ use Rattle.part_toml.specs.declared.fault.PartFault.{PartFault}
 use Rattle.part_toml.specs.declared.fault.PartFault.TheVariants as fault
 use Rattle.part_toml.specs.Faults as meant
 use Rattle.part_toml.specs.Faults.{Refusal as Meant}
+use Rattle.report_text.specs.declared.fault.ScheduleFault.{ScheduleFault}
+use Rattle.report_text.specs.declared.fault.ScheduleFault.TheVariants as text
+use Rattle.wedge_core.specs.declared.error.ReplayFault.{ReplayFault}
+use Rattle.wedge_core.specs.declared.error.ReplayFault.TheVariants as replay
+use Rattle.wedge_cli.specs.declared.refusal.ScheduleRefusal.TheVariants as schedule
 use Rattle.wedge_cli.specs.declared.refusal.Refusal.{Refusal}
 use Rattle.wedge_cli.specs.declared.refusal.Refusal.TheVariants as refusal
 use Rattle.wedge_cli.specs.declared.refusal.PartRefusal.{PartRefusal}
@@ -22,6 +27,15 @@ part_refusal_of (fault.Key name) = refusal.Partition (part.Key name)
 part_refusal_of (fault.Kind name) = refusal.Partition (part.Kind name)
 part_refusal_of (fault.Asm line why) = refusal.Partition (part.Asm line why)
 part_refusal_of (fault.Image at why) = refusal.Partition (part.Image at why)
+
+-- the refusal of a text that is no schedule, and of a schedule that has no replay
+abbrev pub form_refusal_of : ScheduleFault → Refusal
+form_refusal_of text.NoMemory = refusal.NoMemory
+form_refusal_of (text.Form at) = refusal.Schedule (schedule.Form at)
+
+abbrev pub replay_refusal_of : ReplayFault → Refusal
+replay_refusal_of replay.NoMemory = refusal.NoMemory
+replay_refusal_of (replay.BadSchedule at why) = refusal.Schedule (schedule.Replay at why)
 
 -- what is meant by a refused partition
 abbrev pub as_refused : Meant → PartRefusal

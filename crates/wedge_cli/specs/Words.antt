@@ -1,31 +1,72 @@
--- What the words of the command line ask.
-use Rattle.std.specs.Prelude.{ℕ, ◌==◌, Bool, false, not, List, [], ◌∷◌, map, Option, Some, None, option_map, codes, String, if◌then◌else◌}
+-- What the arguments of the command line ask.
+use Rattle.std.specs.Prelude.{ℕ, ◌==◌, Bool, false, not, ◌&&◌, List, [], ◌∷◌, map, Option, Some, None, option_map, codes, String, if◌then◌else◌}
 use Rattle.std.specs.Str.{bytes_eq}
 use Rattle.std.specs.String.{string_bytes}
+use Rattle.wedge_cli.specs.declared.words.RunFlag.{RunFlag}
+use Rattle.wedge_cli.specs.declared.words.RunFlag.TheVariants.{Plain, Schedule}
 use Rattle.wedge_cli.specs.declared.words.Command.{Command}
-use Rattle.wedge_cli.specs.declared.words.Command.TheVariants.{Run, Show, Build}
+use Rattle.wedge_cli.specs.declared.words.Command.TheVariants as command
 
--- the texts of the words
+-- a command, with the names of its files
+pub data Asked : Type 0 where
+  Run : List ℕ → RunFlag → Asked
+  Show : List ℕ → Asked
+  Build : List ℕ → Asked
+  Replay : List ℕ → List ℕ → Asked
+
+-- the same as the program has it
+abbrev pub asked_by : Command → Asked
+asked_by (command.Run image flag) = Run image.now flag
+asked_by (command.Show image) = Show image.now
+asked_by (command.Build part) = Build part.now
+asked_by (command.Replay image schedule) = Replay image.now schedule.now
+
+-- the texts of the arguments
 abbrev pub texts : {A : Type 0} → List (String A) → List (List ℕ)
 texts words = map string_bytes words
 
--- whether a word can name a file: it is not empty and does not begin with `-`
+-- whether an argument can name a file: it is not empty and does not begin with `-`
 abbrev pub is_plain : List ℕ → Bool
 is_plain [] = false
 is_plain (c ∷ cs) = not (c == 45)
 
-abbrev pub command_named : List ℕ → Option Command
-command_named word =
-    if bytes_eq word (codes "run") then Some Run
-    else if bytes_eq word (codes "show") then Some Show
-    else if bytes_eq word (codes "build") then Some Build
+-- the one argument, if it can name a file
+abbrev pub file_of : List (List ℕ) → Option (List ℕ)
+file_of (name ∷ []) = if is_plain name then Some name else None
+file_of arguments = None
+
+-- whether an argument is the flag
+abbrev pub is_schedule : List ℕ → Bool
+is_schedule argument = bytes_eq argument (codes "--schedule")
+
+abbrev pub run_with : RunFlag → List ℕ → Option Asked
+run_with flag image = if is_plain image then Some (Run image flag) else None
+
+-- the arguments after each command; the flag of `run` may be before the image or after it
+abbrev pub run_of : List (List ℕ) → Option Asked
+run_of (image ∷ []) = run_with Plain image
+run_of (one ∷ other ∷ []) =
+    if is_schedule one then run_with Schedule other
+    else if is_schedule other then run_with Schedule one
     else None
+run_of arguments = None
 
--- the command, and the name of the file
-abbrev pub Asked : Type 0
-Asked = Option (Command × List ℕ)
+abbrev pub show_of : List (List ℕ) → Option Asked
+show_of arguments = option_map Show (file_of arguments)
 
--- what the words ask
-abbrev pub asked : List (List ℕ) → Asked
-asked (command ∷ name ∷ []) = if is_plain name then option_map (λ c. (c, name)) (command_named command) else None
-asked words = None
+abbrev pub build_of : List (List ℕ) → Option Asked
+build_of arguments = option_map Build (file_of arguments)
+
+abbrev pub replay_of : List (List ℕ) → Option Asked
+replay_of (image ∷ schedule ∷ []) = if is_plain image && is_plain schedule then Some (Replay image schedule) else None
+replay_of arguments = None
+
+-- the command that all arguments ask
+abbrev pub command_of : List (List ℕ) → Option Asked
+command_of [] = None
+command_of (command ∷ arguments) =
+    if bytes_eq command (codes "run") then run_of arguments
+    else if bytes_eq command (codes "show") then show_of arguments
+    else if bytes_eq command (codes "build") then build_of arguments
+    else if bytes_eq command (codes "replay") then replay_of arguments
+    else None

@@ -1,19 +1,27 @@
-//! The program: from the words of the command line to what is written.
+//! The program: from the arguments of the command line to what is written.
 #![tactic(auto)]
 
 #[cfg(test)]
 mod build_tests;
+mod commands;
 mod headings;
 mod lines;
 mod loading;
 mod refusal;
+#[cfg(test)]
+mod replay_tests;
+mod replaying;
 mod show;
+mod status;
 #[cfg(test)]
 mod tests;
 mod top;
 mod words;
+mod writing;
 
-pub use refusal::Refusal;
+pub use refusal::{PartRefusal, Refusal, ScheduleRefusal};
 pub use show::listing;
-pub use top::{Ended, out_of_memory, wedge};
-pub use words::Command;
+pub use status::Ended;
+pub use top::{out_of_memory, wedge};
+pub use words::{Command, RunFlag, WordsFault, read_words};
+pub use writing::{SinkName, Text};

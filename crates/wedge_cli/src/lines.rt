@@ -4,10 +4,11 @@ ghost use Rattle.std.specs.Prelude.{◌≡◌, ◌++◌, codes, IfOk, OnOk};
 ghost use Rattle.std.specs.Fmt.{decimal};
 ghost use Rattle.wedge_cli.specs.Lines as lines;
 
-use crate::refusal::{PartRefusal, Refusal};
+use crate::refusal::{PartRefusal, Refusal, ScheduleRefusal};
 use std::alloc::{AllocError, Global};
+use wedge_core::Why;
 
-/// The line of words that are no command.
+/// The line of arguments that are no command.
 pub(crate) fn usage_line() -> &'static [u8]
     ensures { result.now ≡ lines.usage_line }
 {
@@ -21,7 +22,7 @@ pub(crate) fn write_fault_line() -> &'static [u8]
     b"wedge: write fault\n"
 }
 
-/// The line of want of memory.
+/// The line of a call that ran out of memory.
 pub(crate) fn no_memory_line() -> &'static [u8]
     ensures { result.now ≡ lines.line (codes "out of memory") }
 {
@@ -29,28 +30,25 @@ pub(crate) fn no_memory_line() -> &'static [u8]
 }
 
 /// The line of a refusal.
-pub(crate) fn refusal_line(
-    alloc: Global,
-    name: &str,
-    refusal: &Refusal,
-) -> Result<Vec<u8>, AllocError>
-    ensures { IfOk result (λ v. v.items ≡ lines.line (lines.refusal_text name.now refusal.now)) }
+pub(crate) fn refusal_line(alloc: Global, refusal: &Refusal) -> Result<Vec<u8>, AllocError>
+    ensures { IfOk result (λ v. v.items ≡ lines.line (lines.refusal_text refusal.now)) }
 {
     match refusal {
         Refusal::NoMemory => Vec::from_slice(alloc, no_memory_line()),
-        Refusal::Read => read_line(alloc, name),
+        Refusal::Read { file } => read_line(alloc, file.as_slice()),
         Refusal::Image(fault) => refused_line(alloc, fault.at, fault.why.word()),
         Refusal::Unbuilt => refused_line(alloc, 0, "unbuilt"),
         Refusal::Partition(fault) => partition_line(alloc, fault),
+        Refusal::Schedule(fault) => schedule_line(alloc, *fault),
     }
 }
 
 /// The line of a read that failed.
-fn read_line(alloc: Global, name: &str) -> Result<Vec<u8>, AllocError>
+fn read_line(alloc: Global, name: &[u8]) -> Result<Vec<u8>, AllocError>
     ensures { IfOk result (λ v. v.items ≡ lines.line (codes "read fault: " ++ name.now)) }
 {
     let mut line = Vec::from_slice(alloc, b"wedge: read fault: ")?;
-    line.extend_from_slice(name.as_bytes())?;
+    line.extend_from_slice(name)?;
     line.push(b'\n')?;
     Ok(line)
 }
@@ -73,6 +71,33 @@ fn partition_line(alloc: Global, fault: &PartRefusal) -> Result<Vec<u8>, AllocEr
     add_part(alloc, &mut line, fault)?;
     line.push(b'\n')?;
     Ok(line)
+}
+
+/// The line of a schedule that is refused.
+fn schedule_line(alloc: Global, fault: ScheduleRefusal) -> Result<Vec<u8>, AllocError>
+    ensures { IfOk result (λ v. v.items ≡ lines.line (lines.schedule_text fault)) }
+{
+    let (at, word) = match fault {
+        ScheduleRefusal::Limit => (0, "limit"),
+        ScheduleRefusal::Form { at } => (at, "form"),
+        ScheduleRefusal::Replay { at, why } => (at, why_word(why)),
+    };
+    let mut line = Vec::from_slice(alloc, b"wedge: schedule refused at ")?;
+    add_place(alloc, &mut line, at, b": ", word)?;
+    line.push(b'\n')?;
+    Ok(line)
+}
+
+/// The word for why an actor has no turn.
+fn why_word(why: Why) -> &'static str
+    ensures { result.now ≡ lines.why_word why }
+{
+    match why {
+        Why::Unknown => "unknown",
+        Why::Ended => "ended",
+        Why::Short => "short",
+        Why::Extra => "extra",
+    }
 }
 
 /// Adds what is wrong with a partition.

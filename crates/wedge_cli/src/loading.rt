@@ -1,17 +1,17 @@
 //! From the name of a file to the image that is run, listed or written.
 
-ghost use Rattle.std.specs.Prelude.{◌≡◌, ◌≤◌, ◌<◌, ℕ, List, length, IfOk, IfErr, Ok};
-ghost use Rattle.wedge_cli.specs.Loading.{is_fit, accepted, accepted_of, built_of, most_of, most_partition, too_long, IsMeant, IsRefusalOf, Refuses, IsLoaded, IsRefused};
+ghost use Rattle.std.specs.Prelude.{◌≡◌, ◌≤◌, ◌<◌, ℕ, List, length, vec_len, IfOk, IfErr, Ok};
+ghost use Rattle.wedge_cli.specs.Loading.{IsUnread, IsRefusedBy, IsRefusalOf, image_of, run_image_of, built_of, most_of, most_partition, too_long};
+ghost use Rattle.host_io.specs.Exposed.{WhereExposed};
 ghost use Rattle.image_form.specs.Rules.{Encodes};
-ghost use Rattle.image_form.specs.Reading.{reading};
 ghost use Rattle.part_toml.specs.Partition.{partition};
 
-use crate::refusal::{PartRefusal, Refusal, refused, refused_partition};
-use crate::words::Command;
+use crate::refusal::{PartRefusal, Refusal, ScheduleRefusal, refused, refused_partition};
 use host_io::{Files, ReadFault, read_whole};
 use image_form::{Fault, Image, Why, read_image};
 use part_toml::read_partition;
 use std::alloc::Global;
+use wedge_base::Bytes;
 use wedge_core::is_built;
 
 /// The most bytes of an image's file.
@@ -20,81 +20,142 @@ const MOST_BYTES: u64 = 16_777_216;
 /// The most bytes of a partition's file.
 const MOST_PARTITION: u64 = 4_194_304;
 
-/// The image that a command asks for, of the file of a name.
-pub(crate) fn load<F: Files>(
+/// The most bytes of a schedule's file.
+const MOST_SCHEDULE: u64 = 67_108_864;
+
+/// What a file is read as.
+#[derive(Clone, Copy, Debug, PartialEq, Eq)]
+pub enum FileKind {
+    Image,
+    Partition,
+    Schedule,
+}
+
+/// The bytes of a file of a kind. One that has more than a file of the kind may have is refused as it is
+/// read.
+pub(crate) fn read_file<F: Files>(
     alloc: Global,
-    command: Command,
     files: &mut F,
+    kind: FileKind,
     name: &str,
-) -> Result<Image, Refusal>
-    ensures loaded { IfOk result (λ i. IsLoaded command (F.content files.old name.now) i) }
-    ensures refused { IfErr result (IsRefused command (F.content files.old name.now) (F.faults files.old name.now) (F.faults files.new name.now)) }
+) -> Result<Vec<u8>, Refusal>
+    ensures bytes { IfOk result (λ v. WhereExposed (F.content files.old name.now)
+        (λ bytes. v.items ≡ bytes)) }
+    ensures within { IfOk result (λ v. vec_len v ≤ most_of kind) }
+    ensures refused { IfErr result (IsUnread kind name.now (F.content files.old name.now)
+        (F.faults files.old name.now) (F.faults files.new name.now)) }
     ensures content { (other : List ℕ) → F.content files.new other ≡ F.content files.old other }
     ensures rises { (other : List ℕ) → F.faults files.old other ≤ F.faults files.new other }
 {
-    match read_whole(alloc, files, name, most_of(command)) {
-        Ok(bytes) => image_of(alloc, command, bytes.as_slice()),
+    match read_whole(alloc, files, name, most_of(kind)) {
+        Ok(bytes) => Ok(bytes),
         Err(ReadFault::NoMemory) => Err(Refusal::NoMemory),
-        Err(ReadFault::Fault) => Err(Refusal::Read),
-        Err(ReadFault::TooLong { .. }) => Err(too_long(command)),
+        Err(ReadFault::Fault) => {
+            let file = Bytes::from_slice(alloc, name.as_bytes())?;
+            Err(Refusal::Read { file })
+        }
+        Err(ReadFault::TooLong { .. }) => Err(too_long(kind)),
     }
 }
 
-/// The most bytes of the file that a command asks for.
-fn most_of(command: Command) -> u64
-    ensures { result ≡ most_of command }
+/// The most bytes of a file of a kind.
+fn most_of(kind: FileKind) -> u64
+    ensures { result ≡ most_of kind }
 {
-    match command {
-        Command::Run | Command::Show => MOST_BYTES,
-        Command::Build => MOST_PARTITION,
+    match kind {
+        FileKind::Image => MOST_BYTES,
+        FileKind::Partition => MOST_PARTITION,
+        FileKind::Schedule => MOST_SCHEDULE,
     }
 }
 
 /// The refusal of a file of more bytes.
-fn too_long(command: Command) -> Refusal
-    ensures { result ≡ too_long command }
+fn too_long(kind: FileKind) -> Refusal
+    ensures { result ≡ too_long kind }
 {
-    match command {
-        Command::Run | Command::Show => Refusal::Image(Fault {
+    match kind {
+        FileKind::Image => Refusal::Image(Fault {
             at: MOST_BYTES as usize,
             why: Why::Limit,
         }),
-        Command::Build => Refusal::Partition(PartRefusal::Limit),
+        FileKind::Partition => Refusal::Partition(PartRefusal::Limit),
+        FileKind::Schedule => Refusal::Schedule(ScheduleRefusal::Limit),
     }
 }
 
-/// Whether an image is fit for a command: any can be listed, and those be run of which the machine has
-/// all that they need.
-fn is_fit(command: Command, image: &Image) -> bool
-    ensures { result ≡ is_fit command image.now }
+/// The image of a file.
+pub(crate) fn load_image<F: Files>(
+    alloc: Global,
+    files: &mut F,
+    name: &str,
+) -> Result<Image, Refusal>
+    ensures encoded { IfOk result (λ i. WhereExposed (F.content files.old name.now)
+        (λ bytes. Encodes i bytes)) }
+    ensures accepted { IfOk result (λ i. WhereExposed (F.content files.old name.now)
+        (λ bytes. image_of bytes ≡ Ok i)) }
+    ensures refused { IfErr result (IsRefusedBy image_of name.now (F.content files.old name.now)
+        (F.faults files.old name.now) (F.faults files.new name.now)) }
+    ensures content { (other : List ℕ) → F.content files.new other ≡ F.content files.old other }
+    ensures rises { (other : List ℕ) → F.faults files.old other ≤ F.faults files.new other }
 {
-    match command {
-        Command::Run => is_built(image),
-        Command::Show | Command::Build => true,
-    }
+    let bytes = read_file(alloc, files, FileKind::Image, name)?;
+    image_of(alloc, bytes.as_slice())
 }
 
-/// The image that a command asks for, of bytes that are not too many.
-fn image_of(alloc: Global, command: Command, bytes: &[u8]) -> Result<Image, Refusal>
-    requires { length bytes.now ≤ most_of command }
-    ensures meant { IfOk result (λ i. IsMeant command i bytes.now) }
-    ensures accepted { IfOk result (λ i. accepted command bytes.now ≡ Ok i) }
-    ensures refused { IfErr result (Refuses command bytes.now) }
+/// The image of a file, where the machine runs it today.
+pub(crate) fn load_run<F: Files>(alloc: Global, files: &mut F, name: &str) -> Result<Image, Refusal>
+    ensures encoded { IfOk result (λ i. WhereExposed (F.content files.old name.now)
+        (λ bytes. Encodes i bytes)) }
+    ensures accepted { IfOk result (λ i. WhereExposed (F.content files.old name.now)
+        (λ bytes. run_image_of bytes ≡ Ok i)) }
+    ensures refused { IfErr result (IsRefusedBy run_image_of name.now (F.content files.old name.now)
+        (F.faults files.old name.now) (F.faults files.new name.now)) }
+    ensures content { (other : List ℕ) → F.content files.new other ≡ F.content files.old other }
+    ensures rises { (other : List ℕ) → F.faults files.old other ≤ F.faults files.new other }
 {
-    match command {
-        Command::Run | Command::Show => image_read(alloc, command, bytes),
-        Command::Build => image_built(alloc, bytes),
-    }
+    let bytes = read_file(alloc, files, FileKind::Image, name)?;
+    run_image_of(alloc, bytes.as_slice())
 }
 
-/// The image that bytes encode, if it is fit for a command.
-fn image_read(alloc: Global, command: Command, bytes: &[u8]) -> Result<Image, Refusal>
+/// The image of a partition's file.
+pub(crate) fn load_built<F: Files>(
+    alloc: Global,
+    files: &mut F,
+    name: &str,
+) -> Result<Image, Refusal>
+    ensures partition { IfOk result (λ i. WhereExposed (F.content files.old name.now)
+        (λ bytes. partition bytes ≡ Ok i)) }
+    ensures accepted { IfOk result (λ i. WhereExposed (F.content files.old name.now)
+        (λ bytes. built_of bytes ≡ Ok i)) }
+    ensures refused { IfErr result (IsRefusedBy built_of name.now (F.content files.old name.now)
+        (F.faults files.old name.now) (F.faults files.new name.now)) }
+    ensures content { (other : List ℕ) → F.content files.new other ≡ F.content files.old other }
+    ensures rises { (other : List ℕ) → F.faults files.old other ≤ F.faults files.new other }
+{
+    let bytes = read_file(alloc, files, FileKind::Partition, name)?;
+    built_of(alloc, bytes.as_slice())
+}
+
+/// The image that bytes encode.
+fn image_of(alloc: Global, bytes: &[u8]) -> Result<Image, Refusal>
     ensures encoded { IfOk result (λ i. Encodes i bytes.now) }
-    ensures accepted { IfOk result (λ i. accepted_of command (reading bytes.now) ≡ Ok i) }
-    ensures refused { IfErr result (IsRefusalOf (accepted_of command (reading bytes.now))) }
+    ensures accepted { IfOk result (λ i. image_of bytes.now ≡ Ok i) }
+    ensures refused { IfErr result (IsRefusalOf (image_of bytes.now)) }
 {
     match read_image(alloc, bytes) {
-        Ok(image) if is_fit(command, &image) => Ok(image),
+        Ok(image) => Ok(image),
+        Err(error) => Err(refused(error)),
+    }
+}
+
+/// The image that bytes encode, where the machine runs it today.
+pub(crate) fn run_image_of(alloc: Global, bytes: &[u8]) -> Result<Image, Refusal>
+    ensures encoded { IfOk result (λ i. Encodes i bytes.now) }
+    ensures accepted { IfOk result (λ i. run_image_of bytes.now ≡ Ok i) }
+    ensures refused { IfErr result (IsRefusalOf (run_image_of bytes.now)) }
+{
+    match read_image(alloc, bytes) {
+        Ok(image) if is_built(&image) => Ok(image),
         Ok(_) => Err(Refusal::Unbuilt),
         Err(error) => Err(refused(error)),
     }
@@ -102,9 +163,9 @@ fn image_read(alloc: Global, command: Command, bytes: &[u8]) -> Result<Image, Re
 
 /// The image of a partition.
 #[tactic(auto, unfolding(crate::specs::Loading::built_of))]
-fn image_built(alloc: Global, bytes: &[u8]) -> Result<Image, Refusal>
+fn built_of(alloc: Global, bytes: &[u8]) -> Result<Image, Refusal>
     requires { length bytes.now ≤ most_partition }
-    ensures meant { IfOk result (λ i. partition bytes.now ≡ Ok i) }
+    ensures partition { IfOk result (λ i. partition bytes.now ≡ Ok i) }
     ensures accepted { IfOk result (λ i. built_of bytes.now ≡ Ok i) }
     ensures refused { IfErr result (IsRefusalOf (built_of bytes.now)) }
 {

@@ -2,25 +2,29 @@
 
 ghost use Rattle.std.specs.Prelude.{◌≡◌};
 ghost use Rattle.wedge_cli.specs.declared.refusal.Refusal.TheVariants as errors;
-ghost use Rattle.wedge_cli.specs.Refusals.{refusal_of, part_refusal_of};
+ghost use Rattle.wedge_cli.specs.Refusals.{refusal_of, part_refusal_of, form_refusal_of, replay_refusal_of};
 
 use image_form::{Fault, ImageError};
 use part_toml::PartFault;
+use report_text::ScheduleFault;
 use wedge_base::{Bytes, NoMemory};
+use wedge_core::ReplayFault;
 
-/// Why what is asked of a file is not done.
+/// Why a command is not done.
 #[derive(Debug, Drop)]
 pub enum Refusal {
-    /// No memory was left.
+    /// Out of memory.
     NoMemory,
-    /// A read of the file failed.
-    Read,
-    /// Its bytes are no image: the first fault.
+    /// A read of the file of this name failed.
+    Read { file: Bytes },
+    /// The bytes of the image's file are no image: the first fault.
     Image(Fault),
     /// It is an image of a kind that the machine does not run yet.
     Unbuilt,
-    /// Its bytes are no partition.
+    /// The bytes of the partition's file are no partition.
     Partition(PartRefusal),
+    /// The bytes of the schedule's file are no schedule of a complete run of the image.
+    Schedule(ScheduleRefusal),
 }
 
 /// The first thing that is wrong with a partition's file.
@@ -40,6 +44,17 @@ pub enum PartRefusal {
     Image { at: usize, why: image_form::Why },
 }
 
+/// The first thing that is wrong with a schedule's file. Lines have numbers from 1.
+#[derive(Clone, Copy, Debug, PartialEq, Eq)]
+pub enum ScheduleRefusal {
+    /// It has more than 64 MiB.
+    Limit,
+    /// A line is no name of an actor and LF.
+    Form { at: usize },
+    /// The actor that a line names has no turn, or a line is missing behind the last.
+    Replay { at: usize, why: wedge_core::Why },
+}
+
 impl From<NoMemory> for Refusal {
     ghost from_gives = { λ _ e. e ≡ errors.NoMemory };
 
@@ -55,6 +70,28 @@ pub(crate) fn refused(error: ImageError) -> Refusal
     match error {
         ImageError::NoMemory => Refusal::NoMemory,
         ImageError::Fault(fault) => Refusal::Image(fault),
+    }
+}
+
+/// What a text is that is no schedule.
+pub(crate) fn refused_form(fault: ScheduleFault) -> Refusal
+    ensures { result ≡ form_refusal_of fault }
+{
+    match fault {
+        ScheduleFault::NoMemory => Refusal::NoMemory,
+        ScheduleFault::Form { at } => Refusal::Schedule(ScheduleRefusal::Form { at }),
+    }
+}
+
+/// What a schedule is that has no replay.
+pub(crate) fn refused_replay(fault: ReplayFault) -> Refusal
+    ensures { result ≡ replay_refusal_of fault }
+{
+    match fault {
+        ReplayFault::NoMemory => Refusal::NoMemory,
+        ReplayFault::BadSchedule { at, why } => {
+            Refusal::Schedule(ScheduleRefusal::Replay { at, why })
+        }
     }
 }
 

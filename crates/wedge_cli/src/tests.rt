@@ -46,6 +46,11 @@ fn image_of(
     Ok(bytes)
 }
 
+/// The image of which the other tests are.
+pub(crate) fn image(alloc: Global) -> Result<Vec<u8>, AllocError> {
+    image_of(alloc, 100, &OK, 3, 2)
+}
+
 /// A run of the program: the bytes of its file `a`, the reads and writes that fail, and how
 /// many bytes `out` takes.
 #[derive(Drop)]

@@ -1,45 +1,139 @@
-//! The words of the command line.
+//! The arguments of the command line.
 
-ghost use Rattle.std.specs.Prelude.{◌≡◌, option_map};
+ghost use Rattle.std.specs.Prelude.{◌≡◌, Some, None, option_map, MatchResult};
+ghost use Rattle.std.specs.String.{string_bytes};
 ghost use Rattle.wedge_cli.specs.Words as asking;
 
-/// What is asked of the file of a name.
+/// How a run is reported.
 #[derive(Clone, Copy, Debug, PartialEq, Eq)]
-pub enum Command {
-    /// That the image be run, and its report written.
-    Run,
-    /// That the text of the image be listed.
-    Show,
-    /// That an image be made of the partition, and written.
-    Build,
+pub enum RunFlag {
+    /// Its report is written on the output.
+    Plain,
+    /// Its schedule is written on the output, and its report on the error stream.
+    Schedule,
 }
 
-/// What the words ask, and the name of the file; none where they are no command.
-pub(crate) fn asked(words: &[String]) -> Option<(Command, &str)>
-    ensures { option_map (λ a. (a.0, a.1.now)) result ≡ asking.asked (asking.texts words.now) }
+/// A command, with the names of its files.
+#[derive(Clone, Copy, Debug)]
+pub enum Command<'a> {
+    /// To run an image and write the report.
+    Run { image: &'a str, flag: RunFlag },
+    /// To list the text of an image.
+    Show { image: &'a str },
+    /// To make an image of a partition and write it.
+    Build { part: &'a str },
+    /// To replay a schedule over an image and write the report.
+    Replay { image: &'a str, schedule: &'a str },
+}
+
+/// Why arguments are no command.
+#[derive(Clone, Copy, Debug, PartialEq, Eq)]
+pub enum WordsFault {
+    /// They have not the form of any command.
+    Usage,
+}
+
+/// The command of the arguments after the program's name. An argument that is empty or begins with `-` names no
+/// file.
+pub fn read_words(words: &[String]) -> Result<Command<'_>, WordsFault>
+    ensures { MatchResult result
+        (λ c. asking.command_of (asking.texts words.now) ≡ Some (asking.asked_by c))
+        (λ _. asking.command_of (asking.texts words.now) ≡ None) }
 {
-    match words {
-        [command, name] if is_plain(name.as_str()) => {
-            let command = command_named(command.as_str())?;
-            Some((command, name.as_str()))
+    match command_in(words) {
+        Some(command) => Ok(command),
+        None => Err(WordsFault::Usage),
+    }
+}
+
+/// The command of arguments.
+fn command_in(words: &[String]) -> Option<Command<'_>>
+    ensures { option_map asking.asked_by result ≡ asking.command_of (asking.texts words.now) }
+{
+    let (command, arguments) = words.split_first()?;
+    match command.as_str() {
+        "run" => run_in(arguments),
+        "show" => show_in(arguments),
+        "build" => build_in(arguments),
+        "replay" => replay_in(arguments),
+        _ => None,
+    }
+}
+
+/// The command of the arguments after `run`: an image, and the flag before it or after it.
+fn run_in(arguments: &[String]) -> Option<Command<'_>>
+    ensures { option_map asking.asked_by result ≡ asking.run_of (asking.texts arguments.now) }
+{
+    match arguments {
+        [image] => run_with(image, RunFlag::Plain),
+        [flag, image] if is_schedule(flag) => run_with(image, RunFlag::Schedule),
+        [image, flag] if is_schedule(flag) => run_with(image, RunFlag::Schedule),
+        _ => None,
+    }
+}
+
+/// A run of an image with a flag.
+fn run_with(image: &String, flag: RunFlag) -> Option<Command<'_>>
+    ensures { option_map asking.asked_by result ≡ asking.run_with flag (string_bytes image.now) }
+{
+    if !is_plain(image.as_str()) {
+        return None;
+    }
+    Some(Command::Run {
+        image: image.as_str(),
+        flag,
+    })
+}
+
+/// Whether an argument is the flag.
+fn is_schedule(argument: &String) -> bool
+    ensures { result ≡ asking.is_schedule (string_bytes argument.now) }
+{
+    argument.as_str() == "--schedule"
+}
+
+/// The command of the arguments after `show`.
+fn show_in(arguments: &[String]) -> Option<Command<'_>>
+    ensures { option_map asking.asked_by result ≡ asking.show_of (asking.texts arguments.now) }
+{
+    let image = file_in(arguments)?;
+    Some(Command::Show { image })
+}
+
+/// The command of the arguments after `build`.
+fn build_in(arguments: &[String]) -> Option<Command<'_>>
+    ensures { option_map asking.asked_by result ≡ asking.build_of (asking.texts arguments.now) }
+{
+    let part = file_in(arguments)?;
+    Some(Command::Build { part })
+}
+
+/// The command of the arguments after `replay`.
+fn replay_in(arguments: &[String]) -> Option<Command<'_>>
+    ensures { option_map asking.asked_by result ≡ asking.replay_of (asking.texts arguments.now) }
+{
+    match arguments {
+        [image, schedule] if is_plain(image.as_str()) && is_plain(schedule.as_str()) => {
+            Some(Command::Replay {
+                image: image.as_str(),
+                schedule: schedule.as_str(),
+            })
         }
         _ => None,
     }
 }
 
-/// The command of a word.
-fn command_named(word: &str) -> Option<Command>
-    ensures { result ≡ asking.command_named word.now }
+/// The one argument, if it can name a file.
+fn file_in(arguments: &[String]) -> Option<&str>
+    ensures { option_map (λ n. n.now) result ≡ asking.file_of (asking.texts arguments.now) }
 {
-    match word {
-        "run" => Some(Command::Run),
-        "show" => Some(Command::Show),
-        "build" => Some(Command::Build),
+    match arguments {
+        [name] if is_plain(name.as_str()) => Some(name.as_str()),
         _ => None,
     }
 }
 
-/// Whether a word can name a file: it is not empty and does not begin with `-`.
+/// Whether an argument can name a file: it is not empty and does not begin with `-`.
 fn is_plain(word: &str) -> bool
     ensures { result ≡ asking.is_plain word.now }
 {

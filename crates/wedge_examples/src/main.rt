@@ -14,49 +14,81 @@ use wedge_cli::wedge;
 /// The most bytes that one example writes.
 const ROOM: u64 = 65536;
 
-/// A partition, or an image where `built` is false; a command; and the file with what it writes.
+/// A partition, or an image where `built` is false; what is done with it; the arguments, in which the image is
+/// `image`; the file of its schedule, which is `schedule` in the arguments, if it has one; and the file with what is
+/// written.
 struct Example {
     name: &'static str,
     built: bool,
-    command: &'static str,
+    title: &'static str,
+    words: &'static [&'static str],
+    schedule: Option<&'static str>,
     wanted: &'static str,
 }
 
-static EXAMPLES: [Example; 6] = [
+static EXAMPLES: [Example; 8] = [
     Example {
         name: "hello.toml",
         built: true,
-        command: "run",
+        title: "run",
+        words: &["run", "image"],
+        schedule: None,
         wanted: "hello.report",
     },
     Example {
         name: "closed.toml",
         built: true,
-        command: "run",
+        title: "run",
+        words: &["run", "image"],
+        schedule: None,
         wanted: "closed.report",
     },
     Example {
         name: "sum.toml",
         built: true,
-        command: "run",
+        title: "run",
+        words: &["run", "image"],
+        schedule: None,
         wanted: "sum.report",
     },
     Example {
         name: "sum.toml",
         built: true,
-        command: "show",
+        title: "show",
+        words: &["show", "image"],
+        schedule: None,
         wanted: "sum.listing",
+    },
+    Example {
+        name: "sum.toml",
+        built: true,
+        title: "run --schedule",
+        words: &["run", "image", "--schedule"],
+        schedule: None,
+        wanted: "sum.schedule",
+    },
+    Example {
+        name: "sum.toml",
+        built: true,
+        title: "replay",
+        words: &["replay", "image", "schedule"],
+        schedule: Some("sum.schedule"),
+        wanted: "sum.report",
     },
     Example {
         name: "ok.wedge",
         built: false,
-        command: "run",
+        title: "run",
+        words: &["run", "image"],
+        schedule: None,
         wanted: "ok.report",
     },
     Example {
         name: "denied.wedge",
         built: false,
-        command: "run",
+        title: "run",
+        words: &["run", "image"],
+        schedule: None,
         wanted: "denied.report",
     },
 ];
@@ -67,15 +99,15 @@ fn main(rt: HostRuntime) -> io::Result<ExitCode> {
     let mut status = 0;
     for example in &EXAMPLES {
         let name = example.name;
-        let command = example.command;
+        let title = example.title;
         match is_as_wanted(&rt, rt.alloc(), &mut files, example) {
-            Ok(true) => println!(rt; "{command} {name}: as it should be")?,
+            Ok(true) => println!(rt; "{title} {name}: as it should be")?,
             Ok(false) => {
-                println!(rt; "{command} {name}: not as it should be")?;
+                println!(rt; "{title} {name}: not as it should be")?;
                 status = 1;
             }
             Err(NoMemory) => {
-                println!(rt; "{command} {name}: out of memory")?;
+                println!(rt; "{title} {name}: out of memory")?;
                 status = 1;
             }
         }
@@ -91,18 +123,33 @@ fn is_as_wanted<R: Threads + Wait + Sync, F: Files>(
     example: &Example,
 ) -> Result<bool, NoMemory> {
     let image = if example.built {
-        output(rt, alloc, files, "build", example.name)?
+        output(rt, alloc, files, &["build", example.name])?
     } else {
         content(alloc, files, example.name)?
     };
-    let file = MemFile {
-        name: String::from_str(alloc, "image")?,
-        bytes: image,
+    let schedule = match example.schedule {
+        Some(name) => content(alloc, files, name)?,
+        None => Vec::new(alloc),
     };
-    let mut made = MemFiles::new(vec![in alloc; file]?, Vec::new(alloc));
-    let written = output(rt, alloc, &mut made, example.command, "image")?;
+    let made = vec![in alloc;
+        file(alloc, "image", image)?,
+        file(alloc, "schedule", schedule)?,
+    ]?;
+    if !MemFiles::names_differ(made.as_slice()) {
+        return Ok(false);
+    }
+    let mut made = MemFiles::new(made, Vec::new(alloc));
+    let written = output(rt, alloc, &mut made, example.words)?;
     let wanted = content(alloc, files, example.wanted)?;
     Ok(written == wanted)
+}
+
+/// A file that lies in memory.
+fn file(alloc: Global, name: &str, bytes: Vec<u8>) -> Result<MemFile, NoMemory> {
+    Ok(MemFile {
+        name: String::from_str(alloc, name)?,
+        bytes,
+    })
 }
 
 /// The bytes of a file; none where it can't be read.
@@ -114,17 +161,17 @@ fn content<F: Files>(alloc: Global, files: &mut F, name: &str) -> Result<Vec<u8>
     }
 }
 
-/// What the program writes for a command on a file: on its output, or on its error stream.
+/// What the program writes for its arguments: on its output, or on its error stream.
 fn output<R: Threads + Wait + Sync, F: Files>(
     rt: &R,
     alloc: Global,
     files: &mut F,
-    command: &str,
-    name: &str,
+    arguments: &[&str],
 ) -> Result<Vec<u8>, NoMemory> {
     let mut words = Vec::new(alloc);
-    words.push(String::from_str(alloc, command)?)?;
-    words.push(String::from_str(alloc, name)?)?;
+    for argument in arguments {
+        words.push(String::from_str(alloc, argument)?)?;
+    }
     let mut out = MemSink::new(alloc, ROOM as usize, Vec::new(alloc))?;
     let mut err = MemSink::new(alloc, ROOM as usize, Vec::new(alloc))?;
     let ended = wedge(

@@ -1,14 +1,26 @@
-use Rattle.wedge_cli.proofs.Statuses.{usage_only, image_by, read_by, write_only}
+use Rattle.wedge_cli.proofs.Statuses.{run_done, schedule_done, replay_done, schedule_only, usage_only, image_only, read_only, write_only}
 use Rattle.wedge_cli.proofs.top.wedge.Goals as goal
 
+pub returns-clause-run : goal.returns-clause-run
+returns-clause-run g c = λ image bytes asked exposed is. run_done image bytes _ _ _ (c.does.ensures.answer.command _ asked) exposed is
+
+pub returns-clause-schedule : goal.returns-clause-schedule
+returns-clause-schedule g c = λ image bytes asked exposed is. schedule_done image bytes _ _ _ (c.does.ensures.answer.command _ asked) exposed is
+
+pub returns-clause-replay : goal.returns-clause-replay
+returns-clause-replay g c = λ image schedule bytes names asked image_is schedule_is. replay_done image schedule bytes names _ _ _ (c.does.ensures.answer.command _ asked) image_is schedule_is
+
+pub returns-clause-schedule_only : goal.returns-clause-schedule_only
+returns-clause-schedule_only g c = λ a asked is. schedule_only a _ _ _ (c.does.ensures.answer.command a asked) is
+
 pub returns-clause-usage_only : goal.returns-clause-usage_only
-returns-clause-usage_only g c = usage_only _ _ _ _ _ _ _ _ _ c.does.ensures.answer
+returns-clause-usage_only g c = usage_only _ _ _ _ c.does.ensures.answer
 
 pub returns-clause-image_only : goal.returns-clause-image_only
-returns-clause-image_only g c = λ command name asked is. image_by command name _ _ _ _ _ _ _ _ (c.does.ensures.answer.file command name asked) is
+returns-clause-image_only g c = λ a asked is. image_only a _ _ _ (c.does.ensures.answer.command a asked) is
 
 pub returns-clause-read_only : goal.returns-clause-read_only
-returns-clause-read_only g c = λ command name asked is. read_by command name _ _ _ _ _ _ _ _ (c.does.ensures.answer.file command name asked) is
+returns-clause-read_only g c = λ a asked is. read_only a _ _ _ (c.does.ensures.answer.command a asked) is
 
 pub returns-clause-write_only : goal.returns-clause-write_only
-returns-clause-write_only g c = write_only _ _ _ _ _ _ _ _ _ c.does.ensures.answer
+returns-clause-write_only g c = write_only _ _ _ _ c.does.ensures.answer

@@ -1,9 +1,9 @@
-use Rattle.std.proofs.Common.{◌≡◌, List, ℕ, sym, ap, subst, ◌∙◌}
+use Rattle.std.proofs.Common.{List, ℕ, sym, ap, subst, ◌∙◌}
 use Rattle.wedge_cli.specs.Loading.{built_of, by_partition, IsRefusalOf}
 use Rattle.wedge_cli.specs.Refusals.{part_refusal_of}
 use Rattle.part_toml.specs.Partition.{partition}
 use Rattle.wedge_cli.proofs.Partitions.{built_not_utf8, built_utf8, exposed_by}
-use Rattle.wedge_cli.proofs.loading.image_built.Goals as goal
+use Rattle.wedge_cli.proofs.loading.built_of.Goals as goal
 
 pub returns-in_default-clause-refused : goal.returns-in_default-clause-refused
 returns-in_default-clause-refused c = built_not_utf8 c.args.bytes.now c.requires c.in_default.ensures.cases.0

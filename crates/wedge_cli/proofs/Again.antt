@@ -1,0 +1,35 @@
+-- The schedule of a run, replayed over the image that was run, gives the report of the run.
+use Rattle.std.proofs.Common.{◌≡◌, ◌≤◌, ℕ, List, [], ◌∷◌, length, refl, sym, ap, ◌∙◌, arith}
+use Rattle.std.specs.Prelude.{Ok}
+use Rattle.wedge_base.specs.Images.{Image}
+use Rattle.wedge_base.specs.Journals.{turns_of}
+use Rattle.wedge_base.specs.declared.events.LogEntry.{LogEntry}
+use Rattle.wedge_base.specs.declared.outcome.Outcome.{Outcome}
+use Rattle.image_form.specs.Rules.{Encodes}
+use Rattle.report_text.specs.Reports.{report_of}
+use Rattle.report_text.specs.Schedules.{actors_of, names_in}
+use Rattle.sthread_life.specs.Worlds.{opening}
+use Rattle.wedge_core.specs.Replay.{replayed, names_of}
+use Rattle.wedge_core.specs.Serial.{IsWholeRun}
+use Rattle.wedge_core.proofs.Replays.{journals_replay}
+use Rattle.wedge_cli.specs.declared.loading.FileKind.TheVariants as kind
+use Rattle.wedge_cli.specs.Loading.{run_image_of, most_of}
+use Rattle.wedge_cli.specs.Replaying.{replay_text, replay_of, schedule_by, replay_report}
+use Rattle.wedge_cli.proofs.Replays.{text_within}
+
+-- the actors of entries are those of their turns
+actors_are : (entries : List LogEntry) → actors_of entries ≡ names_of (turns_of entries)
+actors_are [] = refl
+actors_are (e ∷ es) = ap (λ names. e.actor ∷ names) (actors_are es)
+
+pub schedule_replays : (i : Image) (bytes schedule : List ℕ) (entries : List LogEntry) (outcome : Outcome) → Encodes i bytes → run_image_of bytes ≡ Ok i → IsWholeRun i entries outcome
+    → names_in schedule ≡ Ok (actors_of entries) → length schedule ≤ most_of kind.Schedule → replay_text bytes schedule ≡ Ok (report_of outcome)
+schedule_replays i bytes schedule entries outcome encoded accepted whole read short =
+    let within : length bytes ≤ most_of kind.Image = omega (arith, ap length encoded.encoded, encoded.valid.small) in
+    let replay = journals_replay i entries outcome whole in
+    text_within bytes schedule within short
+    ∙ ap (λ m. replay_of m (schedule_by (names_in schedule))) accepted
+    ∙ ap (λ n. replay_of (Ok i) (schedule_by n)) read
+    ∙ ap (λ names. replay_report (replayed (opening i) 1 names)) (actors_are entries)
+    ∙ ap replay_report replay.1
+    ∙ ap (λ (o : Outcome). Ok (report_of o)) (sym replay.2)

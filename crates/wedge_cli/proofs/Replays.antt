@@ -1,0 +1,143 @@
+-- The answer of a replay, from what was read and done.
+use Rattle.std.proofs.Common.{◌≡◌, ℕ, ◌<◌, ◌≤◌, inl, inr, Bool, true, false, List, length, refl, sym, ap, subst, ◌∙◌, arith}
+use Rattle.std.specs.Prelude.{Option, Result, Ok, Err, nat_lt, if◌then◌else◌}
+use Rattle.std.proofs.lemmas.Bool.{le-ltb, lt-ltb}
+use Rattle.host_io.specs.Exposed.{WhereExposed}
+use Rattle.wedge_base.specs.Images.{Image}
+use Rattle.image_form.specs.declared.fault.Fault.{Fault}
+use Rattle.image_form.specs.Reading.{reading}
+use Rattle.report_text.specs.Schedules.{names_in}
+use Rattle.sthread_life.specs.Worlds.{WorldState, opening}
+use Rattle.wedge_core.specs.declared.error.Why.{Why}
+use Rattle.wedge_core.specs.Replay.{replayed}
+use Rattle.wedge_cli.specs.declared.loading.FileKind.TheVariants as kind
+use Rattle.wedge_cli.specs.declared.refusal.Refusal.{Refusal}
+use Rattle.wedge_cli.specs.declared.refusal.Refusal.TheVariants as refusal
+use Rattle.wedge_cli.specs.declared.refusal.PartRefusal.{PartRefusal}
+use Rattle.wedge_cli.specs.declared.refusal.ScheduleRefusal.{ScheduleRefusal}
+use Rattle.wedge_cli.specs.declared.refusal.ScheduleRefusal.TheVariants as schedule
+use Rattle.wedge_cli.specs.Loading.{run_image_of, run_image_by, most_of, too_long, IsRefusalOf, IsUnread}
+use Rattle.wedge_cli.specs.Replaying.{replay_text, replay_of, schedule_by, replay_report, IsRefusalIn}
+use Rattle.wedge_cli.specs.Causes.{IsReplayAnswer, IsReplayRefused}
+use Rattle.wedge_cli.proofs.TooLong.{long_run_image}
+
+-- ---- the text
+
+-- of files that are not too long
+pub text_within : (a b : List ℕ) → length a ≤ most_of kind.Image → length b ≤ most_of kind.Schedule → replay_text a b ≡ replay_of (run_image_of a) (schedule_by (names_in b))
+unfolding replay_text
+text_within a b la lb =
+    let short_a : nat_lt (most_of kind.Image) (length a) ≡ false = le-ltb (most_of kind.Image) (length a) la in
+    let short_b : nat_lt (most_of kind.Schedule) (length b) ≡ false = le-ltb (most_of kind.Schedule) (length b) lb in
+    rw (short_a, short_b) refl
+
+-- of an image's file that is too long
+long_first : (a b : List ℕ) → most_of kind.Image < length a → replay_text a b ≡ Err (too_long kind.Image)
+unfolding replay_text
+long_first a b lt = let long : nat_lt (most_of kind.Image) (length a) ≡ true = lt-ltb (most_of kind.Image) (length a) lt in rw long refl
+
+-- of a schedule's that is too long
+long_second : (a b : List ℕ) → length a ≤ most_of kind.Image → most_of kind.Schedule < length b → replay_text a b ≡ Err (too_long kind.Schedule)
+unfolding replay_text
+long_second a b la lt =
+    let short : nat_lt (most_of kind.Image) (length a) ≡ false = le-ltb (most_of kind.Image) (length a) la in
+    let long : nat_lt (most_of kind.Schedule) (length b) ≡ true = lt-ltb (most_of kind.Schedule) (length b) lt in
+    rw (short, long) refl
+
+-- ---- refusals of the text
+
+pub image_refused : (m : Result Image Refusal) (n : Result (List (List ℕ)) Refusal) (r : Refusal) → IsRefusalOf m r → IsRefusalIn (replay_of m n) r
+image_refused m n refusal.NoMemory h = tt
+image_refused m n (refusal.Read file) h = absurd h
+image_refused m n (refusal.Image fault) h = ap (λ x. replay_of x n) h
+image_refused m n refusal.Unbuilt h = ap (λ x. replay_of x n) h
+image_refused m n (refusal.Partition p) h = ap (λ x. replay_of x n) h
+image_refused m n (refusal.Schedule s) h = absurd h
+
+pub names_refused : (m : Result Image Refusal) (i : Image) (n : Result (List (List ℕ)) Refusal) (r : Refusal) → m ≡ Ok i → IsRefusalIn n r → IsRefusalIn (replay_of m n) r
+names_refused m i n refusal.NoMemory is h = tt
+names_refused m i n (refusal.Read file) is h = absurd h
+names_refused m i n (refusal.Image fault) is h = ap (λ x. replay_of x n) is ∙ ap (λ x. replay_of (Ok i) x) h
+names_refused m i n refusal.Unbuilt is h = ap (λ x. replay_of x n) is ∙ ap (λ x. replay_of (Ok i) x) h
+names_refused m i n (refusal.Partition p) is h = ap (λ x. replay_of x n) is ∙ ap (λ x. replay_of (Ok i) x) h
+names_refused m i n (refusal.Schedule s) is h = ap (λ x. replay_of x n) is ∙ ap (λ x. replay_of (Ok i) x) h
+
+-- ---- which refusals come of the image
+
+report_cause : (m : Result WorldState (ℕ × Why)) (r : Refusal) → ((s : ScheduleRefusal) → r ≡ refusal.Schedule s → ⊥) → replay_report m ≡ Err r → ⊥
+report_cause (Ok w) r unlike e = cc
+report_cause (Err f) r unlike e = unlike (schedule.Replay f.0 f.1) (let is : refusal.Schedule (schedule.Replay f.0 f.1) ≡ r = cc in sym is)
+
+image_cause : (m : Result Image Refusal) (n : Result (List (List ℕ)) ℕ) (r : Refusal) → ((s : ScheduleRefusal) → r ≡ refusal.Schedule s → ⊥)
+    → replay_of m (schedule_by n) ≡ Err r → m ≡ Err r
+image_cause (Err why) n r unlike e = let is : why ≡ r = cc in ap (λ x. Err x) is
+image_cause (Ok i) (Err at) r unlike e = absurd (unlike (schedule.Form at) (let is : refusal.Schedule (schedule.Form at) ≡ r = cc in sym is))
+image_cause (Ok i) (Ok names) r unlike e = absurd (report_cause (replayed (opening i) 1 names) r unlike e)
+
+choice_cause : (i : Image) (p : PartRefusal) (b : Bool) → (let meant : Result Image Refusal = if b then Ok i else Err refusal.Unbuilt in meant ≡ Err (refusal.Partition p)) → ⊥
+choice_cause i p true e = cc
+choice_cause i p false e = cc
+
+no_partition_by : (m : Result Image Fault) (p : PartRefusal) → run_image_by m ≡ Err (refusal.Partition p) → ⊥
+no_partition_by (Ok i) p e = choice_cause i p _ e
+no_partition_by (Err f) p e = cc
+
+-- ---- the causes of a refused replay
+
+-- the image's file was not read
+pub first_unread : (image schedule : List ℕ) (files : List ℕ → Option (List ℕ)) (before after : List ℕ → ℕ) (r : Refusal)
+    → IsUnread kind.Image image (files image) (before image) (after image) r → IsReplayRefused image schedule files before after r
+first_unread image schedule files before after refusal.NoMemory h = tt
+first_unread image schedule files before after (refusal.Read file) h = inl h
+first_unread image schedule files before after (refusal.Image fault) h = (
+  λ a b image_is schedule_is. long_first a b (h.longer a image_is) ∙ ap (λ r. Err r) (sym h.is),
+  λ a image_is. long_run_image a (h.longer a image_is) ∙ ap (λ r. Err r) (sym h.is),
+)
+first_unread image schedule files before after refusal.Unbuilt h = absurd h
+first_unread image schedule files before after (refusal.Partition p) h = let e = h.is in absurd cc
+first_unread image schedule files before after (refusal.Schedule s) h = let e = h.is in absurd cc
+
+-- the schedule's was not, after the image's
+pub second_unread : (image schedule : List ℕ) (files : List ℕ → Option (List ℕ)) (before after : List ℕ → ℕ) (middle : ℕ) (bytes : List ℕ) (r : Refusal)
+    → before schedule ≤ middle → WhereExposed (files image) (λ b. bytes ≡ b) → length bytes ≤ most_of kind.Image
+    → IsUnread kind.Schedule schedule (files schedule) middle (after schedule) r → IsReplayRefused image schedule files before after r
+second_unread image schedule files before after middle bytes refusal.NoMemory low same within h = tt
+second_unread image schedule files before after middle bytes (refusal.Read file) low same within h =
+    let rose = h.rose in
+    inr (record { named = h.named; rose = omega arith }, λ b exposed. subst (λ x. length x ≤ most_of kind.Image) (same b exposed) within)
+second_unread image schedule files before after middle bytes (refusal.Image fault) low same within h = let e = h.is in absurd cc
+second_unread image schedule files before after middle bytes refusal.Unbuilt low same within h = absurd h
+second_unread image schedule files before after middle bytes (refusal.Partition p) low same within h = let e = h.is in absurd cc
+second_unread image schedule files before after middle bytes (refusal.Schedule s) low same within h = λ a b image_is schedule_is.
+    long_second a b (subst (λ x. length x ≤ most_of kind.Image) (same a image_is) within) (h.longer b schedule_is) ∙ ap (λ r. Err r) (sym h.is)
+
+-- both were read
+answered : (image schedule : List ℕ) (files : List ℕ → Option (List ℕ)) (bytes names : List ℕ) (answer : Result (List ℕ) Refusal)
+    → WhereExposed (files image) (λ b. bytes ≡ b) → WhereExposed (files schedule) (λ b. names ≡ b) → replay_text bytes names ≡ answer → IsReplayAnswer image schedule files answer
+answered image schedule files bytes names answer same same_names h = λ a b image_is schedule_is.
+    ap (λ x. replay_text x b) (sym (same a image_is)) ∙ ap (λ x. replay_text bytes x) (sym (same_names b schedule_is)) ∙ h
+
+image_meant : (files_image : Option (List ℕ)) (bytes names : List ℕ) (r : Refusal) → ((s : ScheduleRefusal) → r ≡ refusal.Schedule s → ⊥)
+    → WhereExposed files_image (λ b. bytes ≡ b) → length bytes ≤ most_of kind.Image → length names ≤ most_of kind.Schedule → replay_text bytes names ≡ Err r
+    → WhereExposed files_image (λ b. run_image_of b ≡ Err r)
+image_meant files_image bytes names r unlike same within within_names h = λ b exposed.
+    subst (λ x. run_image_of x ≡ Err r) (same b exposed) (image_cause (run_image_of bytes) (names_in names) r unlike (sym (text_within bytes names within within_names) ∙ h))
+
+pub both_read : (image schedule : List ℕ) (files : List ℕ → Option (List ℕ)) (before after : List ℕ → ℕ) (bytes names : List ℕ) (r : Refusal)
+    → WhereExposed (files image) (λ b. bytes ≡ b) → WhereExposed (files schedule) (λ b. names ≡ b)
+    → length bytes ≤ most_of kind.Image → length names ≤ most_of kind.Schedule
+    → IsRefusalIn (replay_text bytes names) r → IsReplayRefused image schedule files before after r
+both_read image schedule files before after bytes names refusal.NoMemory same same_names within within_names h = tt
+both_read image schedule files before after bytes names (refusal.Read file) same same_names within within_names h = absurd h
+both_read image schedule files before after bytes names (refusal.Image fault) same same_names within within_names h = (
+  answered image schedule files bytes names (Err (refusal.Image fault)) same same_names h,
+  image_meant (files image) bytes names (refusal.Image fault) (λ s e. cc) same within within_names h,
+)
+both_read image schedule files before after bytes names refusal.Unbuilt same same_names within within_names h = (
+  answered image schedule files bytes names (Err refusal.Unbuilt) same same_names h,
+  image_meant (files image) bytes names refusal.Unbuilt (λ s e. cc) same within within_names h,
+)
+both_read image schedule files before after bytes names (refusal.Partition p) same same_names within within_names h =
+    no_partition_by (reading bytes) p (image_cause (run_image_of bytes) (names_in names) (refusal.Partition p) (λ s e. cc) (sym (text_within bytes names within within_names) ∙ h))
+both_read image schedule files before after bytes names (refusal.Schedule s) same same_names within within_names h =
+    answered image schedule files bytes names (Err (refusal.Schedule s)) same same_names h

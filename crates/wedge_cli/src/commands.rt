@@ -1,0 +1,149 @@
+//! What each command makes of its files.
+
+ghost use Rattle.std.specs.Prelude.{◌≡◌, ◌≤◌, ℕ, List, Some, None, IfOk, IfErr};
+ghost use Rattle.wedge_cli.specs.Words as asking;
+ghost use Rattle.wedge_cli.specs.Loading.{IsRefusedBy, image_of, run_image_of, built_of};
+ghost use Rattle.wedge_cli.specs.Causes.{IsReplayRefused, IsRefused};
+ghost use Rattle.wedge_cli.specs.Ended.{on_out, on_both, IsReported, IsRun, IsShown, IsBuilt, IsReplayed, IsMade};
+
+use crate::loading::{FileKind, load_built, load_image, load_run, read_file};
+use crate::refusal::Refusal;
+use crate::replaying::replay_text;
+use crate::show::listing;
+use crate::words::{Command, RunFlag};
+use crate::writing::{Ready, SinkName, Text};
+use host_io::Files;
+use image_form::{Image, write_image};
+use report_text::{report, write_schedule};
+use std::alloc::Global;
+use wedge_base::{Bytes, Journal, NoMemory};
+use wedge_core::serial;
+
+/// The texts of a command: all of them are made before the first is written.
+pub(crate) fn prepare<F: Files>(
+    alloc: Global,
+    command: Command<'_>,
+    files: &mut F,
+) -> Result<Ready, Refusal>
+    ensures made { IfOk result (λ r. IsMade (asking.asked_by command.entry) (F.content files.old)
+        r.journal r.texts.items) }
+    ensures refused { IfErr result (IsRefused (asking.asked_by command.entry) (F.content files.old)
+        (F.faults files.old) (F.faults files.new)) }
+    ensures content { (other : List ℕ) → F.content files.new other ≡ F.content files.old other }
+    ensures rises { (other : List ℕ) → F.faults files.old other ≤ F.faults files.new other }
+{
+    match command {
+        Command::Run { image, flag } => run(alloc, files, image, flag),
+        Command::Show { image } => show(alloc, files, image),
+        Command::Build { part } => build(alloc, files, part),
+        Command::Replay { image, schedule } => replay(alloc, files, image, schedule),
+    }
+}
+
+/// Runs an image.
+fn run<F: Files>(alloc: Global, files: &mut F, name: &str, flag: RunFlag) -> Result<Ready, Refusal>
+    ensures made { IfOk result (λ r. IsRun flag (F.content files.old name.now) r.journal r.texts.items) }
+    ensures refused { IfErr result (IsRefusedBy run_image_of name.now (F.content files.old name.now)
+        (F.faults files.old name.now) (F.faults files.new name.now)) }
+    ensures content { (other : List ℕ) → F.content files.new other ≡ F.content files.old other }
+    ensures rises { (other : List ℕ) → F.faults files.old other ≤ F.faults files.new other }
+{
+    let image = load_run(alloc, files, name)?;
+    let ready = run_image(alloc, &image, flag)?;
+    Ok(ready)
+}
+
+/// The texts of a run of an image, with its journal.
+fn run_image(alloc: Global, image: &Image, flag: RunFlag) -> Result<Ready, NoMemory>
+    ensures { IfOk result (λ r. IsReported image.now flag r.journal r.texts.items) }
+{
+    let (journal, outcome) = serial(alloc, image)?;
+    let text = report(alloc, &outcome)?;
+    match flag {
+        RunFlag::Plain => on_out(alloc, Some(journal), text),
+        RunFlag::Schedule => {
+            let schedule = write_schedule(alloc, &journal)?;
+            on_both(alloc, journal, schedule, text)
+        }
+    }
+}
+
+/// Lists the text of an image.
+fn show<F: Files>(alloc: Global, files: &mut F, name: &str) -> Result<Ready, Refusal>
+    ensures made { IfOk result (λ r. IsShown (F.content files.old name.now) r.journal r.texts.items) }
+    ensures refused { IfErr result (IsRefusedBy image_of name.now (F.content files.old name.now)
+        (F.faults files.old name.now) (F.faults files.new name.now)) }
+    ensures content { (other : List ℕ) → F.content files.new other ≡ F.content files.old other }
+    ensures rises { (other : List ℕ) → F.faults files.old other ≤ F.faults files.new other }
+{
+    let image = load_image(alloc, files, name)?;
+    let text = listing(alloc, &image)?;
+    let ready = on_out(alloc, None, text)?;
+    Ok(ready)
+}
+
+/// Makes the bytes of the image of a partition.
+fn build<F: Files>(alloc: Global, files: &mut F, name: &str) -> Result<Ready, Refusal>
+    ensures made { IfOk result (λ r. IsBuilt (F.content files.old name.now) r.journal r.texts.items) }
+    ensures refused { IfErr result (IsRefusedBy built_of name.now (F.content files.old name.now)
+        (F.faults files.old name.now) (F.faults files.new name.now)) }
+    ensures content { (other : List ℕ) → F.content files.new other ≡ F.content files.old other }
+    ensures rises { (other : List ℕ) → F.faults files.old other ≤ F.faults files.new other }
+{
+    let image = load_built(alloc, files, name)?;
+    let bytes = write_image(alloc, &image)?;
+    let ready = on_out(alloc, None, bytes)?;
+    Ok(ready)
+}
+
+/// Replays a schedule over an image. Both files are read first, in this order.
+fn replay<F: Files>(
+    alloc: Global,
+    files: &mut F,
+    image: &str,
+    schedule: &str,
+) -> Result<Ready, Refusal>
+    ensures made { IfOk result (λ r. IsReplayed (F.content files.old image.now)
+        (F.content files.old schedule.now) r.journal r.texts.items) }
+    ensures refused { IfErr result (IsReplayRefused image.now schedule.now (F.content files.old)
+        (F.faults files.old) (F.faults files.new)) }
+    ensures content { (other : List ℕ) → F.content files.new other ≡ F.content files.old other }
+    ensures rises { (other : List ℕ) → F.faults files.old other ≤ F.faults files.new other }
+{
+    let bytes = read_file(alloc, files, FileKind::Image, image)?;
+    let names = read_file(alloc, files, FileKind::Schedule, schedule)?;
+    let text = replay_text(alloc, bytes.as_slice(), names.as_slice())?;
+    let ready = on_out(alloc, None, text)?;
+    Ok(ready)
+}
+
+/// A text on the output, and one on the error stream.
+fn on_both(alloc: Global, journal: Journal, out: Vec<u8>, err: Vec<u8>) -> Result<Ready, NoMemory>
+    ensures journal { IfOk result (λ r. r.journal ≡ Some journal) }
+    ensures texts { IfOk result (λ r. r.texts.items ≡ on_both out.items err.items) }
+{
+    let texts = vec![in alloc; text_on(SinkName::Out, out), text_on(SinkName::Err, err)]?;
+    Ok(Ready {
+        journal: Some(journal),
+        texts,
+    })
+}
+
+/// One text, on the output.
+fn on_out(alloc: Global, journal: Option<Journal>, bytes: Vec<u8>) -> Result<Ready, NoMemory>
+    ensures journal { IfOk result (λ r. r.journal ≡ journal) }
+    ensures texts { IfOk result (λ r. r.texts.items ≡ on_out bytes.items) }
+{
+    let texts = vec![in alloc; text_on(SinkName::Out, bytes)]?;
+    Ok(Ready { journal, texts })
+}
+
+/// A text for a sink.
+fn text_on(sink: SinkName, bytes: Vec<u8>) -> Text
+    ensures { result ≡ record { sink = sink; bytes = bytes.items } }
+{
+    Text {
+        sink,
+        bytes: Bytes::new(bytes),
+    }
+}

@@ -1,0 +1,28 @@
+//! What the program ends with.
+
+use wedge_base::Journal;
+
+/// The status of what was done.
+pub(crate) const DONE: u8 = 0;
+/// The status of arguments that are no command.
+pub(crate) const USAGE: u8 = 2;
+/// The status of an image or a partition that is refused.
+pub(crate) const REFUSED: u8 = 3;
+/// The status of a read that failed.
+pub(crate) const READ_FAULT: u8 = 4;
+/// The status of a write that failed.
+pub(crate) const WRITE_FAULT: u8 = 5;
+/// The status of a call that ran out of memory.
+pub(crate) const NO_MEMORY: u8 = 6;
+
+/// The status of a schedule that is refused.
+pub(crate) const SCHEDULE_REFUSED: u8 = 8;
+
+/// What the program ends with.
+#[derive(Debug, Drop)]
+pub struct Ended {
+    /// The exit status.
+    pub status: u8,
+    /// The journal of the run, where there was one and its texts were written, or their writing failed.
+    pub journal: Option<Journal>,
+}
