@@ -89,6 +89,19 @@ takes_name i b (event.Lives lives_ask.Claim r) = refl
 takes_name i b (event.Lives (lives_ask.Release e) r) = refl
 takes_name i b e = refl
 
+-- nor its fuel, where it is a load
+loaded_fuel : (ins : Instr) (n : Need) (a : ActorState) (value : ℕ) → (loads_by ins n a value).fuel ≡ a.fuel
+loaded_fuel ins need.Done a value = refl
+loaded_fuel ins (need.Load address width s) a value = refl
+loaded_fuel ins (need.Store address width v) a value = refl
+loaded_fuel ins need.Call a value = refl
+loaded_fuel ins need.Break a value = refl
+loaded_fuel ins need.JumpMisaligned a value = refl
+
+pub loads_fuel : (a : ActorState) (ins : Option Instr) (value : ℕ) → (loads_at a ins value).fuel ≡ a.fuel
+loads_fuel a None value = refl
+loads_fuel a (Some ins) value = loaded_fuel ins (local ins a.hart).need a value
+
 -- the event of a want that is of a cell; of the others there is none
 abbrev pub event_for : Cells → ActorState → Want → Event
 event_for c b (want.Slots q) = event.Slots q (directory_reply c.places q)

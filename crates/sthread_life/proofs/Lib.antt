@@ -6,6 +6,7 @@ pub mod Meeting
 pub mod Settling
 pub mod Walking
 pub mod Going
+pub mod Paying
 pub mod Keeping
 pub mod Mediating
 pub mod OneCell

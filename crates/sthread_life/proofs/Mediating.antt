@@ -1,5 +1,5 @@
 -- Each moment of a run: each request is mediated, and each end has its cause.
-use Rattle.std.proofs.Common.{◌≡◌, ◌↔◌, ℕ, zero, suc, Bool, true, false, List, [], ◌∷◌, refl, sym, ap, subst, ◌∙◌}
+use Rattle.std.proofs.Common.{◌≡◌, ◌+◌, ◌↔◌, ℕ, zero, suc, Bool, true, false, List, [], ◌∷◌, refl, sym, ap, subst, ◌∙◌}
 use Rattle.std.specs.Prelude.{Option, Some, None, is_none, IsSomeAnd, option_map, not, ◌&&◌, ◌+◌, slice_get, slice_set, slice_range, option_and_then, if◌then◌else◌}
 use Rattle.wedge_base.specs.Bytes.{number_of}
 use Rattle.wedge_base.specs.Images.{Image, fetch}
@@ -55,6 +55,8 @@ use Rattle.sthread_life.proofs.Named.{found_name, put_put, named_put, same_noted
 use Rattle.sthread_life.proofs.Keeping.{step_remembers, event_remembers}
 use Rattle.sthread_life.proofs.Settling.{AllReady, named_ready, turn_ready, opening_ready}
 use Rattle.sthread_life.proofs.Meeting.{request_for, refusal_for, IsRequest, WantsAs, ReadsAs, InstrLoads, NeedLoads, LoadsAt, stuck, step_comes}
+use Rattle.sthread_life.specs.Paying.{cost_at, cost_by}
+use Rattle.sthread_life.proofs.Paying.{step_pays, event_pays}
 use Rattle.sthread_life.proofs.Going.{IsNext, put_next, step_goes}
 use Rattle.sthread_life.proofs.Resting.{steps_step, stays, goes_on, running_is, rest-stops}
 use Rattle.sthread_life.proofs.Between.{event_for, parts_event_is, turn_parts, loaded_runs}
@@ -300,7 +302,7 @@ answered_for : (w : WorldState) (b a : ActorState) (rd : ℕ) (s : Bool) (q : Wa
 answered_for w b a rd s (want.Slot slot (slot_want.Load offset width)) named own = load_answered w b a slot offset width rd s (slot_in w.cells slot) named own refl
 answered_for w b a rd s (want.Slot slot (slot_want.Store offset width value)) named own = store_answered w b a slot offset width value (slot_in w.cells slot) named refl
 answered_for w b a rd s (want.Fd fd (stream_ask.Append bits bytes)) named own =
-    subst (λ x. IsAnsweredFor w b (want.Fd fd (stream_ask.Append x bytes)) (to_stream fd bytes (stream_in w.cells fd))) (sym own) (append_answered w b a fd bytes (stream_in w.cells fd) named refl)
+    subst (λ x. IsAnsweredFor w b (want.Fd fd (stream_ask.Append x bytes)) (to_stream fd bytes (stream_in w.cells fd))) (sym own.0) (append_answered w b a fd bytes (stream_in w.cells fd) named refl)
 answered_for w b a rd s q named own = absurd own
 
 answered_at : (w : WorldState) (b a : ActorState) (ph : Phase) (q : Want) → actor_named w.actors b.name ≡ Some a → ReadsAs w.image b ph → wanted_at ph ≡ Some q → AnswersAt (with_actor w b) b ph (event_for w.cells b q) (after w b (event_for w.cells b q))
@@ -444,7 +446,7 @@ refused_for : (w : WorldState) (b : ActorState) (rd : ℕ) (s : Bool) (q : Want)
 refused_for w b rd s (want.Slot slot (slot_want.Load offset width)) code own told = absurd cc
 refused_for w b rd s (want.Slot slot (slot_want.Store offset width value)) code own told = absurd cc
 refused_for w b rd s (want.Fd fd (stream_ask.Append bits bytes)) code own told =
-    subst (λ x. after w b (event_for w.cells b (want.Fd fd (stream_ask.Append x bytes))) ≡ with_actor (with_actor w b) (refused b code)) (sym own) (append_refused w b fd code bytes (stream_in w.cells fd) refl told)
+    subst (λ x. after w b (event_for w.cells b (want.Fd fd (stream_ask.Append x bytes))) ≡ with_actor (with_actor w b) (refused b code)) (sym own.0) (append_refused w b fd code bytes (stream_in w.cells fd) refl told)
 refused_for w b rd s q code own told = absurd own
 
 refuses_after : (w : WorldState) (b : ActorState) (ph : Phase) (q : Want) → ReadsAs w.image b ph → wanted_at ph ≡ Some q → RefusesAfter (with_actor w b) b ph (after w b (event_for w.cells b q))
@@ -496,6 +498,7 @@ turn_lawful w t new all e =
       ends = put_such (λ y. (end_of y.phase ≡ end_at w.image b) × (has_ended y.phase ≡ false)) w b x a named name (step_end w.image b _ refl run, (steps_step w.image b).live (ap has_ended run));
       goes = step_goes w b a named name run;
       refuses = refuses_in w b _ refl run;
+      pays = put_such (λ y. y.fuel + cost_at w.image b ≡ b.fuel) w b x a named name (step_pays w.image b);
       remembers = put_such (WordRemembers w.image b (option_and_then decode (fetch w.image b.hart.pc)) b.fuel) w b x a named name (step_remembers w.image b);
     })
     (λ a b q named reads wants.
@@ -507,6 +510,7 @@ turn_lawful w t new all e =
       ends = put_such (λ y. (end_of y.phase ≡ end_by b.phase e) × (has_ended y.phase ≡ is_end_event (Some e))) w b x a named k.1 (k.0, reached w.image b e);
       goes = put_next w b x a named k.1 (next_by w b b.phase q reads wants);
       refuses = refuses_after w b b.phase q reads wants;
+      pays = put_such (λ y. y.fuel + cost_by b e ≡ b.fuel) w b x a named k.1 (event_pays w b b.phase q reads wants);
       remembers = put_such (EventRemembers b e) w b x a named k.1 (event_remembers w.image b e);
     })
 

@@ -1,5 +1,5 @@
 -- What an instruction comes to: the request that it makes, its end, and the code with which it is refused.
-use Rattle.std.proofs.Common.{◌≡◌, ℕ, zero, suc, ◌+◌, ◌-◌, Bool, true, false, List, [], refl, sym, ap, subst, ◌∙◌, arith}
+use Rattle.std.proofs.Common.{◌≡◌, ℕ, zero, suc, ◌+◌, ◌-◌, ◌≤◌, Bool, true, false, List, [], refl, sym, ap, subst, ◌∙◌, arith}
 use Rattle.std.proofs.lemmas.Bool.{eqb-true}
 use Rattle.std.proofs.lemmas.Bool.Decides.{nat_tests}
 use Rattle.std.specs.Prelude.{Option, Some, None, is_some, option_and_then, not, ◌&&◌, ◌||◌, ◌==◌, nat_lt, nat_le, if◌then◌else◌}
@@ -48,11 +48,12 @@ abbrev pub refusal_for : Cells → ActorState → Want → Option ℕ
 refusal_for c a (want.Fd fd (stream_ask.Append bits bytes)) = stream_refusal a fd (stream_in c fd)
 refusal_for c a q = None
 
--- the wants that are requests today, asked with the bits of the actor; N is what is known where a load is wanted
+-- the wants that are requests today, an append with the bits of the actor and the fuel for it; N is what is known
+-- where a load is wanted
 abbrev pub IsRequest : (ℕ → Type 0) → ActorState → Want → Type 0
 IsRequest N a (want.Slot slot (slot_want.Load offset width)) = N width
 IsRequest N a (want.Slot slot (slot_want.Store offset width value)) = Unit {0}
-IsRequest N a (want.Fd fd (stream_ask.Append bits bytes)) = bits ≡ bits_of a fd
+IsRequest N a (want.Fd fd (stream_ask.Append bits bytes)) = (bits ≡ bits_of a fd) × (a2 a ≤ a.fuel)
 IsRequest N a q = ⊥
 
 -- where an instruction leaves its actor: at a want that is its request, or it made none
@@ -142,14 +143,14 @@ append_told : (c : Cells) (a : ActorState) (fd n : ℕ) (bytes : List ℕ) (t u 
 append_told c a fd n bytes false u v fuel few = refl
 append_told c a fd n bytes true u v fuel few = rw (fuel, few) refl
 
-append_tests : (N : ℕ → Bool → ℕ → Type 0) (a : ActorState) (fd : ℕ) (bytes : List ℕ) (t u v : Bool)
+append_tests : (N : ℕ → Bool → ℕ → Type 0) (a : ActorState) (fd : ℕ) (bytes : List ℕ) (t u v : Bool) → (u ≡ false → a2 a ≤ a.fuel)
     → Comes N a (λ c. if t && not u && not v then to_stream fd bytes (stream_in c fd) else None) (λ c. stream_refusal a fd (stream_in c fd)) None
     (if not t then Some bad else if u then Some fuel_short else if v then Some no_such else None)
     (if not t then refuses a code.Bad else if u then refuses a code.FuelShort else if v then refuses a code.NoSuch else wants a (want.Fd fd (stream_ask.Append (bits_of a fd) bytes)))
-append_tests N a fd bytes false u v = comes_refused N a _ _ code.Bad (λ c. refl)
-append_tests N a fd bytes true true v = comes_refused N a _ _ code.FuelShort (λ c. refl)
-append_tests N a fd bytes true false true = comes_refused N a _ _ code.NoSuch (λ c. refl)
-append_tests N a fd bytes true false false = record { name = refl; denials = refl; ends = refl; wants = (0, false, refl, λ c. refl, refl, λ c. refl); codes = λ n h. absurd cc }
+append_tests N a fd bytes false u v paid = comes_refused N a _ _ code.Bad (λ c. refl)
+append_tests N a fd bytes true true v paid = comes_refused N a _ _ code.FuelShort (λ c. refl)
+append_tests N a fd bytes true false true paid = comes_refused N a _ _ code.NoSuch (λ c. refl)
+append_tests N a fd bytes true false false paid = record { name = refl; denials = refl; ends = refl; wants = (0, false, refl, λ c. refl, (refl, paid refl), λ c. refl); codes = λ n h. absurd cc }
 
 -- its codes, in the tests of the call
 append_coded : (a : ActorState) (fd n : ℕ) (bytes : List ℕ) (t u v : Bool) → (nat_le n a.fuel ≡ not u) → (nat_lt fd most_fds ≡ not v)
@@ -169,10 +170,13 @@ append_comes N i a =
     ∙ append_told c a (a0 a) (a2 a) bytes t _ _ (not_below a.fuel (a2 a)) (not_above (a0 a)))
     (ap (append_refusal a (a0 a) (a2 a)) buffer_is
     ∙ append_coded a (a0 a) (a2 a) bytes t _ _ (not_below a.fuel (a2 a)) (not_above (a0 a)))
-    (append_tests N a (a0 a) bytes t (nat_lt a.fuel (a2 a)) (nat_le most_fds (a0 a)))
+    (append_tests N a (a0 a) bytes t (nat_lt a.fuel (a2 a)) (nat_le most_fds (a0 a)) (enough a.fuel (a2 a)))
   where
     not_above : (fd : ℕ) → nat_lt fd most_fds ≡ not (nat_le most_fds fd)
     not_above fd = grind (arith, nat_tests)
+
+    enough : (fuel n : ℕ) → nat_lt fuel n ≡ false → n ≤ fuel
+    enough fuel n e = grind (arith, nat_tests, e)
 
 -- calls
 call_comes : (N : ℕ → Bool → ℕ → Type 0) (i : Image) (a : ActorState) (n : ℕ) (t u : Bool) → (n == 0) ≡ t → (n == 16) ≡ u

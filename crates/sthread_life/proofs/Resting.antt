@@ -97,7 +97,7 @@ goes_needed i ins a h need.Call = goes_call i a (a7 a)
 goes_needed i ins a h need.Break = goes_end a end_.Break
 goes_needed i ins a h need.JumpMisaligned = goes_end a end_.JumpMisaligned
 
-goes_executed : (i : Image) (a : ActorState) (ins : Option Instr) → Goes a (executed i a ins)
+pub goes_executed : (i : Image) (a : ActorState) (ins : Option Instr) → Goes a (executed i a ins)
 goes_executed i a None = goes_end a end_.BadInstruction
 goes_executed i a (Some ins) = let b = local ins a.hart in goes_needed i ins a b.hart b.need
 

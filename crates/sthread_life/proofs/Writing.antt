@@ -192,7 +192,7 @@ record IsOwn (c : Cells) (b : ActorState) (q : Want) : Type 0 where
 want_own : (N : ℕ → Type 0) (c : Cells) (b : ActorState) (q : Want) → IsRequest N b q → IsOwn c b q
 want_own N c b (want.Slot s (slot_want.Load offset width)) own = record { stores = λ slot e. absurd (true≢false (sym e)); appends = λ fd e. absurd (true≢false (sym e)) }
 want_own N c b (want.Slot s (slot_want.Store offset width value)) own = record { stores = λ slot e. store_owned c b s offset width value slot (slot_in c s) refl e; appends = λ fd e. absurd (true≢false (sym e)) }
-want_own N c b (want.Fd n (stream_ask.Append bits bytes)) own = record { stores = λ slot e. absurd (true≢false (sym e)); appends = λ fd e. append_owned b n fd bits bytes (stream_in c n) own e }
+want_own N c b (want.Fd n (stream_ask.Append bits bytes)) own = record { stores = λ slot e. absurd (true≢false (sym e)); appends = λ fd e. append_owned b n fd bits bytes (stream_in c n) own.0 e }
 want_own N c b q own = absurd own
 
 rest_own : (i : Image) (c : Cells) (b : ActorState) (ph : Phase) (q : Want) → ReadsAs i b ph → wanted_at ph ≡ Some q → IsOwn c b q

@@ -11,6 +11,7 @@ pub mod Allowed
 pub mod Moments
 pub mod Ends
 pub mod Refusals
+pub mod Paying
 pub mod Remembering
 pub mod Outcomes
 pub mod Between

@@ -26,7 +26,7 @@ use Rattle.sthread_life.specs.Cells.{Cells}
 use Rattle.sthread_life.specs.Worlds.{WorldState, opening, actor_named, put_actor}
 use Rattle.sthread_life.specs.Between.{IsBetween}
 use Rattle.sthread_life.proofs.Resting.{HasPaid, rests, running_is, rest-name, rest-stays}
-use Rattle.sthread_life.proofs.Between.{takes_name, takes_between, turn_parts, event_for, parts_event_is}
+use Rattle.sthread_life.proofs.Between.{loads_fuel, takes_name, takes_between, turn_parts, event_for, parts_event_is}
 use Rattle.sthread_life.proofs.Named.{named_put, found_name}
 use Rattle.wedge_core.specs.Progress.{Progress, IsTurn, IsFound}
 use Rattle.wedge_core.specs.Serial.{HasRoot, phase_work, work, root_work}
@@ -36,18 +36,6 @@ between_work phase.Running h = omega arith
 between_work (phase.Within q) h = absurd h
 between_work (phase.Ending x) h = omega arith
 between_work (phase.Ended x) h = omega arith
-
-loaded_fuel : (ins : Instr) (n : Need) (a : ActorState) (value : ℕ) → (loads_by ins n a value).fuel ≡ a.fuel
-loaded_fuel ins need.Done a value = refl
-loaded_fuel ins (need.Load address width s) a value = refl
-loaded_fuel ins (need.Store address width v) a value = refl
-loaded_fuel ins need.Call a value = refl
-loaded_fuel ins need.Break a value = refl
-loaded_fuel ins need.JumpMisaligned a value = refl
-
-loads_fuel : (a : ActorState) (ins : Option Instr) (value : ℕ) → (loads_at a ins value).fuel ≡ a.fuel
-loads_fuel a None value = refl
-loads_fuel a (Some ins) value = loaded_fuel ins (local ins a.hart).need a value
 
 stream_fuel : (b : ActorState) (fd : ℕ) (r : StreamReply) → (takes_stream b fd r).fuel ≤ b.fuel
 stream_fuel b fd reply.Opened = omega arith

@@ -1,0 +1,33 @@
+-- What each moment costs its actor in fuel, read off the text, the registers and the reply: a second statement, beside the
+-- step. An instruction costs a unit, where there is one to take; an append that took place costs a unit for each byte of
+-- its length, the call's third argument; nothing else costs anything.
+use Rattle.std.specs.Prelude.{◌≡◌, ◌+◌, ℕ, zero, suc, Option, Some, None, IsSomeAnd}
+use Rattle.wedge_base.specs.Images.{Image, fetch}
+use Rattle.wedge_base.specs.declared.events.Event.{Event}
+use Rattle.wedge_base.specs.declared.events.Event.TheVariants as event
+use Rattle.wedge_base.specs.declared.cells.StreamAsk.TheVariants as stream_ask
+use Rattle.wedge_base.specs.declared.cells.StreamReply.TheVariants as stream_reply
+use Rattle.rv_hart.specs.Local.{reg}
+use Rattle.sthread_life.specs.Actors.{ActorState}
+use Rattle.sthread_life.specs.Worlds.{WorldState, actor_named}
+
+-- the word at pc with so much fuel: without a word the fetch fails, and without fuel the actor ends
+abbrev pub cost_of_word : Option ℕ → ℕ → ℕ
+cost_of_word None fuel = 0
+cost_of_word (Some word) zero = 0
+cost_of_word (Some word) (suc n) = 1
+
+abbrev pub cost_at : Image → ActorState → ℕ
+cost_at i a = cost_of_word (fetch i a.hart.pc) a.fuel
+
+abbrev pub cost_by : ActorState → Event → ℕ
+cost_by a (event.Fd fd (stream_ask.Append bits bytes) stream_reply.Appended) = reg a.hart.regs 12
+cost_by a e = 0
+
+abbrev pub cost : Image → ActorState → Option Event → ℕ
+cost i a None = cost_at i a
+cost i a (Some e) = cost_by a e
+
+-- the actor pays exactly that
+abbrev pub Pays : WorldState → ActorState → Option Event → WorldState → Type 0
+Pays old a e new = IsSomeAnd (actor_named new.actors a.name) (λ b. b.fuel + cost old.image a e ≡ a.fuel)
