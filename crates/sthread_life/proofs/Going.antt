@@ -1,6 +1,6 @@
 -- How an actor goes on: after an instruction that needs something, and after an event.
 use Rattle.std.proofs.Common.{◌≡◌, ℕ, zero, suc, ◌-◌, Bool, true, false, List, refl, sym, ap, subst, ◌∙◌, arith}
-use Rattle.std.specs.Prelude.{Option, Some, None, option_and_then, IsSomeAnd, not, ◌==◌, nat_lt, nat_le, if◌then◌else◌}
+use Rattle.std.specs.Prelude.{Option, Some, None, option_and_then, IsSomeAnd, not, ◌==◌, nat_lt, nat_le, if◌then◌else◌, length, slice_get}
 use Rattle.wedge_base.specs.Images.{Image, fetch, in_text, read_text, slot_of}
 use Rattle.wedge_base.specs.Bytes.{number_of}
 use Rattle.wedge_base.specs.Memory.{range_at}
@@ -18,9 +18,12 @@ use Rattle.rv_hart.specs.declared.Need.TheVariants as need
 use Rattle.rv_hart.specs.Local.{local, next_pc}
 use Rattle.sthread_life.specs.declared.phase.Phase.{Phase}
 use Rattle.sthread_life.specs.declared.phase.Phase.TheVariants as phase
-use Rattle.sthread_life.specs.Actors.{ActorState, ends, refuses}
+use Rattle.sthread_life.specs.Actors.{ActorState, answers, ends, refuses}
 use Rattle.sthread_life.specs.Private.{loads, stores, load_window, load_range, store_window, store_range, has_loaded, fits_read}
-use Rattle.sthread_life.specs.Calls.{serves, exit, fd_append, a0, a1, a2, a7}
+use Rattle.wedge_base.specs.Sheets.{Draft, takes_tag, takes_fd}
+use Rattle.wedge_base.specs.declared.rights.FdBits.{FdBits}
+use Rattle.wedge_base.specs.declared.rights.Right.{Right}
+use Rattle.sthread_life.specs.Calls.{serves, exit, fd_append, most_drafts, sc_new, right_asked, bits_asked, add_right, add_right_to, sc_mem_add, add_bits, add_bits_to, sc_fd_add, draft_call, a0, a1, a2, a7}
 use Rattle.sthread_life.specs.Local.{needed, executed, fuelled, fetched, step, is_running}
 use Rattle.sthread_life.specs.Worlds.{WorldState, actor_named, put_actor}
 use Rattle.sthread_life.specs.Moments.{with_actor}
@@ -71,11 +74,33 @@ next_append i a =
     (next_if a.hart (refuses a code.FuelShort) _ (nat_lt a.fuel (a2 a)) (λ e. refl, λ e. absurd cc)
     (next_if a.hart (refuses a code.NoSuch) _ (nat_le most_fds (a0 a)) (λ e. refl, λ e. absurd cc) (λ e. absurd cc, λ e. refl)))
 
+next_right : (a : ActorState) (d : Draft) (r : Option Right) → IsNext a.hart (add_right a d r)
+next_right a d None = (λ e. refl, λ e. absurd cc)
+next_right a d (Some r) = next_if a.hart _ (refuses a code.Full) (takes_tag d (a1 a)) (λ e. refl, λ e. absurd cc) (λ e. refl, λ e. absurd cc)
+
+next_right_to : (a : ActorState) (d : Option Draft) → IsNext a.hart (add_right_to a d)
+next_right_to a None = (λ e. refl, λ e. absurd cc)
+next_right_to a (Some d) = next_right a d (right_asked (a2 a))
+
+next_bits : (a : ActorState) (d : Draft) (b : Option FdBits) → IsNext a.hart (add_bits a d b)
+next_bits a d None = (λ e. refl, λ e. absurd cc)
+next_bits a d (Some b) = next_if a.hart _ (refuses a code.Full) (takes_fd d (a1 a)) (λ e. refl, λ e. absurd cc) (λ e. refl, λ e. absurd cc)
+
+next_bits_to : (a : ActorState) (d : Option Draft) → IsNext a.hart (add_bits_to a d)
+next_bits_to a None = (λ e. refl, λ e. absurd cc)
+next_bits_to a (Some d) = next_bits a d (bits_asked (a2 a))
+
+next_draft : (a : ActorState) (n : ℕ) → IsNext a.hart (draft_call a n)
+next_draft a n =
+    next_if a.hart (sc_new a) _ (n == 7) (next_if a.hart (refuses a code.Full) _ (nat_le most_drafts (length a.drafts)) (λ e. refl, λ e. absurd cc) (λ e. refl, λ e. absurd cc))
+    (next_if a.hart (sc_mem_add a) _ (n == 8) (next_right_to a (slice_get a.drafts (a0 a)))
+    (next_if a.hart (sc_fd_add a) _ (n == 9) (next_bits_to a (slice_get a.drafts (a0 a))) (λ e. refl, λ e. absurd cc)))
+
 next_call : (i : Image) (a : ActorState) (n : ℕ) → IsNext a.hart (serves i a n)
 unfolding serves
 next_call i a n =
     next_if a.hart (exit a) _ (n == 0) (λ e. absurd cc, λ e. refl)
-    (next_if a.hart (fd_append i a) _ (n == 16) (next_append i a) (λ e. refl, λ e. absurd cc))
+    (next_if a.hart (fd_append i a) _ (n == 16) (next_append i a) (next_draft a n))
 
 -- the actor that was put is at the next word if it runs
 pub put_next : (w : WorldState) (b x a : ActorState) → actor_named w.actors b.name ≡ Some a → x.name ≡ b.name → IsNext b.hart x

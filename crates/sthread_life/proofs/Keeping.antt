@@ -1,6 +1,6 @@
 -- Private memory over an instruction and over an event.
 use Rattle.std.proofs.Common.{◌≡◌, ℕ, zero, suc, ◌-◌, Bool, true, false, refl, sym, ap, subst, ◌∙◌, arith}
-use Rattle.std.specs.Prelude.{Option, Some, None, option_map, option_and_then, not, ◌&&◌, ◌==◌, nat_lt, nat_le, if◌then◌else◌}
+use Rattle.std.specs.Prelude.{Option, Some, None, option_map, option_and_then, not, ◌&&◌, ◌==◌, nat_lt, nat_le, if◌then◌else◌, List, length, slice_get}
 use Rattle.wedge_base.specs.Bytes.{number_of, bytes_of}
 use Rattle.wedge_base.specs.Images.{Image, fetch, read_text, slot_of}
 use Rattle.wedge_base.specs.Memory.{range_at, read_range}
@@ -20,9 +20,12 @@ use Rattle.rv_hart.specs.declared.Hart.{Hart}
 use Rattle.rv_hart.specs.declared.Need.{Need}
 use Rattle.rv_hart.specs.declared.Need.TheVariants as need
 use Rattle.rv_hart.specs.Local.{local}
-use Rattle.sthread_life.specs.Actors.{ActorState, ends, refuses}
+use Rattle.sthread_life.specs.Actors.{ActorState, answers, ends, refuses}
 use Rattle.sthread_life.specs.Private.{load_window, load_range, store_window, store_range, has_loaded, fits_read}
-use Rattle.sthread_life.specs.Calls.{serves, exit, fd_append, a0, a1, a2, a7}
+use Rattle.wedge_base.specs.Sheets.{Draft, takes_tag, takes_fd}
+use Rattle.wedge_base.specs.declared.rights.FdBits.{FdBits}
+use Rattle.wedge_base.specs.declared.rights.Right.{Right}
+use Rattle.sthread_life.specs.Calls.{serves, exit, fd_append, most_drafts, sc_new, right_asked, bits_asked, add_right, add_right_to, sc_mem_add, add_bits, add_bits_to, sc_fd_add, draft_call, a0, a1, a2, a7}
 use Rattle.sthread_life.specs.Local.{needed, executed, fuelled, fetched, step}
 use Rattle.sthread_life.specs.Taking.{runs, loads_by, loads_at, takes}
 use Rattle.sthread_life.specs.Remembering.{LoadGives, StoreWrites, NeedRemembers, InstrRemembers, WordRemembers, EventRemembers}
@@ -70,9 +73,31 @@ append_keeps i a =
     (keeps_if a (refuses a code.FuelShort) _ (nat_lt a.fuel (a2 a)) refl
     (keeps_if a (refuses a code.NoSuch) _ (nat_le most_fds (a0 a)) refl refl))
 
+right_keeps : (a : ActorState) (d : Draft) (r : Option Right) → Keeps a (add_right a d r)
+right_keeps a d None = refl
+right_keeps a d (Some r) = keeps_if a _ (refuses a code.Full) (takes_tag d (a1 a)) refl refl
+
+right_to_keeps : (a : ActorState) (d : Option Draft) → Keeps a (add_right_to a d)
+right_to_keeps a None = refl
+right_to_keeps a (Some d) = right_keeps a d (right_asked (a2 a))
+
+bits_keep : (a : ActorState) (d : Draft) (b : Option FdBits) → Keeps a (add_bits a d b)
+bits_keep a d None = refl
+bits_keep a d (Some b) = keeps_if a _ (refuses a code.Full) (takes_fd d (a1 a)) refl refl
+
+bits_to_keep : (a : ActorState) (d : Option Draft) → Keeps a (add_bits_to a d)
+bits_to_keep a None = refl
+bits_to_keep a (Some d) = bits_keep a d (bits_asked (a2 a))
+
+draft_keeps : (a : ActorState) (n : ℕ) → Keeps a (draft_call a n)
+draft_keeps a n =
+    keeps_if a (sc_new a) _ (n == 7) (keeps_if a (refuses a code.Full) _ (nat_le most_drafts (length a.drafts)) refl refl)
+    (keeps_if a (sc_mem_add a) _ (n == 8) (right_to_keeps a (slice_get a.drafts (a0 a)))
+    (keeps_if a (sc_fd_add a) _ (n == 9) (bits_to_keep a (slice_get a.drafts (a0 a))) refl))
+
 call_keeps : (i : Image) (a : ActorState) (n : ℕ) → Keeps a (serves i a n)
 unfolding serves
-call_keeps i a n = keeps_if a (exit a) _ (n == 0) refl (keeps_if a (fd_append i a) _ (n == 16) (append_keeps i a) refl)
+call_keeps i a n = keeps_if a (exit a) _ (n == 0) refl (keeps_if a (fd_append i a) _ (n == 16) (append_keeps i a) (draft_keeps a n))
 
 -- an instruction
 need_remembers : (i : Image) (ins : Instr) (a : ActorState) (h : Hart) (n : Need) → NeedRemembers i ins.rd a n (needed i ins a h n)

@@ -7,6 +7,8 @@ pub mod Settling
 pub mod Walking
 pub mod Going
 pub mod Paying
+pub mod DraftEdits
+pub mod PutBack
 pub mod Keeping
 pub mod Mediating
 pub mod OneCell

@@ -57,6 +57,8 @@ use Rattle.sthread_life.proofs.Settling.{AllReady, named_ready, turn_ready, open
 use Rattle.sthread_life.proofs.Meeting.{request_for, refusal_for, IsRequest, WantsAs, ReadsAs, InstrLoads, NeedLoads, LoadsAt, stuck, step_comes}
 use Rattle.sthread_life.specs.Paying.{cost_at, cost_by}
 use Rattle.sthread_life.proofs.Paying.{step_pays, event_pays}
+use Rattle.sthread_life.specs.Drafting.{drafts_after}
+use Rattle.sthread_life.proofs.DraftEdits.{step_edits, event_edits}
 use Rattle.sthread_life.proofs.Going.{IsNext, put_next, step_goes}
 use Rattle.sthread_life.proofs.Resting.{steps_step, stays, goes_on, running_is, rest-stops}
 use Rattle.sthread_life.proofs.Between.{event_for, parts_event_is, turn_parts, loaded_runs}
@@ -499,6 +501,7 @@ turn_lawful w t new all e =
       goes = step_goes w b a named name run;
       refuses = refuses_in w b _ refl run;
       pays = put_such (λ y. y.fuel + cost_at w.image b ≡ b.fuel) w b x a named name (step_pays w.image b);
+      edits = put_such (λ y. y.drafts ≡ drafts_after w.image b None) w b x a named name (step_edits w.image b);
       remembers = put_such (WordRemembers w.image b (option_and_then decode (fetch w.image b.hart.pc)) b.fuel) w b x a named name (step_remembers w.image b);
     })
     (λ a b q named reads wants.
@@ -511,6 +514,7 @@ turn_lawful w t new all e =
       goes = put_next w b x a named k.1 (next_by w b b.phase q reads wants);
       refuses = refuses_after w b b.phase q reads wants;
       pays = put_such (λ y. y.fuel + cost_by b e ≡ b.fuel) w b x a named k.1 (event_pays w b b.phase q reads wants);
+      edits = put_such (λ y. y.drafts ≡ b.drafts) w b x a named k.1 (event_edits w.image b e);
       remembers = put_such (EventRemembers b e) w b x a named k.1 (event_remembers w.image b e);
     })
 

@@ -2,7 +2,7 @@
 use Rattle.std.proofs.Common.{◌≡◌, ℕ, zero, suc, ◌+◌, ◌-◌, ◌≤◌, Bool, true, false, List, [], refl, sym, ap, subst, ◌∙◌, arith}
 use Rattle.std.proofs.lemmas.Bool.{eqb-true}
 use Rattle.std.proofs.lemmas.Bool.Decides.{nat_tests}
-use Rattle.std.specs.Prelude.{Option, Some, None, is_some, option_and_then, not, ◌&&◌, ◌||◌, ◌==◌, nat_lt, nat_le, if◌then◌else◌}
+use Rattle.std.specs.Prelude.{Option, Some, None, is_some, option_and_then, not, ◌&&◌, ◌||◌, ◌==◌, nat_lt, nat_le, if◌then◌else◌, ◌∷◌, ◌++◌, length, slice_get}
 use Rattle.wedge_base.specs.Images.{Image, fetch, in_text, read_text, slot_of}
 use Rattle.wedge_base.specs.Bytes.{number_of}
 use Rattle.wedge_base.specs.Memory.{range_at, read_range}
@@ -25,14 +25,18 @@ use Rattle.rv_hart.specs.declared.Need.TheVariants as need
 use Rattle.rv_hart.specs.Local.{local}
 use Rattle.sthread_life.specs.declared.phase.Phase.{Phase}
 use Rattle.sthread_life.specs.declared.phase.Phase.TheVariants as phase
-use Rattle.sthread_life.specs.Actors.{ActorState, bits_of, code_number, ends, refuses, wants}
+use Rattle.sthread_life.specs.Actors.{ActorState, answers, bits_of, code_number, ends, refuses, wants}
 use Rattle.sthread_life.specs.Private.{load_window, load_range, store_window, store_range, has_loaded, fits_read, buffer, buffer_in}
-use Rattle.sthread_life.specs.Calls.{serves, exit, fd_append, a0, a1, a2, a7}
+use Rattle.wedge_base.specs.Sheets.{Draft, empty_draft, takes_tag, takes_fd}
+use Rattle.wedge_base.specs.declared.rights.FdBits.{FdBits}
+use Rattle.wedge_base.specs.declared.rights.Right.{Right}
+use Rattle.wedge_base.specs.declared.rights.Right.TheVariants as right
+use Rattle.sthread_life.specs.Calls.{serves, exit, fd_append, most_drafts, sc_new, right_asked, bits_asked, add_right, add_right_to, sc_mem_add, add_bits, add_bits_to, sc_fd_add, draft_call, bits, a0, a1, a2, a7}
 use Rattle.sthread_life.specs.Local.{needed, executed, fuelled, fetched, step, is_running, run_local, rest}
 use Rattle.sthread_life.specs.Between.{IsBetween}
 use Rattle.sthread_life.proofs.Resting.{stays, goes_on, running_is}
 use Rattle.sthread_life.specs.Cells.{Cells, slot_in, stream_in}
-use Rattle.sthread_life.specs.Refusals.{fuel_short, no_such, bad, append_refusal, need_refusal, instr_refusal, word_refusal, refusal_at, stream_refusal, need_refusal_after, instr_refusal_after, word_refusal_after, refusal_after, refused}
+use Rattle.sthread_life.specs.Refusals.{fuel_short, full, no_such, bad, new_refusal, right_refusal, bits_refusal, draft_refusal, append_refusal, need_refusal, instr_refusal, word_refusal, refusal_at, stream_refusal, need_refusal_after, instr_refusal_after, word_refusal_after, refusal_after, refused}
 use Rattle.sthread_life.specs.Requests.{Request, Loads, Stores, in_tag, in_window, bytes_in_range, bytes_at, to_stream, append_of, needed_request, instr_request, word_request, request_at}
 use Rattle.sthread_life.specs.Ends.{end_of, needed_end, instr_end, fuel_end, word_end, end_at}
 
@@ -178,18 +182,67 @@ append_comes N i a =
     enough : (fuel n : ℕ) → nat_lt fuel n ≡ false → n ≤ fuel
     enough fuel n e = grind (arith, nat_tests, e)
 
+-- calls on drafts
+abbrev AsDraft : (ℕ → Bool → ℕ → Type 0) → ActorState → Option ℕ → ActorState → Type 0
+AsDraft N a told x = Comes N a (λ c. None) (λ c. None) None told x
+
+drafted_comes : (N : ℕ → Bool → ℕ → Type 0) (a : ActorState) (ds : List Draft) (value : ℕ) → AsDraft N a None (answers (record a { drafts = ds }) value)
+drafted_comes N a ds value = record { name = refl; denials = refl; ends = refl; wants = λ c. refl; codes = λ n h. absurd cc }
+
+as_if : (N : ℕ → Bool → ℕ → Type 0) (a : ActorState) (m n : Option ℕ) (x y : ActorState) (t : Bool) → AsDraft N a m x → AsDraft N a n y → AsDraft N a (if t then m else n) (if t then x else y)
+as_if N a m n x y true h k = h
+as_if N a m n x y false h k = k
+
+new_comes : (N : ℕ → Bool → ℕ → Type 0) (a : ActorState) (n : ℕ) (t : Bool) → nat_lt n 64 ≡ not t
+    → AsDraft N a (if nat_lt n 64 then None else Some full) (if t then refuses a code.Full else answers (record a { drafts = a.drafts ++ empty_draft ∷ [] }) n)
+new_comes N a n true e = rw e (comes_refused N a _ _ code.Full (λ c. refl))
+new_comes N a n false e = rw e (drafted_comes N a (a.drafts ++ empty_draft ∷ []) n)
+
+right_comes : (N : ℕ → Bool → ℕ → Type 0) (a : ActorState) (d : Draft) (t u : Bool)
+    → AsDraft N a (if not (t || u) then Some bad else if takes_tag d (a1 a) then None else Some full) (add_right a d (if t then Some right.Read else if u then Some right.ReadWrite else None))
+right_comes N a d true u = as_if N a None (Some full) _ (refuses a code.Full) (takes_tag d (a1 a)) (drafted_comes N a _ 0) (comes_refused N a _ _ code.Full (λ c. refl))
+right_comes N a d false true = as_if N a None (Some full) _ (refuses a code.Full) (takes_tag d (a1 a)) (drafted_comes N a _ 0) (comes_refused N a _ _ code.Full (λ c. refl))
+right_comes N a d false false = comes_refused N a _ _ code.Bad (λ c. refl)
+
+right_to_comes : (N : ℕ → Bool → ℕ → Type 0) (a : ActorState) (d : Option Draft) → AsDraft N a (right_refusal (a1 a) (a2 a) d) (add_right_to a d)
+right_to_comes N a None = comes_refused N a _ _ code.NoSuch (λ c. refl)
+right_to_comes N a (Some d) = right_comes N a d (a2 a == 2) (a2 a == 3)
+
+bits_comes : (N : ℕ → Bool → ℕ → Type 0) (a : ActorState) (d : Draft) (t u v : Bool)
+    → AsDraft N a (if not (t || (u || v)) then Some bad else if takes_fd d (a1 a) then None else Some full)
+    (add_bits a d (if t then Some (bits true false) else if u then Some (bits false true) else if v then Some (bits true true) else None))
+bits_comes N a d true u v = as_if N a None (Some full) _ (refuses a code.Full) (takes_fd d (a1 a)) (drafted_comes N a _ 0) (comes_refused N a _ _ code.Full (λ c. refl))
+bits_comes N a d false true v = as_if N a None (Some full) _ (refuses a code.Full) (takes_fd d (a1 a)) (drafted_comes N a _ 0) (comes_refused N a _ _ code.Full (λ c. refl))
+bits_comes N a d false false true = as_if N a None (Some full) _ (refuses a code.Full) (takes_fd d (a1 a)) (drafted_comes N a _ 0) (comes_refused N a _ _ code.Full (λ c. refl))
+bits_comes N a d false false false = comes_refused N a _ _ code.Bad (λ c. refl)
+
+bits_to_comes : (N : ℕ → Bool → ℕ → Type 0) (a : ActorState) (d : Option Draft) → AsDraft N a (bits_refusal (a1 a) (a2 a) d) (add_bits_to a d)
+bits_to_comes N a None = comes_refused N a _ _ code.NoSuch (λ c. refl)
+bits_to_comes N a (Some d) = bits_comes N a d (a2 a == 1) (a2 a == 2) (a2 a == 3)
+
+draft_comes : (N : ℕ → Bool → ℕ → Type 0) (a : ActorState) (n : ℕ) (t u v : Bool)
+    → AsDraft N a (if t then new_refusal a.drafts else if u then right_refusal (a1 a) (a2 a) (slice_get a.drafts (a0 a)) else if v then bits_refusal (a1 a) (a2 a) (slice_get a.drafts (a0 a)) else Some bad)
+    (if t then sc_new a else if u then sc_mem_add a else if v then sc_fd_add a else refuses a code.Bad)
+draft_comes N a n true u v = new_comes N a (length a.drafts) (nat_le 64 (length a.drafts)) (not_over (length a.drafts))
+  where
+    not_over : (n : ℕ) → nat_lt n 64 ≡ not (nat_le 64 n)
+    not_over n = grind (arith, nat_tests)
+draft_comes N a n false true v = right_to_comes N a (slice_get a.drafts (a0 a))
+draft_comes N a n false false true = bits_to_comes N a (slice_get a.drafts (a0 a))
+draft_comes N a n false false false = comes_refused N a _ _ code.Bad (λ c. refl)
+
 -- calls
 call_comes : (N : ℕ → Bool → ℕ → Type 0) (i : Image) (a : ActorState) (n : ℕ) (t u : Bool) → (n == 0) ≡ t → (n == 16) ≡ u
     → Comes N a (λ c. if u then append_of c a (a0 a) (a2 a) (bytes_at i a (a1 a) (a2 a)) else None) (λ c. if u then stream_refusal a (a0 a) (stream_in c (a0 a)) else None) (if t then Some (end_.Exited (a0 a)) else None)
-    (if t then None else if u then append_refusal a (a0 a) (a2 a) (bytes_at i a (a1 a) (a2 a)) else Some bad)
-    (if t then exit a else if u then fd_append i a else refuses a code.Bad)
+    (if t then None else if u then append_refusal a (a0 a) (a2 a) (bytes_at i a (a1 a) (a2 a)) else draft_refusal a.drafts a.hart.regs n)
+    (if t then exit a else if u then fd_append i a else draft_call a n)
 call_comes N i a n true true e f = absurd (apart n e f)
   where
     apart : (n : ℕ) → (n == 0) ≡ true → (n == 16) ≡ true → ⊥
     apart n e f = let zero_is : n ≡ 0 = eqb-true n 0 e in let g : (0 == 16) ≡ true = subst (λ m. (m == 16) ≡ true) zero_is f in cc
 call_comes N i a n true false e f = comes_end N a _ _ (end_.Exited (a0 a)) (λ c. refl)
 call_comes N i a n false true e f = append_comes N i a
-call_comes N i a n false false e f = comes_refused N a _ _ code.Bad (λ c. refl)
+call_comes N i a n false false e f = draft_comes N a n (n == 7) (n == 8) (n == 9)
 
 -- a load is wanted only where the instruction needs one, into this register and with this sign
 abbrev pub NeedLoads : ℕ → Need → ℕ → Bool → ℕ → Type 0

@@ -1,7 +1,7 @@
 -- An actor at rest: it keeps its name, its sheet and what it made, it has paid for what it asks, and it does
 -- not run.
 use Rattle.std.proofs.Common.{◌≡◌, ℕ, zero, suc, ◌+◌, ◌<◌, ◌≤◌, Bool, true, false, refl, sym, ap, subst, ◌∙◌, arith}
-use Rattle.std.specs.Prelude.{Option, Some, None, not, ◌⊎◌, if◌then◌else◌, ◌==◌, nat_lt, nat_le}
+use Rattle.std.specs.Prelude.{Option, Some, None, not, ◌⊎◌, if◌then◌else◌, ◌==◌, nat_lt, nat_le, List, length, slice_get}
 use Rattle.std.proofs.Common.{inl, inr}
 use Rattle.wedge_base.specs.Images.{Image, fetch, in_text, read_text, slot_of}
 use Rattle.wedge_base.specs.Bytes.{number_of}
@@ -21,9 +21,12 @@ use Rattle.rv_hart.specs.declared.Hart.{Hart}
 use Rattle.rv_hart.specs.Local.{local}
 use Rattle.sthread_life.specs.declared.phase.Phase.{Phase}
 use Rattle.sthread_life.specs.declared.phase.Phase.TheVariants as phase
-use Rattle.sthread_life.specs.Actors.{ActorState, ends, refuses, spends}
+use Rattle.sthread_life.specs.Actors.{ActorState, answers, ends, refuses, spends}
 use Rattle.sthread_life.specs.Private.{loads, stores, load_window, load_range, store_window, store_range, has_loaded, fits_read}
-use Rattle.sthread_life.specs.Calls.{serves, exit, fd_append, a0, a1, a2, a7}
+use Rattle.wedge_base.specs.Sheets.{Draft, takes_tag, takes_fd}
+use Rattle.wedge_base.specs.declared.rights.FdBits.{FdBits}
+use Rattle.wedge_base.specs.declared.rights.Right.{Right}
+use Rattle.sthread_life.specs.Calls.{serves, exit, fd_append, most_drafts, sc_new, right_asked, bits_asked, add_right, add_right_to, sc_mem_add, add_bits, add_bits_to, sc_fd_add, draft_call, a0, a1, a2, a7}
 use Rattle.sthread_life.specs.Local.{needed, executed, fuelled, fetched, step, is_running, has_ended, run_local, rest}
 
 -- what the work of an instruction keeps, and how it leaves the actor
@@ -83,11 +86,37 @@ goes_append i a =
     (goes_if a (refuses a code.NoSuch) _ (nat_le most_fds (a0 a)) (goes_refused a code.NoSuch)
     (record { name = refl; compartment = refl; sheet = refl; fuel = refl; made = refl; live = λ h. refl })))
 
+-- an answer to a call, with other drafts
+goes_drafted : (a : ActorState) (ds : List Draft) (value : ℕ) → Goes a (answers (record a { drafts = ds }) value)
+goes_drafted a ds value = record { name = refl; compartment = refl; sheet = refl; fuel = refl; made = refl; live = λ h. refl }
+
+goes_right : (a : ActorState) (d : Draft) (r : Option Right) → Goes a (add_right a d r)
+goes_right a d None = goes_refused a code.Bad
+goes_right a d (Some r) = goes_if a _ (refuses a code.Full) (takes_tag d (a1 a)) (goes_drafted a _ 0) (goes_refused a code.Full)
+
+goes_right_to : (a : ActorState) (d : Option Draft) → Goes a (add_right_to a d)
+goes_right_to a None = goes_refused a code.NoSuch
+goes_right_to a (Some d) = goes_right a d (right_asked (a2 a))
+
+goes_bits : (a : ActorState) (d : Draft) (b : Option FdBits) → Goes a (add_bits a d b)
+goes_bits a d None = goes_refused a code.Bad
+goes_bits a d (Some b) = goes_if a _ (refuses a code.Full) (takes_fd d (a1 a)) (goes_drafted a _ 0) (goes_refused a code.Full)
+
+goes_bits_to : (a : ActorState) (d : Option Draft) → Goes a (add_bits_to a d)
+goes_bits_to a None = goes_refused a code.NoSuch
+goes_bits_to a (Some d) = goes_bits a d (bits_asked (a2 a))
+
+goes_draft : (a : ActorState) (n : ℕ) → Goes a (draft_call a n)
+goes_draft a n =
+    goes_if a (sc_new a) _ (n == 7) (goes_if a (refuses a code.Full) _ (nat_le most_drafts (length a.drafts)) (goes_refused a code.Full) (goes_drafted a _ (length a.drafts)))
+    (goes_if a (sc_mem_add a) _ (n == 8) (goes_right_to a (slice_get a.drafts (a0 a)))
+    (goes_if a (sc_fd_add a) _ (n == 9) (goes_bits_to a (slice_get a.drafts (a0 a))) (goes_refused a code.Bad)))
+
 goes_call : (i : Image) (a : ActorState) (n : ℕ) → Goes a (serves i a n)
 unfolding serves
 goes_call i a n =
     goes_if a (exit a) _ (n == 0) (goes_end a (end_.Exited (a0 a)))
-    (goes_if a (fd_append i a) _ (n == 16) (goes_append i a) (goes_refused a code.Bad))
+    (goes_if a (fd_append i a) _ (n == 16) (goes_append i a) (goes_draft a n))
 
 goes_needed : (i : Image) (ins : Instr) (a : ActorState) (h : Hart) (n : Need) → Goes a (needed i ins a h n)
 goes_needed i ins a h need.Done = record { name = refl; compartment = refl; sheet = refl; fuel = refl; made = refl; live = λ h. h }

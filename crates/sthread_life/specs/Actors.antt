@@ -3,7 +3,7 @@ use Rattle.std.specs.Prelude.{ℕ, ◌+◌, ◌-◌, Bool, List, [], ◌∷◌, 
 use Rattle.wedge_base.specs.Bytes.{zeros}
 use Rattle.wedge_base.specs.Names.{root_name}
 use Rattle.wedge_base.specs.Images.{Image, private_base, private_size}
-use Rattle.wedge_base.specs.Sheets.{Sheet, Made, nothing_made, root_sheet, right_on, bits_on}
+use Rattle.wedge_base.specs.Sheets.{Sheet, Made, Draft, nothing_made, root_sheet, right_on, bits_on}
 use Rattle.wedge_base.specs.declared.image.MemoryRange.{MemoryRange}
 use Rattle.wedge_base.specs.declared.outcome.DenialAt.{DenialAt}
 use Rattle.wedge_base.specs.declared.rights.FdBits.{FdBits}
@@ -18,12 +18,13 @@ use Rattle.rv_hart.specs.Local.{put, answered}
 use Rattle.sthread_life.specs.declared.phase.Phase.{Phase}
 use Rattle.sthread_life.specs.declared.phase.Phase.TheVariants as phase
 
--- an actor: its sheet, what it made, its registers and private memory, its fuel, and what it is at
+-- an actor: its sheet, what it made, its drafts, its registers and private memory, its fuel, and what it is at
 pub record ActorState : Type 0 where
   pub name : List ℕ
   pub compartment : ℕ
   pub sheet : Sheet
   pub made : Made
+  pub drafts : List Draft
   pub hart : Hart
   pub memory : List MemoryRange
   pub fuel : ℕ
@@ -45,6 +46,7 @@ root i = record {
   compartment = i.entry;
   sheet = root_sheet i.tags i.fds i.user i.root;
   made = nothing_made;
+  drafts = [];
   hart = opening_hart i.entry;
   memory = pristine i;
   fuel = i.fuel;
@@ -106,6 +108,7 @@ pub record ActorRecord : Type 0 where
   pub compartment : ℕ
   pub sheet : Sheet
   pub made : Made
+  pub drafts : List Draft
   pub hart : Hart
   pub fuel : ℕ
   pub denials : List DenialAt
@@ -119,6 +122,7 @@ whole r memory = record {
   compartment = r.compartment;
   sheet = r.sheet;
   made = r.made;
+  drafts = r.drafts;
   hart = r.hart;
   memory = memory;
   fuel = r.fuel;

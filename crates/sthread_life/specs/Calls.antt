@@ -1,15 +1,19 @@
 -- The service calls: what the actor itself decides, up to the event that a call wants.
-use Rattle.std.specs.Prelude.{ℕ, ◌==◌, not, nat_lt, nat_le, if◌then◌else◌}
+use Rattle.std.specs.Prelude.{ℕ, ◌==◌, Bool, true, false, not, nat_lt, nat_le, List, [], ◌∷◌, ◌++◌, length, slice_get, slice_set, Option, Some, None, if◌then◌else◌}
 use Rattle.wedge_base.specs.Images.{Image}
 use Rattle.wedge_base.specs.Services.{service_number}
 use Rattle.wedge_base.specs.declared.service.Service.TheVariants as service
+use Rattle.wedge_base.specs.Sheets.{Draft, empty_draft, takes_tag, takes_fd, with_tag, with_fd}
 use Rattle.wedge_base.specs.Streams.{most_fds}
+use Rattle.wedge_base.specs.declared.rights.FdBits.{FdBits}
+use Rattle.wedge_base.specs.declared.rights.Right.{Right}
+use Rattle.wedge_base.specs.declared.rights.Right.TheVariants as right
 use Rattle.wedge_base.specs.declared.rights.Code.TheVariants as code
 use Rattle.wedge_base.specs.declared.rights.End.TheVariants as end_
 use Rattle.wedge_base.specs.declared.events.Want.TheVariants as want
 use Rattle.wedge_base.specs.declared.cells.StreamAsk.TheVariants as stream_ask
 use Rattle.rv_hart.specs.Local.{reg}
-use Rattle.sthread_life.specs.Actors.{ActorState, bits_of, refuses, ends, wants}
+use Rattle.sthread_life.specs.Actors.{ActorState, bits_of, answers, refuses, ends, wants}
 use Rattle.sthread_life.specs.Private.{fits_read, buffer}
 
 -- the arguments of a call, and its number
@@ -37,9 +41,72 @@ fd_append i a =
     else if nat_le most_fds (a0 a) then refuses a code.NoSuch
     else wants a (want.Fd (a0 a) (stream_ask.Append (bits_of a (a0 a)) (buffer i a (a1 a) (a2 a))))
 
--- a call by its number; any other number is refused
+-- ---- drafts: these calls are no events, and nothing is checked before a draft is used
+
+abbrev pub most_drafts : ℕ
+most_drafts = 64
+
+-- an actor with a new draft behind its others, and with this one in the place of a number's
+abbrev pub with_new_draft : ActorState → ActorState
+with_new_draft a = record a { drafts = a.drafts ++ empty_draft ∷ [] }
+
+abbrev pub with_draft : ActorState → ℕ → Draft → ActorState
+with_draft a n d = record a { drafts = slice_set a.drafts n d }
+
+-- sc_new: its value is the number of the draft
+abbrev pub sc_new : ActorState → ActorState
+sc_new a = if nat_le most_drafts (length a.drafts) then refuses a code.Full else answers (with_new_draft a) (length a.drafts)
+
+-- the right that an argument asks for; 1, a copy, is not built
+abbrev pub right_asked : ℕ → Option Right
+right_asked n = if n == 2 then Some right.Read else if n == 3 then Some right.ReadWrite else None
+
+-- the bits: 1 to read, 2 to append, and 3 for both
+abbrev pub bits : Bool → Bool → FdBits
+bits read append = record { read = read; append = append }
+
+abbrev pub bits_asked : ℕ → Option FdBits
+bits_asked n =
+    if n == 1 then Some (bits true false)
+    else if n == 2 then Some (bits false true)
+    else if n == 3 then Some (bits true true)
+    else None
+
+-- sc_mem_add: draft, tag, right
+abbrev pub add_right : ActorState → Draft → Option Right → ActorState
+add_right a d None = refuses a code.Bad
+add_right a d (Some r) = if takes_tag d (a1 a) then answers (with_draft a (a0 a) (with_tag d (a1 a) r)) 0 else refuses a code.Full
+
+abbrev pub add_right_to : ActorState → Option Draft → ActorState
+add_right_to a None = refuses a code.NoSuch
+add_right_to a (Some d) = add_right a d (right_asked (a2 a))
+
+abbrev pub sc_mem_add : ActorState → ActorState
+sc_mem_add a = add_right_to a (slice_get a.drafts (a0 a))
+
+-- sc_fd_add: draft, descriptor, bits
+abbrev pub add_bits : ActorState → Draft → Option FdBits → ActorState
+add_bits a d None = refuses a code.Bad
+add_bits a d (Some b) = if takes_fd d (a1 a) then answers (with_draft a (a0 a) (with_fd d (a1 a) b)) 0 else refuses a code.Full
+
+abbrev pub add_bits_to : ActorState → Option Draft → ActorState
+add_bits_to a None = refuses a code.NoSuch
+add_bits_to a (Some d) = add_bits a d (bits_asked (a2 a))
+
+abbrev pub sc_fd_add : ActorState → ActorState
+sc_fd_add a = add_bits_to a (slice_get a.drafts (a0 a))
+
+-- a call on drafts by its number; any other number is refused
+abbrev pub draft_call : ActorState → ℕ → ActorState
+draft_call a n =
+    if n == service_number service.ScNew then sc_new a
+    else if n == service_number service.ScMemAdd then sc_mem_add a
+    else if n == service_number service.ScFdAdd then sc_fd_add a
+    else refuses a code.Bad
+
+-- ---- a call by its number
 unfoldable pub serves : Image → ActorState → ℕ → ActorState
 serves i a n =
     if n == service_number service.Exit then exit a
     else if n == service_number service.FdAppend then fd_append i a
-    else refuses a code.Bad
+    else draft_call a n

@@ -15,18 +15,21 @@ use Rattle.sthread_life.specs.Moments.{EachStep, EachMoment, IsMediated}
 use Rattle.sthread_life.specs.Ends.{EndsByCause, GoesOn}
 use Rattle.sthread_life.specs.Refusals.{RefusesByRow}
 use Rattle.sthread_life.specs.Paying.{Pays}
+use Rattle.sthread_life.specs.Drafting.{EditsDrafts}
 use Rattle.sthread_life.specs.Remembering.{Remembers}
 use Rattle.wedge_base.specs.Names.{same}
 use Rattle.wedge_base.specs.Directories.{slots_opening, fds_opening}
 
 -- what holds of a moment: its request is mediated, a call is refused by its row, an actor ends by its cause, it
--- goes on as it should, it pays what the moment costs, and its private bytes are those that it stored
+-- goes on as it should, it pays what the moment costs, its drafts are as its calls made them, and its private bytes are those that it
+-- stored
 pub record IsLawful (old : WorldState) (a : ActorState) (e : Option Event) (new : WorldState) : Type 0 where
   pub mediated : IsMediated old a e new
   pub ends : EndsByCause old a e new
   pub goes : GoesOn old a e new
   pub refuses : RefusesByRow old a e new
   pub pays : Pays old a e new
+  pub edits : EditsDrafts old a e new
   pub remembers : Remembers old a e new
 
 -- each moment of each run is lawful

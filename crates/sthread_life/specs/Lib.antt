@@ -12,6 +12,7 @@ pub mod Moments
 pub mod Ends
 pub mod Refusals
 pub mod Paying
+pub mod Drafting
 pub mod Remembering
 pub mod Outcomes
 pub mod Between

@@ -1,8 +1,9 @@
 -- The code with which a call is refused, by the row of the call: in its instruction, before its denial, or at
 -- its event, before or behind it. A second statement, beside the calls; the codes are numbers, as programs
 -- see them.
-use Rattle.std.specs.Prelude.{◌≡◌, ℕ, zero, suc, ◌==◌, not, List, Option, Some, None, nat_le, nat_lt, if◌then◌else◌}
+use Rattle.std.specs.Prelude.{◌≡◌, ℕ, zero, suc, ◌==◌, not, ◌||◌, List, length, slice_get, Option, Some, None, nat_le, nat_lt, if◌then◌else◌}
 use Rattle.wedge_base.specs.Images.{Image, fetch}
+use Rattle.wedge_base.specs.Sheets.{Draft, takes_tag, takes_fd}
 use Rattle.wedge_base.specs.Streams.{Stream, most_fds}
 use Rattle.wedge_base.specs.declared.events.Event.{Event}
 use Rattle.rv_isa.specs.declared.Instr.{Instr}
@@ -22,6 +23,9 @@ use Rattle.sthread_life.specs.Moments.{with_actor}
 abbrev pub fuel_short : ℕ
 fuel_short = 3
 
+abbrev pub full : ℕ
+full = 2
+
 abbrev pub no_such : ℕ
 no_such = 5
 
@@ -38,12 +42,33 @@ append_refusal a fd n (Some bytes) =
     else if not (nat_lt fd most_fds) then Some no_such
     else None
 
+-- sc_new: 64 drafts are there
+abbrev pub new_refusal : List Draft → Option ℕ
+new_refusal ds = if nat_lt (length ds) 64 then None else Some full
+
+-- sc_mem_add: no such draft; a right that is neither Read nor ReadWrite; a draft without room, to which the tag is new
+abbrev pub right_refusal : ℕ → ℕ → Option Draft → Option ℕ
+right_refusal tag right None = Some no_such
+right_refusal tag right (Some d) = if not ((right == 2) || (right == 3)) then Some bad else if takes_tag d tag then None else Some full
+
+-- sc_fd_add: the same, of a descriptor and its bits
+abbrev pub bits_refusal : ℕ → ℕ → Option Draft → Option ℕ
+bits_refusal fd bits None = Some no_such
+bits_refusal fd bits (Some d) = if not ((bits == 1) || ((bits == 2) || (bits == 3))) then Some bad else if takes_fd d fd then None else Some full
+
+abbrev pub draft_refusal : List Draft → List ℕ → ℕ → Option ℕ
+draft_refusal ds regs n =
+    if n == 7 then new_refusal ds
+    else if n == 8 then right_refusal (reg regs 11) (reg regs 12) (slice_get ds (reg regs 10))
+    else if n == 9 then bits_refusal (reg regs 11) (reg regs 12) (slice_get ds (reg regs 10))
+    else Some bad
+
 -- exit is never refused, and a number that is no call is bad
 abbrev pub call_refusal : Image → ActorState → List ℕ → ℕ → Option ℕ
 call_refusal i a regs n =
     if n == 0 then None
     else if n == 16 then append_refusal a (reg regs 10) (reg regs 12) (bytes_at i a (reg regs 11) (reg regs 12))
-    else Some bad
+    else draft_refusal a.drafts regs n
 
 abbrev pub need_refusal : Image → ActorState → Need → Option ℕ
 need_refusal i a need.Call = call_refusal i a a.hart.regs (reg a.hart.regs 17)

@@ -11,7 +11,7 @@ ghost use Rattle.sthread_life.specs.Taking.{pair, asks};
 
 use crate::memory::Memory;
 use crate::phase::Phase;
-use grant_sheet::{Made, Sheet, right_on};
+use grant_sheet::{Draft, Made, Sheet, right_on};
 use image_form::Image;
 use rv_hart::Hart;
 use std::alloc::Global;
@@ -33,6 +33,7 @@ pub struct Actor {
     pub(crate) compartment: u32,
     pub(crate) sheet: Sheet,
     pub(crate) made: Made,
+    pub(crate) drafts: Vec<Draft>,
     pub(crate) hart: Hart,
     pub(crate) fuel: u32,
     pub(crate) denials: Items<DenialAt>,
@@ -51,6 +52,7 @@ impl Model for Actor {
       compartment = a.compartment;
       sheet = a.sheet;
       made = a.made;
+      drafts = a.drafts.items;
       hart = a.hart;
       fuel = a.fuel;
       denials = a.denials;
@@ -87,6 +89,7 @@ impl Actor {
             compartment: image.entry(),
             sheet: Sheet::root(alloc, image.tags(), image.fds(), image.user(), root)?,
             made: Made::new(alloc),
+            drafts: Vec::new(alloc),
             hart,
             fuel: image.fuel(),
             denials: Items::new(Vec::new(alloc)),

@@ -15,9 +15,9 @@ use wedge_base::{
 };
 
 /// The register of a call's first argument.
-const A0: u8 = 10;
+pub(crate) const A0: u8 = 10;
 /// The register of its second argument.
-const A1: u8 = 11;
+pub(crate) const A1: u8 = 11;
 /// The register of its third argument: the length of an append.
 pub(crate) const A2: u8 = 12;
 /// The register of its number.
@@ -39,7 +39,7 @@ impl Actor {
         } else if number == Service::FdAppend.number() {
             self.fd_append(image, memory)?;
         } else {
-            self.refuse(Code::Bad);
+            self.draft_call(number)?;
         }
         Ok(())
     }

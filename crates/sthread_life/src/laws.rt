@@ -9,8 +9,8 @@ ghost use Rattle.sthread_life.specs.Walks.{RootsWalk};
 /// missing grant, and all else stays but that a load or store ends its actor and a call answers that it is
 /// denied; where no request is in question nothing is denied. A call is refused with the code of its row. Each
 /// actor ends exactly by the cause of its end, passes no instruction over, and pays exactly what each moment
-/// costs: a unit of fuel for an instruction, and one for each byte that it appends. Its private bytes are those
-/// that it stored, and a load gives them.
+/// costs: a unit of fuel for an instruction, and one for each byte that it appends. Its drafts are as its calls
+/// made them. Its private bytes are those that it stored, and a load gives them.
 pub fn moments_are_lawful()
     ensures { MomentsAreLawful }
 {}

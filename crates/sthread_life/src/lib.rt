@@ -5,6 +5,7 @@
 mod access;
 mod actor;
 mod calls;
+mod drafting;
 mod laws;
 mod lives;
 mod local;

@@ -76,20 +76,170 @@ fn what_is_built_is_run(rt: HostRuntime) -> Result<(), Fail> {
             2,
         ),
     ] {
-        let bytes = built(&rt, alloc, partition(alloc, "fuel = 1000\n", text)?)?;
-        let run = Run {
-            bytes,
-            read_fails: 0,
-            out_room: 1000,
-            write_fails: 0,
-        };
-        let left = Left {
-            status: 0,
-            out: report,
-            err: "",
-            turns: Some(turns),
-        };
-        leaves(&rt, alloc, &["run", "a"], run, left)?;
+        reports(&rt, alloc, "fuel = 1000\n", text, report, turns)?;
+    }
+    Ok(())
+}
+
+/// A text that is built and run leaves this report, and so many turns.
+fn reports<R: Threads + Wait + Abort + Sync>(
+    rt: &R,
+    alloc: Global,
+    fuel: &str,
+    text: &str,
+    report: &str,
+    turns: usize,
+) -> Result<(), Fail> {
+    let bytes = built(rt, alloc, partition(alloc, fuel, text)?)?;
+    let run = Run {
+        bytes,
+        read_fails: 0,
+        out_room: 1000,
+        write_fails: 0,
+    };
+    let left = Left {
+        status: 0,
+        out: report,
+        err: "",
+        turns: Some(turns),
+    };
+    leaves(rt, alloc, &["run", "a"], run, left)
+}
+
+/// 65 drafts are asked for, the last in vain: its code is in the second byte of the value.
+static DRAFTS: &str = ".proc main
+li s0, 65
+again:
+svc sc_new
+addi s0, s0, -1
+bnez s0, again
+slli a1, a1, 8
+add a0, a0, a1
+svc exit
+";
+
+/// Rights are put into a draft: the codes are the octal digits of the value.
+static RIGHTS: &str = ".proc main
+li s1, 0
+svc sc_new
+li a0, 1
+li a1, 0
+li a2, 2
+call try
+li a0, 0
+li a1, 0
+li a2, 1
+call try
+li a0, 0
+li a1, 0
+li a2, 4
+call try
+li a0, 0
+li a1, 0
+li a2, 3
+call try
+li a0, 0
+li a1, 9
+li a2, 2
+call try
+mv a0, s1
+svc exit
+try:
+svc sc_mem_add
+slli s1, s1, 3
+add s1, s1, a1
+ret
+";
+
+/// The same of bits on descriptors.
+static BITS: &str = ".proc main
+li s1, 0
+svc sc_new
+li a0, 1
+li a1, 0
+li a2, 1
+call try
+li a0, 0
+li a1, 0
+li a2, 0
+call try
+li a0, 0
+li a1, 0
+li a2, 4
+call try
+li a0, 0
+li a1, 7
+li a2, 1
+call try
+li a0, 0
+li a1, 7
+li a2, 2
+call try
+li a0, 0
+li a1, 7
+li a2, 3
+call try
+mv a0, s1
+svc exit
+try:
+svc sc_fd_add
+slli s1, s1, 3
+add s1, s1, a1
+ret
+";
+
+/// 1,024 tags fill a draft: one more is refused, and one that is there is not.
+static FULL: &str = ".proc main
+svc sc_new
+li s0, 0
+li s1, 1024
+again:
+li a0, 0
+mv a1, s0
+li a2, 2
+svc sc_mem_add
+addi s0, s0, 1
+bne s0, s1, again
+li a0, 0
+mv a1, s0
+li a2, 2
+svc sc_mem_add
+mv s2, a1
+li a0, 0
+li a1, 5
+li a2, 3
+svc sc_mem_add
+slli s2, s2, 3
+add a0, s2, a1
+svc exit
+";
+
+#[test]
+fn calls_on_drafts_answer_their_codes(rt: HostRuntime) -> Result<(), Fail> {
+    let alloc = rt.alloc();
+    for (fuel, text, report) in [
+        (
+            "fuel = 1000\n",
+            DRAFTS,
+            "actor 0 main exited 512 pc 00010020 fuel 735\nstream 0 out \"\"\n",
+        ),
+        (
+            "fuel = 1000\n",
+            RIGHTS,
+            "actor 0 main exited 23936 pc 00010064 fuel 949\nstream 0 out \"\"\n",
+        ),
+        (
+            "fuel = 1000\n",
+            BITS,
+            "actor 0 main exited 191488 pc 00010074 fuel 940\nstream 0 out \"\"\n",
+        ),
+        (
+            "fuel = 20000\n",
+            FULL,
+            "actor 0 main exited 16 pc 00010064 fuel 12813\nstream 0 out \"\"\n",
+        ),
+    ] {
+        reports(&rt, alloc, fuel, text, report, 1)?;
     }
     Ok(())
 }

@@ -1,0 +1,199 @@
+-- The drafts of an actor after each moment are as its call made them.
+use Rattle.std.proofs.Common.{◌≡◌, ℕ, zero, suc, Bool, true, false, List, [], ◌∷◌, ◌++◌, length, refl, sym, ap, subst, ◌∙◌, arith}
+use Rattle.std.proofs.lemmas.Bool.{eqb-true}
+use Rattle.std.proofs.lemmas.Bool.Decides.{nat_tests}
+use Rattle.std.specs.Prelude.{Option, Some, None, option_and_then, not, ◌==◌, ◌||◌, nat_lt, nat_le, slice_get, if◌then◌else◌}
+use Rattle.wedge_base.specs.Bytes.{number_of}
+use Rattle.wedge_base.specs.Images.{Image, fetch, in_text, read_text, slot_of}
+use Rattle.wedge_base.specs.Memory.{range_at}
+use Rattle.wedge_base.specs.Sheets.{Draft, empty_draft, takes_tag, takes_fd, with_tag, with_fd}
+use Rattle.wedge_base.specs.Streams.{most_fds}
+use Rattle.wedge_base.specs.declared.address.Place.{Place}
+use Rattle.wedge_base.specs.declared.events.Event.{Event}
+use Rattle.wedge_base.specs.declared.events.Event.TheVariants as event
+use Rattle.wedge_base.specs.declared.cells.LivesAsk.TheVariants as lives_ask
+use Rattle.wedge_base.specs.declared.cells.SlotReply.TheVariants as slot_reply
+use Rattle.wedge_base.specs.declared.cells.StreamReply.{StreamReply}
+use Rattle.wedge_base.specs.declared.cells.StreamReply.TheVariants as reply
+use Rattle.wedge_base.specs.declared.image.MemoryRange.{MemoryRange}
+use Rattle.wedge_base.specs.declared.rights.Code.TheVariants as code
+use Rattle.wedge_base.specs.declared.rights.End.TheVariants as end_
+use Rattle.wedge_base.specs.declared.rights.Right.TheVariants as right
+use Rattle.rv_isa.specs.declared.Instr.{Instr}
+use Rattle.rv_isa.specs.Table.{decode}
+use Rattle.rv_hart.specs.declared.Hart.{Hart}
+use Rattle.rv_hart.specs.declared.Need.{Need}
+use Rattle.rv_hart.specs.declared.Need.TheVariants as need
+use Rattle.rv_hart.specs.Local.{local}
+use Rattle.sthread_life.specs.Actors.{ActorState, answers, refuses, ends, spends}
+use Rattle.sthread_life.specs.Private.{loads, stores, load_window, load_range, store_window, store_range, has_loaded, fits_read}
+use Rattle.sthread_life.specs.Calls.{serves, exit, fd_append, draft_call, sc_new, sc_mem_add, sc_fd_add, with_draft, add_right, add_right_to, add_bits, add_bits_to, bits, a0, a1, a2, a7}
+use Rattle.sthread_life.specs.Drafting.{right_of_number, bits_of_number, edited, with_new, drafts_by_call, drafts_by_need, drafts_by_instr, drafts_by_fuel, drafts_by_word, drafts_after}
+use Rattle.sthread_life.specs.Local.{needed, executed, fuelled, fetched, step}
+use Rattle.sthread_life.specs.Refusals.{full, no_such, bad, new_refusal, right_refusal, bits_refusal}
+use Rattle.sthread_life.specs.Taking.{runs, loads_by, loads_at, takes}
+
+-- ---- what leaves them as they are
+
+abbrev Stays : ActorState → ActorState → Type 0
+Stays a x = x.drafts ≡ a.drafts
+
+stays_if : (a x y : ActorState) (t : Bool) → Stays a x → Stays a y → Stays a (if t then x else y)
+stays_if a x y true h k = h
+stays_if a x y false h k = k
+
+load_window_stays : (a : ActorState) (width : ℕ) (p : Option Place) → Stays a (load_window a width p)
+load_window_stays a width None = refl
+load_window_stays a width (Some p) = refl
+
+load_range_stays : (ins : Instr) (s : Bool) (a : ActorState) (address width : ℕ) (r : Option MemoryRange) → Stays a (load_range ins s a address width r)
+load_range_stays ins s a address width (Some r) = refl
+load_range_stays ins s a address width None = load_window_stays a width (slot_of address)
+
+load_stays : (i : Image) (ins : Instr) (s : Bool) (a : ActorState) (address width : ℕ) → Stays a (loads i ins s a address width)
+load_stays i ins s a address width =
+    stays_if a (ends a end_.Misaligned) _ _ refl
+    (stays_if a (has_loaded ins s a width (number_of (read_text i address width))) _ (in_text i address width) refl (load_range_stays ins s a address width (range_at a.memory address width)))
+
+store_window_stays : (a : ActorState) (width value : ℕ) (p : Option Place) → Stays a (store_window a width value p)
+store_window_stays a width value None = refl
+store_window_stays a width value (Some p) = refl
+
+store_range_stays : (a : ActorState) (address width value : ℕ) (r : Option MemoryRange) → Stays a (store_range a address width value r)
+store_range_stays a address width value (Some r) = refl
+store_range_stays a address width value None = store_window_stays a width value (slot_of address)
+
+store_stays : (i : Image) (a : ActorState) (address width value : ℕ) → Stays a (stores i a address width value)
+store_stays i a address width value =
+    stays_if a (ends a end_.Misaligned) _ _ refl
+    (stays_if a (ends a end_.TextStore) _ (in_text i address width) refl (store_range_stays a address width value (range_at a.memory address width)))
+
+append_stays : (i : Image) (a : ActorState) → Stays a (fd_append i a)
+append_stays i a =
+    stays_if a (refuses a code.Bad) _ (not (fits_read i a (a1 a) (a2 a))) refl
+    (stays_if a (refuses a code.FuelShort) _ (nat_lt a.fuel (a2 a)) refl
+    (stays_if a (refuses a code.NoSuch) _ (nat_le most_fds (a0 a)) refl refl))
+
+-- ---- the calls on drafts
+
+same_if : (t : Bool) (x y : ActorState) (ds es : List Draft) → x.drafts ≡ ds → y.drafts ≡ es → (if t then x else y).drafts ≡ (if t then ds else es)
+same_if true x y ds es h k = h
+same_if false x y ds es h k = k
+
+new_edits : (a : ActorState) (n : ℕ) (t : Bool) → nat_lt n 64 ≡ not t
+    → (if t then refuses a code.Full else answers (record a { drafts = a.drafts ++ empty_draft ∷ [] }) n).drafts ≡ with_new a.drafts (if nat_lt n 64 then None else Some full)
+new_edits a n true e = rw e refl
+new_edits a n false e = rw e refl
+
+-- a grant is put in where there is room
+put_edits : (a : ActorState) (d new : Draft) (edit : Draft → Draft) (w : Bool) → edit d ≡ new
+    → (if w then answers (with_draft a (a0 a) new) 0 else refuses a code.Full).drafts ≡ edited a.drafts (a0 a) (if w then None else Some full) edit (Some d)
+put_edits a d new edit true is = ap (λ x. (with_draft a (a0 a) x).drafts) (sym is)
+put_edits a d new edit false is = refl
+
+right_edits : (a : ActorState) (d : Draft) (t u : Bool)
+    → (add_right a d (if t then Some right.Read else if u then Some right.ReadWrite else None)).drafts
+    ≡ edited a.drafts (a0 a) (if not (t || u) then Some bad else if takes_tag d (a1 a) then None else Some full) (λ x. with_tag x (a1 a) (if t then right.Read else right.ReadWrite)) (Some d)
+right_edits a d true u = put_edits a d (with_tag d (a1 a) right.Read) (λ x. with_tag x (a1 a) right.Read) (takes_tag d (a1 a)) refl
+right_edits a d false true = put_edits a d (with_tag d (a1 a) right.ReadWrite) (λ x. with_tag x (a1 a) right.ReadWrite) (takes_tag d (a1 a)) refl
+right_edits a d false false = refl
+
+right_to_edits : (a : ActorState) (d : Option Draft) → (add_right_to a d).drafts ≡ edited a.drafts (a0 a) (right_refusal (a1 a) (a2 a) d) (λ x. with_tag x (a1 a) (right_of_number (a2 a))) d
+right_to_edits a None = refl
+right_to_edits a (Some d) = right_edits a d (a2 a == 2) (a2 a == 3)
+
+bits_edits : (a : ActorState) (d : Draft) (t u v : Bool) → (t ≡ true → u ≡ false)
+    → (add_bits a d (if t then Some (bits true false) else if u then Some (bits false true) else if v then Some (bits true true) else None)).drafts
+    ≡ edited a.drafts (a0 a) (if not (t || (u || v)) then Some bad else if takes_fd d (a1 a) then None else Some full)
+    (λ x. with_fd x (a1 a) (record { read = (if u then false else true); append = (if t then false else true) })) (Some d)
+bits_edits a d true true v apart = let both : true ≡ false = apart refl in absurd cc
+bits_edits a d true false v apart = put_edits a d (with_fd d (a1 a) (bits true false)) (λ x. with_fd x (a1 a) (bits true false)) (takes_fd d (a1 a)) refl
+bits_edits a d false true v apart = put_edits a d (with_fd d (a1 a) (bits false true)) (λ x. with_fd x (a1 a) (bits false true)) (takes_fd d (a1 a)) refl
+bits_edits a d false false true apart = put_edits a d (with_fd d (a1 a) (bits true true)) (λ x. with_fd x (a1 a) (bits true true)) (takes_fd d (a1 a)) refl
+bits_edits a d false false false apart = refl
+
+one_not_two : (n : ℕ) → (n == 1) ≡ true → (n == 2) ≡ false
+one_not_two n e = subst (λ m. (m == 2) ≡ false) (sym (eqb-true n 1 e)) refl
+
+bits_to_edits : (a : ActorState) (d : Option Draft) → (add_bits_to a d).drafts ≡ edited a.drafts (a0 a) (bits_refusal (a1 a) (a2 a) d) (λ x. with_fd x (a1 a) (bits_of_number (a2 a))) d
+bits_to_edits a None = refl
+bits_to_edits a (Some d) = bits_edits a d (a2 a == 1) (a2 a == 2) (a2 a == 3) (one_not_two (a2 a))
+
+draft_edits : (a : ActorState) (n : ℕ) → (draft_call a n).drafts ≡ drafts_by_call a.drafts a.hart.regs n
+draft_edits a n =
+    same_if (n == 7) (sc_new a) _ _ _ (new_edits a (length a.drafts) (nat_le 64 (length a.drafts)) (not_over (length a.drafts)))
+    (same_if (n == 8) (sc_mem_add a) _ _ _ (right_to_edits a (slice_get a.drafts (a0 a)))
+    (same_if (n == 9) (sc_fd_add a) _ _ _ (bits_to_edits a (slice_get a.drafts (a0 a))) refl))
+  where
+    not_over : (n : ℕ) → nat_lt n 64 ≡ not (nat_le 64 n)
+    not_over n = grind (arith, nat_tests)
+
+-- ---- any call
+
+picked : (P : ActorState → Type 0) (t : Bool) (x y : ActorState) → (t ≡ true → P x) → (t ≡ false → P y) → P (if t then x else y)
+picked P true x y h k = h refl
+picked P false x y h k = k refl
+
+call_edits : (i : Image) (a : ActorState) (n : ℕ) → (serves i a n).drafts ≡ drafts_by_call a.drafts a.hart.regs n
+unfolding serves
+call_edits i a n =
+    picked (λ x. x.drafts ≡ drafts_by_call a.drafts a.hart.regs n) (n == 0) (exit a) _
+    (λ e. subst (λ m. a.drafts ≡ drafts_by_call a.drafts a.hart.regs m) (sym (eqb-true n 0 e)) refl)
+    (λ _. picked (λ x. x.drafts ≡ drafts_by_call a.drafts a.hart.regs n) (n == 16) (fd_append i a) _
+    (λ e. append_stays i a ∙ subst (λ m. a.drafts ≡ drafts_by_call a.drafts a.hart.regs m) (sym (eqb-true n 16 e)) refl)
+    (λ _. draft_edits a n))
+
+-- ---- an instruction
+
+need_edits : (i : Image) (ins : Instr) (a : ActorState) (h : Hart) (n : Need) → (needed i ins a h n).drafts ≡ drafts_by_need a n
+need_edits i ins a h need.Done = refl
+need_edits i ins a h (need.Load address width s) = load_stays i ins s a address width
+need_edits i ins a h (need.Store address width value) = store_stays i a address width value
+need_edits i ins a h need.Call = call_edits i a (a7 a)
+need_edits i ins a h need.Break = refl
+need_edits i ins a h need.JumpMisaligned = refl
+
+instr_edits : (i : Image) (a : ActorState) (ins : Option Instr) → (executed i a ins).drafts ≡ drafts_by_instr a ins
+instr_edits i a None = refl
+instr_edits i a (Some ins) = need_edits i ins a (local ins a.hart).hart (local ins a.hart).need
+
+fuel_edits : (i : Image) (a : ActorState) (word n : ℕ) → (fuelled i a word n).drafts ≡ drafts_by_fuel a word n
+fuel_edits i a word zero = refl
+fuel_edits i a word (suc n) = instr_edits i (spends a 1) (decode word)
+
+word_edits : (i : Image) (a : ActorState) (o : Option ℕ) → (fetched i a o).drafts ≡ drafts_by_word a o
+word_edits i a None = refl
+word_edits i a (Some word) = fuel_edits i a word a.fuel
+
+pub step_edits : (i : Image) (a : ActorState) → (step i a).drafts ≡ drafts_after i a None
+unfolding step
+step_edits i a = word_edits i a (fetch i a.hart.pc)
+
+-- ---- an event
+
+loaded_stays : (ins : Instr) (n : Need) (a : ActorState) (value : ℕ) → Stays a (loads_by ins n a value)
+loaded_stays ins need.Done a value = refl
+loaded_stays ins (need.Load address width s) a value = refl
+loaded_stays ins (need.Store address width v) a value = refl
+loaded_stays ins need.Call a value = refl
+loaded_stays ins need.Break a value = refl
+loaded_stays ins need.JumpMisaligned a value = refl
+
+loads_stay : (a : ActorState) (ins : Option Instr) (value : ℕ) → Stays a (loads_at a ins value)
+loads_stay a None value = refl
+loads_stay a (Some ins) value = loaded_stays ins (local ins a.hart).need a value
+
+pub event_edits : (i : Image) (a : ActorState) (e : Event) → (takes i a e).drafts ≡ a.drafts
+unfolding takes
+event_edits i a (event.Slot slot q (slot_reply.Loaded value)) = loads_stay (runs a) (option_and_then decode (fetch i a.hart.pc)) value
+event_edits i a (event.Slot slot q r) = refl
+event_edits i a (event.Fd fd q reply.Opened) = refl
+event_edits i a (event.Fd fd q (reply.Given given)) = refl
+event_edits i a (event.Fd fd q reply.Appended) = refl
+event_edits i a (event.Fd fd q reply.Closed) = refl
+event_edits i a (event.Fd fd q reply.NoSuch) = refl
+event_edits i a (event.Fd fd q (reply.Denied wants)) = refl
+event_edits i a (event.Fd fd q reply.Bad) = refl
+event_edits i a (event.Lives lives_ask.Claim r) = refl
+event_edits i a (event.Lives (lives_ask.Release x) r) = refl
+event_edits i a e = refl

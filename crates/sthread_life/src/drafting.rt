@@ -1,0 +1,125 @@
+//! Service calls on drafts: an actor makes and edits what the sheets of those that it starts are made of.
+
+ghost use Rattle.std.specs.Prelude.{◌≡◌, List, OnOk};
+ghost use Rattle.wedge_base.specs.declared.image.MemoryRange.{MemoryRange as ARange};
+ghost use Rattle.sthread_life.specs.Actors.{whole};
+ghost use Rattle.sthread_life.specs.Calls as calls;
+
+use crate::actor::Actor;
+use crate::calls::{A0, A1, A2};
+use grant_sheet::{Draft, DraftFault};
+use wedge_base::{Code, FdBits, FdNo, NoMemory, Right, Service, TagNo};
+
+/// The most drafts of an actor.
+const MOST_DRAFTS: usize = 64;
+
+impl Actor {
+    /// The call on drafts of this number; any other number is refused.
+    pub(crate) fn draft_call(&mut self, number: u32) -> Result<(), NoMemory>
+        ensures { OnOk result ((m : List ARange) → whole self.new m
+            ≡ calls.draft_call (whole self.old m) number) }
+    {
+        if number == Service::ScNew.number() {
+            self.sc_new()?;
+        } else if number == Service::ScMemAdd.number() {
+            self.sc_mem_add()?;
+        } else if number == Service::ScFdAdd.number() {
+            self.sc_fd_add()?;
+        } else {
+            self.refuse(Code::Bad);
+        }
+        Ok(())
+    }
+
+    /// The call that makes a draft without grants.
+    fn sc_new(&mut self) -> Result<(), NoMemory>
+        ensures { OnOk result ((m : List ARange) → whole self.new m ≡ calls.sc_new (whole self.old m)) }
+    {
+        let number = self.drafts.len();
+        if number >= MOST_DRAFTS {
+            self.refuse(Code::Full);
+            return Ok(());
+        }
+        self.drafts.push(Draft::new(self.alloc))?;
+        self.answer(number as u32, 0);
+        Ok(())
+    }
+
+    /// The call that puts a right on a tag into a draft.
+    fn sc_mem_add(&mut self) -> Result<(), NoMemory>
+        ensures { OnOk result ((m : List ARange) → whole self.new m
+            ≡ calls.sc_mem_add (whole self.old m)) }
+    {
+        let number = self.hart.reg(A0) as usize;
+        if number >= self.drafts.len() {
+            self.refuse(Code::NoSuch);
+            return Ok(());
+        }
+        let Some(right) = right_asked(self.hart.reg(A2)) else {
+            self.refuse(Code::Bad);
+            return Ok(());
+        };
+        let tag = TagNo(self.hart.reg(A1));
+        let draft = &mut self.drafts[number];
+        match draft.put_tag(tag, right) {
+            Ok(()) => self.answer(0, 0),
+            Err(DraftFault::Full) => self.refuse(Code::Full),
+            Err(DraftFault::NoMemory) => return Err(NoMemory),
+        }
+        Ok(())
+    }
+
+    /// The call that puts bits on a descriptor into a draft.
+    fn sc_fd_add(&mut self) -> Result<(), NoMemory>
+        ensures { OnOk result ((m : List ARange) → whole self.new m
+            ≡ calls.sc_fd_add (whole self.old m)) }
+    {
+        let number = self.hart.reg(A0) as usize;
+        if number >= self.drafts.len() {
+            self.refuse(Code::NoSuch);
+            return Ok(());
+        }
+        let Some(bits) = bits_asked(self.hart.reg(A2)) else {
+            self.refuse(Code::Bad);
+            return Ok(());
+        };
+        let fd = FdNo(self.hart.reg(A1));
+        let draft = &mut self.drafts[number];
+        match draft.put_fd(fd, bits) {
+            Ok(()) => self.answer(0, 0),
+            Err(DraftFault::Full) => self.refuse(Code::Full),
+            Err(DraftFault::NoMemory) => return Err(NoMemory),
+        }
+        Ok(())
+    }
+}
+
+/// The right that an argument asks for: 2 for Read, 3 for ReadWrite; 1, for a copy, is not built.
+fn right_asked(number: u32) -> Option<Right>
+    ensures { result ≡ calls.right_asked number }
+{
+    match number {
+        2 => Some(Right::Read),
+        3 => Some(Right::ReadWrite),
+        _ => None,
+    }
+}
+
+/// The bits that an argument asks for: 1 to read, 2 to append, 3 for both.
+fn bits_asked(number: u32) -> Option<FdBits>
+    ensures { result ≡ calls.bits_asked number }
+{
+    match number {
+        1 => Some(bits(true, false)),
+        2 => Some(bits(false, true)),
+        3 => Some(bits(true, true)),
+        _ => None,
+    }
+}
+
+/// Bits on a descriptor.
+fn bits(read: bool, append: bool) -> FdBits
+    ensures { result ≡ calls.bits read append }
+{
+    FdBits { read, append }
+}
