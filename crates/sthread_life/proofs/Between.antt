@@ -1,5 +1,5 @@
--- What a turn is made of, and that its event leaves the actor between instructions.
-use Rattle.std.proofs.Common.{◌≡◌, ℕ, List, refl, sym, ap, subst, ◌∙◌}
+-- What a turn is made of, and what its event leaves of the actor.
+use Rattle.std.proofs.Common.{◌≡◌, ℕ, ◌+◌, List, refl, sym, ap, subst, ◌∙◌}
 use Rattle.std.specs.Prelude.{Option, Some, None, option_map, option_and_then}
 use Rattle.wedge_base.specs.Images.{Image, fetch}
 use Rattle.wedge_base.specs.declared.events.Want.{Want}
@@ -14,10 +14,15 @@ use Rattle.rv_hart.specs.declared.Need.TheVariants as need
 use Rattle.rv_hart.specs.Local.{local}
 use Rattle.wedge_base.specs.declared.cells.StreamReply.TheVariants as stream_reply
 use Rattle.wedge_base.specs.declared.cells.LivesAsk.TheVariants as lives_ask
+use Rattle.wedge_base.specs.declared.cells.LivesReply.TheVariants as lives_reply
+use Rattle.wedge_base.specs.declared.rights.End.{End}
+use Rattle.sthread_life.specs.declared.phase.Phase.{Phase}
 use Rattle.sthread_life.specs.declared.phase.Phase.TheVariants as phase
-use Rattle.sthread_life.specs.Actors.{ActorState}
-use Rattle.sthread_life.specs.Local.{rest}
-use Rattle.sthread_life.specs.Taking.{wanted, pair, runs, loads_by, loads_at, takes}
+use Rattle.sthread_life.specs.Actors.{ActorState, answers_more}
+use Rattle.sthread_life.specs.Between.{IsBetween}
+use Rattle.sthread_life.specs.Children.{without_child, child_name}
+use Rattle.sthread_life.specs.Local.{rest, end_reached}
+use Rattle.sthread_life.specs.Taking.{wanted, pair, runs, loads_by, loads_at, end_value, end_number, answered_end, takes}
 use Rattle.wedge_base.specs.Directories.{directory_reply}
 use Rattle.wedge_base.specs.Gates.{gate_reply}
 use Rattle.wedge_base.specs.Lives.{lives_reply}
@@ -26,8 +31,7 @@ use Rattle.wedge_base.specs.Streams.{stream_reply as stream_reply_of}
 use Rattle.wedge_base.specs.Wants.{slot_ask_with}
 use Rattle.wedge_base.specs.declared.rights.End.TheVariants as end_
 use Rattle.sthread_life.specs.Cells.{Cells, slot_in, stream_in, kept_in, tag_in}
-use Rattle.sthread_life.specs.Worlds.{WorldState, actor_named, event_at, happened, wanting, turn_with, turn_of, Taken}
-use Rattle.sthread_life.specs.Between.{IsBetween}
+use Rattle.sthread_life.specs.Worlds.{WorldState, actor_named, join_event, event_at, happened, wanting, turn_with, turn_of, Taken}
 
 -- a load that has its value leaves the actor running
 loaded_by : (ins : Instr) (n : Need) (a : ActorState) (value : ℕ) → a.phase ≡ phase.Running → (loads_by ins n a value).phase ≡ phase.Running
@@ -42,13 +46,29 @@ pub loaded_runs : (a : ActorState) (ins : Option Instr) (value : ℕ) → a.phas
 loaded_runs a None value e = e
 loaded_runs a (Some ins) value e = loaded_by ins (local ins a.hart).need a value e
 
-loaded_between : (a : ActorState) (ins : Option Instr) (value : ℕ) → a.phase ≡ phase.Running → IsBetween (loads_at a ins value).phase
-loaded_between a ins value e = subst IsBetween (sym (loaded_runs a ins value e)) tt
+-- what a join leaves of an actor: one whose end is decided goes on with it, and any other is answered
+pub joined_is : (Q : ActorState → Type 0) (a : ActorState) (p : Phase) (e : End) → Q a → Q (answers_more a (end_value e) (end_number e)) → Q (answered_end a p e)
+joined_is Q a phase.Running e own other = other
+joined_is Q a (phase.Within q) e own other = other
+joined_is Q a phase.Starting e own other = other
+joined_is Q a (phase.Ending x) e own other = own
+joined_is Q a (phase.Ended x) e own other = other
 
--- an event leaves the actor that did it between instructions
-pub takes_between : (i : Image) (a : ActorState) (e : Event) → IsBetween (takes i a e).phase
+-- An event leaves the actor that did it between instructions; one that claimed a life is about to start a child.
+abbrev pub Leaves : Event → Phase → Type 0
+Leaves (event.Lives lives_ask.Claim lives_reply.Claimed) p = p ≡ phase.Starting
+Leaves e p = IsBetween p
+
+joined_between : (a : ActorState) (p : Phase) (e : End) → a.phase ≡ p → IsBetween (answered_end a p e).phase
+joined_between a phase.Running e is = tt
+joined_between a (phase.Within q) e is = tt
+joined_between a phase.Starting e is = tt
+joined_between a (phase.Ending x) e is = subst IsBetween (sym is) tt
+joined_between a (phase.Ended x) e is = tt
+
+pub takes_between : (i : Image) (a : ActorState) (e : Event) → Leaves e (takes i a e).phase
 unfolding takes
-takes_between i a (event.Slot slot q (slot_reply.Loaded value)) = loaded_between (runs a) (option_and_then decode (fetch i a.hart.pc)) value refl
+takes_between i a (event.Slot slot q (slot_reply.Loaded value)) = subst IsBetween (sym (loaded_runs (runs a) (option_and_then decode (fetch i a.hart.pc)) value refl)) tt
 takes_between i a (event.Slot slot q r) = tt
 takes_between i a (event.Fd fd q stream_reply.Opened) = tt
 takes_between i a (event.Fd fd q (stream_reply.Given bytes)) = tt
@@ -57,8 +77,11 @@ takes_between i a (event.Fd fd q stream_reply.Closed) = tt
 takes_between i a (event.Fd fd q stream_reply.NoSuch) = tt
 takes_between i a (event.Fd fd q (stream_reply.Denied wants)) = tt
 takes_between i a (event.Fd fd q stream_reply.Bad) = tt
-takes_between i a (event.Lives lives_ask.Claim r) = tt
+takes_between i a (event.Lives lives_ask.Claim lives_reply.Claimed) = refl
+takes_between i a (event.Lives lives_ask.Claim lives_reply.Full) = tt
+takes_between i a (event.Lives lives_ask.Claim lives_reply.Released) = tt
 takes_between i a (event.Lives (lives_ask.Release e) r) = tt
+takes_between i a (event.Join k e fuel) = joined_between (record a { fuel = a.fuel + fuel; unjoined = without_child a.unjoined k }) a.phase e refl
 takes_between i a e = tt
 
 loaded_name : (ins : Instr) (n : Need) (a : ActorState) (value : ℕ) → (loads_by ins n a value).name ≡ a.name
@@ -85,8 +108,11 @@ takes_name i b (event.Fd fd q stream_reply.Closed) = refl
 takes_name i b (event.Fd fd q stream_reply.NoSuch) = refl
 takes_name i b (event.Fd fd q (stream_reply.Denied wants)) = refl
 takes_name i b (event.Fd fd q stream_reply.Bad) = refl
-takes_name i b (event.Lives lives_ask.Claim r) = refl
+takes_name i b (event.Lives lives_ask.Claim lives_reply.Claimed) = refl
+takes_name i b (event.Lives lives_ask.Claim lives_reply.Full) = refl
+takes_name i b (event.Lives lives_ask.Claim lives_reply.Released) = refl
 takes_name i b (event.Lives (lives_ask.Release e) r) = refl
+takes_name i b (event.Join k e fuel) = joined_is (λ x. x.name ≡ b.name) (record b { fuel = b.fuel + fuel; unjoined = without_child b.unjoined k }) b.phase e refl refl
 takes_name i b e = refl
 
 -- nor its fuel, where it is a load
@@ -102,7 +128,7 @@ pub loads_fuel : (a : ActorState) (ins : Option Instr) (value : ℕ) → (loads_
 loads_fuel a None value = refl
 loads_fuel a (Some ins) value = loaded_fuel ins (local ins a.hart).need a value
 
--- the event of a want that is of a cell; of the others there is none
+-- the event of a want that is of a cell, or a start
 abbrev pub event_for : Cells → ActorState → Want → Event
 event_for c b (want.Slots q) = event.Slots q (directory_reply c.places q)
 event_for c b (want.Slot slot q) = event.Slot slot (slot_ask_with q (pair b (tag_in c slot))) (slot_reply_of (slot_in c slot) (slot_ask_with q (pair b (tag_in c slot))))
@@ -110,19 +136,50 @@ event_for c b (want.Fds q) = event.Fds q (directory_reply c.numbers q)
 event_for c b (want.Fd fd q) = event.Fd fd q (stream_reply_of (stream_in c fd) q)
 event_for c b (want.Lives q) = event.Lives q (lives_reply c.lives q)
 event_for c b (want.Gate id q) = event.Gate id q (gate_reply (kept_in c id) q)
+event_for c b (want.Start child) = event.Start child
 event_for c b q = event.Leave end_.Break
 
-event_is_for : (c : Cells) (b : ActorState) (q : Want) (e : Event) → event_at c b q ≡ Some e → e ≡ event_for c b q
-event_is_for c b (want.Slots q) e at = cc
-event_is_for c b (want.Slot slot q) e at = cc
-event_is_for c b (want.Fds q) e at = cc
-event_is_for c b (want.Fd fd q) e at = cc
-event_is_for c b (want.Lives q) e at = cc
-event_is_for c b (want.Gate id q) e at = cc
-event_is_for c b (want.Start child) e at = absurd cc
-event_is_for c b (want.Join child) e at = absurd cc
-event_is_for c b (want.Enter run) e at = absurd cc
-event_is_for c b (want.Leave end) e at = absurd cc
+-- a join that takes place: the child is there, and has ended
+pub record IsJoin (w : WorldState) (b : ActorState) (k : ℕ) (e : Event) : Type 0 where
+  pub child : ActorState
+  pub how : End
+  pub there : actor_named w.actors (child_name b.name k) ≡ Some child
+  pub ended : end_reached child.phase ≡ Some how
+  pub is : e ≡ event.Join k how child.fuel
+
+-- the event to which an actor comes with what it wants
+abbrev pub ComesOf : WorldState → ActorState → Want → Event → Type 0
+ComesOf w b (want.Slots q) e = e ≡ event_for w.cells b (want.Slots q)
+ComesOf w b (want.Slot slot q) e = e ≡ event_for w.cells b (want.Slot slot q)
+ComesOf w b (want.Fds q) e = e ≡ event_for w.cells b (want.Fds q)
+ComesOf w b (want.Fd fd q) e = e ≡ event_for w.cells b (want.Fd fd q)
+ComesOf w b (want.Lives q) e = e ≡ event_for w.cells b (want.Lives q)
+ComesOf w b (want.Gate id q) e = e ≡ event_for w.cells b (want.Gate id q)
+ComesOf w b (want.Start child) e = e ≡ event.Start child
+ComesOf w b (want.Join k) e = IsJoin w b k e
+ComesOf w b (want.Enter run) e = ⊥
+ComesOf w b (want.Leave end) e = ⊥
+
+join_ended : (w : WorldState) (b : ActorState) (k : ℕ) (c : ActorState) (x : Option End) (e : Event) → actor_named w.actors (child_name b.name k) ≡ Some c → end_reached c.phase ≡ x
+    → option_map (λ y. event.Join k y c.fuel) x ≡ Some e → IsJoin w b k e
+join_ended w b k c None e there ended at = absurd cc
+join_ended w b k c (Some x) e there ended at = record { child = c; how = x; there = there; ended = ended; is = cc }
+
+join_comes : (w : WorldState) (b : ActorState) (k : ℕ) (o : Option ActorState) (e : Event) → actor_named w.actors (child_name b.name k) ≡ o → join_event k o ≡ Some e → IsJoin w b k e
+join_comes w b k None e there at = absurd cc
+join_comes w b k (Some c) e there at = join_ended w b k c (end_reached c.phase) e there refl at
+
+pub comes_of : (w : WorldState) (b : ActorState) (q : Want) (e : Event) → event_at w b q ≡ Some e → ComesOf w b q e
+comes_of w b (want.Slots q) e at = cc
+comes_of w b (want.Slot slot q) e at = cc
+comes_of w b (want.Fds q) e at = cc
+comes_of w b (want.Fd fd q) e at = cc
+comes_of w b (want.Lives q) e at = cc
+comes_of w b (want.Gate id q) e at = cc
+comes_of w b (want.Start child) e at = cc
+comes_of w b (want.Join k) e at = join_comes w b k (actor_named w.actors (child_name b.name k)) e refl at
+comes_of w b (want.Enter run) e at = absurd cc
+comes_of w b (want.Leave end) e at = absurd cc
 
 -- what a turn is made of: the actor of the name, what it wants at rest, and the event of that ask
 pub record TurnParts (w : WorldState) (name : List ℕ) (e : Event) (new : WorldState) : Type 0 where
@@ -130,11 +187,11 @@ pub record TurnParts (w : WorldState) (name : List ℕ) (e : Event) (new : World
   pub named : actor_named w.actors name ≡ Some actor
   pub want : Want
   pub wants : wanted (rest w.image actor) ≡ Some want
-  pub comes : event_at w.cells (rest w.image actor) want ≡ Some e
+  pub comes : event_at w (rest w.image actor) want ≡ Some e
   pub new_is : new ≡ (happened w (rest w.image actor) e).world
 
 parts_event : (w : WorldState) (name : List ℕ) (a : ActorState) (q : Want) (o : Option Event) (e : Event) (new : WorldState)
-    → actor_named w.actors name ≡ Some a → wanted (rest w.image a) ≡ Some q → event_at w.cells (rest w.image a) q ≡ o
+    → actor_named w.actors name ≡ Some a → wanted (rest w.image a) ≡ Some q → event_at w (rest w.image a) q ≡ o
     → option_map (happened w (rest w.image a)) o ≡ Some (record { event = e; world = new }) → TurnParts w name e new
 parts_event w name a q None e new named wants at t = absurd cc
 parts_event w name a q (Some f) e new named wants at t =
@@ -152,7 +209,7 @@ parts_event w name a q (Some f) e new named wants at t =
 parts_wanting : (w : WorldState) (name : List ℕ) (a : ActorState) (q : Option Want) (e : Event) (new : WorldState)
     → actor_named w.actors name ≡ Some a → wanted (rest w.image a) ≡ q → wanting w (rest w.image a) q ≡ Some (record { event = e; world = new }) → TurnParts w name e new
 parts_wanting w name a None e new named wants t = absurd cc
-parts_wanting w name a (Some q) e new named wants t = parts_event w name a q (event_at w.cells (rest w.image a) q) e new named wants refl t
+parts_wanting w name a (Some q) e new named wants t = parts_event w name a q (event_at w (rest w.image a) q) e new named wants refl t
 
 parts_named : (w : WorldState) (name : List ℕ) (a : Option ActorState) (e : Event) (new : WorldState)
     → actor_named w.actors name ≡ a → turn_with w a ≡ Some (record { event = e; world = new }) → TurnParts w name e new
@@ -162,7 +219,3 @@ parts_named w name (Some a) e new named t = parts_wanting w name a (wanted (rest
 pub turn_parts : (w : WorldState) (name : List ℕ) (e : Event) (new : WorldState) → turn_of w name ≡ Some (record { event = e; world = new }) → TurnParts w name e new
 unfolding turn_of
 turn_parts w name e new t = parts_named w name (actor_named w.actors name) e new refl t
-
--- and its event is the one of its want
-pub parts_event_is : (w : WorldState) (name : List ℕ) (e : Event) (new : WorldState) (p : TurnParts w name e new) → e ≡ event_for w.cells (rest w.image p.actor) p.want
-parts_event_is w name e new p = event_is_for w.cells (rest w.image p.actor) p.want e p.comes

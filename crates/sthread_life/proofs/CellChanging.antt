@@ -1,7 +1,6 @@
 -- Whatever a cell holds beside its bytes is changed by its own events alone.
 use Rattle.std.proofs.Common.{◌≡◌, ℕ, List, [], ◌∷◌, refl, sym, ap, subst, ◌∙◌}
 use Rattle.std.specs.Prelude.{Option, Some, None, option_map}
-use Rattle.wedge_base.specs.Images.{Image}
 use Rattle.wedge_base.specs.Slots.{Segment, slot_reply as slot_reply_of, slot_after, stored}
 use Rattle.wedge_base.specs.Streams.{Stream, stream_reply as stream_reply_of, stream_after, grown}
 use Rattle.wedge_base.specs.declared.grants.GateId.{GateId}
@@ -19,27 +18,26 @@ use Rattle.wedge_base.specs.declared.cells.SlotReply.TheVariants as slot_reply
 use Rattle.wedge_base.specs.declared.cells.StreamAsk.TheVariants as stream_ask
 use Rattle.wedge_base.specs.declared.cells.StreamReply.{StreamReply}
 use Rattle.wedge_base.specs.declared.cells.StreamReply.TheVariants as reply
-use Rattle.sthread_life.specs.declared.phase.Phase.{Phase}
-use Rattle.sthread_life.specs.declared.phase.Phase.TheVariants as phase
 use Rattle.sthread_life.specs.Actors.{ActorState}
 use Rattle.sthread_life.specs.Local.{rest}
-use Rattle.sthread_life.specs.Taking.{wanted_at, pair}
+use Rattle.sthread_life.specs.Taking.{pair}
 use Rattle.sthread_life.specs.Cells.{Cells, slot_in, stream_in, kept_in, cells_after}
 use Rattle.sthread_life.specs.Worlds.{WorldState, turn_of, Runs}
 use Rattle.sthread_life.specs.CellHistories.{after_turns, Occupant, occupant, occupant_in, occupant_after_event, Mode, mode, mode_in, mode_after_event, places_after_event, numbers_after_event, lives_after_event, kept_after_event, CellsFollow}
-use Rattle.sthread_life.proofs.Between.{event_for, parts_event_is, turn_parts}
-use Rattle.sthread_life.proofs.Settling.{AllReady, named_ready, turn_ready}
-use Rattle.sthread_life.proofs.Meeting.{IsRequest, ReadsAs, LoadsAt}
+use Rattle.sthread_life.proofs.Between.{event_for, turn_parts}
+use Rattle.sthread_life.proofs.Happening.{Happens, Requested, Joined, Started, LastJoined, Ended}
+use Rattle.sthread_life.proofs.Settling.{AllReady, turn_happens, turn_ready}
+use Rattle.sthread_life.proofs.Meeting.{IsRequest}
 use Rattle.sthread_life.proofs.OneCell.{follows}
 
 -- what an event makes of everything that the cells hold beside bytes
-record IsChanged (old : Cells) (e : Event) (new : Cells) : Type 0 where
-  occupants : (slot : ℕ) → occupant_in new slot ≡ occupant_after_event slot (occupant_in old slot) e
-  modes : (fd : ℕ) → mode_in new fd ≡ mode_after_event fd (mode_in old fd) e
-  places : new.places ≡ places_after_event old.places e
-  numbers : new.numbers ≡ numbers_after_event old.numbers e
-  lives : new.lives ≡ lives_after_event old.lives e
-  gates : (id : GateId) → kept_in new id ≡ kept_after_event id (kept_in old id) e
+pub record IsChanged (old : Cells) (e : Event) (new : Cells) : Type 0 where
+  pub occupants : (slot : ℕ) → occupant_in new slot ≡ occupant_after_event slot (occupant_in old slot) e
+  pub modes : (fd : ℕ) → mode_in new fd ≡ mode_after_event fd (mode_in old fd) e
+  pub places : new.places ≡ places_after_event old.places e
+  pub numbers : new.numbers ≡ numbers_after_event old.numbers e
+  pub lives : new.lives ≡ lives_after_event old.lives e
+  pub gates : (id : GateId) → kept_in new id ≡ kept_after_event id (kept_in old id) e
 
 -- ---- what lives in a slot, and what a stream is
 
@@ -106,18 +104,19 @@ want_changes N c b (want.Fd fd (stream_ask.Append bits bytes)) own =
       lives = refl;
       gates = λ id. refl;
     }
+want_changes N c b (want.Lives lives_ask.Claim) own = record { occupants = λ slot. refl; modes = λ fd. refl; places = refl; numbers = refl; lives = refl; gates = λ id. refl }
 want_changes N c b q own = absurd own
 
-rest_changes : (i : Image) (c : Cells) (b : ActorState) (ph : Phase) (q : Want) → ReadsAs i b ph → wanted_at ph ≡ Some q → IsChanged c (event_for c b q) (cells_after c (event_for c b q))
-rest_changes i c b phase.Running q reads e = absurd cc
-rest_changes i c b (phase.Within x) q reads e =
-    let is : x ≡ q = cc in
-    subst (λ y. IsChanged c (event_for c b y) (cells_after c (event_for c b y))) is (want_changes (LoadsAt i b.hart reads.0 reads.1) c b x reads.3)
-rest_changes i c b (phase.Ending x) q reads e =
-    let is : want.Lives (lives_ask.Release x) ≡ q = cc in
-    subst (λ y. IsChanged c (event_for c b y) (cells_after c (event_for c b y))) is
-    (record { occupants = λ slot. refl; modes = λ fd. refl; places = refl; numbers = refl; lives = refl; gates = λ id. refl })
-rest_changes i c b (phase.Ended x) q reads e = absurd cc
+pub event_changes : (w : WorldState) (b : ActorState) (e : Event) → Happens w b e → IsChanged w.cells e (cells_after w.cells e)
+event_changes w b e (Requested r) = subst (λ y. IsChanged w.cells y (cells_after w.cells y)) (sym r.is) (want_changes _ w.cells b r.want r.own)
+event_changes w b e (Joined j) =
+    subst (λ y. IsChanged w.cells y (cells_after w.cells y)) (sym j.join.is) (record { occupants = λ slot. refl; modes = λ fd. refl; places = refl; numbers = refl; lives = refl; gates = λ id. refl })
+event_changes w b e (Started s) =
+    subst (λ y. IsChanged w.cells y (cells_after w.cells y)) (sym s.is) (record { occupants = λ slot. refl; modes = λ fd. refl; places = refl; numbers = refl; lives = refl; gates = λ id. refl })
+event_changes w b e (LastJoined j) =
+    subst (λ y. IsChanged w.cells y (cells_after w.cells y)) (sym j.join.is) (record { occupants = λ slot. refl; modes = λ fd. refl; places = refl; numbers = refl; lives = refl; gates = λ id. refl })
+event_changes w b e (Ended f) =
+    subst (λ y. IsChanged w.cells y (cells_after w.cells y)) (sym f.is) (record { occupants = λ slot. refl; modes = λ fd. refl; places = refl; numbers = refl; lives = refl; gates = λ id. refl })
 
 -- a turn's event makes the cells
 pub turn_cells : (w : WorldState) (t : Turn) (new : WorldState) → turn_of w t.actor ≡ Some (record { event = t.event; world = new }) → new.cells ≡ cells_after w.cells t.event
@@ -126,11 +125,8 @@ turn_cells w t new e = let p = turn_parts w t.actor t.event new e in ap (λ (x :
 turn_changes : (w : WorldState) (t : Turn) (new : WorldState) → AllReady w → turn_of w t.actor ≡ Some (record { event = t.event; world = new }) → IsChanged w.cells t.event new.cells
 turn_changes w t new all e =
     let p = turn_parts w t.actor t.event new e in
-    let b = rest w.image p.actor in
-    let is = parts_event_is w t.actor t.event new p in
-    let reads = named_ready w t.actor p.actor all p.named in
-    let changed = rest_changes w.image w.cells b b.phase p.want reads p.wants in
-    subst (IsChanged w.cells t.event) (sym (turn_cells w t new e)) (subst (λ x. IsChanged w.cells x (cells_after w.cells x)) (sym is) changed)
+    let changed = event_changes w (rest w.image p.actor) t.event (turn_happens w t.actor t.event new all p) in
+    subst (IsChanged w.cells t.event) (sym (turn_cells w t new e)) changed
 
 -- what a run leaves of something, if each of its turns leaves what its event does
 turns_leave : {X : Type 0} (by : X → Event → X) (view : Cells → X)

@@ -1,22 +1,18 @@
--- No two actors of a world have one name.
+-- Where no two actors have one name, an actor put in its place has its own still.
 use Rattle.std.proofs.Common.{◌≡◌, ℕ, Bool, true, false, true≢false, List, [], ◌∷◌, refl, sym, ap, subst, ◌∙◌}
 use Rattle.std.specs.Prelude.{if◌then◌else◌}
 use Rattle.wedge_base.specs.Names.{same}
-use Rattle.wedge_base.specs.declared.events.Turn.{Turn}
 use Rattle.sthread_life.specs.Actors.{ActorState}
-use Rattle.sthread_life.specs.Local.{rest}
-use Rattle.sthread_life.specs.Taking.{takes}
-use Rattle.sthread_life.specs.Worlds.{WorldState, opening, put_actor, Runs}
-use Rattle.sthread_life.specs.Laws.{IsNew, AreDistinct, NamesAreDistinct}
+use Rattle.sthread_life.specs.Worlds.{put_actor}
+use Rattle.sthread_life.specs.Names.{IsNew, AreDistinct}
 use Rattle.sthread_life.proofs.Named.{same_self, same_equal}
-use Rattle.sthread_life.proofs.Between.{turn_parts}
 
 -- a name that is new stays so where an actor of another name is put
 new_or : (name : List ℕ) (b a : ActorState) (bs others : List ActorState) (t : Bool) → same a.name name ≡ false → same b.name name ≡ false → IsNew name bs → IsNew name others → IsNew name (if t then a ∷ bs else b ∷ others)
 new_or name b a bs others true na nb here put = (na, here)
 new_or name b a bs others false na nb here put = (nb, put)
 
-new_put : (name : List ℕ) (bs : List ActorState) (a : ActorState) → IsNew name bs → same a.name name ≡ false → IsNew name (put_actor bs a)
+pub new_put : (name : List ℕ) (bs : List ActorState) (a : ActorState) → IsNew name bs → same a.name name ≡ false → IsNew name (put_actor bs a)
 new_put name [] a new other = (other, tt)
 new_put name (b ∷ bs) a new other = new_or name b a bs (put_actor bs a) (same b.name a.name) other new.0 new.1 (new_put name bs a new.1 other)
 
@@ -32,18 +28,8 @@ distinct_or : (b a : ActorState) (bs others : List ActorState) (t : Bool) → sa
 distinct_or b a bs others true e all put new = (subst (λ n. IsNew n bs) (same_equal b.name a.name e) all.0, all.1)
 distinct_or b a bs others false e all put new = (new e, put)
 
-put_distinct : (bs : List ActorState) (a : ActorState) → AreDistinct bs → AreDistinct (put_actor bs a)
+pub put_distinct : (bs : List ActorState) (a : ActorState) → AreDistinct bs → AreDistinct (put_actor bs a)
 put_distinct [] a all = (tt, tt)
 put_distinct (b ∷ bs) a all =
     distinct_or b a bs (put_actor bs a) (same b.name a.name) refl all (put_distinct bs a all.1)
     (λ e. new_put b.name bs a all.0 (differ_too b.name a.name _ refl e))
-
-runs_distinct : (old : WorldState) (turns : List Turn) (new : WorldState) → AreDistinct old.actors → Runs old turns new → AreDistinct new.actors
-runs_distinct old [] new all run = subst (λ (w : WorldState). AreDistinct w.actors) (sym run) all
-runs_distinct old (t ∷ ts) new all run =
-    let p = turn_parts old t.actor t.event run.0 run.1 in
-    let put = put_distinct old.actors (takes old.image (rest old.image p.actor) t.event) all in
-    runs_distinct run.0 ts new (subst (λ (w : WorldState). AreDistinct w.actors) (sym p.new_is) put) run.2
-
-pub names_distinct : NamesAreDistinct
-names_distinct i turns new run = runs_distinct (opening i) turns new (tt, tt) run

@@ -1,12 +1,15 @@
 -- The drafts of an actor after each moment are as its call made them.
-use Rattle.std.proofs.Common.{◌≡◌, ℕ, zero, suc, Bool, true, false, List, [], ◌∷◌, ◌++◌, length, refl, sym, ap, subst, ◌∙◌, arith}
+use Rattle.std.proofs.Common.{◌≡◌, ℕ, zero, suc, ◌+◌, Bool, true, false, List, [], ◌∷◌, ◌++◌, length, refl, sym, ap, subst, ◌∙◌, arith}
 use Rattle.std.proofs.lemmas.Bool.{eqb-true}
 use Rattle.std.proofs.lemmas.Bool.Decides.{nat_tests}
 use Rattle.std.specs.Prelude.{Option, Some, None, option_and_then, not, ◌==◌, ◌||◌, nat_lt, nat_le, slice_get, if◌then◌else◌}
 use Rattle.wedge_base.specs.Bytes.{number_of}
 use Rattle.wedge_base.specs.Images.{Image, fetch, in_text, read_text, slot_of}
 use Rattle.wedge_base.specs.Memory.{range_at}
-use Rattle.wedge_base.specs.Sheets.{Draft, empty_draft, takes_tag, takes_fd, with_tag, with_fd}
+use Rattle.wedge_base.specs.Names.{most_parts}
+use Rattle.wedge_base.specs.Sheets.{Draft, empty_draft, takes_tag, takes_fd, with_tag, with_fd, first_excess}
+use Rattle.wedge_base.specs.declared.rights.Denial.{Denial}
+use Rattle.wedge_base.specs.declared.cells.LivesReply.TheVariants as lives_reply
 use Rattle.wedge_base.specs.Streams.{most_fds}
 use Rattle.wedge_base.specs.declared.address.Place.{Place}
 use Rattle.wedge_base.specs.declared.events.Event.{Event}
@@ -27,7 +30,9 @@ use Rattle.rv_hart.specs.declared.Need.TheVariants as need
 use Rattle.rv_hart.specs.Local.{local}
 use Rattle.sthread_life.specs.Actors.{ActorState, answers, refuses, ends, spends}
 use Rattle.sthread_life.specs.Private.{loads, stores, load_window, load_range, store_window, store_range, has_loaded, fits_read}
-use Rattle.sthread_life.specs.Calls.{serves, exit, fd_append, draft_call, sc_new, sc_mem_add, sc_fd_add, with_draft, add_right, add_right_to, add_bits, add_bits_to, bits, a0, a1, a2, a7}
+use Rattle.sthread_life.specs.Children.{is_child, without_child}
+use Rattle.sthread_life.proofs.Between.{joined_is}
+use Rattle.sthread_life.specs.Calls.{serves, exit, is_procedure, create, create_with, create_checked, create_allowed, join, fd_append, draft_call, sc_new, sc_mem_add, sc_fd_add, with_draft, add_right, add_right_to, add_bits, add_bits_to, bits, a0, a1, a2, a3, a7}
 use Rattle.sthread_life.specs.Drafting.{right_of_number, bits_of_number, edited, with_new, drafts_by_call, drafts_by_need, drafts_by_instr, drafts_by_fuel, drafts_by_word, drafts_after}
 use Rattle.sthread_life.specs.Local.{needed, executed, fuelled, fetched, step}
 use Rattle.sthread_life.specs.Refusals.{full, no_such, bad, new_refusal, right_refusal, bits_refusal}
@@ -73,6 +78,17 @@ append_stays i a =
     stays_if a (refuses a code.Bad) _ (not (fits_read i a (a1 a) (a2 a))) refl
     (stays_if a (refuses a code.FuelShort) _ (nat_lt a.fuel (a2 a)) refl
     (stays_if a (refuses a code.NoSuch) _ (nat_le most_fds (a0 a)) refl refl))
+
+create_stays : (i : Image) (a : ActorState) (d : Option Draft) → Stays a (create_with i a d)
+create_stays i a None = refl
+create_stays i a (Some d) = stays_if a (refuses a code.Bad) _ (not (is_procedure i (a1 a))) refl (checked_stays (first_excess a.sheet a.made d))
+  where
+    checked_stays : (d : Option Denial) → Stays a (create_checked a d)
+    checked_stays (Some d) = refl
+    checked_stays None = stays_if a (refuses a code.Deep) _ (nat_le most_parts (length a.name)) refl (stays_if a (refuses a code.FuelShort) _ (nat_lt a.fuel (a3 a)) refl refl)
+
+join_stays : (a : ActorState) → Stays a (join a)
+join_stays a = stays_if a _ (refuses a code.NoSuch) (is_child a.unjoined (a0 a)) refl refl
 
 -- ---- the calls on drafts
 
@@ -139,9 +155,13 @@ unfolding serves
 call_edits i a n =
     picked (λ x. x.drafts ≡ drafts_by_call a.drafts a.hart.regs n) (n == 0) (exit a) _
     (λ e. subst (λ m. a.drafts ≡ drafts_by_call a.drafts a.hart.regs m) (sym (eqb-true n 0 e)) refl)
+    (λ _. picked (λ x. x.drafts ≡ drafts_by_call a.drafts a.hart.regs n) (n == 1) (create i a) _
+    (λ e. create_stays i a (slice_get a.drafts (a0 a)) ∙ subst (λ m. a.drafts ≡ drafts_by_call a.drafts a.hart.regs m) (sym (eqb-true n 1 e)) refl)
+    (λ _. picked (λ x. x.drafts ≡ drafts_by_call a.drafts a.hart.regs n) (n == 2) (join a) _
+    (λ e. join_stays a ∙ subst (λ m. a.drafts ≡ drafts_by_call a.drafts a.hart.regs m) (sym (eqb-true n 2 e)) refl)
     (λ _. picked (λ x. x.drafts ≡ drafts_by_call a.drafts a.hart.regs n) (n == 16) (fd_append i a) _
     (λ e. append_stays i a ∙ subst (λ m. a.drafts ≡ drafts_by_call a.drafts a.hart.regs m) (sym (eqb-true n 16 e)) refl)
-    (λ _. draft_edits a n))
+    (λ _. draft_edits a n))))
 
 -- ---- an instruction
 
@@ -194,6 +214,9 @@ event_edits i a (event.Fd fd q reply.Closed) = refl
 event_edits i a (event.Fd fd q reply.NoSuch) = refl
 event_edits i a (event.Fd fd q (reply.Denied wants)) = refl
 event_edits i a (event.Fd fd q reply.Bad) = refl
-event_edits i a (event.Lives lives_ask.Claim r) = refl
+event_edits i a (event.Lives lives_ask.Claim lives_reply.Claimed) = refl
+event_edits i a (event.Lives lives_ask.Claim lives_reply.Full) = refl
+event_edits i a (event.Lives lives_ask.Claim lives_reply.Released) = refl
 event_edits i a (event.Lives (lives_ask.Release x) r) = refl
+event_edits i a (event.Join k e fuel) = joined_is (λ x. x.drafts ≡ a.drafts) (record a { fuel = a.fuel + fuel; unjoined = without_child a.unjoined k }) a.phase e refl refl
 event_edits i a e = refl

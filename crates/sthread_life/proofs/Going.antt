@@ -20,10 +20,13 @@ use Rattle.sthread_life.specs.declared.phase.Phase.{Phase}
 use Rattle.sthread_life.specs.declared.phase.Phase.TheVariants as phase
 use Rattle.sthread_life.specs.Actors.{ActorState, answers, ends, refuses}
 use Rattle.sthread_life.specs.Private.{loads, stores, load_window, load_range, store_window, store_range, has_loaded, fits_read}
-use Rattle.wedge_base.specs.Sheets.{Draft, takes_tag, takes_fd}
+use Rattle.wedge_base.specs.Names.{most_parts}
+use Rattle.wedge_base.specs.Sheets.{Draft, takes_tag, takes_fd, first_excess}
+use Rattle.wedge_base.specs.declared.rights.Denial.{Denial}
 use Rattle.wedge_base.specs.declared.rights.FdBits.{FdBits}
 use Rattle.wedge_base.specs.declared.rights.Right.{Right}
-use Rattle.sthread_life.specs.Calls.{serves, exit, fd_append, most_drafts, sc_new, right_asked, bits_asked, add_right, add_right_to, sc_mem_add, add_bits, add_bits_to, sc_fd_add, draft_call, a0, a1, a2, a7}
+use Rattle.sthread_life.specs.Children.{is_child}
+use Rattle.sthread_life.specs.Calls.{serves, exit, is_procedure, create, create_with, create_checked, create_allowed, join, fd_append, most_drafts, sc_new, right_asked, bits_asked, add_right, add_right_to, sc_mem_add, add_bits, add_bits_to, sc_fd_add, draft_call, a0, a1, a2, a3, a7}
 use Rattle.sthread_life.specs.Local.{needed, executed, fuelled, fetched, step, is_running}
 use Rattle.sthread_life.specs.Worlds.{WorldState, actor_named, put_actor}
 use Rattle.sthread_life.specs.Moments.{with_actor}
@@ -96,11 +99,29 @@ next_draft a n =
     (next_if a.hart (sc_mem_add a) _ (n == 8) (next_right_to a (slice_get a.drafts (a0 a)))
     (next_if a.hart (sc_fd_add a) _ (n == 9) (next_bits_to a (slice_get a.drafts (a0 a))) (λ e. refl, λ e. absurd cc)))
 
+next_allowed : (a : ActorState) → IsNext a.hart (create_allowed a)
+next_allowed a =
+    next_if a.hart (refuses a code.Deep) _ (nat_le most_parts (length a.name)) (λ e. refl, λ e. absurd cc)
+    (next_if a.hart (refuses a code.FuelShort) _ (nat_lt a.fuel (a3 a)) (λ e. refl, λ e. absurd cc) (λ e. absurd cc, λ e. refl))
+
+next_checked : (a : ActorState) (d : Option Denial) → IsNext a.hart (create_checked a d)
+next_checked a None = next_allowed a
+next_checked a (Some d) = (λ e. refl, λ e. absurd cc)
+
+next_create : (i : Image) (a : ActorState) (d : Option Draft) → IsNext a.hart (create_with i a d)
+next_create i a None = (λ e. refl, λ e. absurd cc)
+next_create i a (Some d) = next_if a.hart (refuses a code.Bad) _ (not (is_procedure i (a1 a))) (λ e. refl, λ e. absurd cc) (next_checked a (first_excess a.sheet a.made d))
+
+next_join : (a : ActorState) → IsNext a.hart (join a)
+next_join a = next_if a.hart _ (refuses a code.NoSuch) (is_child a.unjoined (a0 a)) (λ e. absurd cc, λ e. refl) (λ e. refl, λ e. absurd cc)
+
 next_call : (i : Image) (a : ActorState) (n : ℕ) → IsNext a.hart (serves i a n)
 unfolding serves
 next_call i a n =
     next_if a.hart (exit a) _ (n == 0) (λ e. absurd cc, λ e. refl)
-    (next_if a.hart (fd_append i a) _ (n == 16) (next_append i a) (next_draft a n))
+    (next_if a.hart (create i a) _ (n == 1) (next_create i a (slice_get a.drafts (a0 a)))
+    (next_if a.hart (join a) _ (n == 2) (next_join a)
+    (next_if a.hart (fd_append i a) _ (n == 16) (next_append i a) (next_draft a n))))
 
 -- the actor that was put is at the next word if it runs
 pub put_next : (w : WorldState) (b x a : ActorState) → actor_named w.actors b.name ≡ Some a → x.name ≡ b.name → IsNext b.hart x

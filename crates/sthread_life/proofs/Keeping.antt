@@ -1,5 +1,5 @@
 -- Private memory over an instruction and over an event.
-use Rattle.std.proofs.Common.{◌≡◌, ℕ, zero, suc, ◌-◌, Bool, true, false, refl, sym, ap, subst, ◌∙◌, arith}
+use Rattle.std.proofs.Common.{◌≡◌, ℕ, zero, suc, ◌+◌, ◌-◌, Bool, true, false, refl, sym, ap, subst, ◌∙◌, arith}
 use Rattle.std.specs.Prelude.{Option, Some, None, option_map, option_and_then, not, ◌&&◌, ◌==◌, nat_lt, nat_le, if◌then◌else◌, List, length, slice_get}
 use Rattle.wedge_base.specs.Bytes.{number_of, bytes_of}
 use Rattle.wedge_base.specs.Images.{Image, fetch, read_text, slot_of}
@@ -22,10 +22,15 @@ use Rattle.rv_hart.specs.declared.Need.TheVariants as need
 use Rattle.rv_hart.specs.Local.{local}
 use Rattle.sthread_life.specs.Actors.{ActorState, answers, ends, refuses}
 use Rattle.sthread_life.specs.Private.{load_window, load_range, store_window, store_range, has_loaded, fits_read}
-use Rattle.wedge_base.specs.Sheets.{Draft, takes_tag, takes_fd}
+use Rattle.wedge_base.specs.Names.{most_parts}
+use Rattle.wedge_base.specs.Sheets.{Draft, takes_tag, takes_fd, first_excess}
+use Rattle.wedge_base.specs.declared.rights.Denial.{Denial}
+use Rattle.wedge_base.specs.declared.cells.LivesReply.TheVariants as lives_reply
 use Rattle.wedge_base.specs.declared.rights.FdBits.{FdBits}
 use Rattle.wedge_base.specs.declared.rights.Right.{Right}
-use Rattle.sthread_life.specs.Calls.{serves, exit, fd_append, most_drafts, sc_new, right_asked, bits_asked, add_right, add_right_to, sc_mem_add, add_bits, add_bits_to, sc_fd_add, draft_call, a0, a1, a2, a7}
+use Rattle.sthread_life.specs.Children.{is_child, without_child}
+use Rattle.sthread_life.proofs.Between.{joined_is}
+use Rattle.sthread_life.specs.Calls.{serves, exit, is_procedure, create, create_with, create_checked, create_allowed, join, fd_append, most_drafts, sc_new, right_asked, bits_asked, add_right, add_right_to, sc_mem_add, add_bits, add_bits_to, sc_fd_add, draft_call, a0, a1, a2, a3, a7}
 use Rattle.sthread_life.specs.Local.{needed, executed, fuelled, fetched, step}
 use Rattle.sthread_life.specs.Taking.{runs, loads_by, loads_at, takes}
 use Rattle.sthread_life.specs.Remembering.{LoadGives, StoreWrites, NeedRemembers, InstrRemembers, WordRemembers, EventRemembers}
@@ -95,9 +100,24 @@ draft_keeps a n =
     (keeps_if a (sc_mem_add a) _ (n == 8) (right_to_keeps a (slice_get a.drafts (a0 a)))
     (keeps_if a (sc_fd_add a) _ (n == 9) (bits_to_keep a (slice_get a.drafts (a0 a))) refl))
 
+create_keeps : (i : Image) (a : ActorState) (d : Option Draft) → Keeps a (create_with i a d)
+create_keeps i a None = refl
+create_keeps i a (Some d) = keeps_if a (refuses a code.Bad) _ (not (is_procedure i (a1 a))) refl (checked_keeps (first_excess a.sheet a.made d))
+  where
+    checked_keeps : (d : Option Denial) → Keeps a (create_checked a d)
+    checked_keeps (Some d) = refl
+    checked_keeps None = keeps_if a (refuses a code.Deep) _ (nat_le most_parts (length a.name)) refl (keeps_if a (refuses a code.FuelShort) _ (nat_lt a.fuel (a3 a)) refl refl)
+
+join_keeps : (a : ActorState) → Keeps a (join a)
+join_keeps a = keeps_if a _ (refuses a code.NoSuch) (is_child a.unjoined (a0 a)) refl refl
+
 call_keeps : (i : Image) (a : ActorState) (n : ℕ) → Keeps a (serves i a n)
 unfolding serves
-call_keeps i a n = keeps_if a (exit a) _ (n == 0) refl (keeps_if a (fd_append i a) _ (n == 16) (append_keeps i a) (draft_keeps a n))
+call_keeps i a n =
+    keeps_if a (exit a) _ (n == 0) refl
+    (keeps_if a (create i a) _ (n == 1) (create_keeps i a (slice_get a.drafts (a0 a)))
+    (keeps_if a (join a) _ (n == 2) (join_keeps a)
+    (keeps_if a (fd_append i a) _ (n == 16) (append_keeps i a) (draft_keeps a n))))
 
 -- an instruction
 need_remembers : (i : Image) (ins : Instr) (a : ActorState) (h : Hart) (n : Need) → NeedRemembers i ins.rd a n (needed i ins a h n)
@@ -145,6 +165,9 @@ event_remembers i a (event.Fd fd q reply.Closed) = refl
 event_remembers i a (event.Fd fd q reply.NoSuch) = refl
 event_remembers i a (event.Fd fd q (reply.Denied wants)) = refl
 event_remembers i a (event.Fd fd q reply.Bad) = refl
-event_remembers i a (event.Lives lives_ask.Claim r) = refl
+event_remembers i a (event.Lives lives_ask.Claim lives_reply.Claimed) = refl
+event_remembers i a (event.Lives lives_ask.Claim lives_reply.Full) = refl
+event_remembers i a (event.Lives lives_ask.Claim lives_reply.Released) = refl
 event_remembers i a (event.Lives (lives_ask.Release x) r) = refl
+event_remembers i a (event.Join k e fuel) = joined_is (λ x. x.memory ≡ a.memory) (record a { fuel = a.fuel + fuel; unjoined = without_child a.unjoined k }) a.phase e refl refl
 event_remembers i a e = refl

@@ -1,6 +1,7 @@
 -- Each moment of a run: each request is mediated, and each end has its cause.
 use Rattle.std.proofs.Common.{◌≡◌, ◌+◌, ◌↔◌, ℕ, zero, suc, Bool, true, false, List, [], ◌∷◌, refl, sym, ap, subst, ◌∙◌}
-use Rattle.std.specs.Prelude.{Option, Some, None, is_none, IsSomeAnd, option_map, not, ◌&&◌, ◌+◌, slice_get, slice_set, slice_range, option_and_then, if◌then◌else◌}
+use Rattle.wedge_base.specs.Lives.{most_lives, lives_next}
+use Rattle.std.specs.Prelude.{Option, Some, None, nat_lt, is_none, IsSomeAnd, option_map, not, ◌&&◌, ◌+◌, slice_get, slice_set, slice_range, option_and_then, if◌then◌else◌}
 use Rattle.wedge_base.specs.Bytes.{number_of}
 use Rattle.wedge_base.specs.Images.{Image, fetch}
 use Rattle.wedge_base.specs.Rights.{append_bit}
@@ -22,6 +23,9 @@ use Rattle.wedge_base.specs.declared.events.Event.TheVariants as event
 use Rattle.wedge_base.specs.declared.events.Turn.{Turn}
 use Rattle.wedge_base.specs.declared.cells.Live.{Live}
 use Rattle.wedge_base.specs.declared.cells.LivesAsk.TheVariants as lives_ask
+use Rattle.wedge_base.specs.declared.cells.LivesReply.TheVariants as lives_reply
+use Rattle.wedge_base.specs.declared.rights.End.{End}
+use Rattle.wedge_base.specs.Sheets.{Draft}
 use Rattle.wedge_base.specs.declared.cells.SlotAsk.{SlotAsk}
 use Rattle.wedge_base.specs.declared.cells.SlotAsk.TheVariants as slot_ask
 use Rattle.wedge_base.specs.declared.cells.SlotReply.{SlotReply}
@@ -38,30 +42,33 @@ use Rattle.rv_hart.specs.Local.{local, put, extended}
 use Rattle.sthread_life.specs.declared.phase.Phase.{Phase}
 use Rattle.sthread_life.specs.declared.phase.Phase.TheVariants as phase
 use Rattle.sthread_life.specs.Actors.{ActorState, right_of, bits_of, ends, refuses, spends, answers}
-use Rattle.sthread_life.specs.Calls.{a2}
+use Rattle.sthread_life.specs.Calls.{a0, a2}
 use Rattle.sthread_life.specs.Private.{has_stored}
 use Rattle.sthread_life.specs.Local.{step, rest, has_ended, is_running, run_local}
-use Rattle.sthread_life.specs.Taking.{wanted, wanted_at, pair, runs, loads_by, loads_at, takes}
+use Rattle.sthread_life.specs.Children.{without_child}
+use Rattle.sthread_life.specs.Taking.{pair, runs, loads_by, loads_at, answered_end, has_started, takes_lives, takes, child_of, begun}
 use Rattle.sthread_life.specs.Cells.{Cells, held, slot_in, stream_in, cells_after}
-use Rattle.sthread_life.specs.Worlds.{WorldState, opening, actor_named, put_actor, happened, turn_of, Runs}
-use Rattle.sthread_life.specs.Requests.{Access, Request, Loads, Stores, Appends, request_at, in_tag, to_stream}
+use Rattle.sthread_life.specs.Worlds.{WorldState, opening, actor_named, put_actor, with_begun, happened, turn_of, Runs}
+use Rattle.sthread_life.specs.Requests.{Access, Request, Loads, Stores, Appends, Creates, request_at, in_tag, to_stream}
 use Rattle.sthread_life.specs.Allowed.{may_use, lacks, is_refused, is_source, next_word, IsDone, denied}
-use Rattle.sthread_life.specs.Moments.{EachMoment, TurnHas, with_actor, NothingDenied, IsChecked, ComesToEvent, IsMet, IsAnswered, MeetsWith, AnswersAt}
-use Rattle.sthread_life.specs.Ends.{is_end_event, end_of, end_at, end_by, reply_end, event_end}
+use Rattle.sthread_life.specs.Moments.{EachMoment, TurnHas, with_actor, is_use, NothingDenied, IsChecked, ComesToEvent, IsMet, IsAnswered, MeetsWith, AnswersAt}
+use Rattle.sthread_life.specs.Ends.{GoesTo, is_end_event, end_of, end_at, end_by, reply_end, event_end}
 use Rattle.sthread_life.specs.Refusals.{RefusesIn, RefusesAfter, stream_refusal, refusal_after, refused}
 use Rattle.sthread_life.specs.Remembering.{WordRemembers, EventRemembers}
 use Rattle.sthread_life.specs.Laws.{IsLawful, MomentsAreLawful}
-use Rattle.sthread_life.proofs.Named.{found_name, put_put, named_put, same_noted}
+use Rattle.sthread_life.proofs.Named.{found_name, put_put, named_put, named_begun, begun_noted, same_noted}
 use Rattle.sthread_life.proofs.Keeping.{step_remembers, event_remembers}
-use Rattle.sthread_life.proofs.Settling.{AllReady, named_ready, turn_ready, opening_ready}
-use Rattle.sthread_life.proofs.Meeting.{request_for, refusal_for, IsRequest, WantsAs, ReadsAs, InstrLoads, NeedLoads, LoadsAt, stuck, step_comes}
-use Rattle.sthread_life.specs.Paying.{cost_at, cost_by}
+use Rattle.sthread_life.proofs.Settling.{AllReady, turn_happens, turn_ready, opening_ready}
+use Rattle.sthread_life.proofs.Meeting.{request_for, refusal_for, IsRequest, IsStartable, IsCheckedNow, MetBy, InstrLoads, NeedLoads, LoadsAt, stuck, step_comes}
+use Rattle.sthread_life.specs.Paying.{cost_at, cost_by, given_by, brought_by}
 use Rattle.sthread_life.proofs.Paying.{step_pays, event_pays}
 use Rattle.sthread_life.specs.Drafting.{drafts_after}
 use Rattle.sthread_life.proofs.DraftEdits.{step_edits, event_edits}
-use Rattle.sthread_life.proofs.Going.{IsNext, put_next, step_goes}
+use Rattle.sthread_life.proofs.Going.{IsNext, step_goes}
 use Rattle.sthread_life.proofs.Resting.{steps_step, stays, goes_on, running_is, rest-stops}
-use Rattle.sthread_life.proofs.Between.{event_for, parts_event_is, turn_parts, loaded_runs}
+use Rattle.sthread_life.proofs.Between.{event_for, IsJoin, joined_is, takes_name, turn_parts, loaded_runs}
+use Rattle.sthread_life.proofs.Happening.{Happens, Requested, Joined, Started, LastJoined, Ended, joined_at}
+use Rattle.sthread_life.proofs.Families.{step_family, event_family}
 
 -- putting what a place holds there changes nothing
 pub set_held : {X : Type 0} (xs : List (Option X)) (n : ℕ) (x : Option X) → held (slice_get xs n) ≡ x → slice_set xs n x ≡ xs
@@ -74,53 +81,6 @@ set_held (y ∷ ys) (suc n) x e = ap (λ zs. y ∷ zs) (set_held ys n x e)
 -- no denial, where the actor of the name keeps its own
 kept : (w : WorldState) (cells : Cells) (b x : ActorState) → x.name ≡ b.name → x.denials ≡ b.denials → NothingDenied (with_actor w b) (record w { cells = cells; actors = put_actor w.actors x })
 kept w cells b x n d name = same_noted w.actors b x name n d
-
--- one that makes a request is at a want
-must_want : (N : ℕ → Bool → ℕ → Type 0) (p x : ActorState) (asked : Cells → Option Request) (later : Cells → Option ℕ) (c : Cells) (r : Request) (ph : Phase) → WantsAs N p asked later x ph → asked c ≡ Some r → (q : Want) × (x ≡ record p { phase = phase.Within q })
-must_want N p x asked later c r (phase.Within q) w e = (q, w.2)
-must_want N p x asked later c r phase.Running w e = let f : None ≡ Some r = sym (w c) ∙ e in absurd cc
-must_want N p x asked later c r (phase.Ending y) w e = let f : None ≡ Some r = sym (w c) ∙ e in absurd cc
-must_want N p x asked later c r (phase.Ended y) w e = let f : None ≡ Some r = sym (w c) ∙ e in absurd cc
-
-at_event : (old : WorldState) (a : ActorState) (r : Request) (new : WorldState) → ComesToEvent old a new → IsMet old a (Some r) new
-at_event old a (Loads x rd s) new h = h
-at_event old a (Stores x value) new h = h
-at_event old a (Appends fd s bytes) new h = h
-
-met_as : (w : WorldState) (b p x : ActorState) (o : Option Request) → p.name ≡ b.name → x.name ≡ b.name → x.denials ≡ b.denials
-    → ((r : Request) → o ≡ Some r → (q : Want) × (x ≡ record p { phase = phase.Within q })) → IsMet (with_actor w b) p o (with_actor w x)
-met_as w b p x None pn n d h = kept w w.cells b x n d
-met_as w b p x (Some r) pn n d h =
-    let q = h r refl in
-    at_event (with_actor w b) p r (with_actor w x)
-    (q.0, ap (with_actor w) q.1 ∙ ap (λ (as_ : List ActorState). record w { actors = as_ }) (sym (put_put w.actors b (record p { phase = phase.Within q.0 }) pn)))
-
-met : (w : WorldState) (b : ActorState) (n : ℕ) → b.fuel ≡ n → b.phase ≡ phase.Running → MeetsWith (with_actor w b) b n (with_actor w (step w.image b))
-met w b zero has run = let s = stuck w.image b has in subst (λ x. NothingDenied (with_actor w b) (with_actor w x)) (sym s.1) (kept w w.cells b (ends b s.0) refl refl)
-met w b (suc n) has run =
-    let p = record b { fuel = n } in
-    let s = step_comes w.image b n run has in
-    met_as w b p (step w.image b) (request_at w.image w.cells p) refl s.name s.denials (λ r e. must_want (LoadsAt w.image b.hart) p (step w.image b) (λ c. request_at w.image c p) (λ c. refusal_after w.image c p) w.cells r (step w.image b).phase s.wants e)
-
--- the end of an instruction
-step_end : (i : Image) (b : ActorState) (n : ℕ) → b.fuel ≡ n → b.phase ≡ phase.Running → end_of (step i b).phase ≡ end_at i b
-step_end i b zero has run = let s = stuck i b has in ap (λ (x : ActorState). end_of x.phase) s.1 ∙ sym s.2
-step_end i b (suc n) has run = (step_comes i b n run has).ends
-
--- so many instructions, and one more
-run_name : (i : Image) (n : ℕ) (a : ActorState) (t : Bool) → is_running a.phase ≡ t → (run_local i n a).name ≡ a.name
-run_name i n a false e = ap (λ (x : ActorState). x.name) (stays i n a e)
-run_name i zero a true e = unfold run_local in refl
-run_name i (suc n) a true e = ap (λ (x : ActorState). x.name) (goes_on i n a e) ∙ (run_name i n (step i a) _ refl ∙ (steps_step i a).name)
-
-one_more : (i : Image) (n : ℕ) (a : ActorState) (t : Bool) → is_running a.phase ≡ t → is_running (run_local i n a).phase ≡ true → run_local i (suc n) a ≡ step i (run_local i n a)
-one_more i n a false e runs = let f : true ≡ false = sym runs ∙ (ap (λ (x : ActorState). is_running x.phase) (stays i n a e) ∙ e) in absurd cc
-one_more i zero a true e runs = goes_on i zero a e ∙ unfold run_local in refl
-one_more i (suc n) a true e runs =
-    let here = goes_on i n a e in
-    goes_on i (suc n) a e ∙ (one_more i n (step i a) _ refl (subst (λ (x : ActorState). is_running x.phase ≡ true) here runs) ∙ ap (step i) (sym here))
-
--- ---- an event
 
 -- the actor that was put is there
 put_there : (w : WorldState) (b x a : ActorState) → actor_named w.actors b.name ≡ Some a → x.name ≡ b.name → actor_named (put_actor w.actors x) b.name ≡ Some x
@@ -145,6 +105,74 @@ checked_allowed old a r e new t lack refused done none stay =
       allowed = λ y. none;
       refused = λ y z. stay (sym refused ∙ z);
     }
+
+-- a request that is checked at once
+checked_now : (w : WorldState) (b p x a : ActorState) (d : Draft) → actor_named w.actors b.name ≡ Some a → p.name ≡ b.name → p.denials ≡ b.denials → x.name ≡ b.name → p.phase ≡ phase.Running → IsCheckedNow p (Creates d) x
+    → IsChecked (with_actor w b) p (Creates d) None (with_actor w x)
+checked_now w b p x a d named pn pd xn run now = by_denial (lacks p (Creates d)) refl (is_refused p (Creates d)) refl
+  where
+    found : actor_named (put_actor w.actors x) p.name ≡ Some x
+    found = subst (λ m. actor_named (put_actor w.actors x) m ≡ Some x) (sym pn) (put_there w b x a named xn)
+
+    put_again_at : (y : ActorState) → y.name ≡ b.name → x ≡ y → with_actor w x ≡ with_actor (with_actor w b) y
+    put_again_at y yn is = ap (with_actor w) is ∙ ap (λ (as_ : List ActorState). record w { actors = as_ }) (sym (put_put w.actors b y yn))
+
+    not_within : x.phase ≡ phase.Running → Some x ≡ Some (record p { phase = phase.Within (want.Lives lives_ask.Claim) }) → ⊥
+    not_within runs e = let same : x ≡ record p { phase = phase.Within (want.Lives lives_ask.Claim) } = cc in let f : phase.Running ≡ phase.Within (want.Lives lives_ask.Claim) = sym runs ∙ ap (λ (y : ActorState). y.phase) same in cc
+
+    denied_runs : (y : Denial) → x ≡ denied p (Creates d) y → x.phase ≡ phase.Running
+    denied_runs y is = ap (λ (z : ActorState). z.phase) is
+
+    by_denial : (o : Option Denial) → lacks p (Creates d) ≡ o → (t : Bool) → is_refused p (Creates d) ≡ t → IsChecked (with_actor w b) p (Creates d) None (with_actor w x)
+    by_denial (Some y) lack t refused =
+        checked_denied (with_actor w b) p (Creates d) None (with_actor w x) y lack (λ e. not_within (denied_runs y (now.denied y lack)) (sym found ∙ e.1)) (put_again_at (denied p (Creates d) y) pn (now.denied y lack))
+    by_denial None lack false refused =
+        let is = now.done lack refused in
+        checked_allowed (with_actor w b) p (Creates d) None (with_actor w x) false lack refused (λ e. refl, λ e. (refl, found ∙ ap Some is)) (kept w w.cells b x xn (ap (λ (z : ActorState). z.denials) is ∙ pd)) (λ z. absurd cc)
+    by_denial None lack true refused =
+        let is = now.refused lack refused in
+        checked_allowed (with_actor w b) p (Creates d) None (with_actor w x) true lack refused (λ e. absurd (not_within is.0 (sym found ∙ e.1)), λ e. absurd cc) (kept w w.cells b x xn (is.1 ∙ pd)) (λ z. refl)
+
+comes_there : (w : WorldState) (b p x : ActorState) → p.name ≡ b.name → (q : Want) × (x ≡ record p { phase = phase.Within q }) → ComesToEvent (with_actor w b) p (with_actor w x)
+comes_there w b p x pn q = (q.0, ap (with_actor w) q.1 ∙ ap (λ (as_ : List ActorState). record w { actors = as_ }) (sym (put_put w.actors b (record p { phase = phase.Within q.0 }) pn)))
+
+met_by : (w : WorldState) (b p x a : ActorState) (r : Request) → actor_named w.actors b.name ≡ Some a → p.name ≡ b.name → p.denials ≡ b.denials → x.name ≡ b.name → p.phase ≡ phase.Running → MetBy p r x → IsMet (with_actor w b) p (Some r) (with_actor w x)
+met_by w b p x a (Loads y rd s) named pn pd xn run m = comes_there w b p x pn m
+met_by w b p x a (Stores y value) named pn pd xn run m = comes_there w b p x pn m
+met_by w b p x a (Appends fd s bytes) named pn pd xn run m = comes_there w b p x pn m
+met_by w b p x a (Creates d) named pn pd xn run m = checked_now w b p x a d named pn pd xn run m
+
+met_as : (w : WorldState) (b p x a : ActorState) (o : Option Request) → actor_named w.actors b.name ≡ Some a → p.name ≡ b.name → p.denials ≡ b.denials → x.name ≡ b.name → p.phase ≡ phase.Running
+    → (o ≡ None → x.denials ≡ p.denials) → ((r : Request) → o ≡ Some r → MetBy p r x) → IsMet (with_actor w b) p o (with_actor w x)
+met_as w b p x a None named pn pd xn run quiet m = kept w w.cells b x xn (quiet refl ∙ pd)
+met_as w b p x a (Some r) named pn pd xn run quiet m = met_by w b p x a r named pn pd xn run (m r refl)
+
+met : (w : WorldState) (b a : ActorState) (n : ℕ) → actor_named w.actors b.name ≡ Some a → b.fuel ≡ n → b.phase ≡ phase.Running → MeetsWith (with_actor w b) b n (with_actor w (step w.image b))
+met w b a zero named has run = let s = stuck w.image b has in subst (λ x. NothingDenied (with_actor w b) (with_actor w x)) (sym s.1) (kept w w.cells b (ends b s.0) refl refl)
+met w b a (suc n) named has run =
+    let p = record b { fuel = n } in
+    let s = step_comes w.image b n run has in
+    met_as w b p (step w.image b) a (request_at w.image w.cells p) named refl refl s.name run (s.quiet w.cells) (s.met w.cells)
+
+-- the end of an instruction
+step_end : (i : Image) (b : ActorState) (n : ℕ) → b.fuel ≡ n → b.phase ≡ phase.Running → end_of (step i b).phase ≡ end_at i b
+step_end i b zero has run = let s = stuck i b has in ap (λ (x : ActorState). end_of x.phase) s.1 ∙ sym s.2
+step_end i b (suc n) has run = (step_comes i b n run has).ends
+
+-- so many instructions, and one more
+run_name : (i : Image) (n : ℕ) (a : ActorState) (t : Bool) → is_running a.phase ≡ t → (run_local i n a).name ≡ a.name
+run_name i n a false e = ap (λ (x : ActorState). x.name) (stays i n a e)
+run_name i zero a true e = unfold run_local in refl
+run_name i (suc n) a true e = ap (λ (x : ActorState). x.name) (goes_on i n a e) ∙ (run_name i n (step i a) _ refl ∙ (steps_step i a).name)
+
+one_more : (i : Image) (n : ℕ) (a : ActorState) (t : Bool) → is_running a.phase ≡ t → is_running (run_local i n a).phase ≡ true → run_local i (suc n) a ≡ step i (run_local i n a)
+one_more i n a false e runs = let f : true ≡ false = sym runs ∙ (ap (λ (x : ActorState). is_running x.phase) (stays i n a e) ∙ e) in absurd cc
+one_more i zero a true e runs = goes_on i zero a e ∙ unfold run_local in refl
+one_more i (suc n) a true e runs =
+    let here = goes_on i n a e in
+    goes_on i (suc n) a e ∙ (one_more i n (step i a) _ refl (subst (λ (x : ActorState). is_running x.phase ≡ true) here runs) ∙ ap (step i) (sym here))
+
+-- ---- an event
 
 -- the world after an event
 abbrev after : WorldState → ActorState → Event → WorldState
@@ -300,24 +328,62 @@ append_answered w b a fd bytes (Some s) named there = append_live w b a fd bytes
 abbrev IsAnsweredFor : WorldState → ActorState → Want → Option Request → Type 0
 IsAnsweredFor w b q o = IsAnswered (with_actor w b) b (event_for w.cells b q) o (after w b (event_for w.cells b q))
 
-answered_for : (w : WorldState) (b a : ActorState) (rd : ℕ) (s : Bool) (q : Want) → actor_named w.actors b.name ≡ Some a → IsRequest (LoadsAt w.image b.hart rd s) b q → IsAnsweredFor w b q (request_for w.cells rd s q)
+-- a life that is claimed, or none that is left: nothing is denied
+claim_answered : (w : WorldState) (b : ActorState) (cells : Cells) (t : Bool) → NothingDenied (with_actor w b) (record w { cells = cells; actors = put_actor w.actors (takes_lives b lives_ask.Claim (if t then lives_reply.Claimed else lives_reply.Full)) })
+claim_answered w b cells true = kept w cells b _ refl refl
+claim_answered w b cells false = kept w cells b _ refl refl
+
+claimed_for : (w : WorldState) (b : ActorState) (o : Option Draft) → IsStartable b → slice_get b.drafts (a0 b) ≡ o → IsAnsweredFor w b (want.Lives lives_ask.Claim) (option_map (λ d. Creates d) o)
+unfolding takes
+claimed_for w b None ready there = let f : None ≡ Some ready.draft = sym there ∙ ready.drafted in absurd cc
+claimed_for w b (Some d) ready there = (claim_answered w b (record w.cells { lives = lives_next w.cells.lives lives_ask.Claim }) (nat_lt w.cells.lives most_lives), refl)
+
+answered_for : (w : WorldState) (b a : ActorState) (rd : ℕ) (s : Bool) (q : Want) → actor_named w.actors b.name ≡ Some a → IsRequest (LoadsAt w.image b.hart rd s) b q → IsAnsweredFor w b q (request_for w.cells b rd s q)
 answered_for w b a rd s (want.Slot slot (slot_want.Load offset width)) named own = load_answered w b a slot offset width rd s (slot_in w.cells slot) named own refl
 answered_for w b a rd s (want.Slot slot (slot_want.Store offset width value)) named own = store_answered w b a slot offset width value (slot_in w.cells slot) named refl
 answered_for w b a rd s (want.Fd fd (stream_ask.Append bits bytes)) named own =
     subst (λ x. IsAnsweredFor w b (want.Fd fd (stream_ask.Append x bytes)) (to_stream fd bytes (stream_in w.cells fd))) (sym own.0) (append_answered w b a fd bytes (stream_in w.cells fd) named refl)
+answered_for w b a rd s (want.Lives lives_ask.Claim) named own = claimed_for w b (slice_get b.drafts (a0 b)) own refl
 answered_for w b a rd s q named own = absurd own
 
-answered_at : (w : WorldState) (b a : ActorState) (ph : Phase) (q : Want) → actor_named w.actors b.name ≡ Some a → ReadsAs w.image b ph → wanted_at ph ≡ Some q → AnswersAt (with_actor w b) b ph (event_for w.cells b q) (after w b (event_for w.cells b q))
+-- an event of no request
+unasked : (w : WorldState) (b : ActorState) (e : Event) → begun w.image b e ≡ None → (takes w.image b e).denials ≡ b.denials → NothingDenied (with_actor w b) (after w b e)
+unasked w b e none same =
+    let x = takes w.image b e in
+    subst (λ o. NothingDenied (with_actor w b) (record w { cells = cells_after w.cells e; actors = with_begun (put_actor w.actors x) o })) (sym none) (kept w (cells_after w.cells e) b x (takes_name w.image b e) same)
+
+join_denials : (i : Image) (b : ActorState) (k : ℕ) (x : End) (fuel : ℕ) → (takes i b (event.Join k x fuel)).denials ≡ b.denials
 unfolding takes
-answered_at w b a phase.Running q named reads e = absurd cc
-answered_at w b a (phase.Within x) q named reads e =
-    let is : x ≡ q = cc in
-    subst (λ y. AnswersAt (with_actor w b) b (phase.Within x) (event_for w.cells b y) (after w b (event_for w.cells b y))) is
-    (subst (IsAnsweredFor w b x) (sym (reads.2 w.cells)) (answered_for w b a reads.0 reads.1 x named reads.3))
-answered_at w b a (phase.Ending x) q named reads e =
-    let is : want.Lives (lives_ask.Release x) ≡ q = cc in
-    subst (λ y. AnswersAt (with_actor w b) b (phase.Ending x) (event_for w.cells b y) (after w b (event_for w.cells b y))) is (kept w (cells_after w.cells (event_for w.cells b (want.Lives (lives_ask.Release x)))) b (record b { memory = []; phase = phase.Ended x }) refl refl, refl)
-answered_at w b a (phase.Ended x) q named reads e = absurd cc
+join_denials i b k x fuel = joined_is (λ y. y.denials ≡ b.denials) (record b { fuel = b.fuel + fuel; unjoined = without_child b.unjoined k }) b.phase x refl refl
+
+join_unasked : (w : WorldState) (b : ActorState) (k : ℕ) (e : Event) → IsJoin w b k e → NothingDenied (with_actor w b) (after w b e) × (is_use e ≡ false)
+join_unasked w b k e j =
+    subst (λ y. NothingDenied (with_actor w b) (after w b y) × (is_use y ≡ false)) (sym j.is)
+    (unasked w b (event.Join k j.how j.child.fuel) refl (join_denials w.image b k j.how j.child.fuel), refl)
+
+start_unasked : (w : WorldState) (b : ActorState) (child : List ℕ) → NothingDenied (with_actor w b) (after w b (event.Start child))
+unfolding takes
+start_unasked w b child name = begun_noted (put_actor w.actors (has_started b)) (Some (child_of w.image b child)) name refl ∙ kept w w.cells b (has_started b) refl refl name
+
+answered_at : (w : WorldState) (b a : ActorState) (e : Event) → actor_named w.actors b.name ≡ Some a → Happens w b e → AnswersAt (with_actor w b) b b.phase e (after w b e)
+answered_at w b a e named (Requested r) =
+    subst (λ ph. AnswersAt (with_actor w b) b ph e (after w b e)) (sym r.at)
+    (subst (λ y. IsAnswered (with_actor w b) b y (request_at w.image w.cells b) (after w b y)) (sym r.is)
+    (subst (IsAnsweredFor w b r.want) (sym (r.asked w.cells)) (answered_for w b a r.rd r.is_signed r.want named r.own)))
+answered_at w b a e named (Joined j) =
+    subst (λ ph. AnswersAt (with_actor w b) b ph e (after w b e)) (sym j.at)
+    (subst (λ o. IsAnswered (with_actor w b) b e o (after w b e)) (sym (j.asked w.cells)) (join_unasked w b j.number e j.join))
+answered_at w b a e named (Started s) =
+    subst (λ ph. AnswersAt (with_actor w b) b ph e (after w b e)) (sym s.at)
+    (subst (λ y. NothingDenied (with_actor w b) (after w b y) × (is_use y ≡ false)) (sym s.is) (start_unasked w b _, refl))
+answered_at w b a e named (LastJoined j) =
+    subst (λ ph. AnswersAt (with_actor w b) b ph e (after w b e)) (sym j.at) (join_unasked w b j.first.0 e j.join)
+answered_at w b a e named (Ended f) =
+    subst (λ ph. AnswersAt (with_actor w b) b ph e (after w b e)) (sym f.at)
+    (subst (λ y. NothingDenied (with_actor w b) (after w b y) × (is_use y ≡ false)) (sym f.is) (unasked w b (event.Lives (lives_ask.Release f.end_) lives_reply.Released) refl (end_denials w.image b f.end_), refl))
+  where
+    end_denials : (i : Image) (b : ActorState) (x : End) → (takes i b (event.Lives (lives_ask.Release x) lives_reply.Released)).denials ≡ b.denials
+    end_denials i b x = unfold takes in refl
 
 -- the end of an event
 slot_end : (i : Image) (b : ActorState) (slot : ℕ) (q : SlotAsk) (r : SlotReply) → (end_of (takes i b (event.Slot slot q r)).phase ≡ reply_end r) × ((takes i b (event.Slot slot q r)).name ≡ b.name)
@@ -337,22 +403,42 @@ stream_end i b fd q reply.NoSuch = (refl, refl)
 stream_end i b fd q (reply.Denied wants) = (refl, refl)
 stream_end i b fd q reply.Bad = (refl, refl)
 
-want_end : (w : WorldState) (b : ActorState) (N : ℕ → Type 0) (q : Want) → IsRequest N b q
-    → (end_of (takes w.image b (event_for w.cells b q)).phase ≡ event_end (event_for w.cells b q)) × ((takes w.image b (event_for w.cells b q)).name ≡ b.name)
-want_end w b N (want.Slot slot (slot_want.Load offset width)) own = slot_end w.image b slot _ _
-want_end w b N (want.Slot slot (slot_want.Store offset width value)) own = slot_end w.image b slot _ _
-want_end w b N (want.Fd fd (stream_ask.Append bits bytes)) own = stream_end w.image b fd (stream_ask.Append bits bytes) _
+-- the end to which the event of an actor comes
+abbrev EndsBy : Image → ActorState → Phase → Event → Type 0
+EndsBy i b p e = end_of (takes i b e).phase ≡ end_by p e
+
+claim_end : (i : Image) (b : ActorState) (p : Phase) (t : Bool) → p ≡ phase.Within (want.Lives lives_ask.Claim) → EndsBy i b p (event.Lives lives_ask.Claim (if t then lives_reply.Claimed else lives_reply.Full))
+unfolding takes
+claim_end i b p true at = ap (λ q. end_by q (event.Lives lives_ask.Claim lives_reply.Claimed)) (sym at)
+claim_end i b p false at = ap (λ q. end_by q (event.Lives lives_ask.Claim lives_reply.Full)) (sym at)
+
+want_end : (w : WorldState) (b : ActorState) (N : ℕ → Type 0) (q : Want) → IsRequest N b q → EndsBy w.image b (phase.Within q) (event_for w.cells b q)
+want_end w b N (want.Slot slot (slot_want.Load offset width)) own = (slot_end w.image b slot _ _).0
+want_end w b N (want.Slot slot (slot_want.Store offset width value)) own = (slot_end w.image b slot _ _).0
+want_end w b N (want.Fd fd (stream_ask.Append bits bytes)) own = (stream_end w.image b fd (stream_ask.Append bits bytes) _).0
+want_end w b N (want.Lives lives_ask.Claim) own = claim_end w.image b _ _ refl
 want_end w b N q own = absurd own
 
-ends_by : (w : WorldState) (b : ActorState) (ph : Phase) (q : Want) → ReadsAs w.image b ph → wanted_at ph ≡ Some q
-    → (end_of (takes w.image b (event_for w.cells b q)).phase ≡ end_by ph (event_for w.cells b q)) × ((takes w.image b (event_for w.cells b q)).name ≡ b.name)
+join_end : (i : Image) (b : ActorState) (p : Phase) (k : ℕ) (x : End) (fuel : ℕ) → b.phase ≡ p → has_ended p ≡ false → EndsBy i b p (event.Join k x fuel)
 unfolding takes
-ends_by w b phase.Running q reads e = absurd cc
-ends_by w b (phase.Within x) q reads e = let is : x ≡ q = cc in want_end w b (LoadsAt w.image b.hart reads.0 reads.1) q (subst (IsRequest (LoadsAt w.image b.hart reads.0 reads.1) b) is reads.3)
-ends_by w b (phase.Ending x) q reads e =
-    let is : want.Lives (lives_ask.Release x) ≡ q = cc in
-    subst (λ y. (end_of (takes w.image b (event_for w.cells b y)).phase ≡ end_by (phase.Ending x) (event_for w.cells b y)) × ((takes w.image b (event_for w.cells b y)).name ≡ b.name)) is (refl, refl)
-ends_by w b (phase.Ended x) q reads e = absurd cc
+join_end i b phase.Running k x fuel at live = ap (λ (y : ActorState). end_of y.phase) (joined_at b phase.Running x k fuel at)
+join_end i b (phase.Within q) k x fuel at live = ap (λ (y : ActorState). end_of y.phase) (joined_at b (phase.Within q) x k fuel at)
+join_end i b phase.Starting k x fuel at live = ap (λ (y : ActorState). end_of y.phase) (joined_at b phase.Starting x k fuel at)
+join_end i b (phase.Ending y) k x fuel at live = ap (λ (z : ActorState). end_of z.phase) (joined_at b (phase.Ending y) x k fuel at) ∙ ap end_of at
+join_end i b (phase.Ended y) k x fuel at live = absurd cc
+
+start_end : (i : Image) (b : ActorState) (child : List ℕ) → EndsBy i b phase.Starting (event.Start child)
+start_end i b child = unfold takes in refl
+
+last_end : (i : Image) (b : ActorState) (x : End) → EndsBy i b (phase.Ending x) (event.Lives (lives_ask.Release x) lives_reply.Released)
+last_end i b x = unfold takes in refl
+
+ends_by : (w : WorldState) (b : ActorState) (e : Event) → Happens w b e → EndsBy w.image b b.phase e
+ends_by w b e (Requested r) = subst (λ p. EndsBy w.image b p e) (sym r.at) (subst (EndsBy w.image b (phase.Within r.want)) (sym r.is) (want_end w b _ r.want r.own))
+ends_by w b e (Joined j) = subst (λ p. EndsBy w.image b p e) (sym j.at) (subst (EndsBy w.image b (phase.Within (want.Join j.number))) (sym j.join.is) (join_end w.image b _ j.number j.join.how j.join.child.fuel j.at refl))
+ends_by w b e (Started s) = subst (λ p. EndsBy w.image b p e) (sym s.at) (subst (EndsBy w.image b phase.Starting) (sym s.is) (start_end w.image b _))
+ends_by w b e (LastJoined j) = subst (λ p. EndsBy w.image b p e) (sym j.at) (subst (EndsBy w.image b (phase.Ending j.end_)) (sym j.join.is) (join_end w.image b _ j.first.0 j.join.how j.join.child.fuel j.at refl))
+ends_by w b e (Ended f) = subst (λ p. EndsBy w.image b p e) (sym f.at) (subst (EndsBy w.image b (phase.Ending f.end_)) (sym f.is) (last_end w.image b f.end_))
 
 -- the hart after an event
 load_next : (i : Image) (b : ActorState) (slot offset width : ℕ) (o : Option Live) (g : Option Segment) (rd : ℕ) (s : Bool) → LoadsAt i b.hart rd s width → IsNext b.hart (takes i b (event.Slot slot (slot_ask.Load offset width o) (slot_reply_of g (slot_ask.Load offset width o))))
@@ -386,22 +472,48 @@ append_next i b fd bits bytes (Some s) = by_tests s.live bits.append s.kind
     by_tests true true kind.Append = (λ e. refl, λ e. absurd cc)
     by_tests true true kind.Source = (λ e. refl, λ e. absurd cc)
 
+claim_next : (i : Image) (b : ActorState) (t : Bool) → IsNext b.hart (takes i b (event.Lives lives_ask.Claim (if t then lives_reply.Claimed else lives_reply.Full)))
+unfolding takes
+claim_next i b true = (λ e. absurd cc, λ e. refl)
+claim_next i b false = (λ e. refl, λ e. absurd cc)
+
 want_next : (w : WorldState) (b : ActorState) (rd : ℕ) (s : Bool) (q : Want) → IsRequest (LoadsAt w.image b.hart rd s) b q → IsNext b.hart (takes w.image b (event_for w.cells b q))
 want_next w b rd s (want.Slot slot (slot_want.Load offset width)) own = load_next w.image b slot offset width _ (slot_in w.cells slot) rd s own
 want_next w b rd s (want.Slot slot (slot_want.Store offset width value)) own = store_next w.image b slot offset width value _ (slot_in w.cells slot)
 want_next w b rd s (want.Fd fd (stream_ask.Append bits bytes)) own = append_next w.image b fd bits bytes (stream_in w.cells fd)
+want_next w b rd s (want.Lives lives_ask.Claim) own = claim_next w.image b _
 want_next w b rd s q own = absurd own
 
-next_by : (w : WorldState) (b : ActorState) (ph : Phase) (q : Want) → ReadsAs w.image b ph → wanted_at ph ≡ Some q → IsNext b.hart (takes w.image b (event_for w.cells b q))
+join_next : (i : Image) (b : ActorState) (p : Phase) (k : ℕ) (x : End) (fuel : ℕ) → b.phase ≡ p → IsNext b.hart (takes i b (event.Join k x fuel))
 unfolding takes
-next_by w b phase.Running q reads e = absurd cc
-next_by w b (phase.Within x) q reads e = let is : x ≡ q = cc in want_next w b reads.0 reads.1 q (subst (IsRequest (LoadsAt w.image b.hart reads.0 reads.1) b) is reads.3)
-next_by w b (phase.Ending x) q reads e =
-    let is : want.Lives (lives_ask.Release x) ≡ q = cc in
-    subst (λ y. IsNext b.hart (takes w.image b (event_for w.cells b y))) is (λ e. absurd cc, λ e. refl)
-next_by w b (phase.Ended x) q reads e = absurd cc
+join_next i b phase.Running k x fuel at = subst (IsNext b.hart) (sym (joined_at b phase.Running x k fuel at)) (λ e. refl, λ e. absurd cc)
+join_next i b (phase.Within q) k x fuel at = subst (IsNext b.hart) (sym (joined_at b (phase.Within q) x k fuel at)) (λ e. refl, λ e. absurd cc)
+join_next i b phase.Starting k x fuel at = subst (IsNext b.hart) (sym (joined_at b phase.Starting x k fuel at)) (λ e. refl, λ e. absurd cc)
+join_next i b (phase.Ending y) k x fuel at =
+    subst (IsNext b.hart) (sym (joined_at b (phase.Ending y) x k fuel at)) (λ e. let f : false ≡ true = sym (ap is_running at) ∙ e in absurd cc, λ e. refl)
+join_next i b (phase.Ended y) k x fuel at = subst (IsNext b.hart) (sym (joined_at b (phase.Ended y) x k fuel at)) (λ e. refl, λ e. absurd cc)
+
+start_next : (i : Image) (b : ActorState) (child : List ℕ) → IsNext b.hart (takes i b (event.Start child))
+start_next i b child = unfold takes in (λ e. refl, λ e. absurd cc)
+
+last_next : (i : Image) (b : ActorState) (x : End) → IsNext b.hart (takes i b (event.Lives (lives_ask.Release x) lives_reply.Released))
+last_next i b x = unfold takes in (λ e. absurd cc, λ e. refl)
+
+next_by : (w : WorldState) (b : ActorState) (e : Event) → Happens w b e → IsNext b.hart (takes w.image b e)
+next_by w b e (Requested r) = subst (λ y. IsNext b.hart (takes w.image b y)) (sym r.is) (want_next w b r.rd r.is_signed r.want r.own)
+next_by w b e (Joined j) = subst (λ y. IsNext b.hart (takes w.image b y)) (sym j.join.is) (join_next w.image b _ j.number j.join.how j.join.child.fuel j.at)
+next_by w b e (Started s) = subst (λ y. IsNext b.hart (takes w.image b y)) (sym s.is) (start_next w.image b _)
+next_by w b e (LastJoined j) = subst (λ y. IsNext b.hart (takes w.image b y)) (sym j.join.is) (join_next w.image b _ j.first.0 j.join.how j.join.child.fuel j.at)
+next_by w b e (Ended f) = subst (λ y. IsNext b.hart (takes w.image b y)) (sym f.is) (last_next w.image b f.end_)
 
 -- an end is reached by its event alone
+joined_live : (a : ActorState) (p : Phase) (x : End) → a.phase ≡ p → has_ended (answered_end a p x).phase ≡ false
+joined_live a phase.Running x at = refl
+joined_live a (phase.Within q) x at = refl
+joined_live a phase.Starting x at = refl
+joined_live a (phase.Ending y) x at = ap has_ended at
+joined_live a (phase.Ended y) x at = refl
+
 reached : (i : Image) (b : ActorState) (e : Event) → has_ended (takes i b e).phase ≡ is_end_event (Some e)
 unfolding takes
 reached i b (event.Slot slot q (slot_reply.Loaded value)) = ap has_ended (loaded_runs (runs b) (option_and_then decode (fetch i b.hart.pc)) value refl)
@@ -413,8 +525,11 @@ reached i b (event.Fd fd q reply.Closed) = refl
 reached i b (event.Fd fd q reply.NoSuch) = refl
 reached i b (event.Fd fd q (reply.Denied wants)) = refl
 reached i b (event.Fd fd q reply.Bad) = refl
-reached i b (event.Lives lives_ask.Claim r) = refl
+reached i b (event.Lives lives_ask.Claim lives_reply.Claimed) = refl
+reached i b (event.Lives lives_ask.Claim lives_reply.Full) = refl
+reached i b (event.Lives lives_ask.Claim lives_reply.Released) = refl
 reached i b (event.Lives (lives_ask.Release x) r) = refl
+reached i b (event.Join k x fuel) = joined_live (record b { fuel = b.fuel + fuel; unjoined = without_child b.unjoined k }) b.phase x refl
 reached i b e = refl
 
 -- ---- refusals
@@ -443,32 +558,49 @@ append_refused w b fd code bytes (Some s) there told = by_tests s.live (bits_of 
     by_tests true true kind.Source h = let same : 6 ≡ code = cc in subst (λ n. stream_world w b fd (Some s) (stream_ask.Append (bits_of b fd) bytes) reply.Bad ≡ with_actor (with_actor w b) (refused b n)) same (stayed w b _ _ (same_streams w fd (Some s) there) refl)
     by_tests true true kind.Append h = absurd cc
 
+-- a life that is not left
+claim_refused : (w : WorldState) (b : ActorState) (n : ℕ) (t : Bool) → (if t then None else Some 2) ≡ Some n
+    → record w { cells = record w.cells { lives = (if t then w.cells.lives + 1 else w.cells.lives) }; actors = put_actor w.actors (takes_lives b lives_ask.Claim (if t then lives_reply.Claimed else lives_reply.Full)) } ≡ with_actor (with_actor w b) (refused b n)
+claim_refused w b n true told = absurd cc
+claim_refused w b n false told =
+    let same : 2 ≡ n = cc in
+    subst (λ m. record w { actors = put_actor w.actors (refuses b code.Full) } ≡ with_actor (with_actor w b) (refused b m)) same (stayed w b (refuses b code.Full) w.cells refl refl)
+
 refused_for : (w : WorldState) (b : ActorState) (rd : ℕ) (s : Bool) (q : Want) (code : ℕ) → IsRequest (LoadsAt w.image b.hart rd s) b q → refusal_for w.cells b q ≡ Some code
     → after w b (event_for w.cells b q) ≡ with_actor (with_actor w b) (refused b code)
 refused_for w b rd s (want.Slot slot (slot_want.Load offset width)) code own told = absurd cc
 refused_for w b rd s (want.Slot slot (slot_want.Store offset width value)) code own told = absurd cc
 refused_for w b rd s (want.Fd fd (stream_ask.Append bits bytes)) code own told =
     subst (λ x. after w b (event_for w.cells b (want.Fd fd (stream_ask.Append x bytes))) ≡ with_actor (with_actor w b) (refused b code)) (sym own.0) (append_refused w b fd code bytes (stream_in w.cells fd) refl told)
+refused_for w b rd s (want.Lives lives_ask.Claim) code own told = unfold takes in claim_refused w b code _ told
 refused_for w b rd s q code own told = absurd own
 
-refuses_after : (w : WorldState) (b : ActorState) (ph : Phase) (q : Want) → ReadsAs w.image b ph → wanted_at ph ≡ Some q → RefusesAfter (with_actor w b) b ph (after w b (event_for w.cells b q))
-refuses_after w b phase.Running q reads e = tt
-refuses_after w b (phase.Within x) q reads e = λ code told.
-    let is : x ≡ q = cc in
-    subst (λ y. after w b (event_for w.cells b y) ≡ with_actor (with_actor w b) (refused b code)) is (refused_for w b reads.0 reads.1 x code reads.3 (sym (reads.4 w.cells) ∙ told))
-refuses_after w b (phase.Ending x) q reads e = tt
-refuses_after w b (phase.Ended x) q reads e = tt
+refuses_after : (w : WorldState) (b : ActorState) (e : Event) → Happens w b e → RefusesAfter (with_actor w b) b b.phase (after w b e)
+refuses_after w b e (Requested r) =
+    subst (λ ph. RefusesAfter (with_actor w b) b ph (after w b e)) (sym r.at)
+    (λ code told. subst (λ y. after w b y ≡ with_actor (with_actor w b) (refused b code)) (sym r.is) (refused_for w b r.rd r.is_signed r.want code r.own (sym (r.later w.cells) ∙ told)))
+refuses_after w b e (Joined j) =
+    subst (λ ph. RefusesAfter (with_actor w b) b ph (after w b e)) (sym j.at) (λ code told. let f : None ≡ Some code = sym (j.later w.cells) ∙ told in absurd cc)
+refuses_after w b e (Started s) = subst (λ ph. RefusesAfter (with_actor w b) b ph (after w b e)) (sym s.at) tt
+refuses_after w b e (LastJoined j) = subst (λ ph. RefusesAfter (with_actor w b) b ph (after w b e)) (sym j.at) tt
+refuses_after w b e (Ended f) = subst (λ ph. RefusesAfter (with_actor w b) b ph (after w b e)) (sym f.at) tt
 
 -- what holds of the actor that was put
 put_such : (Q : ActorState → Type 0) (w : WorldState) (b x a : ActorState) → actor_named w.actors b.name ≡ Some a → x.name ≡ b.name → Q x → IsSomeAnd (actor_named (put_actor w.actors x) b.name) Q
 put_such Q w b x a named n q = subst (λ f. IsSomeAnd f Q) (sym (put_there w b x a named n)) q
+
+-- and of the one whose event it is
+done_such : (Q : ActorState → Type 0) (w : WorldState) (b a : ActorState) (e : Event) → actor_named w.actors b.name ≡ Some a → Q (takes w.image b e) → IsSomeAnd (actor_named (after w b e).actors b.name) Q
+done_such Q w b a e named q =
+    let x = takes w.image b e in
+    subst (λ f. IsSomeAnd f Q) (sym (named_begun (put_actor w.actors x) (begun w.image b e) b.name x (put_there w b x a named (takes_name w.image b e)))) q
 
 -- ---- turns
 
 -- what holds of the moments of a turn, from what holds of an instruction and of an event
 turn_has : (P : WorldState → ActorState → Option Event → WorldState → Type 0) (w : WorldState) (t : Turn) (new : WorldState) → AllReady w → turn_of w t.actor ≡ Some (record { event = t.event; world = new })
     → ((a b : ActorState) → actor_named w.actors b.name ≡ Some a → b.phase ≡ phase.Running → P (with_actor w b) b None (with_actor w (step w.image b)))
-    → ((a b : ActorState) (q : Want) → actor_named w.actors b.name ≡ Some a → ReadsAs w.image b b.phase → wanted b ≡ Some q → P (with_actor w b) b (Some (event_for w.cells b q)) (after w b (event_for w.cells b q)))
+    → ((a b : ActorState) (e : Event) → actor_named w.actors b.name ≡ Some a → Happens w b e → P (with_actor w b) b (Some e) (after w b e))
     → TurnHas P w t new
 unfolding rest
 turn_has P w t new all e instructs happens a named =
@@ -477,15 +609,14 @@ turn_has P w t new all e instructs happens a named =
     let p = turn_parts w t.actor t.event new e in
     let same_actor : p.actor ≡ a = let f : Some p.actor ≡ Some a = sym p.named ∙ named in cc in
     let b = rest w.image a in
-    let wants : wanted b ≡ Some p.want = ap (λ (x : ActorState). wanted (rest w.image x)) (sym same_actor) ∙ p.wants in
-    let event_is : t.event ≡ event_for w.cells b p.want = parts_event_is w t.actor t.event new p ∙ ap (λ (x : ActorState). event_for w.cells (rest w.image x) p.want) same_actor in
-    let new_is : new ≡ after w b (event_for w.cells b p.want) = p.new_is ∙ (ap (λ (x : ActorState). after w (rest w.image x) t.event) same_actor ∙ ap (after w b) event_is) in
-    let done = happens a b p.want (here (a.fuel + 1)) (named_ready w t.actor a all named) wants in
+    let happens_so : Happens w b t.event = subst (λ (x : ActorState). Happens w (rest w.image x) t.event) same_actor (turn_happens w t.actor t.event new all p) in
+    let new_is : new ≡ after w b t.event = p.new_is ∙ ap (λ (x : ActorState). after w (rest w.image x) t.event) same_actor in
+    let done = happens a b t.event (here (a.fuel + 1)) happens_so in
     record {
       instructions = λ n runs.
           let x = run_local w.image n a in
           subst (λ y. P (with_actor w x) x None (with_actor w y)) (sym (one_more w.image n a _ refl runs)) (instructs a x (here n) (running_is x.phase runs));
-      event = (a.fuel + 1, rest-stops w.image a, subst (λ y. P (with_actor w b) b (Some y) new) (sym event_is) (subst (λ y. P (with_actor w b) b (Some (event_for w.cells b p.want)) y) (sym new_is) done));
+      event = (a.fuel + 1, rest-stops w.image a, subst (λ y. P (with_actor w b) b (Some t.event) y) (sym new_is) done);
     }
 
 -- a turn of a world whose actors rest as those of a run do is lawful
@@ -496,26 +627,24 @@ turn_lawful w t new all e =
     let x = step w.image b in
     let name = (steps_step w.image b).name in
     record {
-      mediated = met w b _ refl run;
+      mediated = met w b a _ named refl run;
       ends = put_such (λ y. (end_of y.phase ≡ end_at w.image b) × (has_ended y.phase ≡ false)) w b x a named name (step_end w.image b _ refl run, (steps_step w.image b).live (ap has_ended run));
       goes = step_goes w b a named name run;
       refuses = refuses_in w b _ refl run;
-      pays = put_such (λ y. y.fuel + cost_at w.image b ≡ b.fuel) w b x a named name (step_pays w.image b);
+      pays = put_such (λ y. y.fuel + cost_at w.image b + given_by b None ≡ b.fuel + brought_by None) w b x a named name (step_pays w.image b);
       edits = put_such (λ y. y.drafts ≡ drafts_after w.image b None) w b x a named name (step_edits w.image b);
       remembers = put_such (WordRemembers w.image b (option_and_then decode (fetch w.image b.hart.pc)) b.fuel) w b x a named name (step_remembers w.image b);
+      family = step_family w b run;
     })
-    (λ a b q named reads wants.
-    let e = event_for w.cells b q in
-    let x = takes w.image b e in
-    let k = ends_by w b b.phase q reads wants in
-    record {
-      mediated = answered_at w b a b.phase q named reads wants;
-      ends = put_such (λ y. (end_of y.phase ≡ end_by b.phase e) × (has_ended y.phase ≡ is_end_event (Some e))) w b x a named k.1 (k.0, reached w.image b e);
-      goes = put_next w b x a named k.1 (next_by w b b.phase q reads wants);
-      refuses = refuses_after w b b.phase q reads wants;
-      pays = put_such (λ y. y.fuel + cost_by b e ≡ b.fuel) w b x a named k.1 (event_pays w b b.phase q reads wants);
-      edits = put_such (λ y. y.drafts ≡ b.drafts) w b x a named k.1 (event_edits w.image b e);
-      remembers = put_such (EventRemembers b e) w b x a named k.1 (event_remembers w.image b e);
+    (λ a b e named h. record {
+      mediated = answered_at w b a e named h;
+      ends = done_such (λ y. (end_of y.phase ≡ end_by b.phase e) × (has_ended y.phase ≡ is_end_event (Some e))) w b a e named (ends_by w b e h, reached w.image b e);
+      goes = done_such (GoesTo b (next_word b)) w b a e named (next_by w b e h);
+      refuses = refuses_after w b e h;
+      pays = done_such (λ y. y.fuel + cost_by b e + given_by b (Some e) ≡ b.fuel + brought_by (Some e)) w b a e named (event_pays w b e h);
+      edits = done_such (λ y. y.drafts ≡ b.drafts) w b a e named (event_edits w.image b e);
+      remembers = done_such (EventRemembers b e) w b a e named (event_remembers w.image b e);
+      family = event_family w b e h;
     })
 
 each_lawful : (old : WorldState) (turns : List Turn) (new : WorldState) → AllReady old → Runs old turns new → EachMoment IsLawful old turns

@@ -1,8 +1,8 @@
 -- What an instruction comes to: the request that it makes, its end, and the code with which it is refused.
-use Rattle.std.proofs.Common.{◌≡◌, ℕ, zero, suc, ◌+◌, ◌-◌, ◌≤◌, Bool, true, false, List, [], refl, sym, ap, subst, ◌∙◌, arith}
+use Rattle.std.proofs.Common.{◌≡◌, ℕ, zero, suc, ◌+◌, ◌-◌, ◌≤◌, Bool, true, false, true≢false, List, [], refl, sym, ap, subst, ◌∙◌, arith}
 use Rattle.std.proofs.lemmas.Bool.{eqb-true}
 use Rattle.std.proofs.lemmas.Bool.Decides.{nat_tests}
-use Rattle.std.specs.Prelude.{Option, Some, None, is_some, option_and_then, not, ◌&&◌, ◌||◌, ◌==◌, nat_lt, nat_le, if◌then◌else◌, ◌∷◌, ◌++◌, length, slice_get}
+use Rattle.std.specs.Prelude.{Option, Some, None, is_some, option_map, option_and_then, not, ◌&&◌, ◌||◌, ◌==◌, nat_lt, nat_le, if◌then◌else◌, ◌∷◌, ◌++◌, length, slice_get}
 use Rattle.wedge_base.specs.Images.{Image, fetch, in_text, read_text, slot_of}
 use Rattle.wedge_base.specs.Bytes.{number_of}
 use Rattle.wedge_base.specs.Memory.{range_at, read_range}
@@ -25,32 +25,52 @@ use Rattle.rv_hart.specs.declared.Need.TheVariants as need
 use Rattle.rv_hart.specs.Local.{local}
 use Rattle.sthread_life.specs.declared.phase.Phase.{Phase}
 use Rattle.sthread_life.specs.declared.phase.Phase.TheVariants as phase
-use Rattle.sthread_life.specs.Actors.{ActorState, answers, bits_of, code_number, ends, refuses, wants}
+use Rattle.sthread_life.specs.Actors.{ActorState, answers, bits_of, code_number, denies, ends, refuses, wants}
 use Rattle.sthread_life.specs.Private.{load_window, load_range, store_window, store_range, has_loaded, fits_read, buffer, buffer_in}
-use Rattle.wedge_base.specs.Sheets.{Draft, empty_draft, takes_tag, takes_fd}
+use Rattle.wedge_base.specs.Sheets.{Draft, empty_draft, takes_tag, takes_fd, first_excess}
+use Rattle.wedge_base.specs.Slots.{Segment}
+use Rattle.wedge_base.specs.Streams.{Stream}
+use Rattle.wedge_base.specs.declared.rights.Denial.{Denial}
+use Rattle.wedge_base.specs.declared.cells.LivesAsk.TheVariants as lives_ask
 use Rattle.wedge_base.specs.declared.rights.FdBits.{FdBits}
 use Rattle.wedge_base.specs.declared.rights.Right.{Right}
 use Rattle.wedge_base.specs.declared.rights.Right.TheVariants as right
-use Rattle.sthread_life.specs.Calls.{serves, exit, fd_append, most_drafts, sc_new, right_asked, bits_asked, add_right, add_right_to, sc_mem_add, add_bits, add_bits_to, sc_fd_add, draft_call, bits, a0, a1, a2, a7}
+use Rattle.sthread_life.specs.Calls.{serves, exit, is_procedure, create, create_with, create_checked, create_allowed, join, fd_append, most_drafts, sc_new, right_asked, bits_asked, add_right, add_right_to, sc_mem_add, add_bits, add_bits_to, sc_fd_add, draft_call, bits, a0, a1, a2, a3, a7}
 use Rattle.sthread_life.specs.Local.{needed, executed, fuelled, fetched, step, is_running, run_local, rest}
-use Rattle.sthread_life.specs.Between.{IsBetween}
 use Rattle.sthread_life.proofs.Resting.{stays, goes_on, running_is}
 use Rattle.sthread_life.specs.Cells.{Cells, slot_in, stream_in}
-use Rattle.sthread_life.specs.Refusals.{fuel_short, full, no_such, bad, new_refusal, right_refusal, bits_refusal, draft_refusal, append_refusal, need_refusal, instr_refusal, word_refusal, refusal_at, stream_refusal, need_refusal_after, instr_refusal_after, word_refusal_after, refusal_after, refused}
-use Rattle.sthread_life.specs.Requests.{Request, Loads, Stores, in_tag, in_window, bytes_in_range, bytes_at, to_stream, append_of, needed_request, instr_request, word_request, request_at}
+use Rattle.sthread_life.specs.Refusals.{fuel_short, full, deep, no_such, bad, start_refusal, create_refusal, join_refusal, life_refusal, new_refusal, right_refusal, bits_refusal, draft_refusal, append_refusal, need_refusal, instr_refusal, word_refusal, refusal_at, stream_refusal, need_refusal_after, instr_refusal_after, word_refusal_after, refusal_after, refused}
+use Rattle.sthread_life.specs.Requests.{Access, Request, Loads, Stores, Appends, Creates, create_of, in_tag, in_window, bytes_in_range, bytes_at, to_stream, append_of, needed_request, instr_request, word_request, request_at}
+use Rattle.sthread_life.specs.Allowed.{lacks, is_refused, is_checked_at_event, denied as denied_of}
+use Rattle.sthread_life.specs.Children.{is_child}
 use Rattle.sthread_life.specs.Ends.{end_of, needed_end, instr_end, fuel_end, word_end, end_at}
 
--- the request that is in question in what is wanted
-abbrev pub request_for : Cells → ℕ → Bool → Want → Option Request
-request_for c rd s (want.Slot slot (slot_want.Load offset width)) = in_tag (λ x. Loads x rd s) (record { slot = slot; offset = offset }) width (slot_in c slot)
-request_for c rd s (want.Slot slot (slot_want.Store offset width value)) = in_tag (λ x. Stores x value) (record { slot = slot; offset = offset }) width (slot_in c slot)
-request_for c rd s (want.Fd fd (stream_ask.Append bits bytes)) = to_stream fd bytes (stream_in c fd)
-request_for c rd s q = None
+-- the request that is in question in what an actor wants
+abbrev pub request_for : Cells → ActorState → ℕ → Bool → Want → Option Request
+request_for c a rd s (want.Slot slot (slot_want.Load offset width)) = in_tag (λ x. Loads x rd s) (record { slot = slot; offset = offset }) width (slot_in c slot)
+request_for c a rd s (want.Slot slot (slot_want.Store offset width value)) = in_tag (λ x. Stores x value) (record { slot = slot; offset = offset }) width (slot_in c slot)
+request_for c a rd s (want.Fd fd (stream_ask.Append bits bytes)) = to_stream fd bytes (stream_in c fd)
+request_for c a rd s (want.Lives lives_ask.Claim) = option_map (λ d. Creates d) (slice_get a.drafts (a0 a))
+request_for c a rd s q = None
 
 -- the code with which its event refuses it
 abbrev pub refusal_for : Cells → ActorState → Want → Option ℕ
 refusal_for c a (want.Fd fd (stream_ask.Append bits bytes)) = stream_refusal a fd (stream_in c fd)
+refusal_for c a (want.Lives lives_ask.Claim) = life_refusal c.lives
 refusal_for c a q = None
+
+-- an actor that is about to start a child: the draft is there, every grant of which it may give, its name has room, and it has
+-- the fuel
+pub record IsStartable (a : ActorState) : Type 0 where
+  pub draft : Draft
+  pub drafted : slice_get a.drafts (a0 a) ≡ Some draft
+  pub allowed : first_excess a.sheet a.made draft ≡ None
+  pub shallow : nat_lt (length a.name) 32 ≡ true
+  pub enough : a3 a ≤ a.fuel
+
+-- so it is at whatever phase
+pub startable_at : (a : ActorState) (p : Phase) → IsStartable a → IsStartable (record a { phase = p })
+startable_at a p s = record { draft = s.draft; drafted = s.drafted; allowed = s.allowed; shallow = s.shallow; enough = s.enough }
 
 -- the wants that are requests today, an append with the bits of the actor and the fuel for it; N is what is known
 -- where a load is wanted
@@ -58,54 +78,125 @@ abbrev pub IsRequest : (ℕ → Type 0) → ActorState → Want → Type 0
 IsRequest N a (want.Slot slot (slot_want.Load offset width)) = N width
 IsRequest N a (want.Slot slot (slot_want.Store offset width value)) = Unit {0}
 IsRequest N a (want.Fd fd (stream_ask.Append bits bytes)) = (bits ≡ bits_of a fd) × (a2 a ≤ a.fuel)
+IsRequest N a (want.Lives lives_ask.Claim) = IsStartable a
 IsRequest N a q = ⊥
 
--- where an instruction leaves its actor: at a want that is its request, or it made none
+-- what an instruction may come to: a request, or the join of a child
+abbrev pub IsWanted : (ℕ → Type 0) → ActorState → Want → Type 0
+IsWanted N a (want.Join k) = is_child a.unjoined k ≡ true
+IsWanted N a q = IsRequest N a q
+
+-- where an instruction leaves its actor, if it wants something
 abbrev pub WantsAs : (ℕ → Bool → ℕ → Type 0) → ActorState → (Cells → Option Request) → (Cells → Option ℕ) → ActorState → Phase → Type 0
-WantsAs N a asked later x (phase.Within q) = (rd : ℕ) × (s : Bool) × (x ≡ record a { phase = phase.Within q }) × ((c : Cells) → asked c ≡ request_for c rd s q) × IsRequest (N rd s) a q × ((c : Cells) → later c ≡ refusal_for c a q)
-WantsAs N a asked later x phase.Running = (c : Cells) → asked c ≡ None
-WantsAs N a asked later x (phase.Ending e) = (c : Cells) → asked c ≡ None
-WantsAs N a asked later x (phase.Ended e) = (c : Cells) → asked c ≡ None
+WantsAs N a asked later x (phase.Within q) = (rd : ℕ) × (s : Bool) × (x ≡ record a { phase = phase.Within q }) × ((c : Cells) → asked c ≡ request_for c a rd s q) × IsWanted (N rd s) a q × ((c : Cells) → later c ≡ refusal_for c a q)
+WantsAs N a asked later x phase.Running = Unit {0}
+WantsAs N a asked later x phase.Starting = ⊥
+WantsAs N a asked later x (phase.Ending e) = Unit {0}
+WantsAs N a asked later x (phase.Ended e) = Unit {0}
+
+-- a request that is checked at once: the actor is denied, or claims a life, or is refused
+pub record IsCheckedNow (a : ActorState) (r : Request) (x : ActorState) : Type 0 where
+  pub denied : (d : Denial) → lacks a r ≡ Some d → x ≡ denied_of a r d
+  pub done : lacks a r ≡ None → is_refused a r ≡ false → x ≡ record a { phase = phase.Within (want.Lives lives_ask.Claim) }
+  pub refused : lacks a r ≡ None → is_refused a r ≡ true → (x.phase ≡ phase.Running) × (x.denials ≡ a.denials)
+
+-- what an instruction makes of its actor where it makes a request
+abbrev pub MetBy : ActorState → Request → ActorState → Type 0
+MetBy a r x = elim (is_checked_at_event r) [ true ↦ (q : Want) × (x ≡ record a { phase = phase.Within q }) | false ↦ IsCheckedNow a r x ]
 
 -- asked: its request; later: the code with which its event refuses it; ended: its end; told: the code with
 -- which it is refused itself
 pub record Comes (N : ℕ → Bool → ℕ → Type 0) (a : ActorState) (asked : Cells → Option Request) (later : Cells → Option ℕ) (ended : Option End) (told : Option ℕ) (x : ActorState) : Type 0 where
   pub name : x.name ≡ a.name
-  pub denials : x.denials ≡ a.denials
+  pub quiet : (c : Cells) → asked c ≡ None → x.denials ≡ a.denials
+  pub met : (c : Cells) (r : Request) → asked c ≡ Some r → MetBy a r x
   pub ends : end_of x.phase ≡ ended
   pub wants : WantsAs N a asked later x x.phase
   pub codes : (n : ℕ) → told ≡ Some n → x ≡ refused a n
 
+no_request : {X : Type 0} (o : Option Request) (r : Request) → o ≡ None → o ≡ Some r → X
+no_request None r e f = absurd cc
+no_request (Some q) r e f = absurd cc
+
 -- the leaves: an end, an actor that goes on, and one that is refused
 comes_end : (N : ℕ → Bool → ℕ → Type 0) (a : ActorState) (asked : Cells → Option Request) (later : Cells → Option ℕ) (e : End) → ((c : Cells) → asked c ≡ None) → Comes N a asked later (Some e) None (ends a e)
-comes_end N a asked later e none = record { name = refl; denials = refl; ends = refl; wants = none; codes = λ n h. absurd cc }
+comes_end N a asked later e none = record { name = refl; quiet = λ c h. refl; met = λ c r h. no_request (asked c) r (none c) h; ends = refl; wants = tt; codes = λ n h. absurd cc }
 
 comes_on : (N : ℕ → Bool → ℕ → Type 0) (a x : ActorState) (asked : Cells → Option Request) (later : Cells → Option ℕ) → x.name ≡ a.name → x.denials ≡ a.denials → x.phase ≡ phase.Running → ((c : Cells) → asked c ≡ None) → Comes N a asked later None None x
-comes_on N a x asked later name denials runs none = record { name = name; denials = denials; ends = ap end_of runs; wants = subst (WantsAs N a asked later x) (sym runs) none; codes = λ n h. absurd cc }
+comes_on N a x asked later name denials runs none = record {
+  name = name;
+  quiet = λ c h. denials;
+  met = λ c r h. no_request (asked c) r (none c) h;
+  ends = ap end_of runs;
+  wants = subst (WantsAs N a asked later x) (sym runs) tt;
+  codes = λ n h. absurd cc;
+}
+
+refused_as : (a : ActorState) (k : Code) (n : ℕ) → Some (code_number k) ≡ Some n → refuses a k ≡ refused a n
+refused_as a k n h = let same : code_number k ≡ n = cc in subst (λ m. refuses a k ≡ refused a m) same refl
 
 comes_refused : (N : ℕ → Bool → ℕ → Type 0) (a : ActorState) (asked : Cells → Option Request) (later : Cells → Option ℕ) (k : Code) → ((c : Cells) → asked c ≡ None) → Comes N a asked later None (Some (code_number k)) (refuses a k)
 comes_refused N a asked later k none = record {
   name = refl;
-  denials = refl;
+  quiet = λ c h. refl;
+  met = λ c r h. no_request (asked c) r (none c) h;
   ends = refl;
-  wants = none;
-  codes = λ n h. let same : code_number k ≡ n = cc in subst (λ m. refuses a k ≡ refused a m) same refl;
+  wants = tt;
+  codes = refused_as a k;
 }
 
 -- the same request, told otherwise
 wants_as : (N : ℕ → Bool → ℕ → Type 0) (a : ActorState) (asked told : Cells → Option Request) (later : Cells → Option ℕ) (x : ActorState) (p : Phase) → ((c : Cells) → told c ≡ asked c) → WantsAs N a asked later x p → WantsAs N a told later x p
 wants_as N a asked told later x (phase.Within q) same w = (w.0, w.1, w.2, λ c. same c ∙ w.3 c, w.4, w.5)
-wants_as N a asked told later x phase.Running same w = λ c. same c ∙ w c
-wants_as N a asked told later x (phase.Ending e) same w = λ c. same c ∙ w c
-wants_as N a asked told later x (phase.Ended e) same w = λ c. same c ∙ w c
+wants_as N a asked told later x phase.Running same w = tt
+wants_as N a asked told later x phase.Starting same w = w
+wants_as N a asked told later x (phase.Ending e) same w = tt
+wants_as N a asked told later x (phase.Ended e) same w = tt
 
 comes_as : (N : ℕ → Bool → ℕ → Type 0) (a : ActorState) (asked asked2 : Cells → Option Request) (later : Cells → Option ℕ) (e : Option End) (told told2 : Option ℕ) (x : ActorState) → ((c : Cells) → asked2 c ≡ asked c) → told2 ≡ told → Comes N a asked later e told x → Comes N a asked2 later e told2 x
-comes_as N a asked asked2 later e told told2 x same coded m = record { name = m.name; denials = m.denials; ends = m.ends; wants = wants_as N a asked asked2 later x x.phase same m.wants; codes = λ n h. m.codes n (sym coded ∙ h) }
+comes_as N a asked asked2 later e told told2 x same coded m = record {
+  name = m.name;
+  quiet = λ c h. m.quiet c (sym (same c) ∙ h);
+  met = λ c r h. m.met c r (sym (same c) ∙ h);
+  ends = m.ends;
+  wants = wants_as N a asked asked2 later x x.phase same m.wants;
+  codes = λ n h. m.codes n (sym coded ∙ h);
+}
+
+-- requests that are checked at their event
+met_at_event : (a x : ActorState) (q : Want) (r : Request) → x ≡ record a { phase = phase.Within q } → is_checked_at_event r ≡ true → MetBy a r x
+met_at_event a x q (Loads y rd s) is e = (q, is)
+met_at_event a x q (Stores y value) is e = (q, is)
+met_at_event a x q (Appends fd s bytes) is e = (q, is)
+met_at_event a x q (Creates d) is e = absurd cc
+
+tag_event : (of : Access → Request) (p : Place) (width : ℕ) (g : Option Segment) (r : Request) → ((x : Access) → is_checked_at_event (of x) ≡ true) → in_tag of p width g ≡ Some r → is_checked_at_event r ≡ true
+tag_event of p width None r h e = absurd cc
+tag_event of p width (Some g) r h e = by_test _ e
+  where
+    by_test : (t : Bool) → (if t then Some (of (record { place = p; width = width; living = g })) else None) ≡ Some r → is_checked_at_event r ≡ true
+    by_test true f = let is : of (record { place = p; width = width; living = g }) ≡ r = cc in subst (λ y. is_checked_at_event y ≡ true) is (h (record { place = p; width = width; living = g }))
+    by_test false f = absurd cc
+
+stream_event : (fd : ℕ) (bytes : List ℕ) (s : Option Stream) (r : Request) → to_stream fd bytes s ≡ Some r → is_checked_at_event r ≡ true
+stream_event fd bytes None r e = absurd cc
+stream_event fd bytes (Some s) r e = by_test s.live e
+  where
+    by_test : (t : Bool) → (if t then Some (Appends fd s bytes) else None) ≡ Some r → is_checked_at_event r ≡ true
+    by_test true f = let is : Appends fd s bytes ≡ r = cc in subst (λ y. is_checked_at_event y ≡ true) is refl
+    by_test false f = absurd cc
 
 -- loads
 load_window_comes : (N : ℕ → Bool → ℕ → Type 0) (a : ActorState) (rd : ℕ) (s : Bool) (width : ℕ) (p : Option Place) → N rd s width → Comes N a (λ c. in_window (λ x. Loads x rd s) c width p) (λ c. None) (if is_some p then None else Some end_.Unmapped) None (load_window a width p)
 load_window_comes N a rd s width None k = comes_end N a _ _ end_.Unmapped (λ c. refl)
-load_window_comes N a rd s width (Some p) k = record { name = refl; denials = refl; ends = refl; wants = (rd, s, refl, λ c. refl, k, λ c. refl); codes = λ n h. absurd cc }
+load_window_comes N a rd s width (Some p) k = record {
+  name = refl;
+  quiet = λ c h. refl;
+  met = λ c r h. met_at_event a _ (want.Slot p.slot (slot_want.Load p.offset width)) r refl (tag_event (λ x. Loads x rd s) p width (slot_in c p.slot) r (λ x. refl) h);
+  ends = refl;
+  wants = (rd, s, refl, λ c. refl, k, λ c. refl);
+  codes = λ n h. absurd cc;
+}
 
 load_comes : (N : ℕ → Bool → ℕ → Type 0) (i : Image) (ins : Instr) (s : Bool) (a : ActorState) (address width : ℕ) (t u : Bool) (r : Option MemoryRange) → N ins.rd s width → a.phase ≡ phase.Running
     → Comes N a (λ c. if t && not u && not (is_some r) then in_window (λ x. Loads x ins.rd s) c width (slot_of address) else None) (λ c. None)
@@ -120,7 +211,14 @@ load_comes N i ins s a address width true false None k run = load_window_comes N
 store_window_comes : (N : ℕ → Bool → ℕ → Type 0) (a : ActorState) (width value : ℕ) (p : Option Place)
     → Comes N a (λ c. in_window (λ x. Stores x value) c width p) (λ c. None) (if is_some p then None else Some end_.Unmapped) None (store_window a width value p)
 store_window_comes N a width value None = comes_end N a _ _ end_.Unmapped (λ c. refl)
-store_window_comes N a width value (Some p) = record { name = refl; denials = refl; ends = refl; wants = (0, false, refl, λ c. refl, tt, λ c. refl); codes = λ n h. absurd cc }
+store_window_comes N a width value (Some p) = record {
+  name = refl;
+  quiet = λ c h. refl;
+  met = λ c r h. met_at_event a _ (want.Slot p.slot (slot_want.Store p.offset width value)) r refl (tag_event (λ x. Stores x value) p width (slot_in c p.slot) r (λ x. refl) h);
+  ends = refl;
+  wants = (0, false, refl, λ c. refl, tt, λ c. refl);
+  codes = λ n h. absurd cc;
+}
 
 store_comes : (N : ℕ → Bool → ℕ → Type 0) (a : ActorState) (address width value : ℕ) (t u : Bool) (r : Option MemoryRange) → a.phase ≡ phase.Running
     → Comes N a (λ c. if t && not u && not (is_some r) then in_window (λ x. Stores x value) c width (slot_of address) else None) (λ c. None)
@@ -154,7 +252,14 @@ append_tests : (N : ℕ → Bool → ℕ → Type 0) (a : ActorState) (fd : ℕ)
 append_tests N a fd bytes false u v paid = comes_refused N a _ _ code.Bad (λ c. refl)
 append_tests N a fd bytes true true v paid = comes_refused N a _ _ code.FuelShort (λ c. refl)
 append_tests N a fd bytes true false true paid = comes_refused N a _ _ code.NoSuch (λ c. refl)
-append_tests N a fd bytes true false false paid = record { name = refl; denials = refl; ends = refl; wants = (0, false, refl, λ c. refl, (refl, paid refl), λ c. refl); codes = λ n h. absurd cc }
+append_tests N a fd bytes true false false paid = record {
+  name = refl;
+  quiet = λ c h. refl;
+  met = λ c r h. met_at_event a _ (want.Fd fd (stream_ask.Append (bits_of a fd) bytes)) r refl (stream_event fd bytes (stream_in c fd) r h);
+  ends = refl;
+  wants = (0, false, refl, λ c. refl, (refl, paid refl), λ c. refl);
+  codes = λ n h. absurd cc;
+}
 
 -- its codes, in the tests of the call
 append_coded : (a : ActorState) (fd n : ℕ) (bytes : List ℕ) (t u v : Bool) → (nat_le n a.fuel ≡ not u) → (nat_lt fd most_fds ≡ not v)
@@ -187,7 +292,7 @@ abbrev AsDraft : (ℕ → Bool → ℕ → Type 0) → ActorState → Option ℕ
 AsDraft N a told x = Comes N a (λ c. None) (λ c. None) None told x
 
 drafted_comes : (N : ℕ → Bool → ℕ → Type 0) (a : ActorState) (ds : List Draft) (value : ℕ) → AsDraft N a None (answers (record a { drafts = ds }) value)
-drafted_comes N a ds value = record { name = refl; denials = refl; ends = refl; wants = λ c. refl; codes = λ n h. absurd cc }
+drafted_comes N a ds value = record { name = refl; quiet = λ c h. refl; met = λ c r h. absurd cc; ends = refl; wants = tt; codes = λ n h. absurd cc }
 
 as_if : (N : ℕ → Bool → ℕ → Type 0) (a : ActorState) (m n : Option ℕ) (x y : ActorState) (t : Bool) → AsDraft N a m x → AsDraft N a n y → AsDraft N a (if t then m else n) (if t then x else y)
 as_if N a m n x y true h k = h
@@ -231,18 +336,126 @@ draft_comes N a n false true v = right_to_comes N a (slice_get a.drafts (a0 a))
 draft_comes N a n false false true = bits_to_comes N a (slice_get a.drafts (a0 a))
 draft_comes N a n false false false = comes_refused N a _ _ code.Bad (λ c. refl)
 
--- calls
-call_comes : (N : ℕ → Bool → ℕ → Type 0) (i : Image) (a : ActorState) (n : ℕ) (t u : Bool) → (n == 0) ≡ t → (n == 16) ≡ u
-    → Comes N a (λ c. if u then append_of c a (a0 a) (a2 a) (bytes_at i a (a1 a) (a2 a)) else None) (λ c. if u then stream_refusal a (a0 a) (stream_in c (a0 a)) else None) (if t then Some (end_.Exited (a0 a)) else None)
-    (if t then None else if u then append_refusal a (a0 a) (a2 a) (bytes_at i a (a1 a) (a2 a)) else draft_refusal a.drafts a.hart.regs n)
-    (if t then exit a else if u then fd_append i a else draft_call a n)
-call_comes N i a n true true e f = absurd (apart n e f)
+-- the call that starts a child: it is checked at once
+not_over_32 : (n : ℕ) → nat_lt n 32 ≡ not (nat_le 32 n)
+not_over_32 n = grind (arith, nat_tests)
+
+if_not : {X : Type 0} (t u : Bool) (x y : X) → t ≡ not u → (if not t then x else y) ≡ (if u then x else y)
+if_not t true x y e = ap (λ b. if not b then x else y) e
+if_not t false x y e = ap (λ b. if not b then x else y) e
+
+refused_if : (t u v : Bool) → t ≡ not u → (not t || v) ≡ (u || v)
+refused_if t true v e = ap (λ b. not b || v) e
+refused_if t false v e = ap (λ b. not b || v) e
+
+allowed_comes : (N : ℕ → Bool → ℕ → Type 0) (a : ActorState) (d : Draft) (u v : Bool) → slice_get a.drafts (a0 a) ≡ Some d → first_excess a.sheet a.made d ≡ None
+    → nat_lt (length a.name) 32 ≡ not u → nat_lt a.fuel (a3 a) ≡ v
+    → Comes N a (λ c. Some (Creates d)) (λ c. life_refusal c.lives) None (if u then Some deep else if v then Some fuel_short else None)
+    (if u then refuses a code.Deep else if v then refuses a code.FuelShort else wants a (want.Lives lives_ask.Claim))
+allowed_comes N a d u v drafted within room fuel = by_tests u v (refused_if (nat_lt (length a.name) 32) u (nat_lt a.fuel (a3 a)) room ∙ ap (λ b. u || b) fuel) room fuel
   where
-    apart : (n : ℕ) → (n == 0) ≡ true → (n == 16) ≡ true → ⊥
-    apart n e f = let zero_is : n ≡ 0 = eqb-true n 0 e in let g : (0 == 16) ≡ true = subst (λ m. (m == 16) ≡ true) zero_is f in cc
-call_comes N i a n true false e f = comes_end N a _ _ (end_.Exited (a0 a)) (λ c. refl)
-call_comes N i a n false true e f = append_comes N i a
-call_comes N i a n false false e f = draft_comes N a n (n == 7) (n == 8) (n == 9)
+    same_request : (x : Request) → Some (Creates d) ≡ Some x → Creates d ≡ x
+    same_request x e = cc
+
+    some_lacks : (y : Denial) → first_excess a.sheet a.made d ≡ Some y → (z : Type 0) → z
+    some_lacks y e z = let f : None ≡ Some y = sym within ∙ e in absurd cc
+
+    by_tests : (u v : Bool) → is_refused a (Creates d) ≡ (u || v) → nat_lt (length a.name) 32 ≡ not u → nat_lt a.fuel (a3 a) ≡ v
+        → Comes N a (λ c. Some (Creates d)) (λ c. life_refusal c.lives) None (if u then Some deep else if v then Some fuel_short else None)
+        (if u then refuses a code.Deep else if v then refuses a code.FuelShort else wants a (want.Lives lives_ask.Claim))
+    by_tests true v is room fuel = record {
+      name = refl;
+      quiet = λ c h. absurd cc;
+      met = λ c x h. subst (λ y. MetBy a y (refuses a code.Deep)) (same_request x h)
+          (record { denied = λ y e. some_lacks y e _; done = λ e f. absurd (true≢false (sym is ∙ f)); refused = λ e f. (refl, refl) });
+      ends = refl;
+      wants = tt;
+      codes = refused_as a code.Deep;
+    }
+    by_tests false true is room fuel = record {
+      name = refl;
+      quiet = λ c h. absurd cc;
+      met = λ c x h. subst (λ y. MetBy a y (refuses a code.FuelShort)) (same_request x h)
+          (record { denied = λ y e. some_lacks y e _; done = λ e f. absurd (true≢false (sym is ∙ f)); refused = λ e f. (refl, refl) });
+      ends = refl;
+      wants = tt;
+      codes = refused_as a code.FuelShort;
+    }
+    by_tests false false is room fuel = record {
+      name = refl;
+      quiet = λ c h. absurd cc;
+      met = λ c x h. subst (λ y. MetBy a y (wants a (want.Lives lives_ask.Claim))) (same_request x h)
+          (record { denied = λ y e. some_lacks y e _; done = λ e f. refl; refused = λ e f. absurd (true≢false (sym f ∙ is)) });
+      ends = refl;
+      wants = (0, false, refl, λ c. ap (option_map (λ y. Creates y)) (sym drafted), startable room (enough a.fuel (a3 a) fuel), λ c. refl);
+      codes = λ n h. absurd cc;
+    }
+      where
+        startable : nat_lt (length a.name) 32 ≡ true → a3 a ≤ a.fuel → IsStartable a
+        startable s e = record { draft = d; drafted = drafted; allowed = within; shallow = s; enough = e }
+
+        enough : (fuel n : ℕ) → nat_lt fuel n ≡ false → n ≤ fuel
+        enough fuel n e = grind (arith, nat_tests, e)
+
+checked_comes : (N : ℕ → Bool → ℕ → Type 0) (a : ActorState) (d : Draft) (o : Option Denial) → slice_get a.drafts (a0 a) ≡ Some d → first_excess a.sheet a.made d ≡ o
+    → Comes N a (λ c. Some (Creates d)) (λ c. life_refusal c.lives) None (start_refusal a o) (create_checked a o)
+checked_comes N a d None drafted within =
+    comes_as N a _ _ _ None _ _ (create_allowed a) (λ c. refl) (if_not (nat_lt (length a.name) 32) (nat_le 32 (length a.name)) (Some deep) _ (not_over_32 (length a.name)))
+    (allowed_comes N a d (nat_le 32 (length a.name)) (nat_lt a.fuel (a3 a)) drafted within (not_over_32 (length a.name)) refl)
+checked_comes N a d (Some y) drafted within = record {
+  name = refl;
+  quiet = λ c h. absurd cc;
+  met = λ c x h. subst (λ r. MetBy a r (denies a y)) (same_request x h)
+      (record { denied = λ z e. subst (λ n. denies a y ≡ denied_of a (Creates d) n) (same_denial z e) refl; done = λ e f. none_lacks e _; refused = λ e f. none_lacks e _ });
+  ends = refl;
+  wants = tt;
+  codes = λ n h. absurd cc;
+}
+  where
+    same_request : (x : Request) → Some (Creates d) ≡ Some x → Creates d ≡ x
+    same_request x e = cc
+
+    same_denial : (z : Denial) → first_excess a.sheet a.made d ≡ Some z → y ≡ z
+    same_denial z e = let f : Some y ≡ Some z = sym within ∙ e in cc
+
+    none_lacks : first_excess a.sheet a.made d ≡ None → (z : Type 0) → z
+    none_lacks e z = let f : Some y ≡ None = sym within ∙ e in absurd cc
+
+create_tests : (N : ℕ → Bool → ℕ → Type 0) (a : ActorState) (d : Draft) (t : Bool) → slice_get a.drafts (a0 a) ≡ Some d
+    → Comes N a (λ c. if t then Some (Creates d) else None) (λ c. life_refusal c.lives) None (if not t then Some bad else start_refusal a (first_excess a.sheet a.made d))
+    (if not t then refuses a code.Bad else create_checked a (first_excess a.sheet a.made d))
+create_tests N a d false drafted = comes_refused N a _ _ code.Bad (λ c. refl)
+create_tests N a d true drafted = checked_comes N a d (first_excess a.sheet a.made d) drafted refl
+
+create_comes : (N : ℕ → Bool → ℕ → Type 0) (i : Image) (a : ActorState) (o : Option Draft) → slice_get a.drafts (a0 a) ≡ o
+    → Comes N a (λ c. create_of i (a1 a) o) (λ c. life_refusal c.lives) None (create_refusal i a (a1 a) o) (create_with i a o)
+create_comes N i a None drafted = comes_refused N a _ _ code.NoSuch (λ c. refl)
+create_comes N i a (Some d) drafted = create_tests N a d (is_procedure i (a1 a)) drafted
+
+-- the call that joins one
+join_tests : (N : ℕ → Bool → ℕ → Type 0) (a : ActorState) (t : Bool) → is_child a.unjoined (a0 a) ≡ t
+    → Comes N a (λ c. None) (λ c. None) None (if t then None else Some no_such) (if t then wants a (want.Join (a0 a)) else refuses a code.NoSuch)
+join_tests N a true e = record { name = refl; quiet = λ c h. refl; met = λ c r h. absurd cc; ends = refl; wants = (0, false, refl, λ c. refl, e, λ c. refl); codes = λ n h. absurd cc }
+join_tests N a false e = comes_refused N a _ _ code.NoSuch (λ c. refl)
+
+-- calls
+at_number : (n k m : ℕ) → (n == k) ≡ true → (n == m) ≡ (k == m)
+at_number n k m e = ap (λ x. x == m) (eqb-true n k e)
+
+call_comes : (N : ℕ → Bool → ℕ → Type 0) (i : Image) (a : ActorState) (n : ℕ) (t u v x : Bool) → (n == 0) ≡ t → (n == 1) ≡ u → (n == 2) ≡ v → (n == 16) ≡ x
+    → Comes N a (λ c. if u then create_of i (a1 a) (slice_get a.drafts (a0 a)) else if x then append_of c a (a0 a) (a2 a) (bytes_at i a (a1 a) (a2 a)) else None)
+    (λ c. if u then life_refusal c.lives else if x then stream_refusal a (a0 a) (stream_in c (a0 a)) else None)
+    (if t then Some (end_.Exited (a0 a)) else None)
+    (if t then None else if u then create_refusal i a (a1 a) (slice_get a.drafts (a0 a)) else if v then join_refusal a (a0 a) else if x then append_refusal a (a0 a) (a2 a) (bytes_at i a (a1 a) (a2 a)) else draft_refusal a.drafts a.hart.regs n)
+    (if t then exit a else if u then create i a else if v then join a else if x then fd_append i a else draft_call a n)
+call_comes N i a n true true v x e f g h = absurd (true≢false (sym f ∙ at_number n 0 1 e))
+call_comes N i a n true false v true e f g h = absurd (true≢false (sym h ∙ at_number n 0 16 e))
+call_comes N i a n true false v false e f g h = comes_end N a _ _ (end_.Exited (a0 a)) (λ c. refl)
+call_comes N i a n false true v x e f g h = create_comes N i a (slice_get a.drafts (a0 a)) refl
+call_comes N i a n false false true true e f g h = absurd (true≢false (sym h ∙ at_number n 2 16 g))
+call_comes N i a n false false true false e f g h = join_tests N a (is_child a.unjoined (a0 a)) refl
+call_comes N i a n false false false true e f g h = append_comes N i a
+call_comes N i a n false false false false e f g h = draft_comes N a n (n == 7) (n == 8) (n == 9)
 
 -- a load is wanted only where the instruction needs one, into this register and with this sign
 abbrev pub NeedLoads : ℕ → Need → ℕ → Bool → ℕ → Type 0
@@ -266,7 +479,7 @@ unfolding serves
 needed_comes i ins a h need.Done run = comes_on (NeedLoads ins.rd need.Done) a (record a { hart = h }) _ _ refl refl run (λ c. refl)
 needed_comes i ins a h (need.Load address width s) run = load_comes (NeedLoads ins.rd (need.Load address width s)) i ins s a address width _ _ (range_at a.memory address width) (refl, refl, refl) run
 needed_comes i ins a h (need.Store address width value) run = store_comes (NeedLoads ins.rd (need.Store address width value)) a address width value _ _ (range_at a.memory address width) run
-needed_comes i ins a h need.Call run = call_comes (NeedLoads ins.rd need.Call) i a (a7 a) _ _ refl refl
+needed_comes i ins a h need.Call run = call_comes (NeedLoads ins.rd need.Call) i a (a7 a) _ _ _ _ refl refl refl refl
 needed_comes i ins a h need.Break run = comes_end (NeedLoads ins.rd need.Break) a _ _ end_.Break (λ c. refl)
 needed_comes i ins a h need.JumpMisaligned run = comes_end (NeedLoads ins.rd need.JumpMisaligned) a _ _ end_.JumpMisaligned (λ c. refl)
 
@@ -285,7 +498,7 @@ stuck i a out = fetched_stuck (fetch i a.hart.pc)
 
 fetched_comes : (i : Image) (a : ActorState) (n : ℕ) (w : Option ℕ) → a.phase ≡ phase.Running → a.fuel ≡ suc n
     → Comes (InstrLoads a.hart (option_and_then decode w)) (record a { fuel = n }) (λ c. word_request i c (record a { fuel = n }) w) (λ c. word_refusal_after c (record a { fuel = n }) w) (word_end i a w) (word_refusal i (record a { fuel = n }) w) (fetched i a w)
-fetched_comes i a n None run has = record { name = refl; denials = refl; ends = refl; wants = λ c. refl; codes = λ m h. absurd cc }
+fetched_comes i a n None run has = record { name = refl; quiet = λ c h. refl; met = λ c r h. absurd cc; ends = refl; wants = tt; codes = λ m h. absurd cc }
 fetched_comes i a n (Some word) run has =
     let p = record a { fuel = n } in
     let asked : Cells → Option Request = λ c. instr_request i c p (decode word) in
@@ -300,31 +513,45 @@ pub step_comes : (i : Image) (a : ActorState) (n : ℕ) → a.phase ≡ phase.Ru
 unfolding step
 step_comes i a n run has = fetched_comes i a n (fetch i a.hart.pc) run has
 
--- an actor within an instruction wants its request
+-- what an actor is in by its phase: within an instruction it wants what that comes to, and one that is about to start a
+-- child may do so
 abbrev pub ReadsAs : Image → ActorState → Phase → Type 0
-ReadsAs i a (phase.Within q) = (rd : ℕ) × (s : Bool) × ((c : Cells) → request_at i c a ≡ request_for c rd s q) × IsRequest (LoadsAt i a.hart rd s) a q × ((c : Cells) → refusal_after i c a ≡ refusal_for c a q)
+ReadsAs i a (phase.Within q) = (rd : ℕ) × (s : Bool) × ((c : Cells) → request_at i c a ≡ request_for c a rd s q) × IsWanted (LoadsAt i a.hart rd s) a q × ((c : Cells) → refusal_after i c a ≡ refusal_for c a q)
 ReadsAs i a phase.Running = Unit {0}
+ReadsAs i a phase.Starting = IsStartable a
 ReadsAs i a (phase.Ending e) = Unit {0}
 ReadsAs i a (phase.Ended e) = Unit {0}
 
 -- what is asked does not turn on what the actor is at
-request_within : (N : ℕ → Type 0) (p : ActorState) (ph : Phase) (q : Want) → IsRequest N p q → IsRequest N (record p { phase = ph }) q
-request_within N p ph (want.Slot slot (slot_want.Load offset width)) k = k
-request_within N p ph (want.Slot slot (slot_want.Store offset width value)) k = k
-request_within N p ph (want.Fd fd (stream_ask.Append bits bytes)) k = k
-request_within N p ph q k = absurd k
+wanted_within : (N : ℕ → Type 0) (p : ActorState) (ph : Phase) (q : Want) → IsWanted N p q → IsWanted N (record p { phase = ph }) q
+wanted_within N p ph (want.Slot slot (slot_want.Load offset width)) k = k
+wanted_within N p ph (want.Slot slot (slot_want.Store offset width value)) k = k
+wanted_within N p ph (want.Fd fd (stream_ask.Append bits bytes)) k = k
+wanted_within N p ph (want.Lives lives_ask.Claim) k = startable_at p ph k
+wanted_within N p ph (want.Join child) k = k
+wanted_within N p ph q k = absurd k
+
+request_within : (c : Cells) (p : ActorState) (ph : Phase) (rd : ℕ) (s : Bool) (q : Want) → request_for c p rd s q ≡ request_for c (record p { phase = ph }) rd s q
+request_within c p ph rd s (want.Slot slot (slot_want.Load offset width)) = refl
+request_within c p ph rd s (want.Slot slot (slot_want.Store offset width value)) = refl
+request_within c p ph rd s (want.Fd fd (stream_ask.Append bits bytes)) = refl
+request_within c p ph rd s (want.Lives lives_ask.Claim) = refl
+request_within c p ph rd s q = refl
 
 refusal_within : (c : Cells) (p : ActorState) (ph : Phase) (q : Want) → refusal_for c p q ≡ refusal_for c (record p { phase = ph }) q
 refusal_within c p ph (want.Fd fd (stream_ask.Append bits bytes)) = refl
+refusal_within c p ph (want.Lives lives_ask.Claim) = refl
 refusal_within c p ph q = refl
 
-reads_within : (i : Image) (p : ActorState) (q : Want) (rd : ℕ) (s : Bool) → ((c : Cells) → request_at i c p ≡ request_for c rd s q) → IsRequest (LoadsAt i p.hart rd s) p q → ((c : Cells) → refusal_after i c p ≡ refusal_for c p q)
+reads_within : (i : Image) (p : ActorState) (q : Want) (rd : ℕ) (s : Bool) → ((c : Cells) → request_at i c p ≡ request_for c p rd s q) → IsWanted (LoadsAt i p.hart rd s) p q → ((c : Cells) → refusal_after i c p ≡ refusal_for c p q)
     → ReadsAs i (record p { phase = phase.Within q }) (phase.Within q)
-reads_within i p q rd s asked own later = (rd, s, asked, request_within (LoadsAt i p.hart rd s) p (phase.Within q) q own, λ c. later c ∙ refusal_within c p (phase.Within q) q)
+reads_within i p q rd s asked own later =
+    (rd, s, λ c. asked c ∙ request_within c p (phase.Within q) rd s q, wanted_within (LoadsAt i p.hart rd s) p (phase.Within q) q own, λ c. later c ∙ refusal_within c p (phase.Within q) q)
 
 reads_of : (i : Image) (p x : ActorState) (ph : Phase) → WantsAs (LoadsAt i p.hart) p (λ c. request_at i c p) (λ c. refusal_after i c p) x ph → ReadsAs i x ph
 reads_of i p x (phase.Within q) w = subst (λ y. ReadsAs i y (phase.Within q)) (sym w.2) (reads_within i p q w.0 w.1 w.3 w.4 w.5)
 reads_of i p x phase.Running w = tt
+reads_of i p x phase.Starting w = absurd w
 reads_of i p x (phase.Ending e) w = tt
 reads_of i p x (phase.Ended e) w = tt
 
@@ -337,12 +564,6 @@ reads_from i n a false e h = rw (stays i n a e) h
 reads_from i zero a true e h = unfold run_local in h
 reads_from i (suc n) a true e h = rw (goes_on i n a e) (reads_from i n (step i a) _ refl (step_reads i a _ refl (running_is a.phase e)))
 
-pub rest_reads : (i : Image) (a : ActorState) → IsBetween a.phase → ReadsAs i (rest i a) (rest i a).phase
+pub rest_reads : (i : Image) (a : ActorState) → ReadsAs i a a.phase → ReadsAs i (rest i a) (rest i a).phase
 unfolding rest
-rest_reads i a h = reads_from i (a.fuel + 1) a _ refl (between_reads a.phase h)
-  where
-    between_reads : (p : Phase) → IsBetween p → ReadsAs i a p
-    between_reads phase.Running h = tt
-    between_reads (phase.Within q) h = absurd h
-    between_reads (phase.Ending e) h = tt
-    between_reads (phase.Ended e) h = tt
+rest_reads i a h = reads_from i (a.fuel + 1) a _ refl h

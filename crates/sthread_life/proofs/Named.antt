@@ -1,11 +1,11 @@
 -- Actors by name: one put in its place is found there, and each other stays.
 use Rattle.std.proofs.Common.{◌≡◌, ℕ, Bool, true, false, List, [], ◌∷◌, refl, sym, ap, subst, ◌∙◌}
 use Rattle.std.proofs.lemmas.Bool.{eqb-true, eq-eqb}
-use Rattle.std.specs.Prelude.{Some, None, ◌==◌, ◌&&◌, if◌then◌else◌}
+use Rattle.std.specs.Prelude.{Option, Some, None, IfSome, ◌++◌, ◌==◌, ◌&&◌, if◌then◌else◌}
 use Rattle.wedge_base.specs.Names.{same}
 use Rattle.wedge_base.specs.declared.outcome.DenialAt.{DenialAt}
 use Rattle.sthread_life.specs.Actors.{ActorState}
-use Rattle.sthread_life.specs.Worlds.{actor_named, put_actor}
+use Rattle.sthread_life.specs.Worlds.{actor_named, put_actor, with_begun}
 use Rattle.sthread_life.specs.Moments.{noted_by}
 
 pub same_self : (xs : List ℕ) → same xs xs ≡ true
@@ -92,3 +92,29 @@ put_other y b ys name false is apart h = ap (λ o. if same y.name name then Some
 pub named_put_other : (ys : List ActorState) (b : ActorState) (name : List ℕ) → same b.name name ≡ false → actor_named (put_actor ys b) name ≡ actor_named ys name
 named_put_other [] b name apart = ap (λ u. if u then Some b else None) apart
 named_put_other (y ∷ ys) b name apart = put_other y b ys name _ refl apart (named_put_other ys b name apart)
+
+-- ---- an actor that has begun stands behind the others
+
+-- whoever is found is found still
+pub named_begun : (ys : List ActorState) (o : Option ActorState) (name : List ℕ) (a : ActorState) → actor_named ys name ≡ Some a → actor_named (with_begun ys o) name ≡ Some a
+named_begun ys None name a e = e
+named_begun [] (Some c) name a e = absurd cc
+named_begun (y ∷ ys) (Some c) name a e = by_name (same y.name name) (named_begun ys (Some c) name a) e
+  where
+    by_name : (t : Bool) → (actor_named ys name ≡ Some a → actor_named (ys ++ c ∷ []) name ≡ Some a) → (if t then Some y else actor_named ys name) ≡ Some a → (if t then Some y else actor_named (ys ++ c ∷ []) name) ≡ Some a
+    by_name true others h = h
+    by_name false others h = others h
+
+-- one without denials adds none
+pub begun_noted : (ys : List ActorState) (o : Option ActorState) (name : List ℕ) → IfSome o (λ c. c.denials ≡ []) → noted_by (actor_named (with_begun ys o) name) ≡ noted_by (actor_named ys name)
+begun_noted ys None name h = refl
+begun_noted [] (Some c) name h = by_name (same c.name name)
+  where
+    by_name : (t : Bool) → noted_by (if t then Some c else None) ≡ []
+    by_name true = h
+    by_name false = refl
+begun_noted (y ∷ ys) (Some c) name h = by_name (same y.name name) (begun_noted ys (Some c) name h)
+  where
+    by_name : (t : Bool) → noted_by (actor_named (ys ++ c ∷ []) name) ≡ noted_by (actor_named ys name) → noted_by (if t then Some y else actor_named (ys ++ c ∷ []) name) ≡ noted_by (if t then Some y else actor_named ys name)
+    by_name true others = refl
+    by_name false others = others

@@ -15,7 +15,11 @@ use Rattle.wedge_base.specs.declared.events.Want.{Want}
 use Rattle.wedge_base.specs.declared.events.Want.TheVariants as want
 use Rattle.wedge_base.specs.declared.events.Event.{Event}
 use Rattle.wedge_base.specs.declared.events.Event.TheVariants as event
+use Rattle.wedge_base.specs.declared.cells.LivesAsk.{LivesAsk}
 use Rattle.wedge_base.specs.declared.cells.LivesAsk.TheVariants as lives_ask
+use Rattle.wedge_base.specs.declared.cells.LivesReply.{LivesReply}
+use Rattle.wedge_base.specs.declared.cells.LivesReply.TheVariants as lives_reply
+use Rattle.wedge_base.specs.declared.rights.End.{End}
 use Rattle.wedge_base.specs.declared.cells.SlotAsk.{SlotAsk}
 use Rattle.wedge_base.specs.declared.cells.SlotReply.{SlotReply}
 use Rattle.wedge_base.specs.declared.cells.SlotReply.TheVariants as slot_reply
@@ -24,18 +28,18 @@ use Rattle.wedge_base.specs.declared.cells.StreamReply.{StreamReply}
 use Rattle.wedge_base.specs.declared.cells.StreamReply.TheVariants as reply
 use Rattle.rv_isa.specs.declared.Instr.{Instr}
 use Rattle.rv_isa.specs.Table.{decode}
-use Rattle.sthread_life.specs.declared.phase.Phase.{Phase}
-use Rattle.sthread_life.specs.declared.phase.Phase.TheVariants as phase
 use Rattle.sthread_life.specs.Actors.{ActorState, spends}
-use Rattle.sthread_life.specs.Calls.{a2}
+use Rattle.sthread_life.specs.Calls.{a2, a3}
+use Rattle.sthread_life.specs.Children.{without_child}
 use Rattle.sthread_life.specs.Cells.{Cells, stream_in}
 use Rattle.sthread_life.specs.Local.{executed, fuelled, fetched, step}
-use Rattle.sthread_life.specs.Taking.{wanted_at, runs, takes}
+use Rattle.sthread_life.specs.Taking.{runs, answered_end, takes}
 use Rattle.sthread_life.specs.Worlds.{WorldState}
-use Rattle.sthread_life.specs.Paying.{cost_of_word, cost_at, cost_by}
+use Rattle.sthread_life.specs.Paying.{cost_of_word, cost_at, cost_by, given_by, brought_by}
 use Rattle.sthread_life.proofs.Resting.{goes_executed}
-use Rattle.sthread_life.proofs.Between.{event_for, loads_fuel}
-use Rattle.sthread_life.proofs.Meeting.{IsRequest, ReadsAs, LoadsAt}
+use Rattle.sthread_life.proofs.Between.{event_for, loads_fuel, joined_is}
+use Rattle.sthread_life.proofs.Happening.{Happens, Requested, Joined, Started, LastJoined, Ended}
+use Rattle.sthread_life.proofs.Meeting.{IsRequest}
 
 -- ---- an instruction
 
@@ -47,19 +51,21 @@ fetched_pays : (i : Image) (a : ActorState) (o : Option ℕ) → (fetched i a o)
 fetched_pays i a None = omega arith
 fetched_pays i a (Some word) = fuelled_pays i a word a.fuel refl
 
-pub step_pays : (i : Image) (a : ActorState) → (step i a).fuel + cost_at i a ≡ a.fuel
+pub step_pays : (i : Image) (a : ActorState) → (step i a).fuel + cost_at i a + given_by a None ≡ a.fuel + brought_by None
 unfolding step
-step_pays i a = fetched_pays i a (fetch i a.hart.pc)
+step_pays i a = omega (arith, fetched_pays i a (fetch i a.hart.pc))
 
 -- ---- an event
 
-slot_pays : (i : Image) (b : ActorState) (slot : ℕ) (q : SlotAsk) (r : SlotReply) → (takes i b (event.Slot slot q r)).fuel + cost_by b (event.Slot slot q r) ≡ b.fuel
+abbrev EventPays : Image → ActorState → Event → Type 0
+EventPays i b e = (takes i b e).fuel + cost_by b e + given_by b (Some e) ≡ b.fuel + brought_by (Some e)
+
+slot_pays : (i : Image) (b : ActorState) (slot : ℕ) (q : SlotAsk) (r : SlotReply) → EventPays i b (event.Slot slot q r)
 unfolding takes
 slot_pays i b slot q (slot_reply.Loaded value) = let same = loads_fuel (runs b) (option_and_then decode (fetch i b.hart.pc)) value in omega (arith, same)
 slot_pays i b slot q r = omega arith
 
-append_pays : (i : Image) (b : ActorState) (fd : ℕ) (bits : FdBits) (bytes : List ℕ) (r : StreamReply) → a2 b ≤ b.fuel
-    → (takes i b (event.Fd fd (stream_ask.Append bits bytes) r)).fuel + cost_by b (event.Fd fd (stream_ask.Append bits bytes) r) ≡ b.fuel
+append_pays : (i : Image) (b : ActorState) (fd : ℕ) (bits : FdBits) (bytes : List ℕ) (r : StreamReply) → a2 b ≤ b.fuel → EventPays i b (event.Fd fd (stream_ask.Append bits bytes) r)
 unfolding takes
 append_pays i b fd bits bytes reply.Appended enough = omega (arith, enough)
 append_pays i b fd bits bytes reply.Opened enough = omega arith
@@ -69,20 +75,34 @@ append_pays i b fd bits bytes reply.NoSuch enough = omega arith
 append_pays i b fd bits bytes (reply.Denied wants) enough = omega arith
 append_pays i b fd bits bytes reply.Bad enough = omega arith
 
-want_pays : (i : Image) (c : Cells) (b : ActorState) (N : ℕ → Type 0) (q : Want) → IsRequest N b q → (takes i b (event_for c b q)).fuel + cost_by b (event_for c b q) ≡ b.fuel
+lives_pay : (i : Image) (b : ActorState) (q : LivesAsk) (r : LivesReply) → EventPays i b (event.Lives q r)
+unfolding takes
+lives_pay i b (lives_ask.Release x) r = omega arith
+lives_pay i b lives_ask.Claim lives_reply.Claimed = omega arith
+lives_pay i b lives_ask.Claim lives_reply.Full = omega arith
+lives_pay i b lives_ask.Claim lives_reply.Released = omega arith
+
+want_pays : (i : Image) (c : Cells) (b : ActorState) (N : ℕ → Type 0) (q : Want) → IsRequest N b q → EventPays i b (event_for c b q)
 want_pays i c b N (want.Slot slot (slot_want.Load offset width)) own = slot_pays i b slot _ _
 want_pays i c b N (want.Slot slot (slot_want.Store offset width value)) own = slot_pays i b slot _ _
 want_pays i c b N (want.Fd fd (stream_ask.Append bits bytes)) own = append_pays i b fd bits bytes _ own.1
+want_pays i c b N (want.Lives lives_ask.Claim) own = lives_pay i b _ _
 want_pays i c b N q own = absurd own
 
-pub event_pays : (w : WorldState) (b : ActorState) (ph : Phase) (q : Want) → ReadsAs w.image b ph → wanted_at ph ≡ Some q
-    → (takes w.image b (event_for w.cells b q)).fuel + cost_by b (event_for w.cells b q) ≡ b.fuel
+start_pays : (i : Image) (b : ActorState) (child : List ℕ) → a3 b ≤ b.fuel → EventPays i b (event.Start child)
 unfolding takes
-event_pays w b phase.Running q reads e = absurd cc
-event_pays w b (phase.Within x) q reads e =
-    let is : x ≡ q = cc in
-    want_pays w.image w.cells b (LoadsAt w.image b.hart reads.0 reads.1) q (subst (IsRequest (LoadsAt w.image b.hart reads.0 reads.1) b) is reads.3)
-event_pays w b (phase.Ending x) q reads e =
-    let is : want.Lives (lives_ask.Release x) ≡ q = cc in
-    subst (λ y. (takes w.image b (event_for w.cells b y)).fuel + cost_by b (event_for w.cells b y) ≡ b.fuel) is (omega arith)
-event_pays w b (phase.Ended x) q reads e = absurd cc
+start_pays i b child enough = omega (arith, enough)
+
+join_pays : (i : Image) (b : ActorState) (k : ℕ) (x : End) (fuel : ℕ) → EventPays i b (event.Join k x fuel)
+unfolding takes
+join_pays i b k x fuel =
+    let is : (answered_end (record b { fuel = b.fuel + fuel; unjoined = without_child b.unjoined k }) b.phase x).fuel ≡ b.fuel + fuel =
+    joined_is (λ y. y.fuel ≡ b.fuel + fuel) (record b { fuel = b.fuel + fuel; unjoined = without_child b.unjoined k }) b.phase x refl refl in
+    omega (arith, is)
+
+pub event_pays : (w : WorldState) (b : ActorState) (e : Event) → Happens w b e → EventPays w.image b e
+event_pays w b e (Requested r) = subst (EventPays w.image b) (sym r.is) (want_pays w.image w.cells b _ r.want r.own)
+event_pays w b e (Joined j) = subst (EventPays w.image b) (sym j.join.is) (join_pays w.image b j.number j.join.how j.join.child.fuel)
+event_pays w b e (Started s) = subst (EventPays w.image b) (sym s.is) (start_pays w.image b _ s.ready.enough)
+event_pays w b e (LastJoined j) = subst (EventPays w.image b) (sym j.join.is) (join_pays w.image b j.first.0 j.join.how j.join.child.fuel)
+event_pays w b e (Ended f) = subst (EventPays w.image b) (sym f.is) (lives_pay w.image b _ _)

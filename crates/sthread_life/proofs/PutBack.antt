@@ -9,7 +9,7 @@ use Rattle.wedge_base.specs.declared.rights.Right.{Right}
 use Rattle.sthread_life.specs.Actors.{ActorState, answers, refuses}
 use Rattle.sthread_life.specs.Calls.{right_asked, bits_asked, with_draft, add_right, add_right_to, sc_mem_add, add_bits, add_bits_to, sc_fd_add, a0, a1, a2}
 
-get_at : (ds : List Draft) (n : ℕ) (d : Draft) → n < length ds → d ≡ get_or ds n d → slice_get ds n ≡ Some d
+pub get_at : (ds : List Draft) (n : ℕ) (d : Draft) → n < length ds → d ≡ get_or ds n d → slice_get ds n ≡ Some d
 get_at [] n d inside there = absurd (omega arith)
 get_at (x ∷ xs) zero d inside there = ap (λ y. Some y) (sym there)
 get_at (x ∷ xs) (suc n) d inside there = get_at xs n d (omega arith) there

@@ -23,10 +23,13 @@ use Rattle.sthread_life.specs.declared.phase.Phase.{Phase}
 use Rattle.sthread_life.specs.declared.phase.Phase.TheVariants as phase
 use Rattle.sthread_life.specs.Actors.{ActorState, answers, ends, refuses, spends}
 use Rattle.sthread_life.specs.Private.{loads, stores, load_window, load_range, store_window, store_range, has_loaded, fits_read}
-use Rattle.wedge_base.specs.Sheets.{Draft, takes_tag, takes_fd}
+use Rattle.wedge_base.specs.Names.{most_parts}
+use Rattle.wedge_base.specs.Sheets.{Draft, takes_tag, takes_fd, first_excess}
+use Rattle.wedge_base.specs.declared.rights.Denial.{Denial}
 use Rattle.wedge_base.specs.declared.rights.FdBits.{FdBits}
 use Rattle.wedge_base.specs.declared.rights.Right.{Right}
-use Rattle.sthread_life.specs.Calls.{serves, exit, fd_append, most_drafts, sc_new, right_asked, bits_asked, add_right, add_right_to, sc_mem_add, add_bits, add_bits_to, sc_fd_add, draft_call, a0, a1, a2, a7}
+use Rattle.sthread_life.specs.Children.{is_child}
+use Rattle.sthread_life.specs.Calls.{serves, exit, is_procedure, create, create_with, create_checked, create_allowed, join, fd_append, most_drafts, sc_new, right_asked, bits_asked, add_right, add_right_to, sc_mem_add, add_bits, add_bits_to, sc_fd_add, draft_call, a0, a1, a2, a3, a7}
 use Rattle.sthread_life.specs.Local.{needed, executed, fuelled, fetched, step, is_running, has_ended, run_local, rest}
 
 -- what the work of an instruction keeps, and how it leaves the actor
@@ -36,6 +39,8 @@ pub record Goes (a b : ActorState) : Type 0 where
   pub sheet : b.sheet ≡ a.sheet
   pub fuel : b.fuel ≡ a.fuel
   pub made : b.made ≡ a.made
+  pub starts : b.starts ≡ a.starts
+  pub unjoined : b.unjoined ≡ a.unjoined
   pub live : has_ended a.phase ≡ false → has_ended b.phase ≡ false
 
 goes_if : (a x y : ActorState) (b : Bool) → Goes a x → Goes a y → Goes a (if b then x else y)
@@ -43,17 +48,17 @@ goes_if a x y true p q = p
 goes_if a x y false p q = q
 
 goes_end : (a : ActorState) (e : End) → Goes a (ends a e)
-goes_end a e = record { name = refl; compartment = refl; sheet = refl; fuel = refl; made = refl; live = λ h. refl }
+goes_end a e = record { name = refl; compartment = refl; sheet = refl; fuel = refl; made = refl; starts = refl; unjoined = refl; live = λ h. refl }
 
 goes_refused : (a : ActorState) (c : Code) → Goes a (refuses a c)
-goes_refused a c = record { name = refl; compartment = refl; sheet = refl; fuel = refl; made = refl; live = λ h. refl }
+goes_refused a c = record { name = refl; compartment = refl; sheet = refl; fuel = refl; made = refl; starts = refl; unjoined = refl; live = λ h. refl }
 
 goes_loaded : (ins : Instr) (s : Bool) (a : ActorState) (width value : ℕ) → Goes a (has_loaded ins s a width value)
-goes_loaded ins s a width value = record { name = refl; compartment = refl; sheet = refl; fuel = refl; made = refl; live = λ h. h }
+goes_loaded ins s a width value = record { name = refl; compartment = refl; sheet = refl; fuel = refl; made = refl; starts = refl; unjoined = refl; live = λ h. h }
 
 goes_load_window : (a : ActorState) (width : ℕ) (p : Option Place) → Goes a (load_window a width p)
 goes_load_window a width None = goes_end a end_.Unmapped
-goes_load_window a width (Some p) = record { name = refl; compartment = refl; sheet = refl; fuel = refl; made = refl; live = λ h. refl }
+goes_load_window a width (Some p) = record { name = refl; compartment = refl; sheet = refl; fuel = refl; made = refl; starts = refl; unjoined = refl; live = λ h. refl }
 
 goes_load_range : (ins : Instr) (s : Bool) (a : ActorState) (address width : ℕ) (r : Option MemoryRange) → Goes a (load_range ins s a address width r)
 goes_load_range ins s a address width (Some r) = goes_loaded ins s a width (number_of (read_range r address width))
@@ -67,10 +72,10 @@ goes_load i ins s a address width =
 
 goes_store_window : (a : ActorState) (width value : ℕ) (p : Option Place) → Goes a (store_window a width value p)
 goes_store_window a width value None = goes_end a end_.Unmapped
-goes_store_window a width value (Some p) = record { name = refl; compartment = refl; sheet = refl; fuel = refl; made = refl; live = λ h. refl }
+goes_store_window a width value (Some p) = record { name = refl; compartment = refl; sheet = refl; fuel = refl; made = refl; starts = refl; unjoined = refl; live = λ h. refl }
 
 goes_store_range : (a : ActorState) (address width value : ℕ) (r : Option MemoryRange) → Goes a (store_range a address width value r)
-goes_store_range a address width value (Some r) = record { name = refl; compartment = refl; sheet = refl; fuel = refl; made = refl; live = λ h. h }
+goes_store_range a address width value (Some r) = record { name = refl; compartment = refl; sheet = refl; fuel = refl; made = refl; starts = refl; unjoined = refl; live = λ h. h }
 goes_store_range a address width value None = goes_store_window a width value (slot_of address)
 
 goes_store : (i : Image) (a : ActorState) (address width value : ℕ) → Goes a (stores i a address width value)
@@ -84,11 +89,11 @@ goes_append i a =
     goes_if a (refuses a code.Bad) _ (not (fits_read i a (a1 a) (a2 a))) (goes_refused a code.Bad)
     (goes_if a (refuses a code.FuelShort) _ (nat_lt a.fuel (a2 a)) (goes_refused a code.FuelShort)
     (goes_if a (refuses a code.NoSuch) _ (nat_le most_fds (a0 a)) (goes_refused a code.NoSuch)
-    (record { name = refl; compartment = refl; sheet = refl; fuel = refl; made = refl; live = λ h. refl })))
+    (record { name = refl; compartment = refl; sheet = refl; fuel = refl; made = refl; starts = refl; unjoined = refl; live = λ h. refl })))
 
 -- an answer to a call, with other drafts
 goes_drafted : (a : ActorState) (ds : List Draft) (value : ℕ) → Goes a (answers (record a { drafts = ds }) value)
-goes_drafted a ds value = record { name = refl; compartment = refl; sheet = refl; fuel = refl; made = refl; live = λ h. refl }
+goes_drafted a ds value = record { name = refl; compartment = refl; sheet = refl; fuel = refl; made = refl; starts = refl; unjoined = refl; live = λ h. refl }
 
 goes_right : (a : ActorState) (d : Draft) (r : Option Right) → Goes a (add_right a d r)
 goes_right a d None = goes_refused a code.Bad
@@ -112,14 +117,35 @@ goes_draft a n =
     (goes_if a (sc_mem_add a) _ (n == 8) (goes_right_to a (slice_get a.drafts (a0 a)))
     (goes_if a (sc_fd_add a) _ (n == 9) (goes_bits_to a (slice_get a.drafts (a0 a))) (goes_refused a code.Bad)))
 
+goes_allowed : (a : ActorState) → Goes a (create_allowed a)
+goes_allowed a =
+    goes_if a (refuses a code.Deep) _ (nat_le most_parts (length a.name)) (goes_refused a code.Deep)
+    (goes_if a (refuses a code.FuelShort) _ (nat_lt a.fuel (a3 a)) (goes_refused a code.FuelShort)
+    (record { name = refl; compartment = refl; sheet = refl; fuel = refl; made = refl; starts = refl; unjoined = refl; live = λ h. refl }))
+
+goes_checked : (a : ActorState) (d : Option Denial) → Goes a (create_checked a d)
+goes_checked a None = goes_allowed a
+goes_checked a (Some d) = record { name = refl; compartment = refl; sheet = refl; fuel = refl; made = refl; starts = refl; unjoined = refl; live = λ h. refl }
+
+goes_create : (i : Image) (a : ActorState) (d : Option Draft) → Goes a (create_with i a d)
+goes_create i a None = goes_refused a code.NoSuch
+goes_create i a (Some d) = goes_if a (refuses a code.Bad) _ (not (is_procedure i (a1 a))) (goes_refused a code.Bad) (goes_checked a (first_excess a.sheet a.made d))
+
+goes_join : (a : ActorState) → Goes a (join a)
+goes_join a =
+    goes_if a _ (refuses a code.NoSuch) (is_child a.unjoined (a0 a))
+    (record { name = refl; compartment = refl; sheet = refl; fuel = refl; made = refl; starts = refl; unjoined = refl; live = λ h. refl }) (goes_refused a code.NoSuch)
+
 goes_call : (i : Image) (a : ActorState) (n : ℕ) → Goes a (serves i a n)
 unfolding serves
 goes_call i a n =
     goes_if a (exit a) _ (n == 0) (goes_end a (end_.Exited (a0 a)))
-    (goes_if a (fd_append i a) _ (n == 16) (goes_append i a) (goes_draft a n))
+    (goes_if a (create i a) _ (n == 1) (goes_create i a (slice_get a.drafts (a0 a)))
+    (goes_if a (join a) _ (n == 2) (goes_join a)
+    (goes_if a (fd_append i a) _ (n == 16) (goes_append i a) (goes_draft a n))))
 
 goes_needed : (i : Image) (ins : Instr) (a : ActorState) (h : Hart) (n : Need) → Goes a (needed i ins a h n)
-goes_needed i ins a h need.Done = record { name = refl; compartment = refl; sheet = refl; fuel = refl; made = refl; live = λ h. h }
+goes_needed i ins a h need.Done = record { name = refl; compartment = refl; sheet = refl; fuel = refl; made = refl; starts = refl; unjoined = refl; live = λ h. h }
 goes_needed i ins a h (need.Load address width s) = goes_load i ins s a address width
 goes_needed i ins a h (need.Store address width value) = goes_store i a address width value
 goes_needed i ins a h need.Call = goes_call i a (a7 a)
@@ -134,6 +160,7 @@ goes_executed i a (Some ins) = let b = local ins a.hart in goes_needed i ins a b
 abbrev pub IsEnding : Phase → Type 0
 IsEnding phase.Running = ⊥
 IsEnding (phase.Within q) = ⊥
+IsEnding phase.Starting = ⊥
 IsEnding (phase.Ending e) = Unit {0}
 IsEnding (phase.Ended e) = ⊥
 
@@ -144,16 +171,18 @@ pub record Steps (a b : ActorState) : Type 0 where
   pub sheet : b.sheet ≡ a.sheet
   pub spent : (b.fuel < a.fuel) ⊎ ((b.fuel ≡ a.fuel) × IsEnding b.phase)
   pub made : b.made ≡ a.made
+  pub starts : b.starts ≡ a.starts
+  pub unjoined : b.unjoined ≡ a.unjoined
   pub live : has_ended a.phase ≡ false → has_ended b.phase ≡ false
 
 steps_fuelled : (i : Image) (a : ActorState) (word n : ℕ) → a.fuel ≡ n → Steps a (fuelled i a word n)
-steps_fuelled i a word zero e = record { name = refl; compartment = refl; sheet = refl; spent = inr (refl, tt); made = refl; live = λ h. refl }
+steps_fuelled i a word zero e = record { name = refl; compartment = refl; sheet = refl; spent = inr (refl, tt); made = refl; starts = refl; unjoined = refl; live = λ h. refl }
 steps_fuelled i a word (suc n) e =
     let g = goes_executed i (spends a 1) (decode word) in
-    record { name = g.name; compartment = g.compartment; sheet = g.sheet; spent = inl (omega (arith, g.fuel)); made = g.made; live = g.live }
+    record { name = g.name; compartment = g.compartment; sheet = g.sheet; spent = inl (omega (arith, g.fuel)); made = g.made; starts = g.starts; unjoined = g.unjoined; live = g.live }
 
 steps_fetched : (i : Image) (a : ActorState) (word : Option ℕ) → Steps a (fetched i a word)
-steps_fetched i a None = record { name = refl; compartment = refl; sheet = refl; spent = inr (refl, tt); made = refl; live = λ h. refl }
+steps_fetched i a None = record { name = refl; compartment = refl; sheet = refl; spent = inr (refl, tt); made = refl; starts = refl; unjoined = refl; live = λ h. refl }
 steps_fetched i a (Some word) = steps_fuelled i a word a.fuel refl
 
 pub steps_step : (i : Image) (a : ActorState) → Steps a (step i a)
@@ -164,6 +193,7 @@ steps_step i a = steps_fetched i a (fetch i a.hart.pc)
 abbrev pub HasPaid : ℕ → ℕ → Phase → Type 0
 HasPaid before after phase.Running = after ≤ before
 HasPaid before after (phase.Within q) = after < before
+HasPaid before after phase.Starting = after < before
 HasPaid before after (phase.Ending e) = after ≤ before
 HasPaid before after (phase.Ended e) = after ≤ before
 
@@ -174,11 +204,14 @@ pub record Rests (a b : ActorState) : Type 0 where
   pub sheet : b.sheet ≡ a.sheet
   pub paid : HasPaid a.fuel b.fuel b.phase
   pub made : b.made ≡ a.made
+  pub starts : b.starts ≡ a.starts
+  pub unjoined : b.unjoined ≡ a.unjoined
   pub live : has_ended b.phase ≡ false
 
 paid_less : (before mid after : ℕ) (p : Phase) → mid ≤ before → HasPaid mid after p → HasPaid before after p
 paid_less before mid after phase.Running le h = omega arith
 paid_less before mid after (phase.Within q) le h = omega arith
+paid_less before mid after phase.Starting le h = omega arith
 paid_less before mid after (phase.Ending e) le h = omega arith
 paid_less before mid after (phase.Ended e) le h = omega arith
 
@@ -187,6 +220,8 @@ paid_step before after phase.Running (inl lt) = omega arith
 paid_step before after phase.Running (inr h) = absurd h.1
 paid_step before after (phase.Within q) (inl lt) = lt
 paid_step before after (phase.Within q) (inr h) = absurd h.1
+paid_step before after phase.Starting (inl lt) = lt
+paid_step before after phase.Starting (inr h) = absurd h.1
 paid_step before after (phase.Ending e) (inl lt) = omega arith
 paid_step before after (phase.Ending e) (inr h) = omega arith
 paid_step before after (phase.Ended e) (inl lt) = omega arith
@@ -209,12 +244,14 @@ goes_on i n a e = ap (λ b. elim b [ true ↦ run_local i n (step i a) | false �
 pub running_is : (p : Phase) → is_running p ≡ true → p ≡ phase.Running
 running_is phase.Running e = refl
 running_is (phase.Within q) e = cc
+running_is phase.Starting e = cc
 running_is (phase.Ending x) e = cc
 running_is (phase.Ended x) e = cc
 
 running_live : (p : Phase) → is_running p ≡ true → has_ended p ≡ false
 running_live phase.Running e = refl
 running_live (phase.Within q) e = refl
+running_live phase.Starting e = refl
 running_live (phase.Ending x) e = refl
 running_live (phase.Ended x) e = cc
 
@@ -227,14 +264,15 @@ rests_from i (suc n) a true e =
     let le : b.fuel ≤ a.fuel = spent_le a.fuel b.fuel b.phase s.spent in
     rw (goes_on i n a e) (inl (
     elim (rests_from i n b _ refl) [
-      | inl r ↦ record { name = r.name ∙ s.name; compartment = r.compartment ∙ s.compartment; sheet = r.sheet ∙ s.sheet; made = r.made ∙ s.made; paid = paid_less a.fuel b.fuel _ _ le r.paid; live = r.live }
-      | inr same ↦ subst (Rests a) same (record { name = s.name; compartment = s.compartment; sheet = s.sheet; made = s.made; paid = paid_step a.fuel b.fuel b.phase s.spent; live = s.live (running_live a.phase e) })
+      | inl r ↦ record { name = r.name ∙ s.name; compartment = r.compartment ∙ s.compartment; sheet = r.sheet ∙ s.sheet; made = r.made ∙ s.made; starts = r.starts ∙ s.starts; unjoined = r.unjoined ∙ s.unjoined; paid = paid_less a.fuel b.fuel _ _ le r.paid; live = r.live }
+      | inr same ↦ subst (Rests a) same (record { name = s.name; compartment = s.compartment; sheet = s.sheet; made = s.made; starts = s.starts; unjoined = s.unjoined; paid = paid_step a.fuel b.fuel b.phase s.spent; live = s.live (running_live a.phase e) })
     ]))
 
 -- an actor that runs rests paid
 paid_running : (f : ℕ) (p : Phase) → is_running p ≡ true → HasPaid f f p
 paid_running f phase.Running e = omega arith
 paid_running f (phase.Within q) e = cc
+paid_running f phase.Starting e = cc
 paid_running f (phase.Ending x) e = omega arith
 paid_running f (phase.Ended x) e = omega arith
 
@@ -243,7 +281,7 @@ unfolding rest
 rests i a e =
     elim (rests_from i (a.fuel + 1) a true e) [
       | inl r ↦ r
-      | inr same ↦ subst (Rests a) same (record { name = refl; compartment = refl; sheet = refl; made = refl; paid = paid_running a.fuel a.phase e; live = running_live a.phase e })
+      | inr same ↦ subst (Rests a) same (record { name = refl; compartment = refl; sheet = refl; made = refl; starts = refl; unjoined = refl; paid = paid_running a.fuel a.phase e; live = running_live a.phase e })
     ]
 
 pub rest-stays : (i : Image) (a : ActorState) → is_running a.phase ≡ false → rest i a ≡ a
@@ -254,6 +292,7 @@ rest-stays i a e = stays i (a.fuel + 1) a e
 ending_stops : (p : Phase) → IsEnding p → is_running p ≡ false
 ending_stops phase.Running h = absurd h
 ending_stops (phase.Within q) h = refl
+ending_stops phase.Starting h = refl
 ending_stops (phase.Ending e) h = refl
 ending_stops (phase.Ended e) h = refl
 
@@ -285,6 +324,7 @@ rest-ended i a = (kept_by i a _ refl).1
 ended_stops : (p : Phase) → has_ended p ≡ true → is_running p ≡ false
 ended_stops phase.Running e = cc
 ended_stops (phase.Within q) e = refl
+ended_stops phase.Starting e = refl
 ended_stops (phase.Ending x) e = refl
 ended_stops (phase.Ended x) e = refl
 
@@ -321,18 +361,21 @@ rest-step i a e =
 abbrev pub left : Phase → ℕ → ℕ
 left phase.Running n = n + 1
 left (phase.Within q) n = 0
+left phase.Starting n = 0
 left (phase.Ending e) n = 0
 left (phase.Ended e) n = 0
 
 left_ending : (p : Phase) (n : ℕ) → IsEnding p → left p n ≡ 0
 left_ending phase.Running n h = absurd h
 left_ending (phase.Within q) n h = refl
+left_ending phase.Starting n h = refl
 left_ending (phase.Ending e) n h = refl
 left_ending (phase.Ended e) n h = refl
 
 left_le : (p : Phase) (n : ℕ) → left p n ≤ n + 1
 left_le phase.Running n = omega arith
 left_le (phase.Within q) n = omega arith
+left_le phase.Starting n = omega arith
 left_le (phase.Ending e) n = omega arith
 left_le (phase.Ended e) n = omega arith
 

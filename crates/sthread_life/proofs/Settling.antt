@@ -1,22 +1,28 @@
 -- Worlds that differ in local events alone: they take the same turns, and such turns lead to worlds that again differ
 -- in local events alone; and what every actor of a run is in as it rests.
 use Rattle.std.proofs.Common.{◌≡◌, ℕ, Bool, true, false, List, [], ◌∷◌, refl, sym, ap, subst, ◌∙◌}
-use Rattle.std.specs.Prelude.{map, Option, Some, None, option_map, if◌then◌else◌}
+use Rattle.std.proofs.lemmas.List.{map-append}
+use Rattle.std.specs.Prelude.{◌++◌, map, Option, Some, None, option_map, if◌then◌else◌}
 use Rattle.wedge_base.specs.Names.{same, root_name}
 use Rattle.wedge_base.specs.Images.{Image}
+use Rattle.wedge_base.specs.declared.events.Want.{Want}
+use Rattle.wedge_base.specs.declared.events.Want.TheVariants as want
 use Rattle.wedge_base.specs.declared.events.Event.{Event}
+use Rattle.wedge_base.specs.declared.events.Event.TheVariants as event
 use Rattle.wedge_base.specs.declared.events.Turn.{Turn}
 use Rattle.wedge_base.specs.declared.outcome.ActorLine.{ActorLine}
 use Rattle.sthread_life.specs.declared.phase.Phase.{Phase}
 use Rattle.sthread_life.specs.declared.phase.Phase.TheVariants as phase
 use Rattle.sthread_life.specs.Actors.{ActorState, root}
-use Rattle.sthread_life.specs.Local.{rest, has_ended}
-use Rattle.sthread_life.specs.Taking.{wanted, takes}
+use Rattle.sthread_life.specs.Local.{rest, has_ended, end_reached}
+use Rattle.sthread_life.specs.Children.{child_name}
+use Rattle.sthread_life.specs.Taking.{wanted, takes, child_of, begun}
 use Rattle.sthread_life.specs.Cells.{cells_after}
-use Rattle.sthread_life.specs.Worlds.{WorldState, opening, actor_named, put_actor, event_at, happened, wanting, turn_with, turn_of, Runs, is_ended, is_whole, settled}
+use Rattle.sthread_life.specs.Worlds.{WorldState, opening, actor_named, put_actor, with_begun, join_event, event_at, happened, wanting, turn_with, turn_of, Runs, is_ended, is_whole, settled}
 use Rattle.sthread_life.specs.Outcomes.{with_actor, lines_of, streams_of, outcome_of}
 use Rattle.sthread_life.proofs.Resting.{rest-name, rest-ended, ended-stays}
-use Rattle.sthread_life.proofs.Between.{takes_between, turn_parts}
+use Rattle.sthread_life.proofs.Between.{TurnParts, turn_parts}
+use Rattle.sthread_life.proofs.Happening.{Happens, happens, takes_reads}
 use Rattle.sthread_life.proofs.Meeting.{ReadsAs, rest_reads}
 
 -- ---- actors by name, each at rest
@@ -25,7 +31,7 @@ if_map : {X : Type 0} (f : X → X) (a : X) (o : Option X) (t : Bool) → (if t 
 if_map f a o true = refl
 if_map f a o false = refl
 
-map_named : (i : Image) (actors : List ActorState) (name : List ℕ) → actor_named (map (rest i) actors) name ≡ option_map (rest i) (actor_named actors name)
+pub map_named : (i : Image) (actors : List ActorState) (name : List ℕ) → actor_named (map (rest i) actors) name ≡ option_map (rest i) (actor_named actors name)
 map_named i [] name = refl
 map_named i (a ∷ as_) name =
     ap (λ (n : List ℕ). if same n name then Some (rest i a) else actor_named (map (rest i) as_) name) (rest-name i a)
@@ -64,11 +70,42 @@ rests_alike v w name a alike named = image_of (rest w.image) (actor_named w.acto
 
 -- a settled world after an event of an actor at rest
 settled_after : WorldState → ActorState → Event → WorldState
-settled_after x b e = record { image = x.image; cells = cells_after x.cells e; actors = put_actor x.actors (rest x.image (takes x.image b e)) }
+settled_after x b e = record { image = x.image; cells = cells_after x.cells e; actors = with_begun (put_actor x.actors (rest x.image (takes x.image b e))) (option_map (rest x.image) (begun x.image b e)) }
+
+map_begun : (i : Image) (actors : List ActorState) (o : Option ActorState) → map (rest i) (with_begun actors o) ≡ with_begun (map (rest i) actors) (option_map (rest i) o)
+map_begun i actors None = refl
+map_begun i actors (Some c) = map-append (rest i) actors (c ∷ [])
 
 settles_after : (w : WorldState) (b : ActorState) (e : Event) → settled (happened w b e).world ≡ settled_after (settled w) b e
 unfolding settled_after
-settles_after w b e = ap (λ as_. record { image = w.image; cells = cells_after w.cells e; actors = as_ }) (map_put w.image w.actors (takes w.image b e))
+settles_after w b e =
+    ap (λ as_. record { image = w.image; cells = cells_after w.cells e; actors = as_ })
+    (map_begun w.image (put_actor w.actors (takes w.image b e)) (begun w.image b e) ∙ ap (λ as_. with_begun as_ (option_map (rest w.image) (begun w.image b e))) (map_put w.image w.actors (takes w.image b e)))
+
+-- a join looks at a child that has ended, which a rest leaves as it is
+join_at_rest : (i : Image) (k : ℕ) (o : Option ActorState) → join_event k (option_map (rest i) o) ≡ join_event k o
+join_at_rest i k None = refl
+join_at_rest i k (Some c) = by_end (has_ended c.phase) refl
+  where
+    not_reached : (p : Phase) → has_ended p ≡ false → end_reached p ≡ None
+    not_reached phase.Running e = refl
+    not_reached (phase.Within q) e = refl
+    not_reached phase.Starting e = refl
+    not_reached (phase.Ending x) e = refl
+    not_reached (phase.Ended x) e = absurd cc
+
+    none_of : (x : ActorState) → has_ended x.phase ≡ false → join_event k (Some x) ≡ None
+    none_of x e = ap (option_map (λ y. event.Join k y x.fuel)) (not_reached x.phase e)
+
+    by_end : (t : Bool) → has_ended c.phase ≡ t → join_event k (Some (rest i c)) ≡ join_event k (Some c)
+    by_end true e = ap (λ x. join_event k (Some x)) (ended-stays i c e)
+    by_end false e = none_of (rest i c) (rest-ended i c ∙ e) ∙ sym (none_of c e)
+
+-- an actor comes to the same event in a world that is settled
+pub settled_event : (w : WorldState) (b : ActorState) (q : Want) → event_at (settled w) b q ≡ event_at w b q
+settled_event w b (want.Join k) = ap (join_event k) (map_named w.image w.actors (child_name b.name k)) ∙ join_at_rest w.image k (actor_named w.actors (child_name b.name k))
+settled_event w b (want.Start child) = refl
+settled_event w b q = refl
 
 -- a turn with this event, to a world that differs from another in local events alone
 pub record TurnsAlike (w : WorldState) (name : List ℕ) (e : Event) (new : WorldState) : Type 0 where
@@ -84,8 +121,8 @@ turns_alike v w name e new alike t =
     let other = rests_alike v w name p.actor alike p.named in
     let c = rest w.image other.from in
     let wants : wanted c ≡ Some p.want = ap (λ (x : ActorState). wanted x) other.is ∙ p.wants in
-    let comes : event_at w.cells c p.want ≡ Some e = ap (λ (x : ActorState). event_at w.cells x p.want) other.is
-    ∙ ap (λ (x : WorldState). event_at x.cells b p.want) (sym alike) ∙ p.comes in
+    let comes : event_at w c p.want ≡ Some e = ap (λ (x : ActorState). event_at w x p.want) other.is
+    ∙ (sym (settled_event w b p.want) ∙ (ap (λ (x : WorldState). event_at x b p.want) (sym alike) ∙ (settled_event v b p.want ∙ p.comes))) in
     record {
       to = (happened w c e).world;
       turn = ap (turn_with w) other.there ∙ ap (wanting w c) wants ∙ ap (option_map (happened w c)) comes;
@@ -108,6 +145,7 @@ whole_alike v w alike = sym (at_rest v) ∙ ap (λ (x : WorldState). is_whole x)
 no_line : (i : Image) (a : ActorState) (p : Phase) (ls : List ActorLine) → has_ended p ≡ false → with_actor i a p ls ≡ ls
 no_line i a phase.Running ls e = refl
 no_line i a (phase.Within q) ls e = refl
+no_line i a phase.Starting ls e = refl
 no_line i a (phase.Ending x) ls e = refl
 no_line i a (phase.Ended x) ls e = absurd cc
 
@@ -158,13 +196,31 @@ put_reads : (i : Image) (bs : List ActorState) (x : ActorState) → AllRead i bs
 put_reads i [] x all h = (h, tt)
 put_reads i (b ∷ bs) x all h = put_or_reads i x b bs (put_actor bs x) (same b.name x.name) h all.0 all.1 (put_reads i bs x all.1 h)
 
+begun_reads : (i : Image) (bs : List ActorState) (o : Option ActorState) → AllRead i bs → ((c : ActorState) → o ≡ Some c → ReadsAs i c c.phase) → AllRead i (with_begun bs o)
+begun_reads i bs None all h = all
+begun_reads i [] (Some c) all h = (h c refl, tt)
+begun_reads i (b ∷ bs) (Some c) all h = (all.0, begun_reads i bs (Some c) all.1 h)
+
+-- an actor that has just begun rests as it should
+begins_ready : (i : Image) (b : ActorState) (e : Event) (c : ActorState) → option_map (rest i) (begun i b e) ≡ Some c → ReadsAs i c c.phase
+begins_ready i b (event.Start child) c is =
+    let same : rest i (child_of i b child) ≡ c = cc in
+    subst (λ (x : ActorState). ReadsAs i x x.phase) same (rest_reads i (child_of i b child) tt)
+begins_ready i b e c is = absurd cc
+
+-- what a turn's actor comes to
+pub turn_happens : (w : WorldState) (name : List ℕ) (e : Event) (new : WorldState) → AllReady w → (p : TurnParts w name e new) → Happens w (rest w.image p.actor) e
+turn_happens w name e new all p = happens w (rest w.image p.actor) p.want e (named_ready w name p.actor all p.named) p.wants p.comes
+
 pub turn_ready : (w : WorldState) (name : List ℕ) (e : Event) (new : WorldState) → AllReady w → turn_of w name ≡ Some (record { event = e; world = new }) → AllReady new
 turn_ready w name e new all t =
     let p = turn_parts w name e new t in
     let b = rest w.image p.actor in
     let x = takes w.image b e in
-    subst AllReady (sym p.new_is) (subst (AllRead w.image) (sym (map_put w.image w.actors x))
-    (put_reads w.image (settled w).actors (rest w.image x) all (rest_reads w.image x (takes_between w.image b e))))
+    let put = put_reads w.image (settled w).actors (rest w.image x) all (rest_reads w.image x (takes_reads w b e (turn_happens w name e new all p))) in
+    subst AllReady (sym p.new_is)
+    (subst (AllRead w.image) (sym (map_begun w.image (put_actor w.actors x) (begun w.image b e)))
+    (begun_reads w.image (map (rest w.image) (put_actor w.actors x)) (option_map (rest w.image) (begun w.image b e)) (subst (AllRead w.image) (sym (map_put w.image w.actors x)) put) (begins_ready w.image b e)))
 
 pub opening_ready : (i : Image) → AllReady (opening i)
 unfolding root

@@ -6,18 +6,20 @@ use Rattle.wedge_base.specs.Names.{same}
 use Rattle.wedge_base.specs.Journals.{asked}
 use Rattle.wedge_base.specs.declared.events.Ask.{Ask}
 use Rattle.wedge_base.specs.declared.events.Ask.TheVariants as ask
+use Rattle.wedge_base.specs.declared.events.Want.{Want}
+use Rattle.wedge_base.specs.declared.events.Want.TheVariants as want
 use Rattle.wedge_base.specs.declared.events.Event.{Event}
 use Rattle.wedge_base.specs.declared.events.LogEntry.{LogEntry}
 use Rattle.wedge_base.specs.declared.events.Turn.{Turn}
 use Rattle.sthread_life.specs.Actors.{ActorState, root}
 use Rattle.sthread_life.specs.Local.{rest}
-use Rattle.sthread_life.specs.Taking.{takes}
+use Rattle.sthread_life.specs.Taking.{asks, takes, begun}
 use Rattle.sthread_life.specs.Cells.{Cells, live_at, event_of}
-use Rattle.sthread_life.specs.Worlds.{WorldState, opening, actor_named, put_actor, turn_of, Runs}
+use Rattle.sthread_life.specs.Worlds.{WorldState, opening, actor_named, put_actor, event_at, turn_of, Runs}
 use Rattle.sthread_life.specs.Walks.{Asks, gone, IsWalk, entries_in, RootsWalk}
 use Rattle.sthread_life.proofs.Resting.{rest-name}
-use Rattle.sthread_life.proofs.Between.{turn_parts, takes_name}
-use Rattle.sthread_life.proofs.Named.{same_equal, found_name, named_put, named_put_other}
+use Rattle.sthread_life.proofs.Between.{comes_of, turn_parts, takes_name}
+use Rattle.sthread_life.proofs.Named.{same_equal, found_name, named_put, named_put_other, named_begun}
 
 -- an event is that of the ask of which it came
 asked_of : (c : Cells) (q : Ask) (e : Event) → event_of c q ≡ Some e → asked e ≡ q
@@ -31,6 +33,19 @@ asked_of c (ask.Start child) e at = absurd cc
 asked_of c (ask.Join child) e at = absurd cc
 asked_of c (ask.Enter run) e at = absurd cc
 asked_of c (ask.Leave end) e at = absurd cc
+
+-- and so is the event of what an actor wants
+asked_at : (w : WorldState) (b : ActorState) (q : Want) (e : Event) → event_at w b q ≡ Some e → asked e ≡ asks b (live_at w.cells q) q
+asked_at w b (want.Start child) e at = ap asked (comes_of w b (want.Start child) e at)
+asked_at w b (want.Join k) e at = ap asked (comes_of w b (want.Join k) e at).is
+asked_at w b (want.Slots q) e at = asked_of w.cells _ e at
+asked_at w b (want.Slot slot q) e at = asked_of w.cells _ e at
+asked_at w b (want.Fds q) e at = asked_of w.cells _ e at
+asked_at w b (want.Fd fd q) e at = asked_of w.cells _ e at
+asked_at w b (want.Lives q) e at = asked_of w.cells _ e at
+asked_at w b (want.Gate id q) e at = asked_of w.cells _ e at
+asked_at w b (want.Enter run) e at = absurd cc
+asked_at w b (want.Leave end) e at = absurd cc
 
 -- what a turn of an actor makes of it, and that it asked its event
 record OwnTurn (w : WorldState) (a : ActorState) (e : Event) (new : WorldState) : Type 0 where
@@ -50,24 +65,27 @@ own_turn w name a e new named is t =
     let put : actor_named (put_actor w.actors x) a.name ≡ Some x = subst (λ n. actor_named (put_actor w.actors x) n ≡ Some x) own (named_put w.actors x a (ap (actor_named w.actors) own ∙ named)) in
     record {
       event = subst (λ (y : ActorState). Asks (rest w.image y) e) same_actor
-          (record { want = p.want; live = live_at w.cells p.want; wants = p.wants; asks_it = asked_of w.cells _ e p.comes });
-      now = ap (λ (y : WorldState). actor_named y.actors a.name) p.new_is ∙ put ∙ ap (λ (y : ActorState). Some (takes w.image (rest w.image y) e)) same_actor;
+          (record { want = p.want; live = live_at w.cells p.want; wants = p.wants; asks_it = asked_at w (rest w.image p.actor) p.want e p.comes });
+      now = ap (λ (y : WorldState). actor_named y.actors a.name) p.new_is ∙ named_begun (put_actor w.actors x) (begun w.image b e) a.name x put
+          ∙ ap (λ (y : ActorState). Some (takes w.image (rest w.image y) e)) same_actor;
       image = ap (λ (y : WorldState). y.image) p.new_is;
     }
 
 -- a turn of another leaves it
-record OtherTurn (w : WorldState) (name : List ℕ) (new : WorldState) : Type 0 where
-  now : actor_named new.actors name ≡ actor_named w.actors name
+record OtherTurn (w : WorldState) (a : ActorState) (new : WorldState) : Type 0 where
+  now : actor_named new.actors a.name ≡ Some a
   image : new.image ≡ w.image
 
-other_turn : (w : WorldState) (doer name : List ℕ) (e : Event) (new : WorldState) → same doer name ≡ false → turn_of w doer ≡ Some (record { event = e; world = new }) → OtherTurn w name new
-other_turn w doer name e new apart t =
+other_turn : (w : WorldState) (doer : List ℕ) (a : ActorState) (e : Event) (new : WorldState) → actor_named w.actors a.name ≡ Some a → same doer a.name ≡ false
+    → turn_of w doer ≡ Some (record { event = e; world = new }) → OtherTurn w a new
+other_turn w doer a e new named apart t =
     let p = turn_parts w doer e new t in
     let b = rest w.image p.actor in
     let x = takes w.image b e in
     let own : x.name ≡ doer = takes_name w.image b e ∙ rest-name w.image p.actor ∙ found_name w.actors doer p.actor p.named in
+    let put : actor_named (put_actor w.actors x) a.name ≡ Some a = named_put_other w.actors x a.name (ap (λ n. same n a.name) own ∙ apart) ∙ named in
     record {
-      now = ap (λ (y : WorldState). actor_named y.actors name) p.new_is ∙ named_put_other w.actors x name (ap (λ n. same n name) own ∙ apart);
+      now = ap (λ (y : WorldState). actor_named y.actors a.name) p.new_is ∙ named_begun (put_actor w.actors x) (begun w.image b e) a.name a put;
       image = ap (λ (y : WorldState). y.image) p.new_is;
     }
 
@@ -102,8 +120,8 @@ actor_walks old (t ∷ ts) new a clock stamp above named run =
       leads = ap (actor_named new.actors) (sym name) ∙ walked.leads;
     })
     (λ is.
-    let o = other_turn old t.actor a.name t.event run.0 is run.1 in
-    subst (λ j. Walks j a clock (entries_in a.name (stamp + 1) ts) new) o.image (actor_walks run.0 ts new a clock (stamp + 1) (omega (arith, above)) (o.now ∙ named) run.2))
+    let o = other_turn old t.actor a t.event run.0 named is run.1 in
+    subst (λ j. Walks j a clock (entries_in a.name (stamp + 1) ts) new) o.image (actor_walks run.0 ts new a clock (stamp + 1) (omega (arith, above)) o.now run.2))
 
 pub roots_walk : RootsWalk
 unfolding root

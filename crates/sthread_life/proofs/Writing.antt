@@ -32,7 +32,7 @@ use Rattle.sthread_life.specs.declared.phase.Phase.{Phase}
 use Rattle.sthread_life.specs.declared.phase.Phase.TheVariants as phase
 use Rattle.sthread_life.specs.Actors.{ActorState, right_of, bits_of}
 use Rattle.sthread_life.specs.Local.{rest, is_running}
-use Rattle.sthread_life.specs.Taking.{wanted_at, pair}
+use Rattle.sthread_life.specs.Taking.{pair}
 use Rattle.sthread_life.specs.Cells.{Cells, held, slot_in, stream_in, cells_after}
 use Rattle.sthread_life.specs.Worlds.{WorldState, opening, turn_of, Runs}
 use Rattle.sthread_life.specs.Allowed.{may_use}
@@ -40,9 +40,10 @@ use Rattle.sthread_life.specs.Moments.{EachStep}
 use Rattle.sthread_life.specs.Written.{bytes_in, BytesFollow, stores_in, StepWritesOwn, flow_in, FlowsFollow, appends_to, StepAppendsOwn}
 use Rattle.sthread_life.specs.Laws.{RunsWriteTheirOwn}
 use Rattle.sthread_life.proofs.Resting.{rests, rest-stays}
-use Rattle.sthread_life.proofs.Between.{event_for, parts_event_is, turn_parts}
-use Rattle.sthread_life.proofs.Settling.{AllReady, named_ready, turn_ready, opening_ready}
-use Rattle.sthread_life.proofs.Meeting.{IsRequest, ReadsAs, LoadsAt}
+use Rattle.sthread_life.proofs.Between.{event_for, turn_parts}
+use Rattle.sthread_life.proofs.Happening.{Happens, Requested, Joined, Started, LastJoined, Ended}
+use Rattle.sthread_life.proofs.Settling.{AllReady, turn_happens, turn_ready, opening_ready}
+use Rattle.sthread_life.proofs.Meeting.{IsRequest}
 use Rattle.sthread_life.proofs.OneCell.{follows}
 use Rattle.sthread_life.proofs.CellChanging.{turn_cells, cells_follow}
 
@@ -80,9 +81,9 @@ stream_shows s bits bytes r = refl
 
 -- ---- what an event that an actor comes to makes of each tag and of each stream
 
-record IsFollowed (c : Cells) (b : ActorState) (q : Want) : Type 0 where
-  tags : (slot : ℕ) → bytes_in (cells_after c (event_for c b q)) slot ≡ bytes_after_event slot (bytes_in c slot) (event_for c b q)
-  streams : (fd : ℕ) → flow_in (cells_after c (event_for c b q)) fd ≡ flow_after_event fd (flow_in c fd) (event_for c b q)
+record IsFollowed (c : Cells) (e : Event) : Type 0 where
+  tags : (slot : ℕ) → bytes_in (cells_after c e) slot ≡ bytes_after_event slot (bytes_in c slot) e
+  streams : (fd : ℕ) → flow_in (cells_after c e) fd ≡ flow_after_event fd (flow_in c fd) e
 
 -- an access to a slot in which no tag lives leaves it so
 store_stays : (g : Option Segment) (offset width value : ℕ) (live : Option Live) → g ≡ None → slot_after g (slot_ask.Store offset width value live) (slot_reply_of g (slot_ask.Store offset width value live)) ≡ None
@@ -91,7 +92,7 @@ store_stays g offset width value live e = subst (λ x. slot_after x (slot_ask.St
 append_stays : (s : Option Stream) (bits : FdBits) (bytes : List ℕ) → s ≡ None → stream_after s (stream_ask.Append bits bytes) (stream_reply_of s (stream_ask.Append bits bytes)) ≡ None
 append_stays s bits bytes e = subst (λ x. stream_after x (stream_ask.Append bits bytes) (stream_reply_of x (stream_ask.Append bits bytes)) ≡ None) (sym e) refl
 
-want_follows : (N : ℕ → Type 0) (c : Cells) (b : ActorState) (q : Want) → IsRequest N b q → IsFollowed c b q
+want_follows : (N : ℕ → Type 0) (c : Cells) (b : ActorState) (q : Want) → IsRequest N b q → IsFollowed c (event_for c b q)
 want_follows N c b (want.Slot s (slot_want.Load offset width)) own =
     let q = slot_ask.Load offset width (pair b (option_map (λ g. g.tag) (slot_in c s))) in
     let r = slot_reply_of (slot_in c s) q in
@@ -114,13 +115,15 @@ want_follows N c b (want.Fd fd (stream_ask.Append bits bytes)) own =
       tags = λ slot. refl;
       streams = λ n. follows flow_of (λ x. flow_by x q r) c.streams fd n (stream_in c fd) (stream_after (stream_in c fd) q r) _ refl refl (append_stays (stream_in c fd) bits bytes) (stream_shows (stream_in c fd) bits bytes r);
     }
+want_follows N c b (want.Lives lives_ask.Claim) own = record { tags = λ slot. refl; streams = λ fd. refl }
 want_follows N c b q own = absurd own
 
-rest_follows : (i : Image) (c : Cells) (b : ActorState) (ph : Phase) (q : Want) → ReadsAs i b ph → wanted_at ph ≡ Some q → IsFollowed c b q
-rest_follows i c b phase.Running q reads e = absurd cc
-rest_follows i c b (phase.Within x) q reads e = let is : x ≡ q = cc in subst (IsFollowed c b) is (want_follows (LoadsAt i b.hart reads.0 reads.1) c b x reads.3)
-rest_follows i c b (phase.Ending x) q reads e = let is : want.Lives (lives_ask.Release x) ≡ q = cc in subst (IsFollowed c b) is (record { tags = λ slot. refl; streams = λ fd. refl })
-rest_follows i c b (phase.Ended x) q reads e = absurd cc
+event_follows : (w : WorldState) (b : ActorState) (e : Event) → Happens w b e → IsFollowed w.cells e
+event_follows w b e (Requested r) = subst (IsFollowed w.cells) (sym r.is) (want_follows _ w.cells b r.want r.own)
+event_follows w b e (Joined j) = subst (IsFollowed w.cells) (sym j.join.is) (record { tags = λ slot. refl; streams = λ fd. refl })
+event_follows w b e (Started s) = subst (IsFollowed w.cells) (sym s.is) (record { tags = λ slot. refl; streams = λ fd. refl })
+event_follows w b e (LastJoined j) = subst (IsFollowed w.cells) (sym j.join.is) (record { tags = λ slot. refl; streams = λ fd. refl })
+event_follows w b e (Ended f) = subst (IsFollowed w.cells) (sym f.is) (record { tags = λ slot. refl; streams = λ fd. refl })
 
 record TurnFollows (w : WorldState) (e : Event) (new : WorldState) : Type 0 where
   tags : (slot : ℕ) → bytes_in new.cells slot ≡ bytes_after_event slot (bytes_in w.cells slot) e
@@ -129,13 +132,11 @@ record TurnFollows (w : WorldState) (e : Event) (new : WorldState) : Type 0 wher
 turn_follows : (w : WorldState) (t : Turn) (new : WorldState) → AllReady w → turn_of w t.actor ≡ Some (record { event = t.event; world = new }) → TurnFollows w t.event new
 turn_follows w t new all e =
     let p = turn_parts w t.actor t.event new e in
-    let b = rest w.image p.actor in
-    let is = parts_event_is w t.actor t.event new p in
     let cells = turn_cells w t new e in
-    let f = rest_follows w.image w.cells b b.phase p.want (named_ready w t.actor p.actor all p.named) p.wants in
+    let f = event_follows w (rest w.image p.actor) t.event (turn_happens w t.actor t.event new all p) in
     record {
-      tags = λ slot. ap (λ (c : Cells). bytes_in c slot) cells ∙ subst (λ x. bytes_in (cells_after w.cells x) slot ≡ bytes_after_event slot (bytes_in w.cells slot) x) (sym is) (f.tags slot);
-      streams = λ fd. ap (λ (c : Cells). flow_in c fd) cells ∙ subst (λ x. flow_in (cells_after w.cells x) fd ≡ flow_after_event fd (flow_in w.cells fd) x) (sym is) (f.streams fd);
+      tags = λ slot. ap (λ (c : Cells). bytes_in c slot) cells ∙ f.tags slot;
+      streams = λ fd. ap (λ (c : Cells). flow_in c fd) cells ∙ f.streams fd;
     }
 
 bytes_follow : (old : WorldState) (turns : List Turn) (new : WorldState) → AllReady old → Runs old turns new → BytesFollow old.cells turns new.cells
@@ -185,23 +186,23 @@ append_owned b n fd bits bytes (Some s) own e =
     let both = appended_by n fd bits bytes s.live bits.append s.kind e in
     subst (λ m. (bits_of b m).append ≡ true) (eqb-true n fd both.0) (subst (λ x. x.append ≡ true) own both.1)
 
-record IsOwn (c : Cells) (b : ActorState) (q : Want) : Type 0 where
-  stores : (slot : ℕ) → stores_in slot (event_for c b q) ≡ true → IsOwned c b slot
-  appends : (fd : ℕ) → appends_to fd (event_for c b q) ≡ true → (bits_of b fd).append ≡ true
+record IsOwn (c : Cells) (b : ActorState) (e : Event) : Type 0 where
+  stores : (slot : ℕ) → stores_in slot e ≡ true → IsOwned c b slot
+  appends : (fd : ℕ) → appends_to fd e ≡ true → (bits_of b fd).append ≡ true
 
-want_own : (N : ℕ → Type 0) (c : Cells) (b : ActorState) (q : Want) → IsRequest N b q → IsOwn c b q
+want_own : (N : ℕ → Type 0) (c : Cells) (b : ActorState) (q : Want) → IsRequest N b q → IsOwn c b (event_for c b q)
 want_own N c b (want.Slot s (slot_want.Load offset width)) own = record { stores = λ slot e. absurd (true≢false (sym e)); appends = λ fd e. absurd (true≢false (sym e)) }
 want_own N c b (want.Slot s (slot_want.Store offset width value)) own = record { stores = λ slot e. store_owned c b s offset width value slot (slot_in c s) refl e; appends = λ fd e. absurd (true≢false (sym e)) }
 want_own N c b (want.Fd n (stream_ask.Append bits bytes)) own = record { stores = λ slot e. absurd (true≢false (sym e)); appends = λ fd e. append_owned b n fd bits bytes (stream_in c n) own.0 e }
+want_own N c b (want.Lives lives_ask.Claim) own = record { stores = λ slot e. absurd (true≢false (sym e)); appends = λ fd e. absurd (true≢false (sym e)) }
 want_own N c b q own = absurd own
 
-rest_own : (i : Image) (c : Cells) (b : ActorState) (ph : Phase) (q : Want) → ReadsAs i b ph → wanted_at ph ≡ Some q → IsOwn c b q
-rest_own i c b phase.Running q reads e = absurd cc
-rest_own i c b (phase.Within x) q reads e = let is : x ≡ q = cc in subst (IsOwn c b) is (want_own (LoadsAt i b.hart reads.0 reads.1) c b x reads.3)
-rest_own i c b (phase.Ending x) q reads e =
-    let is : want.Lives (lives_ask.Release x) ≡ q = cc in
-    subst (IsOwn c b) is (record { stores = λ slot h. absurd (true≢false (sym h)); appends = λ fd h. absurd (true≢false (sym h)) })
-rest_own i c b (phase.Ended x) q reads e = absurd cc
+event_own : (w : WorldState) (b : ActorState) (e : Event) → Happens w b e → IsOwn w.cells b e
+event_own w b e (Requested r) = subst (IsOwn w.cells b) (sym r.is) (want_own _ w.cells b r.want r.own)
+event_own w b e (Joined j) = subst (IsOwn w.cells b) (sym j.join.is) (record { stores = λ slot h. absurd (true≢false (sym h)); appends = λ fd h. absurd (true≢false (sym h)) })
+event_own w b e (Started s) = subst (IsOwn w.cells b) (sym s.is) (record { stores = λ slot h. absurd (true≢false (sym h)); appends = λ fd h. absurd (true≢false (sym h)) })
+event_own w b e (LastJoined j) = subst (IsOwn w.cells b) (sym j.join.is) (record { stores = λ slot h. absurd (true≢false (sym h)); appends = λ fd h. absurd (true≢false (sym h)) })
+event_own w b e (Ended f) = subst (IsOwn w.cells b) (sym f.is) (record { stores = λ slot h. absurd (true≢false (sym h)); appends = λ fd h. absurd (true≢false (sym h)) })
 
 -- an actor keeps its rights up to where it rests
 record SameRights (a b : ActorState) : Type 0 where
@@ -225,16 +226,14 @@ record StepOwns (w : WorldState) (t : Turn) (new : WorldState) : Type 0 where
 step_owns : (w : WorldState) (t : Turn) (new : WorldState) → AllReady w → turn_of w t.actor ≡ Some (record { event = t.event; world = new }) → StepOwns w t new
 step_owns w t new all e =
     let p = turn_parts w t.actor t.event new e in
-    let b = rest w.image p.actor in
-    let is = parts_event_is w t.actor t.event new p in
-    let own = rest_own w.image w.cells b b.phase p.want (named_ready w t.actor p.actor all p.named) p.wants in
+    let own = event_own w (rest w.image p.actor) t.event (turn_happens w t.actor t.event new all p) in
     let same = rest_rights w.image p.actor _ refl in
     record {
       stores = λ slot stored.
-          let o = own.stores slot (subst (λ x. stores_in slot x ≡ true) is stored) in
+          let o = own.stores slot stored in
           (o.0, o.1, (p.actor, p.named, ap (λ r. at_least r right.ReadWrite) (sym (same.rights o.0.tag)) ∙ o.2));
       appends = λ fd appended.
-          let o = own.appends fd (subst (λ x. appends_to fd x ≡ true) is appended) in
+          let o = own.appends fd appended in
           (p.actor, p.named, ap (λ x. x.append) (sym (same.bits fd)) ∙ o);
     }
 

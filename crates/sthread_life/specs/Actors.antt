@@ -1,5 +1,5 @@
 -- Actors: their records, what the root begins as, and how an answer, a refusal or an end changes one.
-use Rattle.std.specs.Prelude.{ℕ, ◌+◌, ◌-◌, Bool, List, [], ◌∷◌, ◌++◌, replicate, Option}
+use Rattle.std.specs.Prelude.{ℕ, ◌+◌, ◌-◌, Bool, List, [], ◌∷◌, ◌++◌, replicate, Option, Some}
 use Rattle.wedge_base.specs.Bytes.{zeros}
 use Rattle.wedge_base.specs.Names.{root_name}
 use Rattle.wedge_base.specs.Images.{Image, private_base, private_size}
@@ -14,11 +14,13 @@ use Rattle.wedge_base.specs.declared.rights.Code.TheVariants as code
 use Rattle.wedge_base.specs.declared.rights.End.{End}
 use Rattle.wedge_base.specs.declared.events.Want.{Want}
 use Rattle.rv_hart.specs.declared.Hart.{Hart}
-use Rattle.rv_hart.specs.Local.{put, answered}
+use Rattle.rv_hart.specs.Local.{put, answered, answered_with}
+use Rattle.sthread_life.specs.Children.{Children}
 use Rattle.sthread_life.specs.declared.phase.Phase.{Phase}
 use Rattle.sthread_life.specs.declared.phase.Phase.TheVariants as phase
 
--- an actor: its sheet, what it made, its drafts, its registers and private memory, its fuel, and what it is at
+-- an actor: its sheet, what it made, its drafts, its registers and private memory, its fuel, its denials, how many actors it
+-- started and those of them that it has not joined, and what it is at
 pub record ActorState : Type 0 where
   pub name : List ℕ
   pub compartment : ℕ
@@ -29,6 +31,8 @@ pub record ActorState : Type 0 where
   pub memory : List MemoryRange
   pub fuel : ℕ
   pub denials : List DenialAt
+  pub starts : ℕ
+  pub unjoined : Children
   pub phase : Phase
 
 -- private memory as an actor begins: stack and heap, all zero, and the image's data as written in it
@@ -51,6 +55,8 @@ root i = record {
   memory = pristine i;
   fuel = i.fuel;
   denials = [];
+  starts = 0;
+  unjoined = [];
   phase = phase.Running;
 }
 
@@ -74,9 +80,12 @@ code_number code.Deep = 4
 code_number code.NoSuch = 5
 code_number code.Bad = 6
 
--- a service call answered with a value, or refused with a code
+-- a service call answered with a value, or with two, or refused with a code
 abbrev pub answers : ActorState → ℕ → ActorState
 answers a value = record a { hart = answered a.hart value (code_number code.Ok); phase = phase.Running }
+
+abbrev pub answers_more : ActorState → ℕ → ℕ → ActorState
+answers_more a value more = record a { hart = answered_with a.hart value (code_number code.Ok) (Some more); phase = phase.Running }
 
 abbrev pub refuses : ActorState → Code → ActorState
 refuses a c = record a { hart = answered a.hart 0 (code_number c); phase = phase.Running }
@@ -112,6 +121,8 @@ pub record ActorRecord : Type 0 where
   pub hart : Hart
   pub fuel : ℕ
   pub denials : List DenialAt
+  pub starts : ℕ
+  pub unjoined : Children
   pub phase : Phase
   pub stopped : Bool
 
@@ -127,5 +138,7 @@ whole r memory = record {
   memory = memory;
   fuel = r.fuel;
   denials = r.denials;
+  starts = r.starts;
+  unjoined = r.unjoined;
   phase = r.phase;
 }

@@ -1,8 +1,9 @@
 -- What a sheet allows: the grant that a request lacks, what refuses it besides, and what it leaves where it
 -- is done and where it is denied. Nothing here calls the step.
-use Rattle.std.specs.Prelude.{◌≡◌, ℕ, ◌+◌, ◌-◌, ◌%◌, ◌^◌, Bool, true, false, List, [], ◌∷◌, ◌++◌, slice_range, slice_set, Option, Some, None, if◌then◌else◌}
+use Rattle.std.specs.Prelude.{◌≡◌, ℕ, ◌+◌, ◌-◌, ◌%◌, ◌^◌, Bool, true, false, not, ◌||◌, List, [], ◌∷◌, ◌++◌, length, nat_lt, slice_range, slice_set, Option, Some, None, if◌then◌else◌}
 use Rattle.wedge_base.specs.Bytes.{number_of}
 use Rattle.wedge_base.specs.Rights.{at_least, append_bit}
+use Rattle.wedge_base.specs.Sheets.{first_excess}
 use Rattle.wedge_base.specs.declared.rights.Denial.{Denial}
 use Rattle.wedge_base.specs.declared.rights.Denial.TheVariants as denial
 use Rattle.wedge_base.specs.declared.rights.StreamKind.{StreamKind}
@@ -13,6 +14,8 @@ use Rattle.wedge_base.specs.declared.rights.End.TheVariants as end_
 use Rattle.wedge_base.specs.declared.outcome.DenialAt.{DenialAt}
 use Rattle.wedge_base.specs.declared.events.Event.{Event}
 use Rattle.wedge_base.specs.declared.events.Event.TheVariants as event
+use Rattle.wedge_base.specs.declared.events.Want.TheVariants as want
+use Rattle.wedge_base.specs.declared.cells.LivesAsk.TheVariants as lives_ask
 use Rattle.wedge_base.specs.declared.cells.Live.{Live}
 use Rattle.wedge_base.specs.declared.cells.SlotAsk.TheVariants as slot_ask
 use Rattle.wedge_base.specs.declared.cells.SlotReply.TheVariants as slot_reply
@@ -22,7 +25,7 @@ use Rattle.rv_hart.specs.declared.Hart.{Hart}
 use Rattle.rv_hart.specs.Local.{reg, put, extended}
 use Rattle.sthread_life.specs.declared.phase.Phase.TheVariants as phase
 use Rattle.sthread_life.specs.Actors.{ActorState, right_of, bits_of}
-use Rattle.sthread_life.specs.Requests.{Access, Request, Loads, Stores, Appends}
+use Rattle.sthread_life.specs.Requests.{Access, Request, Loads, Stores, Appends, Creates}
 
 -- whether a tag may be used as asked: a copy is never enough for the tag itself
 abbrev pub may_use : ActorState → ℕ → Right → Bool
@@ -33,8 +36,10 @@ abbrev pub lacks : ActorState → Request → Option Denial
 lacks a (Loads x rd s) = if may_use a x.living.tag right.Read then None else Some (denial.Tag x.living.tag right.Read)
 lacks a (Stores x value) = if may_use a x.living.tag right.ReadWrite then None else Some (denial.Tag x.living.tag right.ReadWrite)
 lacks a (Appends fd s bytes) = if (bits_of a fd).append then None else Some (denial.Fd fd append_bit)
+lacks a (Creates d) = first_excess a.sheet a.made d
 
--- whether one that is allowed is refused for a cause that stands behind the denial: a source takes no bytes
+-- whether one that is allowed is refused for a cause that stands behind the denial: a source takes no bytes; a name has at most
+-- 32 parts, and a child is given no more fuel than there is
 abbrev pub is_source : StreamKind → Bool
 is_source kind.Source = true
 is_source kind.Append = false
@@ -43,15 +48,17 @@ abbrev pub is_refused : ActorState → Request → Bool
 is_refused a (Loads x rd s) = false
 is_refused a (Stores x value) = false
 is_refused a (Appends fd s bytes) = is_source s.kind
+is_refused a (Creates d) = not (nat_lt (length a.name) 32) || nat_lt a.fuel (reg a.hart.regs 13)
 
 -- Where a request is checked: at the event to which its instruction comes, or in the instruction itself.
 abbrev pub is_checked_at_event : Request → Bool
 is_checked_at_event (Loads x rd s) = true
 is_checked_at_event (Stores x value) = true
 is_checked_at_event (Appends fd s bytes) = true
+is_checked_at_event (Creates d) = false
 
 -- What a request leaves that is done: its event, and its actor at the next word, with what was loaded or
--- with the call's answer and code 0.
+-- with the call's answer and code 0. A child is to be started where a life is left for it: its starter comes to claim one.
 abbrev pub next_word : ActorState → ℕ
 next_word a = (a.hart.pc + 4) % 2 ^ 32
 
@@ -74,6 +81,7 @@ IsDone a (Stores x value) e now =
 IsDone a (Appends fd s bytes) e now =
     (e ≡ Some (event.Fd fd (stream_ask.Append (bits_of a fd) bytes) stream_reply.Appended))
     × (now ≡ Some (record a { hart = answered a (reg a.hart.regs 12) 0; fuel = a.fuel - reg a.hart.regs 12; phase = phase.Running }))
+IsDone a (Creates d) e now = (e ≡ None) × (now ≡ Some (record a { phase = phase.Within (want.Lives lives_ask.Claim) }))
 
 -- What a denial leaves: it stands last among the actor's, with the pc of the instruction; a load or store
 -- ends its actor, and a call answers 0 with the code 1.
@@ -90,3 +98,4 @@ abbrev pub denied : ActorState → Request → Denial → ActorState
 denied a (Loads x rd s) d = ended_denied a d
 denied a (Stores x value) d = ended_denied a d
 denied a (Appends fd s bytes) d = answered_denied a d
+denied a (Creates draft) d = answered_denied a d

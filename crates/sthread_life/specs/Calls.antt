@@ -3,8 +3,11 @@ use Rattle.std.specs.Prelude.{ℕ, ◌==◌, Bool, true, false, not, nat_lt, nat
 use Rattle.wedge_base.specs.Images.{Image}
 use Rattle.wedge_base.specs.Services.{service_number}
 use Rattle.wedge_base.specs.declared.service.Service.TheVariants as service
-use Rattle.wedge_base.specs.Sheets.{Draft, empty_draft, takes_tag, takes_fd, with_tag, with_fd}
+use Rattle.wedge_base.specs.Names.{most_parts}
+use Rattle.wedge_base.specs.Sheets.{Draft, empty_draft, takes_tag, takes_fd, with_tag, with_fd, first_excess}
 use Rattle.wedge_base.specs.Streams.{most_fds}
+use Rattle.wedge_base.specs.declared.cells.LivesAsk.TheVariants as lives_ask
+use Rattle.wedge_base.specs.declared.rights.Denial.{Denial}
 use Rattle.wedge_base.specs.declared.rights.FdBits.{FdBits}
 use Rattle.wedge_base.specs.declared.rights.Right.{Right}
 use Rattle.wedge_base.specs.declared.rights.Right.TheVariants as right
@@ -12,8 +15,10 @@ use Rattle.wedge_base.specs.declared.rights.Code.TheVariants as code
 use Rattle.wedge_base.specs.declared.rights.End.TheVariants as end_
 use Rattle.wedge_base.specs.declared.events.Want.TheVariants as want
 use Rattle.wedge_base.specs.declared.cells.StreamAsk.TheVariants as stream_ask
+use Rattle.image_form.specs.Rules.{begins_at}
 use Rattle.rv_hart.specs.Local.{reg}
-use Rattle.sthread_life.specs.Actors.{ActorState, bits_of, answers, refuses, ends, wants}
+use Rattle.sthread_life.specs.Actors.{ActorState, bits_of, answers, refuses, denies, ends, wants}
+use Rattle.sthread_life.specs.Children.{is_child}
 use Rattle.sthread_life.specs.Private.{fits_read, buffer}
 
 -- the arguments of a call, and its number
@@ -25,6 +30,9 @@ a1 a = reg a.hart.regs 11
 
 abbrev pub a2 : ActorState → ℕ
 a2 a = reg a.hart.regs 12
+
+abbrev pub a3 : ActorState → ℕ
+a3 a = reg a.hart.regs 13
 
 abbrev pub a7 : ActorState → ℕ
 a7 a = reg a.hart.regs 17
@@ -40,6 +48,34 @@ fd_append i a =
     else if nat_lt a.fuel (a2 a) then refuses a code.FuelShort
     else if nat_le most_fds (a0 a) then refuses a code.NoSuch
     else wants a (want.Fd (a0 a) (stream_ask.Append (bits_of a (a0 a)) (buffer i a (a1 a) (a2 a))))
+
+-- ---- sthreads
+
+abbrev pub is_procedure : Image → ℕ → Bool
+is_procedure i address = begins_at i.procedures address
+
+-- sthread_create: draft, entry, argument, fuel. Behind the denial come a name without room, too little fuel, and
+-- the claim of a life.
+abbrev pub create_allowed : ActorState → ActorState
+create_allowed a =
+    if nat_le most_parts (length a.name) then refuses a code.Deep
+    else if nat_lt a.fuel (a3 a) then refuses a code.FuelShort
+    else wants a (want.Lives lives_ask.Claim)
+
+abbrev pub create_checked : ActorState → Option Denial → ActorState
+create_checked a (Some d) = denies a d
+create_checked a None = create_allowed a
+
+abbrev pub create_with : Image → ActorState → Option Draft → ActorState
+create_with i a None = refuses a code.NoSuch
+create_with i a (Some d) = if not (is_procedure i (a1 a)) then refuses a code.Bad else create_checked a (first_excess a.sheet a.made d)
+
+abbrev pub create : Image → ActorState → ActorState
+create i a = create_with i a (slice_get a.drafts (a0 a))
+
+-- sthread_join: child
+abbrev pub join : ActorState → ActorState
+join a = if is_child a.unjoined (a0 a) then wants a (want.Join (a0 a)) else refuses a code.NoSuch
 
 -- ---- drafts: these calls are no events, and nothing is checked before a draft is used
 
@@ -108,5 +144,7 @@ draft_call a n =
 unfoldable pub serves : Image → ActorState → ℕ → ActorState
 serves i a n =
     if n == service_number service.Exit then exit a
+    else if n == service_number service.SthreadCreate then create i a
+    else if n == service_number service.SthreadJoin then join a
     else if n == service_number service.FdAppend then fd_append i a
     else draft_call a n

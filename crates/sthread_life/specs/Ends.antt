@@ -28,6 +28,7 @@ use Rattle.sthread_life.specs.Moments.{with_actor}
 abbrev pub end_of : Phase → Option End
 end_of phase.Running = None
 end_of (phase.Within q) = None
+end_of phase.Starting = None
 end_of (phase.Ending e) = Some e
 end_of (phase.Ended e) = Some e
 

@@ -1,5 +1,5 @@
 -- What holds of every run.
-use Rattle.std.specs.Prelude.{◌≡◌, ℕ, false, List, [], ◌∷◌, Option}
+use Rattle.std.specs.Prelude.{◌≡◌, ◌≤◌, ℕ, length, List, [], ◌∷◌, Option, Some}
 use Rattle.wedge_base.specs.Images.{Image}
 use Rattle.wedge_base.specs.Slots.{slot_opening}
 use Rattle.wedge_base.specs.Streams.{stream_opening}
@@ -8,7 +8,10 @@ use Rattle.wedge_base.specs.declared.events.Event.{Event}
 use Rattle.wedge_base.specs.declared.events.Turn.{Turn}
 use Rattle.sthread_life.specs.Actors.{ActorState}
 use Rattle.sthread_life.specs.Cells.{opening_cells, slot_in, stream_in}
-use Rattle.sthread_life.specs.Worlds.{WorldState, opening, Runs}
+use Rattle.sthread_life.specs.Worlds.{WorldState, opening, actor_named, Runs}
+use Rattle.sthread_life.specs.Names.{AreDistinct}
+use Rattle.sthread_life.specs.Fuel.{fuel_of, most_turns, TakesItsUnits}
+use Rattle.sthread_life.specs.Bounds.{IsWithinRoot}
 use Rattle.sthread_life.specs.Written.{BytesFollow, StepWritesOwn, FlowsFollow, StepAppendsOwn}
 use Rattle.sthread_life.specs.CellHistories.{CellsFollow}
 use Rattle.sthread_life.specs.Moments.{EachStep, EachMoment, IsMediated}
@@ -16,13 +19,13 @@ use Rattle.sthread_life.specs.Ends.{EndsByCause, GoesOn}
 use Rattle.sthread_life.specs.Refusals.{RefusesByRow}
 use Rattle.sthread_life.specs.Paying.{Pays}
 use Rattle.sthread_life.specs.Drafting.{EditsDrafts}
+use Rattle.sthread_life.specs.Families.{KeepsFamily}
 use Rattle.sthread_life.specs.Remembering.{Remembers}
-use Rattle.wedge_base.specs.Names.{same}
 use Rattle.wedge_base.specs.Directories.{slots_opening, fds_opening}
 
 -- what holds of a moment: its request is mediated, a call is refused by its row, an actor ends by its cause, it
--- goes on as it should, it pays what the moment costs, its drafts are as its calls made them, and its private bytes are those that it
--- stored
+-- goes on as it should, it pays what the moment costs, its drafts are as its calls made them, its private bytes are those that it
+-- stored, and it starts and joins its own children alone, none of which has more rights than it has
 pub record IsLawful (old : WorldState) (a : ActorState) (e : Option Event) (new : WorldState) : Type 0 where
   pub mediated : IsMediated old a e new
   pub ends : EndsByCause old a e new
@@ -31,6 +34,7 @@ pub record IsLawful (old : WorldState) (a : ActorState) (e : Option Event) (new 
   pub pays : Pays old a e new
   pub edits : EditsDrafts old a e new
   pub remembers : Remembers old a e new
+  pub family : KeepsFamily old a e new
 
 -- each moment of each run is lawful
 abbrev pub MomentsAreLawful : Type 0
@@ -60,13 +64,19 @@ pub record CellsOpen (i : Image) : Type 0 where
   pub lives : (opening_cells i).lives ≡ lives_opening
 
 -- no two actors of a world have one name
-abbrev pub IsNew : List ℕ → List ActorState → Type 0
-IsNew name [] = Unit {0}
-IsNew name (a ∷ as_) = (same a.name name ≡ false) × IsNew name as_
-
-abbrev pub AreDistinct : List ActorState → Type 0
-AreDistinct [] = Unit {0}
-AreDistinct (a ∷ as_) = IsNew a.name as_ × AreDistinct as_
-
 abbrev pub NamesAreDistinct : Type 0
 NamesAreDistinct = (i : Image) (turns : List Turn) (new : WorldState) → Runs (opening i) turns new → AreDistinct new.actors
+
+-- in each run the fuel of the actors that are not joined is in sum that of the image, and each turn lowers the sum by
+-- exactly the units that it takes
+abbrev pub FuelIsKept : Type 0
+FuelIsKept = (i : Image) (turns : List Turn) (new : WorldState) → Runs (opening i) turns new → (fuel_of (opening i) ≡ i.fuel) × EachStep TakesItsUnits (opening i) turns
+
+-- in each world of a run no actor has a right on a declared tag, or bits on a declared descriptor, that the root did not begin
+-- with
+abbrev pub RootBounds : Type 0
+RootBounds = (i : Image) (turns : List Turn) (new : WorldState) → Runs (opening i) turns new → (name : List ℕ) (a : ActorState) → actor_named new.actors name ≡ Some a → IsWithinRoot i a
+
+-- so every run ends: it has at most so many turns
+abbrev pub RunsEnd : Type 0
+RunsEnd = (i : Image) (turns : List Turn) (new : WorldState) → Runs (opening i) turns new → length turns ≤ most_turns i.fuel

@@ -1,3 +1,4 @@
+pub mod Children
 pub mod Actors
 pub mod Private
 pub mod Below
@@ -12,6 +13,7 @@ pub mod Moments
 pub mod Ends
 pub mod Refusals
 pub mod Paying
+pub mod Families
 pub mod Drafting
 pub mod Remembering
 pub mod Outcomes
@@ -19,5 +21,9 @@ pub mod Between
 pub mod Written
 pub mod CellHistories
 pub mod Walks
+pub mod Names
+pub mod Fuel
+pub mod FamilyTrees
+pub mod Bounds
 pub mod Laws
 pub mod Resting

@@ -1,6 +1,7 @@
 -- The local step: one instruction of an actor, and all of them up to the next shared event.
 use Rattle.std.specs.Prelude.{ℕ, zero, suc, ◌+◌, Bool, true, false, Option, Some, None}
 use Rattle.wedge_base.specs.Images.{Image, fetch}
+use Rattle.wedge_base.specs.declared.rights.End.{End}
 use Rattle.wedge_base.specs.declared.rights.End.TheVariants as end_
 use Rattle.rv_isa.specs.declared.Instr.{Instr}
 use Rattle.rv_isa.specs.Table.{decode}
@@ -51,6 +52,11 @@ is_running p = false
 abbrev pub has_ended : Phase → Bool
 has_ended (phase.Ended e) = true
 has_ended p = false
+
+-- the end of an actor that has ended
+abbrev pub end_reached : Phase → Option End
+end_reached (phase.Ended e) = Some e
+end_reached p = None
 
 -- at most so many instructions, while the actor runs
 unfoldable pub run_local : Image → ℕ → ActorState → ActorState

@@ -1,6 +1,7 @@
 -- What each moment costs its actor in fuel, read off the text, the registers and the reply: a second statement, beside the
 -- step. An instruction costs a unit, where there is one to take; an append that took place costs a unit for each byte of
--- its length, the call's third argument; nothing else costs anything.
+-- its length, the call's third argument; nothing else costs anything. A start gives fuel to the child, as the call's fourth
+-- argument says, and a join brings back what the child has left.
 use Rattle.std.specs.Prelude.{◌≡◌, ◌+◌, ℕ, zero, suc, Option, Some, None, IsSomeAnd}
 use Rattle.wedge_base.specs.Images.{Image, fetch}
 use Rattle.wedge_base.specs.declared.events.Event.{Event}
@@ -28,6 +29,15 @@ abbrev pub cost : Image → ActorState → Option Event → ℕ
 cost i a None = cost_at i a
 cost i a (Some e) = cost_by a e
 
--- the actor pays exactly that
+-- what is given to a child, and what comes back from one
+abbrev pub given_by : ActorState → Option Event → ℕ
+given_by a (Some (event.Start child)) = reg a.hart.regs 13
+given_by a e = 0
+
+abbrev pub brought_by : Option Event → ℕ
+brought_by (Some (event.Join child end fuel)) = fuel
+brought_by e = 0
+
+-- the actor pays exactly what the moment costs, gives exactly what goes to a child, and gets exactly what comes back
 abbrev pub Pays : WorldState → ActorState → Option Event → WorldState → Type 0
-Pays old a e new = IsSomeAnd (actor_named new.actors a.name) (λ b. b.fuel + cost old.image a e ≡ a.fuel)
+Pays old a e new = IsSomeAnd (actor_named new.actors a.name) (λ b. b.fuel + cost old.image a e + given_by a e ≡ a.fuel + brought_by e)

@@ -2,10 +2,12 @@
 -- its event, before or behind it. A second statement, beside the calls; the codes are numbers, as programs
 -- see them.
 use Rattle.std.specs.Prelude.{◌≡◌, ℕ, zero, suc, ◌==◌, not, ◌||◌, List, length, slice_get, Option, Some, None, nat_le, nat_lt, if◌then◌else◌}
+use Rattle.std.specs.List.{list_any}
 use Rattle.wedge_base.specs.Images.{Image, fetch}
-use Rattle.wedge_base.specs.Sheets.{Draft, takes_tag, takes_fd}
+use Rattle.wedge_base.specs.Sheets.{Draft, takes_tag, takes_fd, first_excess}
 use Rattle.wedge_base.specs.Streams.{Stream, most_fds}
 use Rattle.wedge_base.specs.declared.events.Event.{Event}
+use Rattle.wedge_base.specs.declared.rights.Denial.{Denial}
 use Rattle.rv_isa.specs.declared.Instr.{Instr}
 use Rattle.rv_isa.specs.Table.{decode}
 use Rattle.rv_hart.specs.declared.Need.{Need}
@@ -15,6 +17,7 @@ use Rattle.sthread_life.specs.declared.phase.Phase.{Phase}
 use Rattle.sthread_life.specs.declared.phase.Phase.TheVariants as phase
 use Rattle.sthread_life.specs.Actors.{ActorState, bits_of}
 use Rattle.sthread_life.specs.Cells.{Cells, stream_in}
+use Rattle.sthread_life.specs.Children.{is_child}
 use Rattle.sthread_life.specs.Worlds.{WorldState}
 use Rattle.sthread_life.specs.Requests.{bytes_at}
 use Rattle.sthread_life.specs.Allowed.{is_source, answered}
@@ -25,6 +28,9 @@ fuel_short = 3
 
 abbrev pub full : ℕ
 full = 2
+
+abbrev pub deep : ℕ
+deep = 4
 
 abbrev pub no_such : ℕ
 no_such = 5
@@ -41,6 +47,23 @@ append_refusal a fd n (Some bytes) =
     if not (nat_le n a.fuel) then Some fuel_short
     else if not (nat_lt fd most_fds) then Some no_such
     else None
+
+-- sthread_create: no such draft; no procedure at the entry; and where every grant of the draft may be given, a name that has 32
+-- parts already, or less fuel than the child is to have
+abbrev pub start_refusal : ActorState → Option Denial → Option ℕ
+start_refusal a (Some d) = None
+start_refusal a None =
+    if not (nat_lt (length a.name) 32) then Some deep
+    else if nat_lt a.fuel (reg a.hart.regs 13) then Some fuel_short
+    else None
+
+abbrev pub create_refusal : Image → ActorState → ℕ → Option Draft → Option ℕ
+create_refusal i a entry None = Some no_such
+create_refusal i a entry (Some d) = if not (list_any (λ p. p.address == entry) i.procedures) then Some bad else start_refusal a (first_excess a.sheet a.made d)
+
+-- sthread_join: a number that is of no child to be joined
+abbrev pub join_refusal : ActorState → ℕ → Option ℕ
+join_refusal a k = if is_child a.unjoined k then None else Some no_such
 
 -- sc_new: 64 drafts are there
 abbrev pub new_refusal : List Draft → Option ℕ
@@ -67,6 +90,8 @@ draft_refusal ds regs n =
 abbrev pub call_refusal : Image → ActorState → List ℕ → ℕ → Option ℕ
 call_refusal i a regs n =
     if n == 0 then None
+    else if n == 1 then create_refusal i a (reg regs 11) (slice_get a.drafts (reg regs 10))
+    else if n == 2 then join_refusal a (reg regs 10)
     else if n == 16 then append_refusal a (reg regs 10) (reg regs 12) (bytes_at i a (reg regs 11) (reg regs 12))
     else draft_refusal a.drafts regs n
 
@@ -96,8 +121,15 @@ stream_refusal a fd (Some s) =
     else if is_source s.kind then Some bad
     else None
 
+-- sthread_create: 256 sthreads live, the root among them
+abbrev pub life_refusal : ℕ → Option ℕ
+life_refusal lives = if nat_lt lives 256 then None else Some full
+
 abbrev pub call_refusal_after : Cells → ActorState → List ℕ → ℕ → Option ℕ
-call_refusal_after c a regs n = if n == 16 then stream_refusal a (reg regs 10) (stream_in c (reg regs 10)) else None
+call_refusal_after c a regs n =
+    if n == 1 then life_refusal c.lives
+    else if n == 16 then stream_refusal a (reg regs 10) (stream_in c (reg regs 10))
+    else None
 
 abbrev pub need_refusal_after : Cells → ActorState → Need → Option ℕ
 need_refusal_after c a need.Call = call_refusal_after c a a.hart.regs (reg a.hart.regs 17)

@@ -1,9 +1,11 @@
 -- The requests that a sheet may forbid, and which of them an instruction makes: read off its word, the
 -- registers, private memory and what lives in the cells. Nothing here calls the step, so that what the step
 -- makes of a request is a theorem.
-use Rattle.std.specs.Prelude.{ℕ, ◌%◌, ◌==◌, Bool, not, ◌&&◌, List, [], length, Option, Some, None, is_some, nat_le, nat_lt, if◌then◌else◌}
+use Rattle.std.specs.Prelude.{ℕ, ◌%◌, ◌==◌, Bool, not, ◌&&◌, List, [], length, slice_get, Option, Some, None, is_some, nat_le, nat_lt, if◌then◌else◌}
+use Rattle.std.specs.List.{list_any}
 use Rattle.wedge_base.specs.Memory.{range_at, read_range}
 use Rattle.wedge_base.specs.Images.{Image, fetch, in_text, read_text, slot_of}
+use Rattle.wedge_base.specs.Sheets.{Draft}
 use Rattle.wedge_base.specs.Slots.{Segment}
 use Rattle.wedge_base.specs.Streams.{Stream, most_fds}
 use Rattle.wedge_base.specs.declared.address.Place.{Place}
@@ -23,11 +25,12 @@ pub record Access : Type 0 where
   pub living : Segment
 
 -- a request that a sheet may forbid: to load into a register, with a sign or without, to store a value, to
--- append bytes to a live stream
+-- append bytes to a live stream, to start a child with the sheet of a draft
 pub data Request : Type 0 where
   Loads : Access → (rd : ℕ) → (is_signed : Bool) → Request
   Stores : Access → (value : ℕ) → Request
   Appends : (fd : ℕ) → Stream → (bytes : List ℕ) → Request
+  Creates : Draft → Request
 
 -- ---- which request an instruction makes, once its unit of fuel is taken
 
@@ -64,9 +67,17 @@ abbrev pub append_of : Cells → ActorState → ℕ → ℕ → Option (List ℕ
 append_of c a fd n None = None
 append_of c a fd n (Some bytes) = if nat_le n a.fuel && nat_lt fd most_fds then to_stream fd bytes (stream_in c fd) else None
 
+-- sthread_create: there is such a draft, and a procedure at the entry
+abbrev pub create_of : Image → ℕ → Option Draft → Option Request
+create_of i entry None = None
+create_of i entry (Some d) = if list_any (λ p. p.address == entry) i.procedures then Some (Creates d) else None
+
 -- a service call, by its number
 abbrev pub call_request : Image → Cells → ActorState → List ℕ → ℕ → Option Request
-call_request i c a regs n = if n == 16 then append_of c a (reg regs 10) (reg regs 12) (bytes_at i a (reg regs 11) (reg regs 12)) else None
+call_request i c a regs n =
+    if n == 1 then create_of i (reg regs 11) (slice_get a.drafts (reg regs 10))
+    else if n == 16 then append_of c a (reg regs 10) (reg regs 12) (bytes_at i a (reg regs 11) (reg regs 12))
+    else None
 
 abbrev pub needed_request : Image → Cells → ActorState → ℕ → Need → Option Request
 needed_request i c a rd (need.Load address width is_signed) = if reaches_window i a address width then in_window (λ x. Loads x rd is_signed) c width (slot_of address) else None

@@ -1,10 +1,12 @@
 -- The actor's part of a shared event: what it wants and asks, and what the reply makes of it.
-use Rattle.std.specs.Prelude.{ℕ, [], Option, Some, None, option_map, option_and_then}
+use Rattle.std.specs.Prelude.{ℕ, ◌+◌, ◌-◌, List, [], ◌∷◌, slice_get, Option, Some, None, option_map, option_and_then, unwrap_or}
 use Rattle.wedge_base.specs.Images.{Image, fetch}
+use Rattle.wedge_base.specs.Sheets.{Draft, empty_draft, nothing_made, granted}
 use Rattle.wedge_base.specs.Wants.{asked_with}
 use Rattle.wedge_base.specs.declared.rights.Right.{Right}
 use Rattle.wedge_base.specs.declared.rights.Denial.TheVariants as denial
 use Rattle.wedge_base.specs.declared.rights.Code.TheVariants as code
+use Rattle.wedge_base.specs.declared.rights.End.{End}
 use Rattle.wedge_base.specs.declared.rights.End.TheVariants as end_
 use Rattle.wedge_base.specs.declared.events.Want.{Want}
 use Rattle.wedge_base.specs.declared.events.Want.TheVariants as want
@@ -18,26 +20,42 @@ use Rattle.wedge_base.specs.declared.cells.StreamReply.{StreamReply}
 use Rattle.wedge_base.specs.declared.cells.StreamReply.TheVariants as stream_reply
 use Rattle.wedge_base.specs.declared.cells.LivesAsk.{LivesAsk}
 use Rattle.wedge_base.specs.declared.cells.LivesAsk.TheVariants as lives_ask
+use Rattle.wedge_base.specs.declared.cells.LivesReply.{LivesReply}
+use Rattle.wedge_base.specs.declared.cells.LivesReply.TheVariants as lives_reply
 use Rattle.rv_isa.specs.declared.Instr.{Instr}
 use Rattle.rv_isa.specs.Table.{decode}
 use Rattle.rv_hart.specs.declared.Need.{Need}
 use Rattle.rv_hart.specs.declared.Need.TheVariants as need
-use Rattle.rv_hart.specs.Local.{local}
+use Rattle.rv_hart.specs.Local.{local, put}
 use Rattle.sthread_life.specs.declared.phase.Phase.{Phase}
 use Rattle.sthread_life.specs.declared.phase.Phase.TheVariants as phase
-use Rattle.sthread_life.specs.Actors.{ActorState, right_of, answers, refuses, notes, denies, ends, spends}
+use Rattle.sthread_life.specs.Actors.{ActorState, pristine, opening_hart, right_of, answers, answers_more, refuses, notes, denies, ends, spends}
 use Rattle.sthread_life.specs.Private.{has_loaded, has_stored}
-use Rattle.sthread_life.specs.Calls.{a2}
+use Rattle.sthread_life.specs.Calls.{a0, a1, a2, a3}
+use Rattle.sthread_life.specs.Children.{Children, least_child, with_child, without_child, child_name}
+
+-- the number of the next actor that it starts
+abbrev pub next_start : ActorState → ℕ
+next_start a = a.starts + 1
+
+-- an actor whose end is decided joins its children, the least number first, and then ends
+abbrev pub ending_by : Option ℕ → End → Want
+ending_by None e = want.Lives (lives_ask.Release e)
+ending_by (Some k) e = want.Join k
+
+abbrev pub ending_want : Children → End → Want
+ending_want cs e = ending_by (least_child cs) e
 
 -- what an actor wants, if it wants an event
-abbrev pub wanted_at : Phase → Option Want
-wanted_at phase.Running = None
-wanted_at (phase.Within w) = Some w
-wanted_at (phase.Ending e) = Some (want.Lives (lives_ask.Release e))
-wanted_at (phase.Ended e) = None
+abbrev pub wanted_at : ActorState → Phase → Option Want
+wanted_at a phase.Running = None
+wanted_at a (phase.Within w) = Some w
+wanted_at a phase.Starting = Some (want.Start (child_name a.name (next_start a)))
+wanted_at a (phase.Ending e) = Some (ending_want a.unjoined e)
+wanted_at a (phase.Ended e) = None
 
 abbrev pub wanted : ActorState → Option Want
-wanted a = wanted_at a.phase
+wanted a = wanted_at a a.phase
 
 -- the tag that lives in a slot, with the actor's right on it
 abbrev pub pair : ActorState → Option ℕ → Option Live
@@ -64,8 +82,8 @@ loads_at a (Some ins) value = loads_by ins (local ins a.hart).need a value
 abbrev pub denied_on : ActorState → ℕ → Right → ActorState
 denied_on a tag wants = ends (notes a (denial.Tag tag wants)) end_.Denied
 
--- An actor asks a slot for loads and stores alone, a stream for appends alone, and no other cell but at its
--- end, until further calls are built; a reply to another ask makes nothing of it but that it goes on.
+-- An actor asks a slot for loads and stores alone, a stream for appends alone, and no other cell but the count of lives,
+-- until further calls are built; a reply to another ask makes nothing of it but that it goes on.
 abbrev pub takes_slot : Image → ActorState → SlotReply → ActorState
 takes_slot i a (slot_reply.Loaded value) = loads_at (runs a) (option_and_then decode (fetch i a.hart.pc)) value
 takes_slot i a slot_reply.Stored = has_stored (runs a)
@@ -81,14 +99,76 @@ takes_stream a fd (stream_reply.Denied wants) = denies a (denial.Fd fd wants)
 takes_stream a fd stream_reply.Bad = refuses a code.Bad
 takes_stream a fd r = runs a
 
--- an actor that has ended keeps no private memory
-abbrev pub takes_lives : ActorState → LivesAsk → ActorState
-takes_lives a (lives_ask.Release e) = record a { memory = []; phase = phase.Ended e }
-takes_lives a lives_ask.Claim = runs a
+-- a life that is claimed is for the child to be started, and an actor that has ended keeps no private memory
+abbrev pub takes_lives : ActorState → LivesAsk → LivesReply → ActorState
+takes_lives a (lives_ask.Release e) r = record a { memory = []; phase = phase.Ended e }
+takes_lives a lives_ask.Claim lives_reply.Claimed = record a { phase = phase.Starting }
+takes_lives a lives_ask.Claim lives_reply.Full = refuses a code.Full
+takes_lives a lives_ask.Claim lives_reply.Released = runs a
+
+-- a child has started: there is one start more, and one child more to be joined, to which the fuel went
+abbrev pub has_started : ActorState → ActorState
+has_started a = answers (record a { starts = next_start a; unjoined = with_child a.unjoined (next_start a) (a3 a); fuel = a.fuel - a3 a }) (next_start a)
+
+-- the value of an actor that ended so, and the number of its end
+abbrev pub end_value : End → ℕ
+end_value (end_.Exited value) = value
+end_value e = 0
+
+abbrev pub end_number : End → ℕ
+end_number (end_.Exited value) = 0
+end_number end_.Denied = 1
+end_number end_.Misaligned = 2
+end_number end_.JumpMisaligned = 3
+end_number end_.BadInstruction = 4
+end_number end_.FetchFault = 5
+end_number end_.TextStore = 6
+end_number end_.Unmapped = 7
+end_number end_.Break = 8
+end_number end_.FuelOut = 9
+
+-- a child that ended so is joined: its fuel comes back, and a call is answered; one whose own end is decided goes on with it
+abbrev pub answered_end : ActorState → Phase → End → ActorState
+answered_end a (phase.Ending own) e = a
+answered_end a p e = answers_more a (end_value e) (end_number e)
+
+abbrev pub has_joined : ActorState → ℕ → End → ℕ → ActorState
+has_joined a k e fuel = answered_end (record a { fuel = a.fuel + fuel; unjoined = without_child a.unjoined k }) a.phase e
 
 -- what an event makes of the actor that did it
 unfoldable pub takes : Image → ActorState → Event → ActorState
 takes i a (event.Slot slot q r) = takes_slot i a r
 takes i a (event.Fd fd q r) = takes_stream a fd r
-takes i a (event.Lives q r) = takes_lives a q
+takes i a (event.Lives q r) = takes_lives a q r
+takes i a (event.Start child) = has_started a
+takes i a (event.Join k e fuel) = has_joined a k e fuel
 takes i a e = runs a
+
+-- ---- the actor that an event begins
+
+-- the draft of a number, which a start has found before
+abbrev pub draft_at : List Draft → ℕ → Draft
+draft_at ds n = unwrap_or (slice_get ds n) empty_draft
+
+-- a child as it begins: at its entry, with its argument, the sheet of the draft, the fuel that it was given, and private
+-- memory of its own
+abbrev pub child_of : Image → ActorState → List ℕ → ActorState
+child_of i a name = record {
+  name = name;
+  compartment = a1 a;
+  sheet = granted a.sheet a.made (draft_at a.drafts (a0 a));
+  made = nothing_made;
+  drafts = [];
+  hart = record (opening_hart (a1 a)) { regs = put (opening_hart (a1 a)).regs 10 (a2 a) };
+  memory = pristine i;
+  fuel = a3 a;
+  denials = [];
+  starts = 0;
+  unjoined = [];
+  phase = phase.Running;
+}
+
+-- the actor that an event of this one begins, if it begins one
+abbrev pub begun : Image → ActorState → Event → Option ActorState
+begun i a (event.Start child) = Some (child_of i a child)
+begun i a e = None

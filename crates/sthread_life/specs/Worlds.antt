@@ -1,14 +1,17 @@
 -- The world, its turns and its runs.
-use Rattle.std.specs.Prelude.{◌≡◌, ℕ, Bool, false, List, [], ◌∷◌, map, find, Option, Some, None, option_map, if◌then◌else◌}
+use Rattle.std.specs.Prelude.{◌≡◌, ℕ, Bool, false, List, [], ◌∷◌, ◌++◌, map, find, Option, Some, None, option_map, if◌then◌else◌}
 use Rattle.wedge_base.specs.Images.{Image}
 use Rattle.wedge_base.specs.Names.{same, root_name}
 use Rattle.wedge_base.specs.declared.events.Want.{Want}
+use Rattle.wedge_base.specs.declared.events.Want.TheVariants as want
 use Rattle.wedge_base.specs.declared.events.Event.{Event}
+use Rattle.wedge_base.specs.declared.events.Event.TheVariants as event
 use Rattle.wedge_base.specs.declared.events.Turn.{Turn}
 use Rattle.sthread_life.specs.Actors.{ActorState, root}
 use Rattle.sthread_life.specs.Cells.{Cells, opening_cells, live_at, event_of, cells_after}
-use Rattle.sthread_life.specs.Local.{rest, has_ended}
-use Rattle.sthread_life.specs.Taking.{wanted, asks, takes}
+use Rattle.sthread_life.specs.Children.{child_name}
+use Rattle.sthread_life.specs.Local.{rest, has_ended, end_reached}
+use Rattle.sthread_life.specs.Taking.{wanted, asks, takes, begun}
 
 -- every actor and every cell, with the image of the run
 pub record WorldState : Type 0 where
@@ -34,17 +37,33 @@ pub record Taken : Type 0 where
   pub event : Event
   pub world : WorldState
 
--- an event takes place: its cell goes on, and the actor takes the reply
-abbrev pub happened : WorldState → ActorState → Event → Taken
-happened w a e = record { event = e; world = record w { cells = cells_after w.cells e; actors = put_actor w.actors (takes w.image a e) } }
+-- the actors with the one that an event began, if it began one, behind the others
+abbrev pub with_begun : List ActorState → Option ActorState → List ActorState
+with_begun actors None = actors
+with_begun actors (Some a) = actors ++ a ∷ []
 
--- the event that an actor comes to with what it wants, if it can be now
-abbrev pub event_at : Cells → ActorState → Want → Option Event
-event_at c a q = event_of c (asks a (live_at c q) q)
+-- an event takes place: its cell goes on, the actor takes the reply, and an actor may begin by it
+abbrev pub happened : WorldState → ActorState → Event → Taken
+happened w a e = record {
+  event = e;
+  world = record w { cells = cells_after w.cells e; actors = with_begun (put_actor w.actors (takes w.image a e)) (begun w.image a e) };
+}
+
+-- a join gives the end and the fuel of a child that has ended
+abbrev pub join_event : ℕ → Option ActorState → Option Event
+join_event k None = None
+join_event k (Some c) = option_map (λ e. event.Join k e c.fuel) (end_reached c.phase)
+
+-- The event that an actor comes to with what it wants, if it can be now: a start takes place at once, a join once the child
+-- has ended, and any other when its cell is asked.
+abbrev pub event_at : WorldState → ActorState → Want → Option Event
+event_at w a (want.Start child) = Some (event.Start child)
+event_at w a (want.Join k) = join_event k (actor_named w.actors (child_name a.name k))
+event_at w a q = event_of w.cells (asks a (live_at w.cells q) q)
 
 abbrev pub wanting : WorldState → ActorState → Option Want → Option Taken
 wanting w a None = None
-wanting w a (Some q) = option_map (happened w a) (event_at w.cells a q)
+wanting w a (Some q) = option_map (happened w a) (event_at w a q)
 
 abbrev pub turn_with : WorldState → Option ActorState → Option Taken
 turn_with w None = None

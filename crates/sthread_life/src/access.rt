@@ -5,6 +5,7 @@ ghost use Rattle.wedge_base.specs.declared.image.MemoryRange.{MemoryRange as ARa
 ghost use Rattle.wedge_base.specs.Images.{slot_of};
 ghost use Rattle.rv_isa.specs.Table.{HasRegisters};
 ghost use Rattle.rv_hart.specs.Local as hart;
+ghost use Rattle.sthread_life.specs.declared.phase.Phase.TheVariants as phase;
 ghost use Rattle.sthread_life.specs.Actors.{whole};
 ghost use Rattle.sthread_life.specs.Private as private;
 
@@ -28,6 +29,7 @@ impl Actor {
         address: u32,
         width: u8,
     )
+        requires running { self.old.phase ≡ phase.Running }
         requires registers { HasRegisters instr }
         requires width { private.IsWidth width }
         requires needed { (hart.local instr self.old.hart).need ≡ Need.Load address width signed }

@@ -1,4 +1,4 @@
-//! An actor: the root of a run.
+//! An actor: the root of a run, or a child that another started.
 
 ghost use Rattle.std.specs.Prelude.{◌≡◌, ◌++◌, ◌∷◌, [], List, IfOk, OnOk, OnErr, false};
 ghost use Rattle.wedge_base.specs.declared.image.MemoryRange.{MemoryRange as ARange};
@@ -6,11 +6,12 @@ ghost use Rattle.rv_hart.specs.Local.{answered};
 ghost use Rattle.sthread_life.specs.declared.phase.Phase.TheVariants as phase;
 ghost use Rattle.sthread_life.specs.Actors as actors;
 ghost use Rattle.sthread_life.specs.Actors.{whole};
-ghost use Rattle.sthread_life.specs.Local.{has_ended};
+ghost use Rattle.sthread_life.specs.Local.{has_ended, end_reached};
 ghost use Rattle.sthread_life.specs.Taking.{pair, asks};
 
 use crate::memory::Memory;
 use crate::phase::Phase;
+use crate::unjoined::Children;
 use grant_sheet::{Draft, Made, Sheet, right_on};
 use image_form::Image;
 use rv_hart::Hart;
@@ -24,7 +25,7 @@ use wedge_base::{
 /// The register of the stack pointer.
 const SP: u8 = 2;
 
-/// An actor: its sheet, its registers, its fuel, and what it is at. Its private memory stands beside it. Once
+/// An actor: its sheet, its registers, its fuel, the children that it has not joined, and what it is at. Its private memory stands beside it. Once
 /// it ran out of memory it has stopped, and takes no further part in a run.
 #[derive(Debug, Drop)]
 pub struct Actor {
@@ -37,13 +38,19 @@ pub struct Actor {
     pub(crate) hart: Hart,
     pub(crate) fuel: u32,
     pub(crate) denials: Items<DenialAt>,
+    /// How many actors it started.
+    pub(crate) starts: u32,
+    pub(crate) unjoined: Children,
     pub(crate) phase: Phase,
     pub(crate) stopped: bool,
 }
 
 impl Model for Actor {
     ghost use Rattle.sthread_life.specs.Actors.{ActorRecord};
-    ghost use Rattle.sthread_life.specs.Between.{PhaseFits};
+    ghost use Rattle.std.specs.Prelude.{◌≡◌, ◌≤◌, true};
+    ghost use Rattle.sthread_life.specs.Children.{is_child};
+    ghost use Rattle.image_form.specs.Rules.{most_fuel};
+    ghost use Rattle.sthread_life.specs.Between.{IsReady, IsNextName, PhaseFitsWhere, funds};
 
     ghost Value = { ActorRecord };
 
@@ -56,11 +63,17 @@ impl Model for Actor {
       hart = a.hart;
       fuel = a.fuel;
       denials = a.denials;
+      starts = a.starts;
+      unjoined = a.unjoined;
       phase = a.phase;
       stopped = a.stopped;
     } };
 
-    ghost invariant = { λ a. PhaseFits a.phase };
+    ghost invariant = { λ a. record {
+      fits : PhaseFitsWhere (IsReady a.name a.sheet a.made a.drafts.items a.hart a.fuel a.starts
+          a.unjoined) (IsNextName a.name a.starts) (λ k. is_child a.unjoined k ≡ true) a.phase;
+      funded : funds a.starts a.fuel a.unjoined ≤ most_fuel;
+    } };
 }
 
 impl Actor {
@@ -93,6 +106,8 @@ impl Actor {
             hart,
             fuel: image.fuel(),
             denials: Items::new(Vec::new(alloc)),
+            starts: 0,
+            unjoined: Children::new(alloc),
             phase: Phase::Running,
             stopped: false,
         })
@@ -146,6 +161,16 @@ impl Actor {
         ensures { result ≡ has_ended self.now.phase }
     {
         matches!(self.phase, Phase::Ended(_))
+    }
+
+    /// Its end, if it has ended.
+    pub fn end_reached(&self) -> Option<End>
+        ensures { result ≡ end_reached self.now.phase }
+    {
+        match &self.phase {
+            Phase::Ended(end) => Some(*end),
+            _ => None,
+        }
     }
 
     /// What it asks for what it wants, where this tag lives in the slot.

@@ -1,7 +1,10 @@
 //! Service calls: what the actor itself decides.
 
-ghost use Rattle.std.specs.Prelude.{◌≡◌, List, OnOk, IfOk, true};
+ghost use Rattle.std.specs.Prelude.{◌≡◌, ◌<◌, List, OnOk, IfOk, true};
+ghost use Rattle.sthread_life.specs.declared.phase.Phase.TheVariants as phase;
 ghost use Rattle.sthread_life.specs.Actors.{whole};
+ghost use Rattle.image_form.specs.Rules.{most_fuel};
+ghost use Rattle.sthread_life.specs.Between.{funds};
 ghost use Rattle.sthread_life.specs.Calls as calls;
 ghost use Rattle.sthread_life.specs.Private as private;
 
@@ -20,6 +23,8 @@ pub(crate) const A0: u8 = 10;
 pub(crate) const A1: u8 = 11;
 /// The register of its third argument: the length of an append.
 pub(crate) const A2: u8 = 12;
+/// The register of its fourth argument: the fuel of a child.
+pub(crate) const A3: u8 = 13;
 /// The register of its number.
 const A7: u8 = 17;
 
@@ -28,6 +33,8 @@ impl Actor {
     #[inline(never)]
     #[tactic(auto, unfolding(crate::specs::Calls::serves))]
     pub(crate) fn serve(&mut self, image: &Image, memory: &Memory) -> Result<(), NoMemory>
+        requires running { self.old.phase ≡ phase.Running }
+        requires paid { funds self.old.starts self.old.fuel self.old.unjoined < most_fuel }
         ensures { OnOk result (whole self.new memory.now
             ≡ calls.serves image.now (whole self.old memory.now)
             (calls.a7 (whole self.old memory.now))) }
@@ -36,6 +43,10 @@ impl Actor {
         if number == Service::Exit.number() {
             let value = self.hart.reg(A0);
             self.end(End::Exited(value));
+        } else if number == Service::SthreadCreate.number() {
+            self.create(image)?;
+        } else if number == Service::SthreadJoin.number() {
+            self.join();
         } else if number == Service::FdAppend.number() {
             self.fd_append(image, memory)?;
         } else {

@@ -2,6 +2,7 @@
 
 ghost use Rattle.std.specs.Prelude.{◌≡◌, List, OnOk};
 ghost use Rattle.wedge_base.specs.declared.image.MemoryRange.{MemoryRange as ARange};
+ghost use Rattle.sthread_life.specs.declared.phase.Phase.TheVariants as phase;
 ghost use Rattle.sthread_life.specs.Actors.{whole};
 ghost use Rattle.sthread_life.specs.Calls as calls;
 
@@ -16,6 +17,7 @@ const MOST_DRAFTS: usize = 64;
 impl Actor {
     /// The call on drafts of this number; any other number is refused.
     pub(crate) fn draft_call(&mut self, number: u32) -> Result<(), NoMemory>
+        requires { self.old.phase ≡ phase.Running }
         ensures { OnOk result ((m : List ARange) → whole self.new m
             ≡ calls.draft_call (whole self.old m) number) }
     {
@@ -47,6 +49,7 @@ impl Actor {
 
     /// The call that puts a right on a tag into a draft.
     fn sc_mem_add(&mut self) -> Result<(), NoMemory>
+        requires { self.old.phase ≡ phase.Running }
         ensures { OnOk result ((m : List ARange) → whole self.new m
             ≡ calls.sc_mem_add (whole self.old m)) }
     {
@@ -71,6 +74,7 @@ impl Actor {
 
     /// The call that puts bits on a descriptor into a draft.
     fn sc_fd_add(&mut self) -> Result<(), NoMemory>
+        requires { self.old.phase ≡ phase.Running }
         ensures { OnOk result ((m : List ARange) → whole self.new m
             ≡ calls.sc_fd_add (whole self.old m)) }
     {

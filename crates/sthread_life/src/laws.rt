@@ -1,7 +1,7 @@
 //! Laws of the definitions: each is the contract of a function that does nothing.
 
 ghost use Rattle.wedge_base.specs.Images.{Image};
-ghost use Rattle.sthread_life.specs.Laws.{CellsOpen, MomentsAreLawful, NamesAreDistinct, RunsWriteTheirOwn};
+ghost use Rattle.sthread_life.specs.Laws.{CellsOpen, MomentsAreLawful, NamesAreDistinct, RunsWriteTheirOwn, FuelIsKept, RootBounds, RunsEnd};
 ghost use Rattle.sthread_life.specs.Walks.{RootsWalk};
 
 /// In every run, whatever the image and the order of the turns, each request that an instruction makes
@@ -39,4 +39,19 @@ pub fn names_are_distinct()
 /// lead to what it is in the end, whatever the cells and the other actors do.
 pub fn actors_walk()
     ensures { RootsWalk }
+{}
+
+/// In every run the fuel of the actors that are not joined yet is in sum that of the image, less exactly the units that the
+/// turns took: a unit for each instruction, and one for each byte that was appended. A start gives fuel to a child, and a
+/// join brings back what is left, so neither changes the sum.
+/// So every run ends: five turns for each unit of fuel, and two, are more than it can have.
+pub fn fuel_is_kept()
+    ensures sum { FuelIsKept }
+    ensures ends { RunsEnd }
+{}
+
+/// In every world of a run, no actor has a right on a declared tag, or bits on a declared descriptor, that the root did
+/// not have.
+pub fn rights_are_within_the_roots()
+    ensures { RootBounds }
 {}

@@ -11,12 +11,14 @@ mod lives;
 mod local;
 mod memory;
 mod phase;
+mod starting;
 mod take;
+mod unjoined;
 
 pub use actor::Actor;
 pub use laws::{
-    actors_walk, cells_open_by_their_rules, moments_are_lawful, names_are_distinct,
-    runs_write_their_own,
+    actors_walk, cells_open_by_their_rules, fuel_is_kept, moments_are_lawful, names_are_distinct,
+    rights_are_within_the_roots, runs_write_their_own,
 };
 pub use lives::Lives;
 pub use local::Next;

@@ -1,12 +1,17 @@
 //! Local events: an actor alone, up to its next shared event.
 
-ghost use Rattle.std.specs.Prelude.{◌≡◌, OnOk, OnErr, IfOk, true, false};
+ghost use Rattle.std.specs.Prelude.{◌≡◌, ◌<◌, [], List, OnOk, OnErr, IfOk, true, false};
 ghost use Rattle.rv_isa.specs.Table.{HasRegisters};
 ghost use Rattle.rv_hart.specs.Local as hart;
+ghost use Rattle.sthread_life.specs.declared.phase.Phase.TheVariants as phase;
 ghost use Rattle.sthread_life.specs.Actors.{whole};
 ghost use Rattle.sthread_life.specs.Local as local;
-ghost use Rattle.sthread_life.specs.Taking.{wanted, wanted_at};
-ghost use Rattle.sthread_life.specs.Resting.{want_in, end_in, end_reached, NextFits};
+ghost use Rattle.image_form.specs.Rules.{most_fuel};
+ghost use Rattle.wedge_base.specs.declared.image.MemoryRange.{MemoryRange as ARange};
+ghost use Rattle.sthread_life.specs.Between.{funds};
+ghost use Rattle.sthread_life.specs.Local.{end_reached};
+ghost use Rattle.sthread_life.specs.Taking.{wanted};
+ghost use Rattle.sthread_life.specs.Resting.{want_in, end_in, NextFits};
 
 use crate::actor::Actor;
 use crate::memory::Memory;
@@ -14,7 +19,7 @@ use crate::phase::Phase;
 use ready_text::Program;
 use rv_hart::Need;
 use rv_isa::Instr;
-use wedge_base::{End, LivesAsk, NoMemory, Want};
+use wedge_base::{End, NoMemory, Want};
 
 /// What an actor at rest is at.
 #[derive(Debug, Drop)]
@@ -36,7 +41,7 @@ impl Actor {
         ensures ended { IfOk result (λ n. end_in n ≡ end_reached self.new.phase) }
         ensures name { OnOk result (self.new.name ≡ self.old.name) }
         ensures live { OnOk result (local.has_ended self.new.phase ≡ local.has_ended self.old.phase) }
-        ensures fits { IfOk result NextFits }
+        ensures fits { IfOk result (NextFits (whole self.new [])) }
         ensures going { OnOk result ((self.old.stopped ≡ false) × (self.new.stopped ≡ false)) }
         ensures stops { OnErr result (self.new.stopped ≡ true) }
         ensures stays { local.has_ended self.old.phase ≡ true
@@ -55,11 +60,11 @@ impl Actor {
     fn come_to_rest(&mut self, program: &Program<'_>, memory: &mut Memory) -> Result<Next, NoMemory>
         ensures rests { OnOk result (whole self.new memory.new
             ≡ local.rest program.now (whole self.old memory.old)) }
-        ensures next { IfOk result (λ n. want_in n ≡ wanted_at self.new.phase) }
+        ensures next { IfOk result (λ n. want_in n ≡ wanted (whole self.new memory.new)) }
         ensures ended { IfOk result (λ n. end_in n ≡ end_reached self.new.phase) }
         ensures name { OnOk result (self.new.name ≡ self.old.name) }
         ensures live { OnOk result (local.has_ended self.new.phase ≡ local.has_ended self.old.phase) }
-        ensures fits { IfOk result NextFits }
+        ensures fits { IfOk result (NextFits (whole self.new [])) }
         ensures stays { local.has_ended self.old.phase ≡ true
             → OnOk result (whole self.new memory.new ≡ whole self.old memory.old) }
     {
@@ -84,13 +89,14 @@ impl Actor {
     #[inline(always)]
     fn next(&self) -> Result<Next, NoMemory>
         requires { local.is_running self.now.phase ≡ false }
-        ensures wants { IfOk result (λ n. want_in n ≡ wanted_at self.now.phase) }
+        ensures wants { IfOk result (λ n. (m : List ARange) → want_in n ≡ wanted (whole self.now m)) }
         ensures ended { IfOk result (λ n. end_in n ≡ end_reached self.now.phase) }
-        ensures fits { IfOk result NextFits }
+        ensures fits { IfOk result (NextFits (whole self.now [])) }
     {
         match &self.phase {
             Phase::Within(want) => Ok(Next::Shared(want.copy(self.alloc)?)),
-            Phase::Ending(end) => Ok(Next::Shared(Want::Lives(LivesAsk::Release { end: *end }))),
+            Phase::Starting => Ok(Next::Shared(self.starting_want()?)),
+            Phase::Ending(end) => Ok(Next::Shared(self.ending_want(*end))),
             Phase::Ended(end) => Ok(Next::Ended(*end)),
             Phase::Running => unreachable!(),
         }
@@ -108,6 +114,7 @@ impl Actor {
     #[inline(always)]
     #[tactic(auto, unfolding(crate::specs::Local::step))]
     fn step(&mut self, program: &Program<'_>, memory: &mut Memory) -> Result<(), NoMemory>
+        requires { self.old.phase ≡ phase.Running }
         ensures { OnOk result (whole self.new memory.new
             ≡ local.step program.now (whole self.old memory.old)) }
     {
@@ -135,7 +142,9 @@ impl Actor {
         memory: &mut Memory,
         instr: &Instr,
     ) -> Result<(), NoMemory>
-        requires { HasRegisters instr.now }
+        requires registers { HasRegisters instr.now }
+        requires running { self.old.phase ≡ phase.Running }
+        requires paid { funds self.old.starts self.old.fuel self.old.unjoined < most_fuel }
         ensures { OnOk result (whole self.new memory.new
             ≡ local.proceeds program.now instr.now (whole self.old memory.old)
             (hart.local instr.now self.old.hart)) }

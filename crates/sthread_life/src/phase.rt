@@ -9,7 +9,9 @@ pub enum Phase {
     Running,
     /// It is within a load, a store or a service call, and wants this event.
     Within(Want),
-    /// Its end is decided, and it wants the event that ends it.
+    /// A life is claimed for a child, and it wants the child's start.
+    Starting,
+    /// Its end is decided: it joins the children that it has not joined, and wants the event that ends it.
     Ending(End),
     /// It has ended.
     Ended(End),

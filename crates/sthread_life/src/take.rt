@@ -1,10 +1,13 @@
 //! An actor's part of a shared event.
 
-ghost use Rattle.std.specs.Prelude.{◌≡◌, List, OnOk, OnErr, true, false, option_and_then};
+ghost use Rattle.std.specs.Prelude.{◌≡◌, List, IfOk, IfSome, OnOk, OnErr, true, false, option_map, option_and_then};
 ghost use Rattle.wedge_base.specs.declared.image.MemoryRange.{MemoryRange as ARange};
 ghost use Rattle.wedge_base.specs.Images.{fetch};
+ghost use Rattle.wedge_base.specs.declared.events.Event.{Event as AnEvent};
 ghost use Rattle.rv_isa.specs.Table.{decode};
+ghost use Rattle.sthread_life.specs.declared.phase.Phase.TheVariants as phase;
 ghost use Rattle.sthread_life.specs.Actors.{whole};
+ghost use Rattle.sthread_life.specs.Between.{TakesFit};
 ghost use Rattle.sthread_life.specs.Taking as taking;
 
 use crate::actor::Actor;
@@ -13,20 +16,26 @@ use crate::memory::Memory;
 use crate::phase::Phase;
 use ready_text::Program;
 use rv_hart::Reply;
-use wedge_base::{Code, Denial, End, Event, FdNo, LivesAsk, NoMemory, SlotReply, StreamReply};
+use wedge_base::{
+    Code, Denial, End, Event, FdNo, LivesAsk, LivesReply, NoMemory, SlotReply, StreamReply,
+};
 
 impl Actor {
-    /// What the event that it wanted makes of the actor. One that runs out of memory has stopped: from then on
-    /// each call of it answers `NoMemory`.
+    /// What the event that it wanted makes of the actor; the child that it begins, with its private memory, where the event
+    /// is a start. An actor that runs out of memory has stopped: from then on each call of it answers `NoMemory`.
     #[inline(always)]
     pub fn take(
         &mut self,
         program: &Program<'_>,
         memory: &mut Memory,
         event: &Event,
-    ) -> Result<(), NoMemory>
+    ) -> Result<Option<(Actor, Memory)>, NoMemory>
+        requires { TakesFit (whole self.old memory.old) event.now }
         ensures takes { OnOk result (whole self.new memory.new
             ≡ taking.takes program.now (whole self.old memory.old) event.now) }
+        ensures begun { IfOk result (λ c. option_map (λ p. whole p.0 p.1) c
+            ≡ taking.begun program.now (whole self.old memory.old) event.now) }
+        ensures begun_going { IfOk result (λ c. IfSome c (λ p. p.0.stopped ≡ false)) }
         ensures name { OnOk result (self.new.name ≡ self.old.name) }
         ensures going { OnOk result ((self.old.stopped ≡ false) × (self.new.stopped ≡ false)) }
         ensures stops { OnErr result (self.new.stopped ≡ true) }
@@ -47,21 +56,36 @@ impl Actor {
         program: &Program<'_>,
         memory: &mut Memory,
         event: &Event,
-    ) -> Result<(), NoMemory>
+    ) -> Result<Option<(Actor, Memory)>, NoMemory>
+        requires { TakesFit (whole self.old memory.old) event.now }
         ensures takes { OnOk result (whole self.new memory.new
             ≡ taking.takes program.now (whole self.old memory.old) event.now) }
+        ensures begun { IfOk result (λ c. option_map (λ p. whole p.0 p.1) c
+            ≡ taking.begun program.now (whole self.old memory.old) event.now) }
+        ensures begun_going { IfOk result (λ c. IfSome c (λ p. p.0.stopped ≡ false)) }
         ensures name { OnOk result (self.new.name ≡ self.old.name) }
     {
         match event {
-            Event::Slot { reply, .. } => self.take_slot(program, reply),
-            Event::Fd { fd, reply, .. } => self.take_stream(*fd, reply),
-            Event::Lives { ask, .. } => {
-                self.take_lives(memory, *ask);
-                Ok(())
+            Event::Slot { reply, .. } => {
+                self.take_slot(program, reply)?;
+                Ok(None)
+            }
+            Event::Fd { fd, reply, .. } => {
+                self.take_stream(*fd, reply)?;
+                Ok(None)
+            }
+            Event::Lives { ask, reply } => {
+                self.take_lives(memory, *ask, *reply);
+                Ok(None)
+            }
+            Event::Start { child } => self.start(program.image(), child),
+            Event::Join { child, end, fuel } => {
+                self.take_join(*child, *end, *fuel);
+                Ok(None)
             }
             _ => {
                 self.phase = Phase::Running;
-                Ok(())
+                Ok(None)
             }
         }
     }
@@ -98,6 +122,7 @@ impl Actor {
     /// The load at hand has its value.
     #[inline(always)]
     fn take_load(&mut self, program: &Program<'_>, value: u32)
+        requires { self.old.phase ≡ phase.Running }
         ensures takes { (m : List ARange) → whole self.new m
             ≡ taking.loads_at (whole self.old m)
             (option_and_then decode (fetch program.now self.old.hart.pc)) value }
@@ -121,6 +146,7 @@ impl Actor {
         match reply {
             StreamReply::Appended => {
                 let length = self.hart.reg(A2);
+                self.phase = Phase::Running;
                 self.fuel = self.fuel.saturating_sub(length);
                 self.answer(length, 0);
             }
@@ -137,18 +163,23 @@ impl Actor {
         Ok(())
     }
 
-    /// What the count of live sthreads makes of it: at its end it drops its private memory.
+    /// What the count of live sthreads makes of it: where a life is claimed it starts a child, and at its end it drops
+    /// its private memory.
     #[inline(never)]
-    fn take_lives(&mut self, memory: &mut Memory, ask: LivesAsk)
-        ensures takes { whole self.new memory.new ≡ taking.takes_lives (whole self.old memory.old) ask }
+    fn take_lives(&mut self, memory: &mut Memory, ask: LivesAsk, reply: LivesReply)
+        requires { TakesFit (whole self.old memory.old) (AnEvent.Lives ask reply) }
+        ensures takes { whole self.new memory.new
+            ≡ taking.takes_lives (whole self.old memory.old) ask reply }
         ensures name { self.new.name ≡ self.old.name }
     {
-        match ask {
-            LivesAsk::Claim => self.phase = Phase::Running,
-            LivesAsk::Release { end } => {
+        match (ask, reply) {
+            (LivesAsk::Release { end }, _) => {
                 memory.clear();
                 self.phase = Phase::Ended(end);
             }
+            (LivesAsk::Claim, LivesReply::Claimed) => self.phase = Phase::Starting,
+            (LivesAsk::Claim, LivesReply::Full) => self.refuse(Code::Full),
+            (LivesAsk::Claim, LivesReply::Released) => self.phase = Phase::Running,
         }
     }
 }

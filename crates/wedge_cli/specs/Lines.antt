@@ -38,6 +38,7 @@ part_text (part.Image at why) = codes "image at " ++ decimal at ++ codes ": " ++
 abbrev pub why_word : Why → List ℕ
 why_word why.Unknown = codes "unknown"
 why_word why.Ended = codes "ended"
+why_word why.Waits = codes "waits"
 why_word why.Short = codes "short"
 why_word why.Extra = codes "extra"
 

@@ -95,6 +95,7 @@ fn why_word(why: Why) -> &'static str
     match why {
         Why::Unknown => "unknown",
         Why::Ended => "ended",
+        Why::Waits => "waits",
         Why::Short => "short",
         Why::Extra => "extra",
     }

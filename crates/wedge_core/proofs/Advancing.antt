@@ -1,33 +1,139 @@
--- A run goes on by a turn, or stays where no turn is taken.
-use Rattle.std.proofs.Common.{◌≡◌, ℕ, Bool, true, false, List, refl, sym, subst}
+-- A run goes on by a turn, or its actor has to wait.
+use Rattle.std.proofs.Common.{◌≡◌, ℕ, zero, suc, ◌+◌, ◌-◌, List, [], ◌∷◌, ◌++◌, Bool, true, false, length, take, get_or, refl, sym, ap, subst, ◌∙◌, inl, inr, arith}
+use Rattle.std.specs.Prelude.{◌⊎◌, Some, None}
 use Rattle.wedge_base.specs.Images.{Image}
-use Rattle.wedge_base.specs.Journals.{turns_of}
+use Rattle.wedge_base.specs.Journals.{turns_of, numbered}
 use Rattle.wedge_base.specs.declared.events.Event.{Event}
 use Rattle.wedge_base.specs.declared.events.LogEntry.{LogEntry}
+use Rattle.wedge_base.specs.declared.events.Turn.{Turn}
 use Rattle.sthread_life.specs.Actors.{ActorState}
 use Rattle.sthread_life.specs.Cells.{Cells}
-use Rattle.wedge_core.specs.Progress.{IsRun, IsTurn, state_of}
-use Rattle.wedge_core.specs.Serial.{IsNumbered, Notes}
-use Rattle.wedge_core.proofs.Numbering.{notes_turns, notes_numbered}
-use Rattle.wedge_core.proofs.Turning.{run_goes_on}
+use Rattle.sthread_life.specs.Worlds.{WorldState, opening, Runs, settled}
+use Rattle.sthread_life.proofs.Settling.{AllReady, ready_alike, run_ready}
+use Rattle.wedge_core.specs.Progress.{Progress, IsRun, IsTurn, HasEnded, IsWaiting, GoesOnBy, state_of}
+use Rattle.wedge_core.specs.declared.turns.Went.{Went}
+use Rattle.wedge_core.specs.declared.turns.Went.TheVariants as went
+use Rattle.wedge_core.specs.Serial.{IsNumbered}
+use Rattle.wedge_core.specs.Turning.{IsFamilyAtRest, WasTaken, HasWaited}
+use Rattle.wedge_core.proofs.AtRest.{family_alike}
+use Rattle.wedge_core.proofs.Numbering.{entry, numbered-push, turns_of-numbered, is_numbered, notes_turns, notes_numbered}
+use Rattle.wedge_core.proofs.Replays.{has_ended_turn, waiting_turn, waiting_lives}
+use Rattle.wedge_core.proofs.Turning.{run_goes_on, rested_settled, not_ended}
 
 -- what the type of a world keeps
 pub record IsKept (i : Image) (cells : Cells) (actors : List ActorState) (entries : List LogEntry) (stopped : Bool) : Type 0 where
   pub numbered : IsNumbered entries
   pub run : IsRun (record { state = state_of i cells actors; turns = turns_of entries; stopped = stopped })
 
-pub kept : (b : Bool) (i : Image) (cells new_cells : Cells) (actors new_actors : List ActorState) (entries new_entries : List LogEntry) (name : List ℕ) (stopped : Bool)
+pub kept_family : (i : Image) (cells : Cells) (actors : List ActorState) (entries : List LogEntry) (stopped : Bool) → IsKept i cells actors entries stopped → stopped ≡ false → IsFamilyAtRest i actors
+kept_family i cells actors entries stopped k going = family_alike i (turns_of entries) (state_of i cells actors) k.run.last k.run.run (k.run.current going)
+
+pub kept_taken : (i : Image) (cells new_cells : Cells) (actors new : List ActorState) (entries new_entries : List LogEntry) (name : List ℕ) (stopped : Bool)
+    → IsKept i cells actors entries stopped → stopped ≡ false → WasTaken i cells actors entries name new_cells new new_entries → IsKept i new_cells new new_entries stopped
+kept_taken i cells new_cells actors new entries new_entries name stopped k going t = record {
+  numbered = notes_numbered entries new_entries name t.event t.noted k.numbered;
+  run = run_goes_on i cells new_cells actors new (turns_of entries) (turns_of new_entries) name t.event stopped k.run going t.turn (notes_turns entries new_entries name t.event t.noted);
+}
+
+-- where it goes on
+pub goes_on_by : (i : Image) (cells new_cells : Cells) (actors new : List ActorState) (entries new_entries : List LogEntry) (name : List ℕ) (stopped : Bool)
+    → WasTaken i cells actors entries name new_cells new new_entries
+    → GoesOnBy (record { state = state_of i cells actors; turns = turns_of entries; stopped = stopped }) name (record { state = state_of i new_cells new; turns = turns_of new_entries; stopped = stopped })
+goes_on_by i cells new_cells actors new entries new_entries name stopped t = record {
+  event = t.event;
+  turn = t.turn;
+  noted = notes_turns entries new_entries name t.event t.noted;
+}
+
+-- a run whose actor waits has come no further
+pub kept_waited : (i : Image) (cells new_cells : Cells) (actors new : List ActorState) (entries new_entries : List LogEntry) (name : List ℕ) (stopped : Bool)
+    → IsKept i cells actors entries stopped → HasWaited i cells actors name new_cells new → new_entries ≡ entries → IsKept i new_cells new new_entries stopped
+kept_waited i cells new_cells actors new entries new_entries name stopped k h same =
+    let w = state_of i cells actors in
+    let v = state_of i new_cells new in
+    subst (λ es. IsKept i new_cells new es stopped) (sym same)
+    (record {
+      numbered = k.numbered;
+      run = record {
+        last = k.run.last;
+        run = k.run.run;
+        current = λ going. (ap settled h.rests ∙ rested_settled w name h.waits.actor h.waits.named) ∙ k.run.current going;
+      };
+    })
+
+pub kept_same : (i : Image) (cells new_cells : Cells) (actors new : List ActorState) (entries new_entries : List LogEntry) (stopped : Bool)
+    → IsKept i cells actors entries stopped → new_cells ≡ cells → new ≡ actors → new_entries ≡ entries → IsKept i new_cells new new_entries stopped
+kept_same i cells new_cells actors new entries new_entries stopped k c a e =
+    subst (λ x. IsKept i x new new_entries stopped) (sym c)
+    (subst (λ as_. IsKept i cells as_ new_entries stopped) (sym a)
+    (subst (λ es. IsKept i cells actors es stopped) (sym e) k))
+
+-- whatever came of a turn
+pub kept_by : (r : Went) (i : Image) (cells new_cells : Cells) (actors new : List ActorState) (entries new_entries : List LogEntry) (name : List ℕ) (stopped : Bool)
     → IsKept i cells actors entries stopped → stopped ≡ false
-    → (b ≡ true → (e : Event) × IsTurn (state_of i cells actors) name e (state_of i new_cells new_actors) × Notes entries name e new_entries)
-    → (b ≡ false → new_cells ≡ cells) → (b ≡ false → new_actors ≡ actors) → (b ≡ false → new_entries ≡ entries)
-    → IsKept i new_cells new_actors new_entries stopped
-kept true i cells new_cells actors new_actors entries new_entries name stopped was going took same_cells same_actors same_entries =
-    let t = took refl in
+    → (r ≡ went.Took → WasTaken i cells actors entries name new_cells new new_entries) → (r ≡ went.Ended → HasEnded actors name × (new_cells ≡ cells) × (new ≡ actors))
+    → (r ≡ went.Waits → HasWaited i cells actors name new_cells new) → ((r ≡ went.Ended) ⊎ (r ≡ went.Waits) → new_entries ≡ entries)
+    → IsKept i new_cells new new_entries stopped
+kept_by went.Took i cells new_cells actors new entries new_entries name stopped k going took ended waits same = kept_taken i cells new_cells actors new entries new_entries name stopped k going (took refl)
+kept_by went.Ended i cells new_cells actors new entries new_entries name stopped k going took ended waits same = let e = ended refl in kept_same i cells new_cells actors new entries new_entries stopped k e.1 e.2 (same (inl refl))
+kept_by went.Waits i cells new_cells actors new entries new_entries name stopped k going took ended waits same = kept_waited i cells new_cells actors new entries new_entries name stopped k (waits refl) (same (inr refl))
+
+-- the actors of a world that has not stopped rest as those of a run do
+pub run_is_ready : (p : Progress) → IsRun p → p.stopped ≡ false → AllReady p.state
+run_is_ready p r going = ready_alike p.state r.last (r.current going) (run_ready p.state.image p.turns r.last r.run)
+
+-- ---- who has ended, or waits, takes no turn
+
+pub ended_turns_not : {A : Type 0} (w : WorldState) (name : List ℕ) (e : Event) (new : WorldState) → HasEnded w.actors name → IsTurn w name e new → A
+ended_turns_not w name e new ended turn = let none = has_ended_turn w name ended in absurd cc
+
+pub waiting_turns_not : {A : Type 0} (w : WorldState) (name : List ℕ) (e : Event) (new : WorldState) → IsWaiting w name → IsTurn w name e new → A
+waiting_turns_not w name e new waits turn = let none = waiting_turn w name waits in absurd cc
+
+pub waiting_ended_not : {A : Type 0} (w : WorldState) (name : List ℕ) → IsWaiting w name → HasEnded w.actors name → A
+waiting_ended_not w name waits ended = not_ended w.actors name waits.actor waits.named (waiting_lives w name waits) ended
+
+-- ---- a turn whose event can't be copied
+
+pub record IsUndone (entries popped : List LogEntry) : Type 0 where
+  pub turns : turns_of popped ≡ turns_of entries
+  pub numbered : IsNumbered popped
+
+pub length-push : {X : Type 0} (xs : List X) (x : X) → length (xs ++ x ∷ []) ≡ length xs + 1
+length-push [] x = refl
+length-push (y ∷ ys) x = let h = length-push ys x in omega (arith, h)
+
+take_push : {X : Type 0} (xs : List X) (x : X) → take (length (xs ++ x ∷ []) - 1) (xs ++ x ∷ []) ≡ xs
+take_push [] x = refl
+take_push (y ∷ ys) x =
+    let len : length (ys ++ x ∷ []) ≡ length ys + 1 = length-push ys x in
+    let one : length ((y ∷ ys) ++ x ∷ []) - 1 ≡ suc (length (ys ++ x ∷ []) - 1) = omega (arith, len) in
+    ap (λ n. take n ((y ∷ ys) ++ x ∷ [])) one ∙ ap (λ zs. y ∷ zs) (take_push ys x)
+
+pub undone : (entries more popped : List LogEntry) (t : Turn) → IsNumbered more → turns_of more ≡ turns_of entries ++ t ∷ [] → popped ≡ take (length more - 1) more → IsUndone entries popped
+undone entries more popped t numbered_ noted is =
+    let ts = turns_of entries in
+    let are : popped ≡ numbered 1 ts = is ∙ (ap (λ es. take (length es - 1) es) (numbered_ ∙ (ap (numbered 1) noted ∙ numbered-push 1 ts t)) ∙ take_push (numbered 1 ts) (entry (1 + length ts) t)) in
     record {
-      numbered = notes_numbered entries new_entries name t.0 t.2 was.numbered;
-      run = run_goes_on i cells new_cells actors new_actors (turns_of entries) (turns_of new_entries) name t.0 stopped was.run going t.1 (notes_turns entries new_entries name t.0 t.2);
+      turns = ap turns_of are ∙ turns_of-numbered 1 ts;
+      numbered = is_numbered ts popped are;
     }
-kept false i cells new_cells actors new_actors entries new_entries name stopped was going took same_cells same_actors same_entries =
-    subst (λ c. IsKept i c new_actors new_entries stopped) (sym (same_cells refl))
-    (subst (λ as_. IsKept i cells as_ new_entries stopped) (sym (same_actors refl))
-    (subst (λ es. IsKept i cells actors es stopped) (sym (same_entries refl)) was))
+
+-- the event of the last of the turns
+pub last_is : (es : List LogEntry) (n : ℕ) (x : LogEntry) (before : List Turn) (t : Turn) → n + 1 ≡ length es → x ≡ get_or es n x → turns_of es ≡ before ++ t ∷ [] → x.event ≡ t.event
+last_is [] n x before t len at is = absurd (omega (arith, len))
+last_is (y ∷ ys) zero x [] t len at is = let one : record { actor = y.actor; event = y.event } ≡ t = cc in ap (λ (z : LogEntry). z.event) at ∙ ap (λ (u : Turn). u.event) one
+last_is (y ∷ []) zero x (b ∷ []) t len at is = absurd cc
+last_is (y ∷ []) zero x (b ∷ c ∷ cs) t len at is = absurd cc
+last_is (y ∷ z ∷ zs) zero x (b ∷ bs) t len at is = absurd (omega (arith, len))
+last_is (y ∷ []) (suc n) x before t len at is = absurd (omega (arith, len))
+last_is (y ∷ z ∷ zs) (suc n) x [] t len at is = absurd cc
+last_is (y ∷ z ∷ zs) (suc n) x (b ∷ bs) t len at is = last_is (z ∷ zs) n x bs t (omega (arith, len)) at (let tails : turns_of (z ∷ zs) ≡ bs ++ t ∷ [] = cc in tails)
+
+pub stopped_run : (i j : Image) (cells : Cells) (actors : List ActorState) (turns back : List Turn) (last : WorldState) → j ≡ i → back ≡ turns → Runs (opening i) turns last
+    → IsRun (record { state = state_of j cells actors; turns = back; stopped = true })
+stopped_run i j cells actors turns back last image same run = record {
+  last = last;
+  run = subst (λ k. Runs (opening k) back last) (sym image) (subst (λ ts. Runs (opening i) ts last) (sym same) run);
+  current = λ e. absurd cc;
+}

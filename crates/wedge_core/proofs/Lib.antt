@@ -1,10 +1,15 @@
 pub mod Places
 pub mod Runs
 pub mod Turning
-pub mod Working
+pub mod AtRest
+pub mod FamilyTurns
 pub mod Numbering
 pub mod CellPlaces
 pub mod Fitting
 pub mod Advancing
-pub mod Alone
 pub mod Replays
+pub mod Indexing
+pub mod Sorted
+pub mod Lines
+pub mod LiveStack
+pub mod SerialSteps

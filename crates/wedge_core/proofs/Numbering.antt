@@ -11,8 +11,7 @@ use Rattle.wedge_base.specs.declared.events.Event.{Event}
 use Rattle.std.proofs.lemmas.List.{map-append, length-map}
 use Rattle.sthread_life.proofs.Settling.{whole_alike, outcome_alike}
 use Rattle.wedge_core.specs.Progress.{LeadsTo}
-use Rattle.wedge_core.specs.Serial.{IsWholeRun, IsNumbered, Notes}
-use Rattle.wedge_core.proofs.Alone.{root_goes_on}
+use Rattle.wedge_core.specs.Serial.{RootGoesOn, IsWholeRun, IsNumbered, Notes}
 use Rattle.wedge_core.proofs.Replays.{complete_of}
 
 abbrev pub entry : ℕ → Turn → LogEntry
@@ -46,12 +45,12 @@ notes_numbered old new name e noted numbered_old =
 
 -- entries whose turns lead to a state in which the root has ended are those of a complete run
 pub whole_run_of : (i : Image) (w : WorldState) (entries : List LogEntry) (outcome : Outcome) → w.image ≡ i → LeadsTo (turns_of entries) w → is_whole w ≡ true
-    → outcome ≡ outcome_of w → IsWholeRun i entries outcome
-whole_run_of i w entries outcome image leads whole ends =
+    → RootGoesOn (opening i) (turns_of entries) → outcome ≡ outcome_of w → IsWholeRun i entries outcome
+whole_run_of i w entries outcome image leads whole goes_on ends =
     let run : Runs (opening i) (turns_of entries) leads.last = subst (λ (j : Image). Runs (opening j) (turns_of entries) leads.last) image leads.run in
     let ended = sym (whole_alike w leads.last leads.alike) ∙ whole in
     record {
       last = leads.last;
-      complete = complete_of i (turns_of entries) leads.last run ended (root_goes_on i (turns_of entries) leads.last run);
+      complete = complete_of i (turns_of entries) leads.last run ended goes_on;
       ends = ends ∙ outcome_alike w leads.last leads.alike;
     }

@@ -1,24 +1,30 @@
 -- What a schedule replays to.
 use Rattle.std.proofs.Common.{◌≡◌, ℕ, zero, suc, ◌+◌, ◌<◌, ◌≤◌, Bool, true, false, List, [], ◌∷◌, ◌++◌, length, get_or, take, drop, refl, sym, ap, subst, ◌∙◌, arith}
-use Rattle.std.specs.Prelude.{Option, Some, None, Ok, Err, IsSomeAnd, if◌then◌else◌}
+use Rattle.std.specs.Prelude.{Option, Some, None, option_map, Ok, Err, IsSomeAnd, if◌then◌else◌}
 use Rattle.std.proofs.lemmas.List.{map-append}
 use Rattle.wedge_base.specs.Images.{Image}
 use Rattle.wedge_base.specs.Journals.{turns_of}
+use Rattle.wedge_base.specs.declared.events.Want.TheVariants as want
 use Rattle.wedge_base.specs.declared.events.Event.{Event}
+use Rattle.wedge_base.specs.declared.events.Event.TheVariants as event
 use Rattle.wedge_base.specs.declared.events.Turn.{Turn}
 use Rattle.sthread_life.specs.Actors.{ActorState}
-use Rattle.sthread_life.specs.Local.{has_ended}
+use Rattle.sthread_life.specs.Local.{has_ended, end_reached, rest}
 use Rattle.sthread_life.specs.Moments.{EachStep}
-use Rattle.sthread_life.specs.Taking.{wanted}
-use Rattle.sthread_life.specs.Worlds.{WorldState, Taken, opening, actor_named, wanting, turn_with, turn_of, Runs, is_whole}
+use Rattle.sthread_life.specs.Children.{child_name}
+use Rattle.sthread_life.specs.Taking.{wanted, wanted_at}
+use Rattle.sthread_life.specs.declared.phase.Phase.{Phase}
+use Rattle.sthread_life.specs.declared.phase.Phase.TheVariants as phase
+use Rattle.sthread_life.specs.Worlds.{WorldState, Taken, opening, actor_named, is_ended, join_event, event_at, happened, wanting, turn_with, turn_of, Runs, is_whole}
+use Rattle.sthread_life.proofs.FamilyRuns.{fuel_kept, root_bounds}
 use Rattle.sthread_life.proofs.Mediating.{moments_lawful}
 use Rattle.sthread_life.proofs.Writing.{runs_write_their_own}
-use Rattle.sthread_life.proofs.Resting.{ended-stays}
+use Rattle.sthread_life.proofs.Named.{found_name}
+use Rattle.sthread_life.proofs.Resting.{ended-stays, rest-name}
 use Rattle.wedge_core.specs.declared.error.Why.TheVariants as why
-use Rattle.wedge_core.specs.Progress.{Progress, IsTurn, HasEnded}
+use Rattle.wedge_core.specs.Progress.{Progress, IsTurn, HasEnded, IsWaiting}
 use Rattle.wedge_core.specs.Serial.{IsCompleteRun, RootGoesOn}
 use Rattle.wedge_core.specs.Replay.{why_of, why_none, replayed, names_of, Follows, CompleteRunsReplay, ReplaysAreComplete, JournalsReplay}
-use Rattle.wedge_core.proofs.Alone.{ended_rest_wants}
 use Rattle.wedge_core.proofs.Runs.{Runs-push}
 
 -- ---- one name
@@ -57,19 +63,70 @@ pub replayed_unknown : (w : WorldState) (at : ℕ) (name : List ℕ) (names : Li
     → replayed w at (name ∷ names) ≡ Err (at, why.Unknown)
 replayed_unknown w at name names going none = replayed_none w at name names going (unknown_turn w name none) ∙ ap (λ o. Err (at, why_of o)) none
 
--- an actor that has ended
+-- an actor that has ended wants nothing
+ended_wants : (a : ActorState) (p : Phase) → has_ended p ≡ true → wanted_at a p ≡ None
+ended_wants a phase.Running e = cc
+ended_wants a (phase.Within q) e = cc
+ended_wants a phase.Starting e = cc
+ended_wants a (phase.Ending x) e = cc
+ended_wants a (phase.Ended x) e = refl
+
+pub ended_rest_wants : (i : Image) (a : ActorState) → has_ended a.phase ≡ true → wanted (rest i a) ≡ None
+ended_rest_wants i a e = ap (λ (x : ActorState). wanted x) (ended-stays i a e) ∙ ended_wants a a.phase e
+
 ended_turn : (w : WorldState) (o : Option ActorState) → IsSomeAnd o (λ (a : ActorState). has_ended a.phase ≡ true) → turn_with w o ≡ None
 ended_turn w None h = absurd h
 ended_turn w (Some a) h = ap (λ (x : ActorState). wanting w x (wanted x)) (ended-stays w.image a h) ∙ ap (wanting w a) (ap (λ (x : ActorState). wanted x) (sym (ended-stays w.image a h)) ∙ ended_rest_wants w.image a h)
 
 ended_why : (o : Option ActorState) → IsSomeAnd o (λ (a : ActorState). has_ended a.phase ≡ true) → why_of o ≡ why.Ended
 ended_why None h = absurd h
-ended_why (Some a) h = refl
+ended_why (Some a) h = ap (λ t. if t then why.Ended else why.Waits) h
+
+pub has_ended_turn : (w : WorldState) (name : List ℕ) → HasEnded w.actors name → turn_of w name ≡ None
+unfolding turn_of
+has_ended_turn w name h = ended_turn w (actor_named w.actors name) h
 
 pub replayed_ended : (w : WorldState) (at : ℕ) (name : List ℕ) (names : List (List ℕ)) → is_whole w ≡ false → HasEnded w.actors name
     → replayed w at (name ∷ names) ≡ Err (at, why.Ended)
+replayed_ended w at name names going h = replayed_none w at name names going (has_ended_turn w name h) ∙ ap (λ y. Err (at, y)) (ended_why (actor_named w.actors name) h)
+
+-- an actor that waits for a child
+no_event : (k : ℕ) (o : Option ActorState) → is_ended o ≡ false → join_event k o ≡ None
+no_event k None e = refl
+no_event k (Some c) e = by_phase c.phase e
+  where
+    by_phase : (p : Phase) → has_ended p ≡ false → option_map (λ x. event.Join k x c.fuel) (end_reached p) ≡ None
+    by_phase phase.Running e = refl
+    by_phase (phase.Within q) e = refl
+    by_phase phase.Starting e = refl
+    by_phase (phase.Ending x) e = refl
+    by_phase (phase.Ended x) e = absurd cc
+
+pub waiting_turn : (w : WorldState) (name : List ℕ) → IsWaiting w name → turn_of w name ≡ None
 unfolding turn_of
-replayed_ended w at name names going h = replayed_none w at name names going (ended_turn w (actor_named w.actors name) h) ∙ ap (λ y. Err (at, y)) (ended_why (actor_named w.actors name) h)
+waiting_turn w name s =
+    let b = rest w.image s.actor in
+    let own : b.name ≡ name = rest-name w.image s.actor ∙ found_name w.actors name s.actor s.named in
+    let none : event_at w b (want.Join s.child) ≡ None = ap (λ n. join_event s.child (actor_named w.actors (child_name n s.child))) own ∙ no_event s.child (actor_named w.actors (child_name name s.child)) s.not_ended in
+    ap (turn_with w) s.named ∙ ap (wanting w b) s.wants ∙ ap (option_map (happened w b)) none
+
+-- it has not ended
+pub waiting_lives : (w : WorldState) (name : List ℕ) (s : IsWaiting w name) → has_ended s.actor.phase ≡ false
+waiting_lives w name s = by_end (has_ended s.actor.phase) refl
+  where
+    by_end : (t : Bool) → has_ended s.actor.phase ≡ t → has_ended s.actor.phase ≡ false
+    by_end false e = e
+    by_end true e = let none = sym (ended_rest_wants w.image s.actor e) ∙ s.wants in absurd cc
+
+pub replayed_waits : (w : WorldState) (at : ℕ) (name : List ℕ) (names : List (List ℕ)) → is_whole w ≡ false → IsWaiting w name
+    → replayed w at (name ∷ names) ≡ Err (at, why.Waits)
+replayed_waits w at name names going s =
+    replayed_none w at name names going (waiting_turn w name s)
+    ∙ ap (λ y. Err (at, y)) (ap why_of s.named ∙ ap (λ t. if t then why.Ended else why.Waits) (waiting_lives w name s))
+
+pub not_true : (b : Bool) → (b ≡ true → ⊥) → b ≡ false
+not_true false h = refl
+not_true true h = absurd (h refl)
 
 -- ---- runs
 
@@ -140,7 +197,16 @@ replays_by [] w at last r = none_left w at last (is_whole w) refl r
 replays_by (name ∷ names) w at last r = by_end w at name names last (is_whole w) refl (λ new. replays_by names new (at + 1) last) r
 
 pub complete_of : (i : Image) (turns : List Turn) (last : WorldState) → Runs (opening i) turns last → is_whole last ≡ true → RootGoesOn (opening i) turns → IsCompleteRun i turns last
-complete_of i turns last run whole goes = record { run = run; whole = whole; goes_on = goes; lawful = moments_lawful i turns last run; written = runs_write_their_own i turns last run }
+complete_of i turns last run whole goes = record {
+  run = run;
+  whole = whole;
+  goes_on = goes;
+  lawful = moments_lawful i turns last run;
+  written = runs_write_their_own i turns last run;
+  all_fuel = (fuel_kept i turns last run).0;
+  paid = (fuel_kept i turns last run).1;
+  bounded = root_bounds i turns last run;
+}
 
 pub replays_are_complete : ReplaysAreComplete
 replays_are_complete i names last r =

@@ -1,13 +1,16 @@
 -- What a world keeps: its state, and the turns that led to it.
-use Rattle.std.specs.Prelude.{◌≡◌, ℕ, ◌<◌, Bool, true, false, List, [], length, Some, IsSomeAnd, slice_get, slice_set}
+use Rattle.std.specs.Prelude.{◌≡◌, ℕ, ◌<◌, Bool, true, false, List, [], ◌∷◌, ◌++◌, length, Option, Some, None, IsSomeAnd, slice_get, slice_set}
 use Rattle.wedge_base.specs.Images.{Image}
 use Rattle.wedge_base.specs.declared.events.Turn.{Turn}
 use Rattle.wedge_base.specs.Gates.{Kept}
 use Rattle.wedge_base.specs.declared.grants.GateId.{GateId}
 use Rattle.sthread_life.specs.Cells.{Cells, GateCell, kept_among, put_kept}
-use Rattle.sthread_life.specs.Worlds.{WorldState, opening, actor_named, put_actor, turn_of, Runs, settled}
+use Rattle.sthread_life.specs.Worlds.{WorldState, opening, actor_named, put_actor, turn_of, Runs, is_ended, settled}
 use Rattle.sthread_life.specs.Actors.{ActorState}
-use Rattle.sthread_life.specs.Local.{has_ended}
+use Rattle.sthread_life.specs.Local.{rest, has_ended}
+use Rattle.sthread_life.specs.Children.{child_name}
+use Rattle.sthread_life.specs.Taking.{wanted}
+use Rattle.wedge_base.specs.declared.events.Want.TheVariants as want
 use Rattle.wedge_base.specs.declared.events.Event.{Event}
 
 -- a world's state, the turns taken so far, and whether it has stopped because it ran out of memory
@@ -64,3 +67,27 @@ pub record IsCellOf (cells : List GateCell) (id : GateId) (place : ℕ) (c : Gat
 
 abbrev pub IsGateAt : List GateCell → GateId → ℕ → Type 0
 IsGateAt cells id place = (c : GateCell) × IsCellOf cells id place c
+
+-- ---- an actor that waits
+
+-- the actor of a name wants to join a child that has not ended
+pub record IsWaiting (w : WorldState) (name : List ℕ) : Type 0 where
+  pub actor : ActorState
+  pub child : ℕ
+  pub named : actor_named w.actors name ≡ Some actor
+  pub wants : wanted (rest w.image actor) ≡ Some (want.Join child)
+  pub not_ended : is_ended (actor_named w.actors (child_name name child)) ≡ false
+
+-- the actor of a name is at rest, and all else is as before
+abbrev pub rested_in : Image → List ActorState → Option ActorState → List ActorState
+rested_in i actors None = actors
+rested_in i actors (Some a) = put_actor actors (rest i a)
+
+abbrev pub rested : WorldState → List ℕ → WorldState
+rested w name = record w { actors = rested_in w.image w.actors (actor_named w.actors name) }
+
+-- a turn of the actor of a name was taken, and stands last among the turns
+pub record GoesOnBy (old : Progress) (name : List ℕ) (new : Progress) : Type 0 where
+  pub event : Event
+  pub turn : IsTurn old.state name event new.state
+  pub noted : new.turns ≡ old.turns ++ record { actor = name; event = event } ∷ []

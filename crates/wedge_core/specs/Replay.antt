@@ -7,6 +7,7 @@ use Rattle.wedge_base.specs.declared.events.LogEntry.{LogEntry}
 use Rattle.wedge_base.specs.declared.outcome.Outcome.{Outcome}
 use Rattle.wedge_base.specs.Journals.{turns_of}
 use Rattle.sthread_life.specs.Actors.{ActorState}
+use Rattle.sthread_life.specs.Local.{has_ended}
 use Rattle.sthread_life.specs.Outcomes.{outcome_of}
 use Rattle.sthread_life.specs.Worlds.{WorldState, opening, actor_named, turn_of, Runs, is_whole}
 use Rattle.wedge_core.specs.declared.error.Why.{Why}
@@ -19,7 +20,7 @@ use Rattle.wedge_core.specs.Serial.{IsCompleteRun, IsWholeRun, RootGoesOn}
 -- why an actor has no turn
 abbrev pub why_of : Option ActorState → Why
 why_of None = why.Unknown
-why_of (Some a) = why.Ended
+why_of (Some a) = if has_ended a.phase then why.Ended else why.Waits
 
 abbrev pub why_none : WorldState → List ℕ → Why
 why_none w name = why_of (actor_named w.actors name)

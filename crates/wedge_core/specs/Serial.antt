@@ -1,37 +1,40 @@
 -- Complete runs.
-use Rattle.std.specs.Prelude.{◌≡◌, ◌+◌, ◌*◌, ◌++◌, ◌∷◌, [], length, ℕ, true, false, List, Option, Some, None, if◌then◌else◌}
+use Rattle.std.specs.Prelude.{◌≡◌, ◌+◌, ◌<◌, ◌≤◌, ◌++◌, ◌∷◌, [], length, map, slice_get, ℕ, true, false, List, Option, Some, None, if◌then◌else◌}
 use Rattle.wedge_base.specs.Images.{Image}
 use Rattle.wedge_base.specs.Names.{root_name}
+use Rattle.wedge_core.specs.Places.{place_in}
+use Rattle.wedge_core.specs.Progress.{Progress}
+use Rattle.wedge_core.specs.declared.serially.Live.{Live}
 use Rattle.wedge_base.specs.Journals.{turns_of, numbered}
 use Rattle.wedge_base.specs.declared.events.LogEntry.{LogEntry}
 use Rattle.wedge_base.specs.declared.events.Event.{Event}
 use Rattle.wedge_base.specs.declared.outcome.Outcome.{Outcome}
 use Rattle.sthread_life.specs.Actors.{ActorState}
-use Rattle.sthread_life.specs.declared.phase.Phase.{Phase}
-use Rattle.sthread_life.specs.declared.phase.Phase.TheVariants as phase
 use Rattle.sthread_life.specs.Local.{has_ended}
-use Rattle.sthread_life.specs.Taking.{takes}
-use Rattle.wedge_base.specs.declared.events.Want.{Want}
 use Rattle.wedge_base.specs.declared.events.Turn.{Turn}
 use Rattle.sthread_life.specs.Moments.{EachStep, EachMoment}
+use Rattle.sthread_life.specs.Bounds.{IsWithinRoot}
+use Rattle.sthread_life.specs.Fuel.{fuel_of, TakesItsUnits}
 use Rattle.sthread_life.specs.Laws.{IsLawful, IsWrittenByOwners}
-use Rattle.sthread_life.specs.Cells.{Cells, cells_after}
-use Rattle.sthread_life.specs.Worlds.{event_at, WorldState, opening, actor_named, Runs, is_whole}
-use Rattle.wedge_core.specs.Progress.{IsPlaceOf}
+use Rattle.sthread_life.specs.Worlds.{WorldState, opening, actor_named, Runs, is_whole}
 use Rattle.sthread_life.specs.Outcomes.{outcome_of}
 
 -- before each of these turns the root has not ended
 abbrev pub RootGoesOn : WorldState → List Turn → Type 0
 RootGoesOn w turns = EachStep (λ old t new. is_whole old ≡ false) w turns
 
--- the turns are a complete run of the image, up to the end of its root: each moment of it is lawful, and the
--- bytes of each tag and of each stream come from those who may write them alone
+-- The turns are a complete run of the image, up to the end of its root: each moment of it is lawful; the bytes of each tag
+-- and of each stream come from those who may write them alone; each turn takes exactly its units of the image's fuel; and
+-- whatever an actor has on a declared tag or descriptor, the root began with.
 pub record IsCompleteRun (i : Image) (turns : List Turn) (last : WorldState) : Type 0 where
   pub run : Runs (opening i) turns last
   pub whole : is_whole last ≡ true
   pub goes_on : RootGoesOn (opening i) turns
   pub lawful : EachMoment IsLawful (opening i) turns
   pub written : IsWrittenByOwners i turns last
+  pub all_fuel : fuel_of (opening i) ≡ i.fuel
+  pub paid : EachStep TakesItsUnits (opening i) turns
+  pub bounded : (name : List ℕ) (a : ActorState) → actor_named last.actors name ≡ Some a → IsWithinRoot i a
 
 -- entries tell a complete run of the image with this outcome
 pub record IsWholeRun (i : Image) (entries : List LogEntry) (outcome : Outcome) : Type 0 where
@@ -43,6 +46,11 @@ pub record IsWholeRun (i : Image) (entries : List LogEntry) (outcome : Outcome) 
 abbrev pub newest : List ActorState → Option (List ℕ)
 newest [] = None
 newest (a ∷ as_) = elim (newest as_) [ Some name ↦ Some name | None ↦ if has_ended a.phase then None else Some a.name ]
+
+-- the names of the actors that have not ended, in the order of their starts
+abbrev pub live_names : List ActorState → List (List ℕ)
+live_names [] = []
+live_names (a ∷ as_) = if has_ended a.phase then live_names as_ else a.name ∷ live_names as_
 
 -- each turn is that of the actor that was started last and has not ended
 abbrev pub InSerialOrder : WorldState → List Turn → Type 0
@@ -56,33 +64,35 @@ IsNumbered entries = entries ≡ numbered 1 (turns_of entries)
 abbrev pub Notes : List LogEntry → List ℕ → Event → List LogEntry → Type 0
 Notes old name e new = new ≡ old ++ record { stamp = length old + 1; actor = name; event = e } ∷ []
 
--- the event that an actor at rest wants is done and noted
-pub record IsMade (i : Image) (cells : Cells) (a : ActorState) (q : Want) (entries : List LogEntry) (name : List ℕ) (new_cells : Cells) (new : ActorState) (new_entries : List LogEntry) : Type 0 where
-  pub event : Event
-  pub comes : event_at cells a q ≡ Some event
-  pub cells_are : new_cells ≡ cells_after cells event
-  pub takes_it : new ≡ takes i a event
-  pub name_stays : new.name ≡ a.name
-  pub noted : Notes entries name event new_entries
+-- the root is the first of the actors, and it ends last
+pub record RootIsFirst (actors : List ActorState) : Type 0 where
+  pub root_ : ActorState
+  pub others : List ActorState
+  pub first : actors ≡ root_ ∷ others
+  pub named : root_.name ≡ root_name
+  pub last : has_ended root_.phase ≡ true → live_names others ≡ []
 
--- the root is the first of the actors
-abbrev pub HasRoot : WorldState → Type 0
-HasRoot w = IsPlaceOf w.actors root_name 0
+-- each is at its index
+abbrev pub ArePlaced : List ActorState → List Live → Type 0
+ArePlaced actors [] = Unit {0}
+ArePlaced actors (l ∷ ls) = (place_in actors l.name ≡ Some l.place) × ArePlaced actors ls
 
--- the work that an actor has left: two for each unit of fuel, and what its phase has still to do, of which each event
--- takes some away
-abbrev pub phase_work : Phase → ℕ
-phase_work phase.Running = 2
-phase_work (phase.Within q) = 3
-phase_work (phase.Ending e) = 1
-phase_work (phase.Ended e) = 0
+abbrev pub names_in : List Live → List (List ℕ)
+names_in live = map (λ l. l.name) live
 
-abbrev pub work : ActorState → ℕ
-work a = 2 * a.fuel + phase_work a.phase
+-- turns taken in serial order so far, and the actors that have not ended
+pub record IsSerial (i : Image) (p : Progress) (live : List Live) : Type 0 where
+  pub going : p.stopped ≡ false
+  pub run : Runs (opening i) p.turns p.state
+  pub order : InSerialOrder (opening i) p.turns
+  pub goes_on : RootGoesOn (opening i) p.turns
+  pub stack : names_in live ≡ live_names p.state.actors
+  pub placed : ArePlaced p.state.actors live
+  pub root_first : RootIsFirst p.state.actors
 
-abbrev pub work_in : Option ActorState → ℕ
-work_in None = 0
-work_in (Some a) = work a
-
-abbrev pub root_work : WorldState → ℕ
-root_work w = work_in (actor_named w.actors root_name)
+-- Those that live after a turn, by those before: one behind them where there is an actor more, and one less where the actor at this
+-- index has ended.
+pub record LivesAfter (actors : List ActorState) (place count : ℕ) (old new : List Live) : Type 0 where
+  pub begun : count < length actors → (c : ActorState) × (slice_get actors count ≡ Some c) × (new ≡ old ++ record { name = c.name; place = count } ∷ [])
+  pub ended : length actors ≤ count → (a : ActorState) → slice_get actors place ≡ Some a → has_ended a.phase ≡ true → (l : Live) × (old ≡ new ++ l ∷ [])
+  pub goes_on : length actors ≤ count → (a : ActorState) → slice_get actors place ≡ Some a → has_ended a.phase ≡ false → new ≡ old

@@ -13,10 +13,10 @@ use crate::world::World;
 use fd_table::Stream;
 use image_form::Image;
 use std::alloc::Global;
+use std::cmp::Ordering;
 use sthread_life::{Actor, Phase};
 use wedge_base::{
-    ActorLine, ActorName, Bytes, End, FdNo, Items, NoMemory, Outcome, StreamKind, StreamLine,
-    copy_denials,
+    ActorLine, Bytes, End, FdNo, Items, NoMemory, Outcome, StreamKind, StreamLine, copy_denials,
 };
 
 /// The outcome of a world whose root has ended: a line for each actor, and one for each append stream.
@@ -34,7 +34,8 @@ pub fn outcome(alloc: Global, world: &World<'_>) -> Result<Outcome, NoMemory>
     })
 }
 
-/// The lines of the actors that have ended, in the order of names.
+/// The lines of the actors that have ended, in the order of names: sorted by a stable sort, so in n log n.
+/// From the last actor to the first, since of lines with one name that of the later actor comes first.
 fn actor_lines(
     alloc: Global,
     image: &Image,
@@ -48,10 +49,11 @@ fn actor_lines(
         left -= 1;
         add_actor(alloc, image, &actors[left], &mut lines)?;
     }
+    lines.sort_by(|a, b| by_name(a, b))?;
     Ok(lines)
 }
 
-/// Adds the line of an actor, if it has ended.
+/// Adds the line of an actor at the end, if it has ended.
 fn add_actor(
     alloc: Global,
     image: &Image,
@@ -59,12 +61,12 @@ fn add_actor(
     lines: &mut Vec<ActorLine>,
 ) -> Result<(), NoMemory>
     ensures { OnOk result (lines.new.items
-        ≡ outcomes.with_actor image.now resident.now resident.now.phase lines.old.items) }
+        ≡ lines.old.items ++ outcomes.with_actor image.now resident.now resident.now.phase []) }
 {
     match resident.actor.phase() {
         Phase::Ended(end) => {
-            let line = line_of(alloc, image, &resident.actor, *end)?;
-            add_line(lines, line)
+            lines.push(line_of(alloc, image, &resident.actor, *end)?)?;
+            Ok(())
         }
         _ => Ok(()),
     }
@@ -84,25 +86,11 @@ fn line_of(alloc: Global, image: &Image, actor: &Actor, end: End) -> Result<Acto
     })
 }
 
-/// Puts a line before the first whose name is after its own.
-fn add_line(lines: &mut Vec<ActorLine>, line: ActorLine) -> Result<(), NoMemory>
-    ensures { OnOk result (lines.new.items ≡ outcomes.with_line line lines.old.items) }
+/// The order of lines: that of their names, part by part, a prefix first.
+fn by_name(line: &ActorLine, other: &ActorLine) -> Ordering
+    ensures { is_lt result ≡ is_lt (slice_cmp nat_cmp line.now.name other.now.name) }
 {
-    for i in 0..lines.len() {
-        if is_before(&line.name, &lines[i].name) {
-            lines.insert(i, line)?;
-            return Ok(());
-        }
-    }
-    lines.push(line)?;
-    Ok(())
-}
-
-/// Whether a name stands before another: part by part, a prefix first.
-fn is_before(name: &ActorName, other: &ActorName) -> bool
-    ensures { result ≡ is_lt (slice_cmp nat_cmp name.now other.now) }
-{
-    name.parts().cmp(other.parts()).is_lt()
+    line.name.parts().cmp(other.name.parts())
 }
 
 /// The lines of the append streams, by number.

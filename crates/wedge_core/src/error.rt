@@ -15,6 +15,8 @@ pub enum NoTurn {
     Unknown,
     /// The actor has ended.
     Ended,
+    /// The actor wants to join a child that has not ended.
+    Waits,
 }
 
 impl From<NoMemory> for NoTurn {
@@ -32,6 +34,8 @@ pub enum Why {
     Unknown,
     /// The actor has ended.
     Ended,
+    /// The actor wants to join a child that has not ended.
+    Waits,
     /// No name is left, and the root has not ended.
     Short,
     /// The root has ended before this name.

@@ -7,7 +7,6 @@ ghost use Rattle.wedge_core.specs.Replay.{replay_of, names_of, IsFaultOf, Follow
 ghost use Rattle.wedge_core.specs.Serial.{IsCompleteRun};
 
 use crate::error::{NoTurn, ReplayFault, Why};
-use crate::residents::place_of;
 use crate::turns::turn;
 use crate::world::{World, open_world};
 use image_form::Image;
@@ -75,6 +74,10 @@ fn follow(
             at,
             why: Why::Ended,
         }),
+        Err(NoTurn::Waits) => Err(ReplayFault::BadSchedule {
+            at,
+            why: Why::Waits,
+        }),
     }
 }
 
@@ -83,8 +86,11 @@ fn root_has_ended(world: &World<'_>, root: &ActorName) -> bool
     requires { root.now ≡ root_name }
     ensures { result ≡ is_whole world.now.state }
 {
-    match place_of(&world.residents, root) {
-        Some(place) => world.residents[place].actor.has_ended(),
+    match world.residents.place_of(root) {
+        Some(place) => {
+            let resident = &world.residents.as_slice()[place];
+            resident.actor.has_ended()
+        }
         None => false,
     }
 }

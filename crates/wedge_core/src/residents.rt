@@ -1,12 +1,16 @@
 //! The actors of a world, each with its private memory, by name.
 
-ghost use Rattle.std.specs.Prelude.{◌≡◌, IfSome, IfNone, None};
+ghost use Rattle.std.specs.Prelude.{◌≡◌, ◌++◌, ◌∷◌, [], length, IfOk, OnOk, OnErr, IfSome, IfNone, None};
+ghost use Rattle.sthread_life.specs.Children.{child_name};
 ghost use Rattle.sthread_life.specs.Worlds.{actor_named};
+ghost use Rattle.wedge_core.specs.Places.{IsIndexOf};
 ghost use Rattle.wedge_core.specs.Progress.{IsPlaceOf};
 
+use std::alloc::Global;
+use std::collections::HashMap;
 use std::marker::Model;
 use sthread_life::{Actor, Memory};
-use wedge_base::ActorName;
+use wedge_base::{ActorName, NoMemory};
 
 /// An actor with its private memory. Contracts see the whole of it.
 #[derive(Drop)]
@@ -32,15 +36,96 @@ impl Resident {
     }
 }
 
-/// The index of the first actor of a name.
-pub(crate) fn place_of(residents: &[Resident], name: &ActorName) -> Option<usize>
-    ensures found { IfSome result (IsPlaceOf residents.now name.now) }
-    ensures unknown { IfNone result (actor_named residents.now name.now ≡ None) }
-{
-    for i in 0..residents.len() {
-        if residents[i].name().is_same(name) {
-            return Some(i);
+/// The actors of a world in the order of their starts, and where each name is among them. Contracts see the
+/// list of them.
+#[derive(Drop)]
+pub(crate) struct Residents {
+    pub(crate) list: Vec<Resident>,
+    pub(crate) index: HashMap<Vec<u32>, usize>,
+}
+
+impl Model for Residents {
+    ghost use Rattle.std.specs.Prelude.{List};
+    ghost use Rattle.sthread_life.specs.Actors.{ActorState};
+    ghost use Rattle.wedge_core.specs.Places.{IsIndexOf};
+
+    ghost Value = { List ActorState };
+
+    ghost view = { λ r. r.list.items };
+
+    ghost invariant = { λ r. IsIndexOf r.index r.list.items };
+}
+
+impl Residents {
+    /// No actors.
+    pub fn none(alloc: Global) -> Residents
+        ensures { result ≡ [] }
+    {
+        Residents {
+            list: Vec::new(alloc),
+            index: HashMap::new(alloc),
         }
     }
-    None
+
+    /// The actors as a run begins: the root alone.
+    pub fn new(alloc: Global, root: Resident) -> Result<Residents, NoMemory>
+        ensures { IfOk result (λ r. r ≡ root ∷ []) }
+    {
+        let mut residents = Residents::none(alloc);
+        residents.push(root)?;
+        Ok(residents)
+    }
+
+    /// Returns the actors, in the order of their starts.
+    pub fn as_slice(&self) -> &[Resident]
+        ensures { result.now ≡ self.now }
+    {
+        self.list.as_slice()
+    }
+
+    /// The index of the first actor of a name, by one look-up.
+    pub fn place_of(&self, name: &ActorName) -> Option<usize>
+        ensures found { IfSome result (IsPlaceOf self.now name.now) }
+        ensures unknown { IfNone result (actor_named self.now name.now ≡ None) }
+    {
+        self.index.get(name.parts()).copied()
+    }
+
+    /// The index of the first actor of the name of a child: the k-th that the actor of this name starts.
+    pub fn place_of_child(&self, name: &ActorName, k: u32) -> Result<Option<usize>, NoMemory>
+        ensures found { IfOk result (λ o. IfSome o (IsPlaceOf self.now (child_name name.now k))) }
+        ensures unknown { IfOk result (λ o. IfNone o (actor_named self.now (child_name name.now k) ≡ None)) }
+    {
+        let alloc = *self.list.allocator();
+        let mut parts = Vec::from_slice(alloc, name.parts())?;
+        parts.push(k)?;
+        Ok(self.index.get(parts.as_slice()).copied())
+    }
+
+    /// Adds an actor at the end. Out of memory, nothing is changed.
+    pub fn push(&mut self, child: Resident) -> Result<(), NoMemory>
+        requires { actor_named self.old child.name ≡ None }
+        ensures ok { OnOk result (self.new ≡ self.old ++ child ∷ []) }
+        ensures err { OnErr result (self.new ≡ self.old) }
+    {
+        let alloc = *self.list.allocator();
+        let parts = Vec::from_slice(alloc, child.name().parts())?;
+        self.list.reserve(1)?;
+        self.index.insert(parts, self.list.len())?;
+        let Ok(()) = self.list.push(child) else {
+            unreachable!()
+        };
+        Ok(())
+    }
+}
+
+/// Drops all actors and their index. When out of memory not even an actor's name is known, so the index can't be kept.
+#[inline(never)]
+pub(crate) fn drop_all(list: &mut Vec<Resident>, index: &mut HashMap<Vec<u32>, usize>)
+    ensures none { list.new.items ≡ [] }
+    ensures index { IsIndexOf index.new [] }
+{
+    let alloc = *list.allocator();
+    *list = Vec::new(alloc);
+    *index = HashMap::new(alloc);
 }

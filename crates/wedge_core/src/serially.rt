@@ -1,17 +1,24 @@
 //! Complete runs on one thread.
 
-ghost use Rattle.std.specs.Prelude.{◌≡◌, ◌<◌, ◌≤◌, ◌^◌, length, IfOk, OnOk, true, false};
-ghost use Rattle.wedge_base.specs.Names.{root_name};
+ghost use Rattle.std.specs.Prelude.{◌≡◌, ◌<◌, ◌++◌, ◌∷◌, [], length, map, IfOk, OnOk, true, false};
+ghost use Rattle.sthread_life.specs.Fuel.{work_left};
 ghost use Rattle.sthread_life.specs.Worlds as worlds;
-ghost use Rattle.wedge_core.specs.Serial.{IsWholeRun, IsNumbered, InSerialOrder, HasRoot, root_work};
+ghost use Rattle.wedge_core.specs.Serial.{IsWholeRun, IsNumbered, InSerialOrder, IsSerial, LivesAfter};
 ghost use Rattle.wedge_base.specs.Journals.{turns_of};
 
 use crate::ending::outcome;
-use crate::turns::advance;
+use crate::turns::{Went, advance};
 use crate::world::{World, open_world};
 use image_form::Image;
 use std::alloc::Global;
 use wedge_base::{ActorName, Items, Journal, NoMemory, Outcome};
+
+/// An actor that has not ended: its name, and its index among the actors.
+#[derive(Drop)]
+pub(crate) struct Live {
+    pub name: ActorName,
+    pub place: usize,
+}
 
 /// A complete run of an image, on the calling thread: its journal and its outcome. The stamps of the
 /// journal are the places of its entries, from 1. Each turn is that of the actor that was started last and
@@ -21,11 +28,14 @@ pub fn serial(alloc: Global, image: &Image) -> Result<(Journal, Outcome), NoMemo
     ensures stamps { IfOk result (λ r. IsNumbered r.0.entries) }
     ensures order { IfOk result (λ r. InSerialOrder (worlds.opening image.now) (turns_of r.0.entries)) }
 {
-    let root = ActorName::root(alloc)?;
     let mut world = open_world(alloc, image)?;
-    let mut goes_on = true;
-    while goes_on {
-        goes_on = take_turn(&mut world, &root)?;
+    let mut live = Vec::new(alloc);
+    live.push(Live {
+        name: ActorName::root(alloc)?,
+        place: 0,
+    })?;
+    while !live.is_empty() {
+        take_turn(&mut world, &mut live)?;
     }
     let outcome = outcome(alloc, &world)?;
     let journal = Journal {
@@ -34,18 +44,44 @@ pub fn serial(alloc: Global, image: &Image) -> Result<(Journal, Outcome), NoMemo
     Ok((journal, outcome))
 }
 
-/// A turn of the root, and whether it took one: none once it has ended.
-fn take_turn(world: &mut World<'_>, root: &ActorName) -> Result<bool, NoMemory>
-    requires root { root.now ≡ root_name }
-    requires going { world.old.stopped ≡ false }
-    requires there { HasRoot world.old.state }
-    ensures going { OnOk result (world.new.stopped ≡ false) }
-    ensures there { OnOk result (HasRoot world.new.state) }
-    ensures less { IfOk result (λ b. b ≡ true → root_work world.new.state < root_work world.old.state) }
-    ensures same { IfOk result (λ b. b ≡ false → root_work world.new.state ≡ root_work world.old.state) }
-    ensures whole { IfOk result (λ b. b ≡ false → worlds.is_whole world.new.state ≡ true) }
+/// A turn of the actor that was started last and has not ended: the last of those that live.
+fn take_turn(world: &mut World<'_>, live: &mut Vec<Live>) -> Result<(), NoMemory>
+    requires serial { IsSerial world.old.state.image world.old live.old.items }
+    requires some { 0 < length live.old.items }
+    ensures serial { OnOk result (IsSerial world.new.state.image world.new live.new.items) }
     ensures image { world.new.state.image ≡ world.old.state.image }
+    ensures less { OnOk result (work_left world.new.state < work_left world.old.state) }
 {
-    let took = advance(world, root, 0)?;
-    Ok(took)
+    let newest = &live[live.len() - 1];
+    let place = newest.place;
+    let count = world.residents.as_slice().len();
+    match advance(world, &newest.name, place)? {
+        Went::Took => note_lives(world, live, place, count),
+        Went::Ended => unreachable!(),
+        Went::Waits => unreachable!(),
+    }
+}
+
+/// Notes who lives after a turn of the actor at an index, before which there were so many actors.
+fn note_lives(
+    world: &World<'_>,
+    live: &mut Vec<Live>,
+    place: usize,
+    count: usize,
+) -> Result<(), NoMemory>
+    requires inside { place < length world.now.state.actors }
+    requires some { 0 < length live.old.items }
+    ensures { OnOk result (LivesAfter world.now.state.actors place count live.old.items live.new.items) }
+{
+    let actors = world.residents.as_slice();
+    if count < actors.len() {
+        let name = actors[count].name().copy()?;
+        live.push(Live { name, place: count })?;
+        return Ok(());
+    }
+    let resident = &actors[place];
+    if resident.actor.has_ended() {
+        live.pop();
+    }
+    Ok(())
 }

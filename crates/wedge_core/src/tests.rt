@@ -1,8 +1,10 @@
 use super::*;
+use crate::residents::{Resident, Residents};
 use image_form::{Image, ImageParts, finish_image};
 use std::alloc::Global;
 use std::process::Abort;
 use std::test::Fail;
+use sthread_life::Actor;
 use wedge_base::{
     ActorName, Bytes, FdEntry, Items, Journal, MemoryRange, NoMemory, Outcome, Procedure, Right,
     Slot, TagEntry,
@@ -173,5 +175,28 @@ fn a_schedule_is_rejected_at_its_first_bad_name(rt: HostRuntime) -> Result<(), F
         let got = try_schedule(rt.alloc(), numbers)?;
         assert_eq!(rt; got, Err(ReplayFault::BadSchedule { at, why }));
     }
+    Ok(())
+}
+
+/// No actors, and then the root of an image.
+fn root_added(alloc: Global, image: &Image) -> Result<Residents, Fail> {
+    let (actor, memory) = Actor::root(alloc, image).ok().ok_or("a root")?;
+    let mut residents = Residents::none(alloc);
+    residents
+        .push(Resident { actor, memory })
+        .ok()
+        .ok_or("memory")?;
+    Ok(residents)
+}
+
+#[test]
+fn an_actor_that_was_added_is_found_by_its_name(rt: HostRuntime) -> Result<(), Fail> {
+    let image = image(rt.alloc(), None)?;
+    let residents = root_added(rt.alloc(), &image)?;
+    let root = name_of(rt.alloc(), 0)?;
+    let child = name_of(rt.alloc(), 1)?;
+    assert_eq!(rt; residents.as_slice().len(), 1);
+    assert_eq!(rt; residents.place_of(&root), Some(0));
+    assert_eq!(rt; residents.place_of(&child), None);
     Ok(())
 }

@@ -1,26 +1,29 @@
 //! One turn of a world.
 
-ghost use Rattle.std.specs.Prelude.{◌≡◌, ◌++◌, ◌∷◌, [], ◌↔◌, ◌⊎◌, false, true, Some, None, IfOk, OnOk, OnErr, IsErrOf};
-ghost use Rattle.wedge_base.specs.declared.events.Event.{Event as AnEvent};
+ghost use Rattle.std.specs.Prelude.{◌≡◌, ◌++◌, ◌∷◌, [], ◌↔◌, ◌⊎◌, ℕ, false, true, Some, None, IfOk, IfSome, IfNone, OnOk, OnErr, IsErrOf, option_map};
+ghost use Rattle.sthread_life.specs.Actors.{whole};
 ghost use Rattle.wedge_base.specs.declared.events.SlotWant.{SlotWant as ASlotWant};
 ghost use Rattle.wedge_base.specs.declared.events.Want.{Want as AWant};
 ghost use Rattle.sthread_life.specs.Between.{WantFits};
 ghost use Rattle.sthread_life.specs.Cells.{cells_after};
+ghost use Rattle.sthread_life.specs.Children.{child_name};
 ghost use Rattle.sthread_life.specs.Laws.{IsLawful};
 ghost use Rattle.sthread_life.specs.Local.{rest, has_ended};
 ghost use Rattle.sthread_life.specs.Moments.{TurnHas};
 ghost use Rattle.sthread_life.specs.Taking.{wanted, takes};
-ghost use Rattle.sthread_life.specs.Worlds.{actor_named, event_at};
+ghost use Rattle.sthread_life.specs.Worlds as worlds;
+ghost use Rattle.sthread_life.specs.Worlds.{actor_named, is_ended};
 ghost use Rattle.sthread_life.specs.Written.{StepAppendsOwn, StepWritesOwn};
-ghost use Rattle.wedge_core.specs.Progress.{state_of, IsTurn, HasEnded, IsPlaceOf};
-ghost use Rattle.wedge_core.specs.Serial.{Notes, IsMade};
+ghost use Rattle.wedge_core.specs.Progress.{IsTurn, HasEnded, IsPlaceOf, IsWaiting, rested, GoesOnBy};
+ghost use Rattle.wedge_core.specs.Serial.{Notes};
+ghost use Rattle.wedge_core.specs.Turning.{event_asked, IsOfCell, IsOfFamily, IsMade, IsLeft, IsFamilyAtRest, WantsOfFamily, IsStarting, IsJoining, IsTaking, HasTaken, IsDoneAt, WasTaken, HasWaited};
 
 use crate::cells::Cells;
 use crate::error::NoTurn;
-use crate::residents::{Resident, place_of};
+use crate::residents::{Resident, Residents, drop_all};
 use crate::world::World;
 use ready_text::Program;
-use sthread_life::Next;
+use sthread_life::{Actor, Memory, Next};
 use wedge_base::{ActorName, Event, LogEntry, NoMemory, Slot, SlotWant, Stamp, Want};
 
 /// A turn that was taken: its one shared event.
@@ -29,8 +32,21 @@ pub struct Taken {
     pub event: Event,
 }
 
+/// What came of an actor's turn.
+#[derive(Clone, Copy, Debug, PartialEq, Eq)]
+pub(crate) enum Went {
+    /// It was taken.
+    Took,
+    /// The actor has ended.
+    Ended,
+    /// The actor wants to join a child that has not ended.
+    Waits,
+}
+
 /// Takes a turn of the actor of a name: its local events up to its next shared event, and that event.
-/// After `Unknown` or `Ended` the world is unchanged; after `NoMemory` it has stopped.
+/// After `Unknown` or `Ended` the world is unchanged. `Waits` comes exactly where the actor's next event is the
+/// join of a child that has not ended: the actor is then at rest, and all else is unchanged. After `NoMemory` the
+/// world has stopped.
 pub fn turn(world: &mut World<'_>, name: &ActorName) -> Result<Taken, NoTurn>
     ensures took { IfOk result (λ t. IsTurn world.old.state name.now t.event world.new.state) }
     ensures noted { IfOk result (λ t. world.new.turns
@@ -47,6 +63,12 @@ pub fn turn(world: &mut World<'_>, name: &ActorName) -> Result<Taken, NoTurn>
     ensures ended { IsErrOf result NoTurn.Ended
         ↔ ((world.old.stopped ≡ false) × HasEnded world.old.state.actors name.now) }
     ensures unchanged { IsErrOf result NoTurn.Unknown ⊎ IsErrOf result NoTurn.Ended → world.new ≡ world.old }
+    ensures waits { IsErrOf result NoTurn.Waits
+        → (world.old.stopped ≡ false) × IsWaiting world.old.state name.now }
+    ensures waiting { world.old.stopped ≡ false → IsWaiting world.old.state name.now
+        → IsErrOf result NoTurn.Waits ⊎ IsErrOf result NoTurn.NoMemory }
+    ensures rests { IsErrOf result NoTurn.Waits
+        → world.new ≡ record world.old { state = rested world.old.state name.now } }
 
     // out of memory
     ensures stops { IsErrOf result NoTurn.NoMemory ↔ (world.new.stopped ≡ true) }
@@ -57,38 +79,41 @@ pub fn turn(world: &mut World<'_>, name: &ActorName) -> Result<Taken, NoTurn>
     if world.stopped {
         return Err(NoTurn::NoMemory);
     }
-    match turn_over(
-        &world.program,
-        &mut world.cells,
-        &mut world.residents,
-        &mut world.entries,
-        name,
-    ) {
-        Ok(event) => Ok(Taken { event }),
-        Err(NoTurn::NoMemory) => {
-            world.stopped = true;
-            Err(NoTurn::NoMemory)
-        }
-        Err(NoTurn::Unknown) => Err(NoTurn::Unknown),
-        Err(NoTurn::Ended) => Err(NoTurn::Ended),
+    let Some(place) = world.residents.place_of(name) else {
+        return Err(NoTurn::Unknown);
+    };
+    match advance(world, name, place) {
+        Err(NoMemory) => Err(NoTurn::NoMemory),
+        Ok(Went::Ended) => Err(NoTurn::Ended),
+        Ok(Went::Waits) => Err(NoTurn::Waits),
+        Ok(Went::Took) => match world.last_event() {
+            Ok(event) => Ok(Taken { event }),
+            Err(NoMemory) => {
+                world.entries.pop();
+                world.stopped = true;
+                Err(NoTurn::NoMemory)
+            }
+        },
     }
 }
 
-/// Takes a turn, as `turn` does, of the actor at an index, and keeps its event. Returns whether it took one:
-/// none where the actor has ended.
+/// Takes a turn, as `turn` does, of the actor at an index, and keeps its event. Returns what came of it.
 pub(crate) fn advance(
     world: &mut World<'_>,
     name: &ActorName,
     place: usize,
-) -> Result<bool, NoMemory>
+) -> Result<Went, NoMemory>
     requires going { world.old.stopped ≡ false }
     requires there { IsPlaceOf world.old.state.actors name.now place }
-    ensures took { IfOk result (λ b. b ≡ true
-        → (e : AnEvent) × IsTurn world.old.state name.now e world.new.state) }
-    ensures ended { IfOk result (λ b. b ≡ false → HasEnded world.old.state.actors name.now) }
-    ensures unchanged { IfOk result (λ b. b ≡ false → world.new ≡ world.old) }
+    ensures took { IfOk result (λ r. r ≡ Went.Took → GoesOnBy world.old name.now world.new) }
+    ensures ended { IfOk result (λ r. r ≡ Went.Ended
+        → HasEnded world.old.state.actors name.now × (world.new ≡ world.old)) }
+    ensures waits { IfOk result (λ r. r ≡ Went.Waits → IsWaiting world.old.state name.now
+        × (world.new ≡ record world.old { state = rested world.old.state name.now })) }
     ensures going { OnOk result (world.new.stopped ≡ false) }
     ensures stops { OnErr result (world.new.stopped ≡ true) }
+    ensures lives { OnErr result (HasEnded world.old.state.actors name.now → ⊥) }
+    ensures kept { OnErr result (world.new.turns ≡ world.old.turns) }
     ensures image { world.new.state.image ≡ world.old.state.image }
 {
     match advance_over(
@@ -99,7 +124,7 @@ pub(crate) fn advance(
         name,
         place,
     ) {
-        Ok(took) => Ok(took),
+        Ok(went) => Ok(went),
         Err(NoMemory) => {
             world.stopped = true;
             Err(NoMemory)
@@ -107,72 +132,59 @@ pub(crate) fn advance(
     }
 }
 
-/// A turn over the parts of a world, with its event.
-fn turn_over(
-    program: &Program<'_>,
-    cells: &mut Cells,
-    residents: &mut Vec<Resident>,
-    entries: &mut Vec<LogEntry>,
-    name: &ActorName,
-) -> Result<Event, NoTurn>
-    ensures took { IfOk result (λ e. IsTurn (state_of program.now cells.old residents.old.items) name.now e
-        (state_of program.now cells.new residents.new.items)) }
-    ensures noted { IfOk result (λ e. Notes entries.old.items name.now e entries.new.items) }
-    ensures kept { OnErr result (entries.new.items ≡ entries.old.items) }
-    ensures unknown { IsErrOf result NoTurn.Unknown ↔ (actor_named residents.old.items name.now ≡ None) }
-    ensures ended { IsErrOf result NoTurn.Ended ↔ HasEnded residents.old.items name.now }
-    ensures same_cells { IsErrOf result NoTurn.Unknown ⊎ IsErrOf result NoTurn.Ended → cells.new ≡ cells.old }
-    ensures same_actors { IsErrOf result NoTurn.Unknown ⊎ IsErrOf result NoTurn.Ended
-        → residents.new.items ≡ residents.old.items }
-{
-    let event = turn_event(program, cells, residents, name)?;
-    let copy = event.copy(*entries.allocator())?;
-    note(entries, name, copy)?;
-    Ok(event)
-}
-
-/// A turn over the parts of a world, of the actor at an index: whether it took one.
+/// A turn over the parts of a world, of the actor at an index.
 fn advance_over(
     program: &Program<'_>,
     cells: &mut Cells,
-    residents: &mut Vec<Resident>,
+    residents: &mut Residents,
     entries: &mut Vec<LogEntry>,
     name: &ActorName,
     place: usize,
-) -> Result<bool, NoMemory>
-    requires { IsPlaceOf residents.old.items name.now place }
-    ensures took { IfOk result (λ b. b ≡ true
-        → (e : AnEvent) × IsTurn (state_of program.now cells.old residents.old.items) name.now e
-        (state_of program.now cells.new residents.new.items)
-        × Notes entries.old.items name.now e entries.new.items) }
-    ensures ended { IfOk result (λ b. b ≡ false → HasEnded residents.old.items name.now) }
-    ensures same_cells { IfOk result (λ b. b ≡ false → cells.new ≡ cells.old) }
-    ensures same_actors { IfOk result (λ b. b ≡ false → residents.new.items ≡ residents.old.items) }
-    ensures same_entries { IfOk result (λ b. b ≡ false → entries.new.items ≡ entries.old.items) }
+) -> Result<Went, NoMemory>
+    requires there { IsPlaceOf residents.old name.now place }
+    requires family { IsFamilyAtRest program.now residents.old }
+    ensures took { IfOk result (λ r. r ≡ Went.Took → WasTaken program.now cells.old residents.old
+        entries.old.items name.now cells.new residents.new entries.new.items) }
+    ensures ended { IfOk result (λ r. r ≡ Went.Ended → HasEnded residents.old name.now
+        × (cells.new ≡ cells.old) × (residents.new ≡ residents.old)) }
+    ensures waits { IfOk result (λ r. r ≡ Went.Waits
+        → HasWaited program.now cells.old residents.old name.now cells.new residents.new) }
+    ensures same { IfOk result (λ r. r ≡ Went.Ended ⊎ r ≡ Went.Waits
+        → entries.new.items ≡ entries.old.items) }
+    ensures lives { OnErr result (HasEnded residents.old name.now → ⊥) }
     ensures kept { OnErr result (entries.new.items ≡ entries.old.items) }
 {
-    let resident = &mut residents[place];
+    let resident = &mut residents.list[place];
     if resident.actor.has_ended() {
-        return Ok(false);
+        return Ok(Went::Ended);
     }
-    advance_one(program, cells, resident, entries, name)?;
-    Ok(true)
+    match advance_one(program, cells, resident, entries, name) {
+        Err(NoMemory) => {
+            drop_all(&mut residents.list, &mut residents.index);
+            Err(NoMemory)
+        }
+        Ok(None) => Ok(Went::Took),
+        Ok(Some(want)) => do_family(program, residents, entries, name, place, want),
+    }
 }
 
-/// The turn of an actor that has not ended. Loads and stores have a function of their own, since they are
-/// the most.
+/// The turn of an actor that has not ended, up to a start or a join. Loads and stores have a function of their own,
+/// since they are the most.
 fn advance_one(
     program: &Program<'_>,
     cells: &mut Cells,
     resident: &mut Resident,
     entries: &mut Vec<LogEntry>,
     name: &ActorName,
-) -> Result<(), NoMemory>
+) -> Result<Option<Want>, NoMemory>
     requires { has_ended resident.old.phase ≡ false }
-    ensures asks { OnOk result ((q : AWant) × (wanted (rest program.now resident.old) ≡ Some q)
-        × IsMade program.now cells.old
-        (rest program.now resident.old) q entries.old.items name.now cells.new resident.new
-        entries.new.items) }
+    ensures made { IfOk result (λ o. IfNone o ((q : AWant)
+        × (wanted (rest program.now resident.old) ≡ Some q) × IsOfCell q
+        × IsMade program.now cells.old (rest program.now resident.old) q entries.old.items name.now
+        cells.new resident.new entries.new.items)) }
+    ensures left { IfOk result (λ o. IfSome o (λ q. IsLeft program.now resident.old q resident.new)) }
+    ensures same { IfOk result (λ o. IfSome o (λ q.
+        (cells.new ≡ cells.old) × (entries.new.items ≡ entries.old.items))) }
     ensures kept { OnErr result (entries.new.items ≡ entries.old.items) }
 {
     match resident.actor.local(program, &mut resident.memory)? {
@@ -181,7 +193,7 @@ fn advance_one(
     }
 }
 
-/// The event that an actor at rest wants, done and noted.
+/// The event that an actor at rest wants, done and noted, unless that is a start or a join.
 #[inline(always)]
 fn do_want(
     program: &Program<'_>,
@@ -190,16 +202,169 @@ fn do_want(
     entries: &mut Vec<LogEntry>,
     name: &ActorName,
     want: Want,
-) -> Result<(), NoMemory>
-    requires { WantFits want }
-    ensures made { OnOk result (IsMade program.now cells.old resident.old want entries.old.items name.now
-        cells.new resident.new entries.new.items) }
+) -> Result<Option<Want>, NoMemory>
+    requires { WantFits resident.old want }
+    ensures made { IfOk result (λ o. IfNone o (IsOfCell want × IsMade program.now cells.old resident.old
+        want entries.old.items name.now cells.new resident.new entries.new.items)) }
+    ensures left { IfOk result (λ o. IfSome o (λ q. (q ≡ want) × IsOfFamily q
+        × (resident.new ≡ resident.old))) }
+    ensures same { IfOk result (λ o. IfSome o (λ q.
+        (cells.new ≡ cells.old) × (entries.new.items ≡ entries.old.items))) }
     ensures kept { OnErr result (entries.new.items ≡ entries.old.items) }
 {
     match want {
-        Want::Slot { slot, want } => do_slot(program, cells, resident, entries, name, slot, want),
-        _ => do_other(program, cells, resident, entries, name, want),
+        Want::Slot { slot, want } => {
+            do_slot(program, cells, resident, entries, name, slot, want)?;
+            Ok(None)
+        }
+        Want::Start { child } => Ok(Some(Want::Start { child })),
+        Want::Join { child } => Ok(Some(Want::Join { child })),
+        _ => {
+            do_other(program, cells, resident, entries, name, want)?;
+            Ok(None)
+        }
     }
+}
+
+/// The start or the join that the actor at an index wants, at rest.
+#[inline(never)]
+fn do_family(
+    program: &Program<'_>,
+    residents: &mut Residents,
+    entries: &mut Vec<LogEntry>,
+    name: &ActorName,
+    place: usize,
+    want: Want,
+) -> Result<Went, NoMemory>
+    requires { WantsOfFamily program.now residents.old place name.now want }
+    ensures took { IfOk result (λ r. r ≡ Went.Took → IsDoneAt program.now residents.old place want
+        entries.old.items name.now residents.new entries.new.items) }
+    ensures waits { IfOk result (λ r. r ≡ Went.Waits → (child : ℕ) × (want ≡ AWant.Join child)
+        × (is_ended (actor_named residents.old (child_name name.now child)) ≡ false)
+        × (residents.new ≡ residents.old) × (entries.new.items ≡ entries.old.items)) }
+    ensures lives { IfOk result (λ r. r ≡ Went.Ended → ⊥) }
+    ensures kept { OnErr result (entries.new.items ≡ entries.old.items) }
+{
+    match want {
+        Want::Start { child } => {
+            start(program, residents, entries, name, place, child)?;
+            Ok(Went::Took)
+        }
+        Want::Join { child } => join(program, residents, entries, name, place, child),
+        _ => unreachable!(),
+    }
+}
+
+/// The actor at an index starts a child.
+fn start(
+    program: &Program<'_>,
+    residents: &mut Residents,
+    entries: &mut Vec<LogEntry>,
+    name: &ActorName,
+    place: usize,
+    child: ActorName,
+) -> Result<(), NoMemory>
+    requires { IsStarting residents.old place child }
+    ensures done { OnOk result (IsDoneAt program.now residents.old place (AWant.Start child)
+        entries.old.items name.now residents.new entries.new.items) }
+    ensures kept { OnErr result (entries.new.items ≡ entries.old.items) }
+{
+    let event = Event::Start { child };
+    let Some((actor, memory)) = take_at(program, residents, place, &event)? else {
+        unreachable!()
+    };
+    residents.push(Resident { actor, memory })?;
+    note(entries, name, event)
+}
+
+/// The actor at an index takes an event. Returns the actor that the event begins with its private memory, if it
+/// begins one.
+fn take_at(
+    program: &Program<'_>,
+    residents: &mut Residents,
+    place: usize,
+    event: &Event,
+) -> Result<Option<(Actor, Memory)>, NoMemory>
+    requires { IsTaking residents.old place event.now }
+    ensures { IfOk result (λ o. HasTaken program.now residents.old place event.now
+        (option_map (λ p. whole p.0 p.1) o) residents.new) }
+{
+    let resident = &mut residents.list[place];
+    match resident.actor.take(program, &mut resident.memory, event) {
+        Ok(begun) => Ok(begun),
+        Err(NoMemory) => {
+            drop_all(&mut residents.list, &mut residents.index);
+            Err(NoMemory)
+        }
+    }
+}
+
+/// The actor at an index joins one of its children, if that has ended.
+fn join(
+    program: &Program<'_>,
+    residents: &mut Residents,
+    entries: &mut Vec<LogEntry>,
+    name: &ActorName,
+    place: usize,
+    child: u32,
+) -> Result<Went, NoMemory>
+    requires { IsJoining program.now residents.old place name.now child }
+    ensures took { IfOk result (λ r. r ≡ Went.Took → IsDoneAt program.now residents.old place
+        (AWant.Join child) entries.old.items name.now residents.new entries.new.items) }
+    ensures waits { IfOk result (λ r. r ≡ Went.Waits
+        → (is_ended (actor_named residents.old (child_name name.now child)) ≡ false)
+        × (residents.new ≡ residents.old) × (entries.new.items ≡ entries.old.items)) }
+    ensures lives { IfOk result (λ r. r ≡ Went.Ended → ⊥) }
+    ensures kept { OnErr result (entries.new.items ≡ entries.old.items) }
+{
+    let Some(event) = join_event(residents, name, child)? else {
+        return Ok(Went::Waits);
+    };
+    take_join(program, residents, entries, name, place, child, event)?;
+    Ok(Went::Took)
+}
+
+/// The join of a child of the actor of a name, if the child has ended.
+fn join_event(
+    residents: &Residents,
+    name: &ActorName,
+    child: u32,
+) -> Result<Option<Event>, NoMemory>
+    ensures { IfOk result (λ o. o
+        ≡ worlds.join_event child (actor_named residents.now (child_name name.now child))) }
+{
+    let Some(place) = residents.place_of_child(name, child)? else {
+        return Ok(None);
+    };
+    let actor = &residents.list[place].actor;
+    match actor.end_reached() {
+        None => Ok(None),
+        Some(end) => {
+            let fuel = actor.fuel();
+            Ok(Some(Event::Join { child, end, fuel }))
+        }
+    }
+}
+
+/// The actor at an index takes the join of one of its children.
+fn take_join(
+    program: &Program<'_>,
+    residents: &mut Residents,
+    entries: &mut Vec<LogEntry>,
+    name: &ActorName,
+    place: usize,
+    child: u32,
+    event: Event,
+) -> Result<(), NoMemory>
+    requires joins { IsJoining program.now residents.old place name.now child }
+    requires event { worlds.join_event child (actor_named residents.old (child_name name.now child))
+        ≡ Some event }
+    ensures done { OnOk result (IsDoneAt program.now residents.old place (AWant.Join child)
+        entries.old.items name.now residents.new entries.new.items) }
+    ensures kept { OnErr result (entries.new.items ≡ entries.old.items) }
+{
+    take_at(program, residents, place, &event)?;
+    note(entries, name, event)
 }
 
 /// What an actor at rest wants of a slot.
@@ -213,7 +378,7 @@ fn do_slot(
     slot: Slot,
     want: SlotWant,
 ) -> Result<(), NoMemory>
-    requires { WantFits (AWant.Slot slot want) }
+    requires { WantFits resident.old (AWant.Slot slot want) }
     ensures made { OnOk result (IsMade program.now cells.old resident.old
         (AWant.Slot slot want) entries.old.items name.now cells.new resident.new
         entries.new.items) }
@@ -253,7 +418,7 @@ fn load(
     offset: u32,
     width: u8,
 ) -> Result<(), NoMemory>
-    requires { WantFits (AWant.Slot slot (ASlotWant.Load offset width)) }
+    requires { WantFits resident.old (AWant.Slot slot (ASlotWant.Load offset width)) }
     ensures made { OnOk result (IsMade program.now cells.old resident.old
         (AWant.Slot slot (ASlotWant.Load offset width)) entries.old.items name.now cells.new
         resident.new entries.new.items) }
@@ -283,7 +448,7 @@ fn store(
     width: u8,
     value: u32,
 ) -> Result<(), NoMemory>
-    requires { WantFits (AWant.Slot slot (ASlotWant.Store offset width value)) }
+    requires { WantFits resident.old (AWant.Slot slot (ASlotWant.Store offset width value)) }
     ensures made { OnOk result (IsMade program.now cells.old resident.old
         (AWant.Slot slot (ASlotWant.Store offset width value)) entries.old.items name.now
         cells.new resident.new entries.new.items) }
@@ -314,7 +479,8 @@ fn do_other(
     name: &ActorName,
     want: Want,
 ) -> Result<(), NoMemory>
-    requires { WantFits want }
+    requires fits { WantFits resident.old want }
+    requires of_cell { IsOfCell want }
     ensures made { OnOk result (IsMade program.now cells.old resident.old want entries.old.items name.now
         cells.new resident.new entries.new.items) }
     ensures kept { OnErr result (entries.new.items ≡ entries.old.items) }
@@ -332,7 +498,8 @@ fn do_and_note(
     name: &ActorName,
     want: Want,
 ) -> Result<(), NoMemory>
-    requires { WantFits want }
+    requires fits { WantFits resident.old want }
+    requires of_cell { IsOfCell want }
     ensures made { OnOk result (IsMade program.now cells.old resident.old want entries.old.items name.now
         cells.new resident.new entries.new.items) }
     ensures kept { OnErr result (entries.new.items ≡ entries.old.items) }
@@ -349,8 +516,9 @@ fn do_event(
     resident: &mut Resident,
     want: Want,
 ) -> Result<Event, NoMemory>
-    requires { WantFits want }
-    ensures is { IfOk result (λ e. event_at cells.old resident.old want ≡ Some e) }
+    requires fits { WantFits resident.old want }
+    requires of_cell { IsOfCell want }
+    ensures is { IfOk result (λ e. event_asked cells.old resident.old want ≡ Some e) }
     ensures cells { IfOk result (λ e. cells.new ≡ cells_after cells.old e) }
     ensures takes { IfOk result (λ e. resident.new ≡ takes program.now resident.old e) }
     ensures name { OnOk result (resident.new.name ≡ resident.old.name) }
@@ -359,51 +527,6 @@ fn do_event(
     let event = cells.act(resident.actor.ask(want, live))?;
     resident.actor.take(program, &mut resident.memory, &event)?;
     Ok(event)
-}
-
-/// What a turn makes of actors and cells, and its event.
-fn turn_event(
-    program: &Program<'_>,
-    cells: &mut Cells,
-    residents: &mut Vec<Resident>,
-    name: &ActorName,
-) -> Result<Event, NoTurn>
-    ensures took { IfOk result (λ e. IsTurn (state_of program.now cells.old residents.old.items) name.now e
-        (state_of program.now cells.new residents.new.items)) }
-    ensures unknown { IsErrOf result NoTurn.Unknown ↔ (actor_named residents.old.items name.now ≡ None) }
-    ensures ended { IsErrOf result NoTurn.Ended ↔ HasEnded residents.old.items name.now }
-    ensures same_cells { IsErrOf result NoTurn.Unknown ⊎ IsErrOf result NoTurn.Ended → cells.new ≡ cells.old }
-    ensures same_actors { IsErrOf result NoTurn.Unknown ⊎ IsErrOf result NoTurn.Ended
-        → residents.new.items ≡ residents.old.items }
-{
-    let Some(place) = place_of(residents, name) else {
-        return Err(NoTurn::Unknown);
-    };
-    let doer = &mut residents[place];
-    if doer.actor.has_ended() {
-        return Err(NoTurn::Ended);
-    }
-    let event = step(program, cells, doer)?;
-    Ok(event)
-}
-
-/// The turn of an actor that has not ended: its event.
-fn step(
-    program: &Program<'_>,
-    cells: &mut Cells,
-    resident: &mut Resident,
-) -> Result<Event, NoMemory>
-    requires { has_ended resident.old.phase ≡ false }
-    ensures asks { IfOk result (λ r. (q : AWant) × (wanted (rest program.now resident.old) ≡ Some q)
-        × (event_at cells.old (rest program.now resident.old) q ≡ Some r)) }
-    ensures cells { IfOk result (λ r. cells.new ≡ cells_after cells.old r) }
-    ensures takes { IfOk result (λ r. resident.new ≡ takes program.now (rest program.now resident.old) r) }
-    ensures name { OnOk result (resident.new.name ≡ resident.old.name) }
-{
-    match resident.actor.local(program, &mut resident.memory)? {
-        Next::Ended(_) => unreachable!(),
-        Next::Shared(want) => do_event(program, cells, resident, want),
-    }
 }
 
 /// Adds the entry of a turn to the journal.

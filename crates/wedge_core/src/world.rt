@@ -1,18 +1,19 @@
 //! The world of a run.
 
-ghost use Rattle.std.specs.Prelude.{◌≡◌, IfOk, false};
+ghost use Rattle.std.specs.Prelude.{◌≡◌, ◌<◌, ◌++◌, ◌∷◌, [], List, length, IfOk, false};
+ghost use Rattle.wedge_base.specs.declared.events.Turn.{Turn as ATurn};
 ghost use Rattle.wedge_core.specs.Progress.{LeadsTo, opened};
 ghost use Rattle.wedge_core.specs.Serial.{IsNumbered};
 ghost use Rattle.wedge_base.specs.Journals.{turns_of};
 
 use crate::cells::Cells;
-use crate::residents::Resident;
+use crate::residents::{Resident, Residents};
 use image_form::Image;
 use ready_text::Program;
 use std::alloc::Global;
 use std::marker::Model;
 use sthread_life::Actor;
-use wedge_base::{LogEntry, NoMemory};
+use wedge_base::{Event, LogEntry, NoMemory};
 
 /// The world of a run: every actor and every cell, and the turns taken so far. Its turns are always a
 /// run from the initial state of its image, and its state is where that run leads, but for local events
@@ -21,7 +22,7 @@ use wedge_base::{LogEntry, NoMemory};
 pub struct World<'a> {
     pub(crate) program: Program<'a>,
     pub(crate) cells: Cells,
-    pub(crate) residents: Vec<Resident>,
+    pub(crate) residents: Residents,
     pub(crate) entries: Vec<LogEntry>,
     pub(crate) stopped: bool,
 }
@@ -34,7 +35,7 @@ impl<'a> Model for World<'a> {
     ghost Value = { Progress };
 
     ghost view = { λ w. record {
-      state = record { image = w.program; cells = w.cells; actors = w.residents.items };
+      state = record { image = w.program; cells = w.cells; actors = w.residents };
       turns = turns_of w.entries.items;
       stopped = w.stopped;
     } };
@@ -42,7 +43,7 @@ impl<'a> Model for World<'a> {
     ghost invariant = { λ w. record {
       numbered : IsNumbered w.entries.items;
       run : IsRun (record {
-        state = record { image = w.program; cells = w.cells; actors = w.residents.items };
+        state = record { image = w.program; cells = w.cells; actors = w.residents };
         turns = turns_of w.entries.items;
         stopped = w.stopped;
       });
@@ -57,9 +58,20 @@ impl<'a> World<'a> {
         &self.cells
     }
 
+    /// A copy of the event of its last turn.
+    pub(crate) fn last_event(&self) -> Result<Event, NoMemory>
+        requires { 0 < length self.now.turns }
+        ensures { IfOk result (λ e. (before : List ATurn) (t : ATurn)
+            → self.now.turns ≡ before ++ t ∷ [] → e ≡ t.event) }
+    {
+        let entry = &self.entries[self.entries.len() - 1];
+        entry.event.copy(*self.entries.allocator())
+    }
+
     /// Consumes the world and returns the entries of the turns taken so far.
     pub(crate) fn into_entries(self) -> Vec<LogEntry>
         ensures numbered { IsNumbered result.items }
+        ensures turns { turns_of result.items ≡ self.entry.turns }
         ensures run { self.entry.stopped ≡ false → LeadsTo (turns_of result.items) self.entry.state }
     {
         let World { entries, .. } = self;
@@ -74,8 +86,7 @@ pub fn open_world(alloc: Global, image: &Image) -> Result<World<'_>, NoMemory>
     let program = Program::new(alloc, image)?;
     let cells = Cells::opening(alloc, image)?;
     let (actor, memory) = Actor::root(alloc, image)?;
-    let mut residents = Vec::new(alloc);
-    residents.push(Resident { actor, memory })?;
+    let residents = Residents::new(alloc, Resident { actor, memory })?;
     Ok(World {
         program,
         cells,

@@ -26,7 +26,7 @@ struct Example {
     wanted: &'static str,
 }
 
-static EXAMPLES: [Example; 8] = [
+static EXAMPLES: [Example; 11] = [
     Example {
         name: "hello.toml",
         built: true,
@@ -74,6 +74,30 @@ static EXAMPLES: [Example; 8] = [
         words: &["replay", "image", "schedule"],
         schedule: Some("sum.schedule"),
         wanted: "sum.report",
+    },
+    Example {
+        name: "split.toml",
+        built: true,
+        title: "run",
+        words: &["run", "image"],
+        schedule: None,
+        wanted: "split.report",
+    },
+    Example {
+        name: "split.toml",
+        built: true,
+        title: "run --schedule",
+        words: &["run", "image", "--schedule"],
+        schedule: None,
+        wanted: "split.schedule",
+    },
+    Example {
+        name: "split.toml",
+        built: true,
+        title: "replay",
+        words: &["replay", "image", "schedule"],
+        schedule: Some("split.schedule"),
+        wanted: "split.report",
     },
     Example {
         name: "ok.wedge",

@@ -1,4 +1,4 @@
-use Rattle.sthread_life.proofs.Distinct.{names_distinct}
+use Rattle.sthread_life.proofs.FamilyRuns.{names_distinct}
 use Rattle.sthread_life.proofs.laws.names_are_distinct.Goals as goal
 
 pub returns : goal.returns

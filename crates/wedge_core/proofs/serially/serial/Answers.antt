@@ -1,33 +1,43 @@
-use Rattle.std.proofs.Common.{◌≡◌, true, ap, sym, subst, rules}
-use Rattle.wedge_base.specs.Images.{Image}
+use Rattle.std.proofs.Common.{◌≡◌, ◌∙◌, ◌≤◌, ◌∷◌, [], ap, sym, subst, length, rules}
 use Rattle.wedge_base.specs.Journals.{turns_of}
-use Rattle.sthread_life.specs.Worlds.{opening, Runs, is_whole}
+use Rattle.wedge_base.specs.Names.{root_name}
+use Rattle.sthread_life.specs.Worlds.{opening}
 use Rattle.wedge_core.specs.Progress.{Progress}
-use Rattle.wedge_core.specs.Serial.{HasRoot}
-use Rattle.wedge_core.proofs.Alone.{in_serial_order}
-use Rattle.wedge_core.proofs.Working.{opening_root}
+use Rattle.wedge_core.specs.Serial.{IsSerial, RootGoesOn, InSerialOrder}
+use Rattle.wedge_core.proofs.LiveStack.{opening_serial}
 use Rattle.wedge_core.proofs.Numbering.{whole_run_of}
+use Rattle.wedge_core.proofs.SerialSteps.{whole_at_last}
 use Rattle.wedge_core.proofs.serially.serial.Goals as goal
 
-pub loop-goes_on-init : goal.loop-goes_on-init
-loop-goes_on-init c =
-    let is = c.in_ok-world.ensures in
+pub loop-world-init : goal.loop-world-init
+loop-world-init c =
+    let one : c.push.new.self.items ≡ record { name = root_name; place = 0 } ∷ [] = search rules in
     record {
-      going = ap (λ (p : Progress). p.stopped) is;
-      there = subst (λ (p : Progress). HasRoot p.state) (sym is) (opening_root c.args.image.now);
-      whole = λ e. cc;
-      image = ap (λ (p : Progress). p.state.image) is;
+      image = ap (λ (p : Progress). p.state.image) c.in_ok-world.ensures;
+      serial = opening_serial c.args.image.now c.in_ok-world.world c.push.new.self.items c.in_ok-world.ensures one;
+    }
+
+pub take_turn-requires-clause-serial : goal.take_turn-requires-clause-serial
+take_turn-requires-clause-serial c = subst (λ i. IsSerial i c.loop-world.world c.loop-world.live.items) (sym c.loop-world.invariant.image) c.loop-world.invariant.serial
+
+pub loop-world-preserved : goal.loop-world-preserved
+loop-world-preserved c =
+    let image = c.in_ok-take_turn.ensures.image ∙ c.loop-world.invariant.image in
+    record {
+      image = image;
+      serial = subst (λ i. IsSerial i c.take_turn.new.world c.take_turn.new.live.items) image c.in_ok-take_turn.ensures.serial;
     }
 
 pub returns-clause-run : goal.returns-clause-run
 returns-clause-run c =
-    let whole : is_whole c.loop-goes_on.world.state ≡ true = search rules in
-    rw c.new.ensures (whole_run_of c.args.image.now c.loop-goes_on.world.state c.into_entries.result.items c.in_ok-outcome.outcome
-    c.loop-goes_on.invariant.image (c.into_entries.ensures.run c.loop-goes_on.invariant.going) whole c.in_ok-outcome.ensures)
+    let s = c.loop-world.invariant.serial in
+    let p = c.loop-world.world in
+    let none : length c.loop-world.live.items ≤ 0 = search rules in
+    let entries = c.into_entries.result.items in
+    let goes_on : RootGoesOn (opening c.args.image.now) (turns_of entries) = subst (RootGoesOn (opening c.args.image.now)) (sym c.into_entries.ensures.turns) s.goes_on in
+    rw c.new.ensures (whole_run_of c.args.image.now p.state entries c.in_ok-outcome.outcome c.loop-world.invariant.image (c.into_entries.ensures.run s.going) (whole_at_last c.args.image.now p c.loop-world.live.items s none) goes_on c.in_ok-outcome.ensures)
 
 pub returns-clause-order : goal.returns-clause-order
 returns-clause-order c =
-    let leads = c.into_entries.ensures.run c.loop-goes_on.invariant.going in
-    let turns = turns_of c.into_entries.result.items in
-    let here : Runs (opening c.args.image.now) turns leads.last = subst (λ (j : Image). Runs (opening j) turns leads.last) c.loop-goes_on.invariant.image leads.run in
-    rw c.new.ensures (in_serial_order c.args.image.now turns leads.last here)
+    let s = c.loop-world.invariant.serial in
+    rw c.new.ensures (subst (InSerialOrder (opening c.args.image.now)) (sym c.into_entries.ensures.turns) s.order)

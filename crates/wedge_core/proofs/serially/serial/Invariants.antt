@@ -1,19 +1,13 @@
-use Rattle.std.proofs.Common.{◌≡◌, ◌+◌, ℕ, Bool, true, false}
-use Rattle.sthread_life.specs.Worlds.{is_whole}
-use Rattle.wedge_core.specs.Serial.{HasRoot, root_work}
+use Rattle.std.proofs.Common.{◌≡◌}
+use Rattle.sthread_life.specs.Fuel.{work_left}
+use Rattle.wedge_core.specs.Serial.{IsSerial}
 use Rattle.wedge_core.proofs.serially.serial.Given as goal
 
-abbrev pub once : Bool → ℕ
-once true = 1
-once false = 0
-
-abbrev pub invariant-loop-goes_on : goal.invariant-loop-goes_on
-invariant-loop-goes_on l = record {
-  going : l.world.stopped ≡ false;
-  there : HasRoot l.world.state;
-  whole : l.goes_on ≡ false → is_whole l.world.state ≡ true;
+abbrev pub invariant-loop-world : goal.invariant-loop-world
+invariant-loop-world l = record {
   image : l.world.state.image ≡ l.image;
+  serial : IsSerial l.image l.world l.live.items;
 }
 
-abbrev pub decreases-loop-goes_on : goal.decreases-loop-goes_on
-decreases-loop-goes_on l = root_work l.world.state + once l.goes_on
+abbrev pub decreases-loop-world : goal.decreases-loop-world
+decreases-loop-world l = work_left l.world.state

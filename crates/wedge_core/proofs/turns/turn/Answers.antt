@@ -1,58 +1,71 @@
-use Rattle.std.proofs.Common.{subst}
-use Rattle.wedge_base.specs.declared.events.Turn.{Turn}
+use Rattle.std.proofs.Common.{◌≡◌, ◌-◌, ◌++◌, ◌∷◌, [], ◌∙◌, ap, sym, subst, false, length, take, rules}
 use Rattle.wedge_base.specs.Journals.{turns_of}
-use Rattle.sthread_life.specs.Moments.{TurnHas}
-use Rattle.sthread_life.specs.Laws.{IsLawful}
-use Rattle.sthread_life.specs.Written.{StepAppendsOwn, StepWritesOwn}
-use Rattle.sthread_life.proofs.Settling.{AllReady, ready_alike, run_ready}
 use Rattle.sthread_life.proofs.Mediating.{turn_lawful}
 use Rattle.sthread_life.proofs.Writing.{step_appends_own, step_writes_own}
-use Rattle.wedge_core.specs.Progress.{Progress, state_of}
-use Rattle.wedge_core.proofs.Turning.{run_goes_on}
-use Rattle.wedge_core.proofs.Numbering.{notes_turns, notes_numbered}
+use Rattle.wedge_core.specs.Progress.{Progress, IsRun, IsTurn, GoesOnBy}
+use Rattle.wedge_core.proofs.Advancing.{run_is_ready, ended_turns_not, waiting_turns_not, waiting_ended_not, IsUndone, undone, stopped_run}
 use Rattle.wedge_core.proofs.turns.turn.Goals as goal
 
-pub invariant_of-world : goal.invariant_of-world
-invariant_of-world c =
-    let w = c.world.inside in
-    let old = w.entries.items in
-    let new = c.turn_over.new.entries.items in
-    record {
-      numbered = notes_numbered old new c.args.name.now c.in-Ok.event c.in-Ok.ensures.noted c.world.invariant.numbered;
-      run = run_goes_on w.program w.cells c.turn_over.new.cells w.residents.items c.turn_over.new.residents.items (turns_of old) (turns_of new) c.args.name.now c.in-Ok.event w.stopped
-          c.world.invariant.run c.if-world.false c.in-Ok.ensures.took (notes_turns old new c.args.name.now c.in-Ok.event c.in-Ok.ensures.noted);
-    }
+pub returns-in-Err-clause-ended : goal.returns-in-Err-clause-ended
+returns-in-Err-clause-ended c = (λ h. cc, λ e. absurd (c.in-Err.ensures.lives e.1))
 
--- every actor rests as those of a run do
-ready : (c : goal.In-Ok) → AllReady (state_of c.world.inside.program c.world.inside.cells c.world.inside.residents.items)
-ready c =
-    let w = c.world.inside in
-    let run = c.world.invariant.run in
-    ready_alike (state_of w.program w.cells w.residents.items) run.last (run.current c.if-world.false) (run_ready w.program (turns_of w.entries.items) run.last run.run)
+pub returns-in-Ok-Ended-clause-waiting : goal.returns-in-Ok-Ended-clause-waiting
+returns-in-Ok-Ended-clause-waiting c = λ going waits. waiting_ended_not c.args.world.now.state c.args.name.now waits (c.in-Ok-Ended.ensures.ended c.in-Ok-Ended.field-0-is).0
 
+pub returns-in-Ok-Waits-clause-ended : goal.returns-in-Ok-Waits-clause-ended
+returns-in-Ok-Waits-clause-ended c = (λ h. cc, λ e. waiting_ended_not c.args.world.now.state c.args.name.now (c.in-Ok-Waits.ensures.waits c.in-Ok-Waits.field-0-is).0 e.1)
+
+pub returns-in-Ok-clause-ended : goal.returns-in-Ok-clause-ended
+returns-in-Ok-clause-ended c =
+    let on = c.in-Ok-Took.ensures.took c.in-Ok-Took.field-0-is in
+    (λ h. cc, λ e. ended_turns_not c.args.world.now.state c.args.name.now on.event c.advance.new.world.state e.1 on.turn)
+
+pub returns-in-Ok-clause-waiting : goal.returns-in-Ok-clause-waiting
+returns-in-Ok-clause-waiting c = λ going waits.
+    let on = c.in-Ok-Took.ensures.took c.in-Ok-Took.field-0-is in
+    waiting_turns_not c.args.world.now.state c.args.name.now on.event c.advance.new.world.state waits on.turn
+
+pub returns-in-Err-last_event-clause-ended : goal.returns-in-Err-last_event-clause-ended
+returns-in-Err-last_event-clause-ended c =
+    let on = c.in-Ok-Took.ensures.took c.in-Ok-Took.field-0-is in
+    (λ h. cc, λ e. ended_turns_not c.args.world.now.state c.args.name.now on.event c.advance.new.world.state e.1 on.turn)
+
+-- what its event is, once it is noted
 pub returns-in-Ok-clause-lawful : goal.returns-in-Ok-clause-lawful
 returns-in-Ok-clause-lawful c =
-    let w = c.world.inside in
-    let i = w.program in
-    let t : Turn = record { actor = c.args.name.now; event = c.in-Ok.event } in
-    let new = state_of i c.turn_over.new.cells c.turn_over.new.residents.items in
-    let lawful = turn_lawful (state_of i w.cells w.residents.items) t new (ready c) c.in-Ok.ensures.took in
-    subst (λ (p : Progress). TurnHas IsLawful p.state t new) c.world.view_is lawful
+    let old = c.args.world.now in
+    let run : IsRun old = subst IsRun c.world.view_is c.world.invariant.run in
+    let going : old.stopped ≡ false = search rules in
+    let turn : IsTurn old.state c.args.name.now c.in-Ok.event c.advance.new.world.state = search rules in
+    turn_lawful old.state (record { actor = c.args.name.now; event = c.in-Ok.event }) c.advance.new.world.state (run_is_ready old run going) turn
 
 pub returns-in-Ok-clause-owned : goal.returns-in-Ok-clause-owned
 returns-in-Ok-clause-owned c =
-    let w = c.world.inside in
-    let t : Turn = record { actor = c.args.name.now; event = c.in-Ok.event } in
-    let old = state_of w.program w.cells w.residents.items in
-    let new = state_of w.program c.turn_over.new.cells c.turn_over.new.residents.items in
-    let owned = step_writes_own old t new (ready c) c.in-Ok.ensures.took in
-    subst (λ (p : Progress). StepWritesOwn p.state t new) c.world.view_is owned
+    let old = c.args.world.now in
+    let run : IsRun old = subst IsRun c.world.view_is c.world.invariant.run in
+    let going : old.stopped ≡ false = search rules in
+    let turn : IsTurn old.state c.args.name.now c.in-Ok.event c.advance.new.world.state = search rules in
+    step_writes_own old.state (record { actor = c.args.name.now; event = c.in-Ok.event }) c.advance.new.world.state (run_is_ready old run going) turn
 
 pub returns-in-Ok-clause-appended : goal.returns-in-Ok-clause-appended
 returns-in-Ok-clause-appended c =
-    let w = c.world.inside in
-    let t : Turn = record { actor = c.args.name.now; event = c.in-Ok.event } in
-    let old = state_of w.program w.cells w.residents.items in
-    let new = state_of w.program c.turn_over.new.cells c.turn_over.new.residents.items in
-    let owned = step_appends_own old t new (ready c) c.in-Ok.ensures.took in
-    subst (λ (p : Progress). StepAppendsOwn p.state t new) c.world.view_is owned
+    let old = c.args.world.now in
+    let run : IsRun old = subst IsRun c.world.view_is c.world.invariant.run in
+    let going : old.stopped ≡ false = search rules in
+    let turn : IsTurn old.state c.args.name.now c.in-Ok.event c.advance.new.world.state = search rules in
+    step_appends_own old.state (record { actor = c.args.name.now; event = c.in-Ok.event }) c.advance.new.world.state (run_is_ready old run going) turn
+
+pub invariant_of-world : goal.invariant_of-world
+invariant_of-world c =
+    let was = c.world.inside in
+    let more = c.world-2.inside in
+    let popped = c.pop.new.self.items in
+    let on = c.in-Ok-Took.ensures.took c.in-Ok-Took.field-0-is in
+    let is : popped ≡ take (length more.entries.items - 1) more.entries.items = search rules in
+    let noted = ap (λ (p : Progress). p.turns) c.world-2.view_is ∙ (on.noted ∙ ap (λ (p : Progress). p.turns ++ record { actor = c.args.name.now; event = on.event } ∷ []) (sym c.world.view_is)) in
+    let back : IsUndone was.entries.items popped = undone was.entries.items more.entries.items popped (record { actor = c.args.name.now; event = on.event }) c.world-2.invariant.numbered noted is in
+    let image : more.program ≡ was.program = ap (λ (p : Progress). p.state.image) c.world-2.view_is ∙ (c.advance.ensures.image ∙ ap (λ (p : Progress). p.state.image) (sym c.world.view_is)) in
+    record {
+      numbered = back.numbered;
+      run = stopped_run was.program more.program c.world-2.inside.cells c.world-2.inside.residents (turns_of was.entries.items) (turns_of popped) c.world.invariant.run.last image back.turns c.world.invariant.run.run;
+    }

@@ -13,9 +13,9 @@ none es e = subst IsNumbered (sym e) refl
 pub invariant_of-result : goal.invariant_of-result
 invariant_of-result c =
     let same = sym c.in_ok-program.ensures in
-    let actors : c.push.new.self.items ≡ root c.args.image.now ∷ [] = search rules in
+    let actors : c.in_ok-residents.residents ≡ root c.args.image.now ∷ [] = search rules in
     record {
-      numbered = none c.new-2.result.items c.new-2.ensures.items;
-      run = opened_is_run c.in_ok-program.program c.in_ok-cells.cells c.push.new.self.items (turns_of c.new-2.result.items)
-          (c.in_ok-cells.ensures ∙ ap opening_cells same) (actors ∙ ap (λ i. root i ∷ []) same) (ap turns_of c.new-2.ensures.items);
+      numbered = none c.new-3.result.items c.new-3.ensures.items;
+      run = opened_is_run c.in_ok-program.program c.in_ok-cells.cells c.in_ok-residents.residents (turns_of c.new-3.result.items)
+          (c.in_ok-cells.ensures ∙ ap opening_cells same) (actors ∙ ap (λ i. root i ∷ []) same) (ap turns_of c.new-3.ensures.items);
     }

@@ -19,6 +19,8 @@ returns-in-Err-Full c = λ m.
       hart = w.hart;
       fuel = w.fuel;
       denials = w.denials;
+      starts = w.starts;
+      unjoined = w.unjoined;
       phase = w.phase;
       stopped = w.stopped;
     } in

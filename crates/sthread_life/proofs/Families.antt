@@ -1,0 +1,239 @@
+-- Starts, joins and ends among actors are as the registers, the drafts and the child say.
+use Rattle.std.proofs.Common.{◌≡◌, ℕ, ◌+◌, Bool, true, false, true≢false, List, [], ◌∷◌, ◌++◌, refl, sym, ap, subst, ◌∙◌, arith}
+use Rattle.std.proofs.lemmas.Bool.{eq-eqb}
+use Rattle.std.specs.Prelude.{Option, Some, None, IsSomeAnd, option_and_then, unwrap_or, is_some, slice_get, ◌==◌, ◌&&◌, if◌then◌else◌}
+use Rattle.wedge_base.specs.Images.{Image, fetch}
+use Rattle.wedge_base.specs.Names.{same}
+use Rattle.wedge_base.specs.Sheets.{Draft, empty_draft, granted}
+use Rattle.wedge_base.specs.declared.rights.End.{End}
+use Rattle.wedge_base.specs.declared.events.Want.{Want}
+use Rattle.wedge_base.specs.declared.events.Want.TheVariants as want
+use Rattle.wedge_base.specs.declared.events.SlotWant.TheVariants as slot_want
+use Rattle.wedge_base.specs.declared.events.Event.{Event}
+use Rattle.wedge_base.specs.declared.events.Event.TheVariants as event
+use Rattle.wedge_base.specs.declared.cells.LivesAsk.TheVariants as lives_ask
+use Rattle.wedge_base.specs.declared.cells.LivesReply.TheVariants as lives_reply
+use Rattle.wedge_base.specs.declared.cells.SlotReply.TheVariants as slot_reply
+use Rattle.wedge_base.specs.declared.cells.StreamReply.TheVariants as reply
+use Rattle.wedge_base.specs.declared.cells.StreamAsk.TheVariants as stream_ask
+use Rattle.grant_sheet.specs.Granting.{IsWithin}
+use Rattle.grant_sheet.proofs.SheetWithin.{sheet_within}
+use Rattle.rv_isa.specs.declared.Instr.{Instr}
+use Rattle.rv_isa.specs.Table.{decode}
+use Rattle.rv_hart.specs.declared.Need.{Need}
+use Rattle.rv_hart.specs.declared.Need.TheVariants as need
+use Rattle.rv_hart.specs.Local.{local}
+use Rattle.sthread_life.specs.declared.phase.Phase.{Phase}
+use Rattle.sthread_life.specs.declared.phase.Phase.TheVariants as phase
+use Rattle.sthread_life.specs.Actors.{ActorState}
+use Rattle.sthread_life.specs.Calls.{a0}
+use Rattle.sthread_life.specs.Cells.{Cells}
+use Rattle.sthread_life.specs.Children.{Children, is_number, fuel_given, is_child, without_child, child_name}
+use Rattle.sthread_life.specs.Ends.{is_end_event}
+use Rattle.sthread_life.specs.Families.{IsChild, IsStart, IsFirst, IsJoined, ActsAlone, joined, KeepsFamily}
+use Rattle.sthread_life.specs.Local.{end_reached, step}
+use Rattle.sthread_life.specs.Moments.{with_actor}
+use Rattle.sthread_life.specs.Taking.{runs, loads_by, loads_at, next_start, draft_at, takes, child_of}
+use Rattle.sthread_life.specs.Worlds.{WorldState, actor_named, put_actor, happened}
+use Rattle.sthread_life.proofs.Between.{event_for, IsJoin, takes_name}
+use Rattle.sthread_life.proofs.Happening.{Happens, Requested, Joined, Started, LastJoined, Ended, joined_at}
+use Rattle.sthread_life.proofs.Meeting.{IsRequest, IsStartable}
+use Rattle.sthread_life.proofs.Named.{put_put, named_put_other, same_equal}
+use Rattle.sthread_life.proofs.Resting.{steps_step}
+
+-- ---- what an event leaves as it is
+
+pub record IsSame (a x : ActorState) : Type 0 where
+  pub compartment : x.compartment ≡ a.compartment
+  pub sheet : x.sheet ≡ a.sheet
+  pub made : x.made ≡ a.made
+  pub starts : x.starts ≡ a.starts
+  pub unjoined : x.unjoined ≡ a.unjoined
+
+abbrev all_same : (a : ActorState) → IsSame a a
+all_same a = record { compartment = refl; sheet = refl; made = refl; starts = refl; unjoined = refl }
+
+loaded_same : (ins : Instr) (n : Need) (a : ActorState) (value : ℕ) → IsSame a (loads_by ins n a value)
+loaded_same ins need.Done a value = record { compartment = refl; sheet = refl; made = refl; starts = refl; unjoined = refl }
+loaded_same ins (need.Load address width s) a value = record { compartment = refl; sheet = refl; made = refl; starts = refl; unjoined = refl }
+loaded_same ins (need.Store address width v) a value = record { compartment = refl; sheet = refl; made = refl; starts = refl; unjoined = refl }
+loaded_same ins need.Call a value = record { compartment = refl; sheet = refl; made = refl; starts = refl; unjoined = refl }
+loaded_same ins need.Break a value = record { compartment = refl; sheet = refl; made = refl; starts = refl; unjoined = refl }
+loaded_same ins need.JumpMisaligned a value = record { compartment = refl; sheet = refl; made = refl; starts = refl; unjoined = refl }
+
+loads_same : (a : ActorState) (ins : Option Instr) (value : ℕ) → IsSame a (loads_at a ins value)
+loads_same a None value = record { compartment = refl; sheet = refl; made = refl; starts = refl; unjoined = refl }
+loads_same a (Some ins) value = loaded_same ins (local ins a.hart).need a value
+
+-- an event of no other actor
+abbrev pub IsOfOne : Event → Type 0
+IsOfOne (event.Start child) = ⊥
+IsOfOne (event.Join k e fuel) = ⊥
+IsOfOne e = Unit {0}
+
+pub takes_same : (i : Image) (a : ActorState) (e : Event) → IsOfOne e → IsSame a (takes i a e)
+unfolding takes
+takes_same i a (event.Slot slot q (slot_reply.Loaded value)) h =
+    let s = loads_same (runs a) (option_and_then decode (fetch i a.hart.pc)) value in
+    record { compartment = s.compartment; sheet = s.sheet; made = s.made; starts = s.starts; unjoined = s.unjoined }
+takes_same i a (event.Slot slot q r) h = record { compartment = refl; sheet = refl; made = refl; starts = refl; unjoined = refl }
+takes_same i a (event.Fd fd q reply.Opened) h = record { compartment = refl; sheet = refl; made = refl; starts = refl; unjoined = refl }
+takes_same i a (event.Fd fd q (reply.Given bytes)) h = record { compartment = refl; sheet = refl; made = refl; starts = refl; unjoined = refl }
+takes_same i a (event.Fd fd q reply.Appended) h = record { compartment = refl; sheet = refl; made = refl; starts = refl; unjoined = refl }
+takes_same i a (event.Fd fd q reply.Closed) h = record { compartment = refl; sheet = refl; made = refl; starts = refl; unjoined = refl }
+takes_same i a (event.Fd fd q reply.NoSuch) h = record { compartment = refl; sheet = refl; made = refl; starts = refl; unjoined = refl }
+takes_same i a (event.Fd fd q (reply.Denied wants)) h = record { compartment = refl; sheet = refl; made = refl; starts = refl; unjoined = refl }
+takes_same i a (event.Fd fd q reply.Bad) h = record { compartment = refl; sheet = refl; made = refl; starts = refl; unjoined = refl }
+takes_same i a (event.Lives lives_ask.Claim lives_reply.Claimed) h = record { compartment = refl; sheet = refl; made = refl; starts = refl; unjoined = refl }
+takes_same i a (event.Lives lives_ask.Claim lives_reply.Full) h = record { compartment = refl; sheet = refl; made = refl; starts = refl; unjoined = refl }
+takes_same i a (event.Lives lives_ask.Claim lives_reply.Released) h = record { compartment = refl; sheet = refl; made = refl; starts = refl; unjoined = refl }
+takes_same i a (event.Lives (lives_ask.Release x) r) h = record { compartment = refl; sheet = refl; made = refl; starts = refl; unjoined = refl }
+takes_same i a (event.Start child) h = absurd h
+takes_same i a (event.Join k e fuel) h = absurd h
+takes_same i a e h = record { compartment = refl; sheet = refl; made = refl; starts = refl; unjoined = refl }
+
+-- ---- an instruction, and an event of no other actor
+
+pub step_family : (w : WorldState) (b : ActorState) → b.phase ≡ phase.Running → KeepsFamily (with_actor w b) b None (with_actor w (step w.image b))
+step_family w b run =
+    let s = steps_step w.image b in
+    record {
+      after = step w.image b;
+      actors = sym (put_put w.actors b (step w.image b) s.name);
+      name = s.name;
+      compartment = s.compartment;
+      sheet = s.sheet;
+      made = s.made;
+      starts = s.starts;
+      unjoined = s.unjoined;
+      claimed = λ e. absurd cc;
+      starting = λ e. let f : phase.Running ≡ phase.Starting = sym run ∙ e in absurd cc;
+      childless = λ e. absurd cc;
+    }
+
+-- the world after an event
+abbrev after : WorldState → ActorState → Event → WorldState
+after w b e = (happened w b e).world
+
+claimed_is : (i : Image) (b : ActorState) (e : Event) → Some e ≡ Some (event.Lives lives_ask.Claim lives_reply.Claimed) → takes i b e ≡ record b { phase = phase.Starting }
+unfolding takes
+claimed_is i b e is = let same : e ≡ event.Lives lives_ask.Claim lives_reply.Claimed = cc in ap (takes i b) same
+
+alone : (w : WorldState) (b : ActorState) (e : Event) → IsOfOne e → (after w b e).actors ≡ put_actor w.actors (takes w.image b e) → (b.phase ≡ phase.Starting → ⊥) → (is_end_event (Some e) ≡ true → b.unjoined ≡ [])
+    → ActsAlone (with_actor w b) b (Some e) (after w b e)
+alone w b e one actors starting childless =
+    let s = takes_same w.image b e one in
+    record {
+      after = takes w.image b e;
+      actors = actors ∙ sym (put_put w.actors b (takes w.image b e) (takes_name w.image b e));
+      name = takes_name w.image b e;
+      compartment = s.compartment;
+      sheet = s.sheet;
+      made = s.made;
+      starts = s.starts;
+      unjoined = s.unjoined;
+      claimed = claimed_is w.image b e;
+      starting = starting;
+      childless = childless;
+    }
+
+-- the event of a request
+not_starting : (b : ActorState) (q : Want) → b.phase ≡ phase.Within q → b.phase ≡ phase.Starting → ⊥
+not_starting b q at e = let f : phase.Within q ≡ phase.Starting = sym at ∙ e in cc
+
+want_family : (w : WorldState) (b : ActorState) (N : ℕ → Type 0) (q : Want) → IsRequest N b q → b.phase ≡ phase.Within q → KeepsFamily (with_actor w b) b (Some (event_for w.cells b q)) (after w b (event_for w.cells b q))
+want_family w b N (want.Slot slot (slot_want.Load offset width)) own at = alone w b _ tt refl (not_starting b _ at) (λ e. absurd cc)
+want_family w b N (want.Slot slot (slot_want.Store offset width value)) own at = alone w b _ tt refl (not_starting b _ at) (λ e. absurd cc)
+want_family w b N (want.Fd fd (stream_ask.Append bits bytes)) own at = alone w b _ tt refl (not_starting b _ at) (λ e. absurd cc)
+want_family w b N (want.Lives lives_ask.Claim) own at = alone w b _ tt refl (not_starting b _ at) (λ e. absurd cc)
+want_family w b N q own at = absurd own
+
+-- ---- a start
+
+pub child_begins : (i : Image) (b : ActorState) → IsStartable b → IsChild i b (child_of i b (child_name b.name (next_start b)))
+child_begins i b ready =
+    let at : draft_at b.drafts (a0 b) ≡ ready.draft = ap (λ o. unwrap_or o empty_draft) ready.drafted in
+    let sheet : granted b.sheet b.made (draft_at b.drafts (a0 b)) ≡ granted b.sheet b.made ready.draft = ap (granted b.sheet b.made) at in
+    record {
+      draft = ready.draft;
+      drafted = ready.drafted;
+      allowed = ready.allowed;
+      sheet = sheet;
+      within = subst (IsWithin b.sheet b.made) (sym sheet) (sheet_within b.sheet b.made ready.draft ready.allowed);
+      name = refl;
+      compartment = refl;
+      hart = refl;
+      memory = refl;
+      fuel = refl;
+      fresh = (refl, refl, refl, refl, refl, refl);
+    }
+
+start_family : (w : WorldState) (b : ActorState) → IsStartable b → IsStart (with_actor w b) b (child_name b.name (next_start b)) (after w b (event.Start (child_name b.name (next_start b))))
+unfolding takes
+start_family w b ready = record {
+  child = child_of w.image b (child_name b.name (next_start b));
+  begins = child_begins w.image b ready;
+  named = sym (child_begins w.image b ready).name;
+  actors = ap (λ (as_ : List ActorState). as_ ++ child_of w.image b (child_name b.name (next_start b)) ∷ []) (sym (put_put w.actors b (takes w.image b (event.Start (child_name b.name (next_start b)))) refl));
+}
+
+-- ---- a join
+
+longer : (n : List ℕ) (k : ℕ) → same n (child_name n k) ≡ false
+longer [] k = refl
+longer (x ∷ xs) k = ap (λ t. t && same xs (child_name xs k)) (eq-eqb x x refl) ∙ longer xs k
+
+ended_so : (p : Phase) (x : End) → end_reached p ≡ Some x → p ≡ phase.Ended x
+ended_so phase.Running x e = absurd cc
+ended_so (phase.Within q) x e = absurd cc
+ended_so phase.Starting x e = absurd cc
+ended_so (phase.Ending y) x e = absurd cc
+ended_so (phase.Ended y) x e = cc
+
+join_child : (w : WorldState) (b : ActorState) (k : ℕ) (e : Event) (j : IsJoin w b k e) → IsSomeAnd (actor_named (put_actor w.actors b) (b.name ++ k ∷ [])) (λ c. (c.phase ≡ phase.Ended j.how) × (c.fuel ≡ j.child.fuel))
+join_child w b k e j =
+    subst (λ o. IsSomeAnd o (λ c. (c.phase ≡ phase.Ended j.how) × (c.fuel ≡ j.child.fuel))) (sym (named_put_other w.actors b (child_name b.name k) (longer b.name k) ∙ j.there))
+    (ended_so j.child.phase j.how j.ended, refl)
+
+joins_as : (i : Image) (b : ActorState) (p : Phase) (k : ℕ) (x : End) (fuel : ℕ) → b.phase ≡ p → takes i b (event.Join k x fuel) ≡ joined b p k x fuel
+unfolding takes
+joins_as i b phase.Running k x fuel at = joined_at b phase.Running x k fuel at
+joins_as i b (phase.Within q) k x fuel at = joined_at b (phase.Within q) x k fuel at
+joins_as i b phase.Starting k x fuel at = joined_at b phase.Starting x k fuel at
+joins_as i b (phase.Ending y) k x fuel at = joined_at b (phase.Ending y) x k fuel at
+joins_as i b (phase.Ended y) k x fuel at = joined_at b (phase.Ended y) x k fuel at
+
+join_family : (w : WorldState) (b : ActorState) (k : ℕ) (e : Event) → IsJoin w b k e → IsFirst b.phase b.unjoined k → is_child b.unjoined k ≡ true → KeepsFamily (with_actor w b) b (Some e) (after w b e)
+join_family w b k e j first listed =
+    let x = takes w.image b (event.Join k j.how j.child.fuel) in
+    let is : x ≡ joined b b.phase k j.how j.child.fuel = joins_as w.image b b.phase k j.how j.child.fuel refl in
+    subst (λ y. KeepsFamily (with_actor w b) b (Some y) (after w b y)) (sym j.is)
+    (record {
+      listed = listed;
+      child = join_child w b k e j;
+      first = first;
+      actors = sym (put_put w.actors b x (takes_name w.image b (event.Join k j.how j.child.fuel))) ∙ ap (put_actor (put_actor w.actors b)) is;
+    })
+
+-- ---- any event
+
+pub first_child : (c : ℕ × ℕ) (cs : Children) → is_child (c ∷ cs) c.0 ≡ true
+first_child c cs = by_same (is_number c.0 c.0) (number_itself c.0)
+  where
+    number_itself : (k : ℕ) → is_number k k ≡ true
+    number_itself k = grind (arith)
+
+    by_same : (t : Bool) → t ≡ true → is_some (if t then Some c.1 else fuel_given cs c.0) ≡ true
+    by_same true e = refl
+    by_same false e = absurd cc
+
+pub event_family : (w : WorldState) (b : ActorState) (e : Event) → Happens w b e → KeepsFamily (with_actor w b) b (Some e) (after w b e)
+event_family w b e (Requested r) = subst (λ y. KeepsFamily (with_actor w b) b (Some y) (after w b y)) (sym r.is) (want_family w b _ r.want r.own r.at)
+event_family w b e (Joined j) = join_family w b j.number e j.join (subst (λ p. IsFirst p b.unjoined j.number) (sym j.at) tt) j.listed
+event_family w b e (Started s) = subst (λ y. KeepsFamily (with_actor w b) b (Some y) (after w b y)) (sym s.is) (start_family w b s.ready)
+event_family w b e (LastJoined j) =
+    join_family w b j.first.0 e j.join (subst (λ p. IsFirst p b.unjoined j.first.0) (sym j.at) (subst (λ cs. IsFirst (phase.Ending j.end_) cs j.first.0) (sym j.left) refl))
+    (subst (λ cs. is_child cs j.first.0 ≡ true) (sym j.left) (first_child j.first j.others))
+event_family w b e (Ended f) =
+    subst (λ y. KeepsFamily (with_actor w b) b (Some y) (after w b y)) (sym f.is)
+    (alone w b (event.Lives (lives_ask.Release f.end_) lives_reply.Released) tt refl (λ h. let g : phase.Ending f.end_ ≡ phase.Starting = sym f.at ∙ h in absurd cc) (λ h. f.left))

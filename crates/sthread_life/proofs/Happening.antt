@@ -1,0 +1,151 @@
+-- What an actor at rest comes to: the event of its request, the join of a child, the start of one, or its end.
+use Rattle.std.proofs.Common.{◌≡◌, ℕ, ◌+◌, Bool, true, List, [], ◌∷◌, refl, sym, ap, subst, ◌∙◌}
+use Rattle.std.specs.Prelude.{Option, Some, None}
+use Rattle.wedge_base.specs.Images.{Image}
+use Rattle.wedge_base.specs.declared.rights.End.{End}
+use Rattle.wedge_base.specs.declared.events.Want.{Want}
+use Rattle.wedge_base.specs.declared.events.Want.TheVariants as want
+use Rattle.wedge_base.specs.declared.events.Event.{Event}
+use Rattle.wedge_base.specs.declared.events.Event.TheVariants as event
+use Rattle.wedge_base.specs.declared.cells.LivesAsk.TheVariants as lives_ask
+use Rattle.wedge_base.specs.declared.cells.LivesReply.TheVariants as lives_reply
+use Rattle.sthread_life.specs.declared.phase.Phase.{Phase}
+use Rattle.sthread_life.specs.declared.phase.Phase.TheVariants as phase
+use Rattle.sthread_life.specs.Actors.{ActorState}
+use Rattle.sthread_life.specs.Between.{IsBetween}
+use Rattle.sthread_life.specs.Cells.{Cells}
+use Rattle.sthread_life.specs.Children.{Children, is_child, without_child, child_name}
+use Rattle.sthread_life.specs.Refusals.{refusal_after}
+use Rattle.sthread_life.specs.Requests.{Request, request_at}
+use Rattle.sthread_life.specs.Taking.{next_start, ending_want, wanted, wanted_at, answered_end, takes}
+use Rattle.sthread_life.specs.Worlds.{WorldState, event_at}
+use Rattle.sthread_life.proofs.Between.{event_for, IsJoin, ComesOf, comes_of, Leaves, takes_between}
+use Rattle.sthread_life.proofs.Meeting.{request_for, refusal_for, IsRequest, IsWanted, IsStartable, startable_at, ReadsAs, LoadsAt}
+
+-- the event of a request
+pub record AtRequest (w : WorldState) (b : ActorState) (e : Event) : Type 0 where
+  pub want : Want
+  pub rd : ℕ
+  pub is_signed : Bool
+  pub at : b.phase ≡ phase.Within want
+  pub asked : (c : Cells) → request_at w.image c b ≡ request_for c b rd is_signed want
+  pub own : IsRequest (LoadsAt w.image b.hart rd is_signed) b want
+  pub later : (c : Cells) → refusal_after w.image c b ≡ refusal_for c b want
+  pub is : e ≡ event_for w.cells b want
+
+-- the join that a call wants
+pub record AtJoin (w : WorldState) (b : ActorState) (e : Event) : Type 0 where
+  pub number : ℕ
+  pub at : b.phase ≡ phase.Within (want.Join number)
+  pub asked : (c : Cells) → request_at w.image c b ≡ None
+  pub later : (c : Cells) → refusal_after w.image c b ≡ None
+  pub listed : is_child b.unjoined number ≡ true
+  pub join : IsJoin w b number e
+
+-- the start of a child
+pub record AtStart (b : ActorState) (e : Event) : Type 0 where
+  pub at : b.phase ≡ phase.Starting
+  pub ready : IsStartable b
+  pub is : e ≡ event.Start (child_name b.name (next_start b))
+
+-- the join of its first child by an actor whose end is decided
+pub record AtLastJoin (w : WorldState) (b : ActorState) (e : Event) : Type 0 where
+  pub end_ : End
+  pub first : ℕ × ℕ
+  pub others : Children
+  pub at : b.phase ≡ phase.Ending end_
+  pub left : b.unjoined ≡ first ∷ others
+  pub join : IsJoin w b first.0 e
+
+-- the end of an actor with no children
+pub record AtEnd (b : ActorState) (e : Event) : Type 0 where
+  pub end_ : End
+  pub at : b.phase ≡ phase.Ending end_
+  pub left : b.unjoined ≡ []
+  pub is : e ≡ event.Lives (lives_ask.Release end_) lives_reply.Released
+
+pub data Happens (w : WorldState) (b : ActorState) (e : Event) : Type 0 where
+  Requested : AtRequest w b e → Happens w b e
+  Joined : AtJoin w b e → Happens w b e
+  Started : AtStart b e → Happens w b e
+  LastJoined : AtLastJoin w b e → Happens w b e
+  Ended : AtEnd b e → Happens w b e
+
+module _ (w : WorldState) (b : ActorState) (e : Event) where
+  requested : (x : Want) (rd : ℕ) (s : Bool) → b.phase ≡ phase.Within x → ((c : Cells) → request_at w.image c b ≡ request_for c b rd s x) → IsRequest (LoadsAt w.image b.hart rd s) b x
+      → ((c : Cells) → refusal_after w.image c b ≡ refusal_for c b x) → e ≡ event_for w.cells b x → Happens w b e
+  requested x rd s at asked own later is = Requested (record { want = x; rd = rd; is_signed = s; at = at; asked = asked; own = own; later = later; is = is })
+
+  within : (x : Want) (rd : ℕ) (s : Bool) → b.phase ≡ phase.Within x → ((c : Cells) → request_at w.image c b ≡ request_for c b rd s x) → IsWanted (LoadsAt w.image b.hart rd s) b x
+      → ((c : Cells) → refusal_after w.image c b ≡ refusal_for c b x) → ComesOf w b x e → Happens w b e
+  within (want.Slots q) rd s at asked own later comes = absurd own
+  within (want.Slot slot q) rd s at asked own later comes = requested (want.Slot slot q) rd s at asked own later comes
+  within (want.Fds q) rd s at asked own later comes = absurd own
+  within (want.Fd fd q) rd s at asked own later comes = requested (want.Fd fd q) rd s at asked own later comes
+  within (want.Lives q) rd s at asked own later comes = requested (want.Lives q) rd s at asked own later comes
+  within (want.Gate id q) rd s at asked own later comes = absurd own
+  within (want.Start child) rd s at asked own later comes = absurd own
+  within (want.Join k) rd s at asked own later comes = Joined (record { number = k; at = at; asked = asked; later = later; listed = own; join = comes })
+  within (want.Enter run) rd s at asked own later comes = absurd own
+  within (want.Leave end) rd s at asked own later comes = absurd own
+
+  ending : (cs : Children) (x : End) (q : Want) → b.phase ≡ phase.Ending x → b.unjoined ≡ cs → ending_want cs x ≡ q → ComesOf w b q e → Happens w b e
+  ending [] x q at left is comes = Ended (record { end_ = x; at = at; left = left; is = subst (λ y. ComesOf w b y e) (sym is) comes })
+  ending (c ∷ cs) x q at left is comes = LastJoined (record { end_ = x; first = c; others = cs; at = at; left = left; join = subst (λ y. ComesOf w b y e) (sym is) comes })
+
+  by_phase : (p : Phase) (q : Want) → b.phase ≡ p → ReadsAs w.image b p → wanted_at b p ≡ Some q → ComesOf w b q e → Happens w b e
+  by_phase phase.Running q at reads wants comes = absurd cc
+  by_phase (phase.Within x) q at reads wants comes =
+      let is : x ≡ q = cc in
+      within x reads.0 reads.1 at reads.2 reads.3 reads.4 (subst (λ y. ComesOf w b y e) (sym is) comes)
+  by_phase phase.Starting q at reads wants comes =
+      let is : want.Start (child_name b.name (next_start b)) ≡ q = cc in
+      Started (record { at = at; ready = reads; is = subst (λ y. ComesOf w b y e) (sym is) comes })
+  by_phase (phase.Ending x) q at reads wants comes = let is : ending_want b.unjoined x ≡ q = cc in ending b.unjoined x q at refl is comes
+  by_phase (phase.Ended x) q at reads wants comes = absurd cc
+
+pub happens : (w : WorldState) (b : ActorState) (q : Want) (e : Event) → ReadsAs w.image b b.phase → wanted b ≡ Some q → event_at w b q ≡ Some e → Happens w b e
+happens w b q e reads wants at = by_phase w b e b.phase q refl reads wants (comes_of w b q e at)
+
+-- ---- what the actor then is in
+
+between_reads : (i : Image) (x : ActorState) (p : Phase) → IsBetween p → ReadsAs i x p
+between_reads i x phase.Running h = tt
+between_reads i x (phase.Within q) h = absurd h
+between_reads i x phase.Starting h = absurd h
+between_reads i x (phase.Ending e) h = tt
+between_reads i x (phase.Ended e) h = tt
+
+-- one that leaves its phase between instructions is in nothing more, and one that claimed a life may start a child
+leaves_reads : (i : Image) (x : ActorState) (e : Event) (p : Phase) → Leaves e p → (e ≡ event.Lives lives_ask.Claim lives_reply.Claimed → IsStartable x) → ReadsAs i x p
+leaves_reads i x (event.Lives lives_ask.Claim lives_reply.Claimed) p h ready = subst (ReadsAs i x) (sym h) (ready refl)
+leaves_reads i x (event.Lives lives_ask.Claim lives_reply.Full) p h ready = between_reads i x p h
+leaves_reads i x (event.Lives lives_ask.Claim lives_reply.Released) p h ready = between_reads i x p h
+leaves_reads i x (event.Lives (lives_ask.Release end) r) p h ready = between_reads i x p h
+leaves_reads i x e p h ready = between_reads i x p h
+
+-- a life is claimed by an actor that is about to start a child, and by no other
+claims_ready : (i : Image) (b : ActorState) (x : Want) (c : Cells) (N : ℕ → Type 0) → IsRequest N b x → event_for c b x ≡ event.Lives lives_ask.Claim lives_reply.Claimed → IsStartable b
+claims_ready i b (want.Lives lives_ask.Claim) c N own is = own
+claims_ready i b (want.Slot slot q) c N own is = absurd cc
+claims_ready i b (want.Fd fd q) c N own is = absurd cc
+claims_ready i b q c N own is = absurd own
+
+happens_ready : (w : WorldState) (b : ActorState) (e : Event) → Happens w b e → e ≡ event.Lives lives_ask.Claim lives_reply.Claimed → IsStartable b
+happens_ready w b e (Requested r) is = claims_ready w.image b r.want w.cells _ r.own (sym r.is ∙ is)
+happens_ready w b e (Joined j) is = let f = sym j.join.is ∙ is in absurd cc
+happens_ready w b e (Started s) is = s.ready
+happens_ready w b e (LastJoined j) is = let f = sym j.join.is ∙ is in absurd cc
+happens_ready w b e (Ended f) is = let g = sym f.is ∙ is in absurd cc
+
+claimed_startable : (i : Image) (b : ActorState) (e : Event) → e ≡ event.Lives lives_ask.Claim lives_reply.Claimed → IsStartable b → IsStartable (takes i b e)
+unfolding takes
+claimed_startable i b e is ready = subst (λ y. IsStartable (takes i b y)) (sym is) (startable_at b phase.Starting ready)
+
+pub takes_reads : (w : WorldState) (b : ActorState) (e : Event) → Happens w b e → ReadsAs w.image (takes w.image b e) (takes w.image b e).phase
+takes_reads w b e h = leaves_reads w.image (takes w.image b e) e (takes w.image b e).phase (takes_between w.image b e) (λ is. claimed_startable w.image b e is (happens_ready w b e h is))
+
+-- what a join makes of the actor, by what it was at
+pub joined_at : (b : ActorState) (p : Phase) (x : End) (k fuel : ℕ) → b.phase ≡ p
+    → answered_end (record b { fuel = b.fuel + fuel; unjoined = without_child b.unjoined k }) b.phase x ≡ answered_end (record b { fuel = b.fuel + fuel; unjoined = without_child b.unjoined k }) p x
+joined_at b p x k fuel at = ap (λ q. answered_end (record b { fuel = b.fuel + fuel; unjoined = without_child b.unjoined k }) q x) at

@@ -1,0 +1,248 @@
+-- Each turn takes work away, so every run ends.
+use Rattle.std.proofs.Common.{◌≡◌, ℕ, suc, ◌+◌, ◌*◌, ◌≤◌, ◌<◌, Bool, true, false, not, List, [], ◌∷◌, ◌++◌, length, refl, sym, ap, subst, ◌∙◌, arith}
+use Rattle.std.specs.Prelude.{Option, Some, None, is_some, if◌then◌else◌}
+use Rattle.std.specs.Ordering.{nat_cmp, match_ordering}
+use Rattle.std.specs.declared.cmp.Ordering.{Ordering}
+use Rattle.std.specs.declared.cmp.Ordering.TheVariants.{Less, Equal, Greater}
+use Rattle.wedge_base.specs.Images.{Image}
+use Rattle.wedge_base.specs.declared.events.Want.{Want}
+use Rattle.rv_hart.specs.Local.{reg}
+use Rattle.wedge_base.specs.declared.events.Want.TheVariants as want
+use Rattle.wedge_base.specs.declared.events.Event.{Event}
+use Rattle.wedge_base.specs.declared.events.Event.TheVariants as event
+use Rattle.wedge_base.specs.declared.events.Turn.{Turn}
+use Rattle.wedge_base.specs.declared.cells.LivesAsk.TheVariants as lives_ask
+use Rattle.wedge_base.specs.declared.cells.LivesReply.TheVariants as lives_reply
+use Rattle.wedge_base.specs.declared.rights.End.{End}
+use Rattle.sthread_life.specs.declared.phase.Phase.{Phase}
+use Rattle.sthread_life.specs.declared.phase.Phase.TheVariants as phase
+use Rattle.sthread_life.specs.Actors.{ActorState, root}
+use Rattle.sthread_life.specs.Between.{IsBetween}
+use Rattle.sthread_life.specs.Children.{Children, child_name, is_number, fuel_given, is_child, with_child, without_child}
+use Rattle.sthread_life.specs.FamilyTrees.{Family}
+use Rattle.sthread_life.specs.Fuel.{fuel_in, fuel_of, units_of, units_of_turn, phase_work, tasks_of, tasks_in, work_left, most_turns}
+use Rattle.sthread_life.specs.Laws.{RunsEnd}
+use Rattle.sthread_life.specs.Local.{is_running, rest}
+use Rattle.sthread_life.specs.Paying.{cost_by}
+use Rattle.sthread_life.specs.Taking.{next_start, answered_end, takes, begun}
+use Rattle.sthread_life.specs.Worlds.{WorldState, opening, actor_named, put_actor, with_begun, turn_of, Runs}
+use Rattle.sthread_life.specs.Names.{AreDistinct}
+use Rattle.wedge_base.specs.Names.{same}
+use Rattle.sthread_life.proofs.Between.{Leaves, takes_between, takes_name, turn_parts}
+use Rattle.sthread_life.proofs.Families.{IsOfOne, takes_same, first_child}
+use Rattle.sthread_life.proofs.FamilyRuns.{kept_at_rest, rest_units, turn_keeps, turn_family, opening_family, fuel_kept, one_begins, request_of_one, join_keeps_starts}
+use Rattle.sthread_life.proofs.Happening.{Happens, Requested, Joined, Started, LastJoined, Ended, joined_at}
+use Rattle.sthread_life.proofs.Named.{found_name}
+use Rattle.sthread_life.proofs.Resting.{HasPaid, rests, rest-stays, rest-name, running_is}
+use Rattle.sthread_life.proofs.Settling.{AllReady, turn_happens, turn_ready, opening_ready}
+
+-- ---- children by their count
+
+count_by_order : (o : Ordering) (k fuel : ℕ) (c : ℕ × ℕ) (cs others : Children) → length others ≤ length cs + 1 → length (match_ordering o ((k, fuel) ∷ c ∷ cs) ((c.0, fuel) ∷ cs) (c ∷ others)) ≤ length cs + 1 + 1
+count_by_order Less k fuel c cs others h = omega arith
+count_by_order Equal k fuel c cs others h = omega arith
+count_by_order Greater k fuel c cs others h = omega (arith, h)
+
+count_with : (cs : Children) (k fuel : ℕ) → length (with_child cs k fuel) ≤ length cs + 1
+count_with [] k fuel = omega arith
+count_with (c ∷ cs) k fuel = let h = count_by_order (nat_cmp k c.0) k fuel c cs (with_child cs k fuel) (count_with cs k fuel) in omega (arith, h)
+
+count_without : (cs : Children) (k : ℕ) → length (without_child cs k) ≤ length cs
+count_without [] k = omega arith
+count_without (c ∷ cs) k = by_test (is_number k c.0) (count_without cs k)
+  where
+    by_test : (t : Bool) → length (without_child cs k) ≤ length cs → length (if not t then c ∷ without_child cs k else without_child cs k) ≤ suc (length cs)
+    by_test true h = omega (arith, h)
+    by_test false h = omega (arith, h)
+
+count_less : (cs : Children) (k : ℕ) → is_child cs k ≡ true → length (without_child cs k) < length cs
+count_less [] k e = absurd cc
+count_less (c ∷ cs) k e = by_test (is_number k c.0) e (count_without cs k) (count_less cs k)
+  where
+    by_test : (t : Bool) → is_some (if t then Some c.1 else fuel_given cs k) ≡ true → length (without_child cs k) ≤ length cs → (is_child cs k ≡ true → length (without_child cs k) < length cs)
+        → length (if not t then c ∷ without_child cs k else without_child cs k) < suc (length cs)
+    by_test true e h others = omega (arith, h)
+    by_test false e h others = let less = others e in omega (arith, less)
+
+-- ---- tasks of actors
+
+tasks_put : (actors : List ActorState) (a x : ActorState) → x.name ≡ a.name → actor_named actors a.name ≡ Some a → tasks_in (put_actor actors x) + tasks_of a ≡ tasks_in actors + tasks_of x
+tasks_put [] a x name there = absurd (let e = there in cc)
+tasks_put (y ∷ ys) a x name there = by_name (same y.name x.name) (same y.name a.name) (ap (same y.name) name) there (tasks_put ys a x name)
+  where
+    by_name : (t u : Bool) → t ≡ u → (if u then Some y else actor_named ys a.name) ≡ Some a → (actor_named ys a.name ≡ Some a → tasks_in (put_actor ys x) + tasks_of a ≡ tasks_in ys + tasks_of x)
+        → tasks_in (if t then x ∷ ys else y ∷ put_actor ys x) + tasks_of a ≡ tasks_of y + tasks_in ys + tasks_of x
+    by_name true true at h others =
+        let is : y ≡ a = cc in
+        let was : tasks_of y ≡ tasks_of a = ap (λ (z : ActorState). tasks_of z) is in
+        omega (arith, was)
+    by_name true false at h others = absurd cc
+    by_name false true at h others = absurd cc
+    by_name false false at h others = let rest_ = others h in omega (arith, rest_)
+
+tasks_behind : (actors : List ActorState) (c : ActorState) → tasks_in (actors ++ c ∷ []) ≡ tasks_in actors + tasks_of c
+tasks_behind [] c = omega arith
+tasks_behind (y ∷ ys) c = let others = tasks_behind ys c in omega (arith, others)
+
+-- the tasks of an actor that has begun, if one has
+abbrev begun_tasks : Option ActorState → ℕ
+begun_tasks None = 0
+begun_tasks (Some c) = tasks_of c
+
+tasks_begun : (actors : List ActorState) (o : Option ActorState) → tasks_in (with_begun actors o) ≡ tasks_in actors + begun_tasks o
+tasks_begun actors None = omega arith
+tasks_begun actors (Some c) = tasks_behind actors c
+
+-- ---- a turn
+
+-- an actor that comes to rest has paid, or has little left to do
+record IsPaid (a b : ActorState) (units : ℕ) : Type 0 where
+  within : (q : Want) → b.phase ≡ phase.Within q → 7 ≤ 5 * units + phase_work a.phase
+  starting : b.phase ≡ phase.Starting → 6 ≤ 5 * units + phase_work a.phase
+  ending : (e : End) → b.phase ≡ phase.Ending e → 1 ≤ 5 * units + phase_work a.phase
+
+paid_within : (f g : ℕ) (p : Phase) (q : Want) → p ≡ phase.Within q → HasPaid f g p → g < f
+paid_within f g p q e h = subst (HasPaid f g) e h
+
+paid_starting : (f g : ℕ) (p : Phase) → p ≡ phase.Starting → HasPaid f g p → g < f
+paid_starting f g p e h = subst (HasPaid f g) e h
+
+rest_paid : (i : Image) (a : ActorState) (t : Bool) → is_running a.phase ≡ t → IsPaid a (rest i a) (units_of i (a.fuel + 1) a)
+rest_paid i a true e =
+    let r = rests i a e in
+    let units = rest_units i a in
+    let work : phase_work a.phase ≡ 2 = ap phase_work (running_is a.phase e) in
+    record {
+      within = λ q is. let less = paid_within a.fuel (rest i a).fuel (rest i a).phase q is r.paid in omega (arith, less, units, work);
+      starting = λ is. let less = paid_starting a.fuel (rest i a).fuel (rest i a).phase is r.paid in omega (arith, less, units, work);
+      ending = λ x is. omega (arith, work);
+    }
+rest_paid i a false e =
+    let stays = rest-stays i a e in
+    let same : (rest i a).phase ≡ a.phase = ap (λ (x : ActorState). x.phase) stays in
+    record {
+      within = λ q is. let work : phase_work a.phase ≡ 7 = ap phase_work (sym same ∙ is) in omega (arith, work);
+      starting = λ is. let work : phase_work a.phase ≡ 6 = ap phase_work (sym same ∙ is) in omega (arith, work);
+      ending = λ x is. let work : phase_work a.phase ≡ 1 = ap phase_work (sym same ∙ is) in omega (arith, work);
+    }
+
+-- what an event leaves has little to do: two at most, or six where a life was claimed
+between_work : (p : Phase) → IsBetween p → phase_work p ≤ 6
+between_work phase.Running h = omega arith
+between_work (phase.Within q) h = absurd h
+between_work phase.Starting h = absurd h
+between_work (phase.Ending e) h = omega arith
+between_work (phase.Ended e) h = omega arith
+
+leaves_work : (e : Event) (p : Phase) → Leaves e p → phase_work p ≤ 6
+leaves_work (event.Lives lives_ask.Claim lives_reply.Claimed) p h = let work : phase_work p ≡ 6 = ap phase_work h in omega (arith, work)
+leaves_work (event.Lives lives_ask.Claim lives_reply.Full) p h = between_work p h
+leaves_work (event.Lives lives_ask.Claim lives_reply.Released) p h = between_work p h
+leaves_work (event.Lives (lives_ask.Release x) r) p h = between_work p h
+leaves_work e p h = between_work p h
+
+-- the tasks of the doer and of a child after the event, against those before and the units
+record IsLess (i : Image) (b : ActorState) (e : Event) (n : ℕ) : Type 0 where
+  less : tasks_of (takes i b e) + begun_tasks (begun i b e) < n
+
+started_tasks : (i : Image) (b : ActorState) (child : List ℕ) → tasks_of (takes i b (event.Start child)) + begun_tasks (begun i b (event.Start child)) ≤ 5 + length b.unjoined
+unfolding takes
+started_tasks i b child = let h = count_with b.unjoined (next_start b) (reg b.hart.regs 13) in omega (arith, h)
+
+ended_tasks : (i : Image) (b : ActorState) (x : End) → tasks_of (takes i b (event.Lives (lives_ask.Release x) lives_reply.Released)) ≡ length b.unjoined
+unfolding takes
+ended_tasks i b x = omega arith
+
+joined_work : (a : ActorState) (p : Phase) (x : End) → a.phase ≡ p → phase_work (answered_end a p x).phase ≤ 2
+joined_work a phase.Running x at = omega arith
+joined_work a (phase.Within q) x at = omega arith
+joined_work a phase.Starting x at = omega arith
+joined_work a (phase.Ending y) x at = let work : phase_work a.phase ≡ 1 = ap phase_work at in omega (arith, work)
+joined_work a (phase.Ended y) x at = omega arith
+
+last_work : (a : ActorState) (x y : End) → a.phase ≡ phase.Ending y → phase_work (answered_end a a.phase x).phase ≡ 1
+last_work a x y at = ap (λ p. phase_work (answered_end a p x).phase) at ∙ ap phase_work at
+
+join_phase : (i : Image) (b : ActorState) (k : ℕ) (x : End) (fuel : ℕ) → phase_work (takes i b (event.Join k x fuel)).phase ≤ 2
+unfolding takes
+join_phase i b k x fuel = joined_work (record b { fuel = b.fuel + fuel; unjoined = without_child b.unjoined k }) b.phase x refl
+
+last_phase : (i : Image) (b : ActorState) (k : ℕ) (x y : End) (fuel : ℕ) → b.phase ≡ phase.Ending y → phase_work (takes i b (event.Join k x fuel)).phase ≡ 1
+unfolding takes
+last_phase i b k x y fuel at = last_work (record b { fuel = b.fuel + fuel; unjoined = without_child b.unjoined k }) x y at
+
+event_less : (w : WorldState) (a : ActorState) (e : Event) → Happens w (rest w.image a) e
+    → tasks_of (takes w.image (rest w.image a) e) + begun_tasks (begun w.image (rest w.image a) e) < 5 * units_of w.image (a.fuel + 1) a + tasks_of a
+event_less w a e (Requested r) =
+    let b = rest w.image a in
+    let one = subst IsOfOne (sym r.is) (request_of_one _ w.cells b r.want r.own) in
+    let s = takes_same w.image b e one in
+    let k = kept_at_rest w.image a _ refl in
+    let paid = (rest_paid w.image a _ refl).within r.want r.at in
+    let few = leaves_work e (takes w.image b e).phase (takes_between w.image b e) in
+    let none : begun_tasks (begun w.image b e) ≡ 0 = ap begun_tasks (one_begins w.image b e one) in
+    let count : length (takes w.image b e).unjoined ≡ length a.unjoined = ap length (s.unjoined ∙ k.unjoined) in
+    omega (arith, paid, few, none, count)
+event_less w a e (Joined j) =
+    let b = rest w.image a in
+    let k = kept_at_rest w.image a _ refl in
+    let paid = (rest_paid w.image a _ refl).within (want.Join j.number) j.at in
+    let less : tasks_of (takes w.image b (event.Join j.number j.join.how j.join.child.fuel)) + 0 < 5 * units_of w.image (a.fuel + 1) a + tasks_of a =
+    let few = join_phase w.image b j.number j.join.how j.join.child.fuel in
+    let left : length (takes w.image b (event.Join j.number j.join.how j.join.child.fuel)).unjoined ≡ length (without_child b.unjoined j.number) = ap length (join_keeps_starts w.image b j.number j.join.how j.join.child.fuel).1 in
+    let fewer = count_less b.unjoined j.number j.listed in
+    let count : length b.unjoined ≡ length a.unjoined = ap length k.unjoined in
+    omega (arith, paid, few, left, fewer, count) in
+    subst (λ y. tasks_of (takes w.image b y) + begun_tasks (begun w.image b y) < 5 * units_of w.image (a.fuel + 1) a + tasks_of a) (sym j.join.is) less
+event_less w a e (Started s) =
+    let b = rest w.image a in
+    let k = kept_at_rest w.image a _ refl in
+    let paid = (rest_paid w.image a _ refl).starting s.at in
+    let few = started_tasks w.image b (child_name b.name (next_start b)) in
+    let count : length b.unjoined ≡ length a.unjoined = ap length k.unjoined in
+    subst (λ y. tasks_of (takes w.image b y) + begun_tasks (begun w.image b y) < 5 * units_of w.image (a.fuel + 1) a + tasks_of a) (sym s.is) (omega (arith, paid, few, count))
+event_less w a e (LastJoined j) =
+    let b = rest w.image a in
+    let k = kept_at_rest w.image a _ refl in
+    let paid = (rest_paid w.image a _ refl).ending j.end_ j.at in
+    let less : tasks_of (takes w.image b (event.Join j.first.0 j.join.how j.join.child.fuel)) + 0 < 5 * units_of w.image (a.fuel + 1) a + tasks_of a =
+    let few = last_phase w.image b j.first.0 j.join.how j.end_ j.join.child.fuel j.at in
+    let left : length (takes w.image b (event.Join j.first.0 j.join.how j.join.child.fuel)).unjoined ≡ length (without_child b.unjoined j.first.0) = ap length (join_keeps_starts w.image b j.first.0 j.join.how j.join.child.fuel).1 in
+    let fewer = count_less b.unjoined j.first.0 (subst (λ cs. is_child cs j.first.0 ≡ true) (sym j.left) (first_child j.first j.others)) in
+    let count : length b.unjoined ≡ length a.unjoined = ap length k.unjoined in
+    omega (arith, paid, few, left, fewer, count) in
+    subst (λ y. tasks_of (takes w.image b y) + begun_tasks (begun w.image b y) < 5 * units_of w.image (a.fuel + 1) a + tasks_of a) (sym j.join.is) less
+event_less w a e (Ended f) =
+    let b = rest w.image a in
+    let paid = (rest_paid w.image a _ refl).ending f.end_ f.at in
+    let few = ended_tasks w.image b f.end_ in
+    let none : length b.unjoined ≡ 0 = ap length f.left in
+    subst (λ y. tasks_of (takes w.image b y) + begun_tasks (begun w.image b y) < 5 * units_of w.image (a.fuel + 1) a + tasks_of a) (sym f.is) (omega (arith, paid, few, none))
+
+pub turn_works : (w : WorldState) (name : List ℕ) (e : Event) (new : WorldState) → AllReady w → Family w.actors → turn_of w name ≡ Some (record { event = e; world = new }) → work_left new < work_left w
+turn_works w name e new all f t =
+    let p = turn_parts w name e new t in
+    let a = p.actor in
+    let b = rest w.image a in
+    let x = takes w.image b e in
+    let there : actor_named w.actors a.name ≡ Some a = ap (actor_named w.actors) (found_name w.actors name a p.named) ∙ p.named in
+    let put = tasks_put w.actors a x (takes_name w.image b e ∙ rest-name w.image a) there in
+    let more = tasks_begun (put_actor w.actors x) (begun w.image b e) in
+    let is : tasks_in new.actors ≡ tasks_in (with_begun (put_actor w.actors x) (begun w.image b e)) = ap (λ (v : WorldState). tasks_in v.actors) p.new_is in
+    let less = event_less w a e (turn_happens w name e new all p) in
+    let fuel = (turn_keeps w name e new a all f p.named t).fuel in
+    omega (arith, put, more, is, less, fuel)
+
+runs_work : (old : WorldState) (turns : List Turn) (new : WorldState) → AllReady old → Family old.actors → Runs old turns new → work_left new + length turns ≤ work_left old
+runs_work old [] new all f run = let same : work_left new ≡ work_left old = ap (λ (w : WorldState). work_left w) run in omega (arith, same)
+runs_work old (t ∷ ts) new all f run =
+    let others = runs_work run.0 ts new (turn_ready old t.actor t.event run.0 all run.1) (turn_family old t.actor t.event run.0 all f run.1) run.2 in
+    let less = turn_works old t.actor t.event run.0 all f run.1 in
+    omega (arith, others, less)
+
+opening_work : (i : Image) → work_left (opening i) ≡ most_turns i.fuel
+unfolding root
+opening_work i = omega arith
+
+pub runs_end : RunsEnd
+runs_end i turns new run = let few = runs_work (opening i) turns new (opening_ready i) (opening_family i) run in let work = opening_work i in omega (arith, few, work)

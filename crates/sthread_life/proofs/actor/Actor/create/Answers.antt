@@ -1,0 +1,31 @@
+use Rattle.std.proofs.Common.{◌≡◌, ◌<◌, true, length, sym, ap, subst, ◌∙◌, arith}
+use Rattle.std.specs.Prelude.{OnOk}
+use Rattle.wedge_base.specs.Sheets.{first_excess}
+use Rattle.sthread_life.specs.Actors.{ActorRecord, whole}
+use Rattle.sthread_life.specs.Calls.{is_procedure, create}
+use Rattle.sthread_life.proofs.Creating.{begins_there, on_ok, creates}
+use Rattle.sthread_life.proofs.actor.Actor.create.Goals as goal
+
+pub returns : goal.returns
+returns c =
+    let w = c.self.inside in
+    let was : ActorRecord = record {
+      name = w.name;
+      compartment = w.compartment;
+      sheet = w.sheet;
+      made = w.made;
+      drafts = w.drafts.items;
+      hart = w.hart;
+      fuel = w.fuel;
+      denials = w.denials;
+      starts = w.starts;
+      unjoined = w.unjoined;
+      phase = w.phase;
+      stopped = w.stopped;
+    } in
+    let inside : c.reg-number.result < length c.self.inside.drafts.items = omega (arith, c.if-number-len.false, c.len.ensures, c.self.inside.drafts.ok) in
+    let begins : is_procedure c.args.image.now c.reg.result ≡ true = begins_there _ c.is_none.result c.reg.result c.proc_at.result c.proc_at.ensures c.is_none.ensures c.if-is_none.false in
+    on_ok c.create_checked.result
+    (λ h m. h m ∙ subst (λ r. Rattle.sthread_life.specs.Calls.create_checked (whole r m) c.first_excess-excess.result ≡ create c.args.image.now (whole r m)) c.self.view_is
+    (creates c.args.image.now (whole was m) c.reg-number.result c.index.result.now c.first_excess-excess.result c.reg-number.ensures inside c.index.ensures (ap (is_procedure c.args.image.now) (sym c.reg.ensures) ∙ begins) c.first_excess-excess.ensures.is))
+    c.create_checked.ensures

@@ -1,0 +1,104 @@
+-- Starts, joins and ends among actors, read off the registers, the drafts and the child: a second statement, beside the step.
+use Rattle.std.specs.Prelude.{◌≡◌, ℕ, ◌+◌, ◌-◌, true, List, [], ◌∷◌, ◌++◌, replicate, slice_get, slice_set, Option, Some, None, IsSomeAnd}
+use Rattle.wedge_base.specs.Images.{Image}
+use Rattle.wedge_base.specs.Sheets.{Draft, nothing_made, first_excess, granted}
+use Rattle.wedge_base.specs.declared.rights.End.{End}
+use Rattle.wedge_base.specs.declared.events.Event.{Event}
+use Rattle.wedge_base.specs.declared.events.Event.TheVariants as event
+use Rattle.wedge_base.specs.declared.cells.LivesAsk.TheVariants as lives_ask
+use Rattle.wedge_base.specs.declared.cells.LivesReply.TheVariants as lives_reply
+use Rattle.grant_sheet.specs.Granting.{IsWithin}
+use Rattle.rv_hart.specs.declared.Hart.{Hart}
+use Rattle.rv_hart.specs.Local.{reg}
+use Rattle.sthread_life.specs.declared.phase.Phase.{Phase}
+use Rattle.sthread_life.specs.declared.phase.Phase.TheVariants as phase
+use Rattle.sthread_life.specs.Actors.{ActorState, pristine}
+use Rattle.sthread_life.specs.Allowed.{answered}
+use Rattle.sthread_life.specs.Children.{Children, is_child, with_child, without_child}
+use Rattle.sthread_life.specs.Ends.{is_end_event}
+use Rattle.sthread_life.specs.Taking.{end_value, end_number}
+use Rattle.sthread_life.specs.Worlds.{WorldState, actor_named, put_actor}
+
+-- ---- a start
+
+-- an actor that has done nothing
+abbrev pub IsFresh : ActorState → Type 0
+IsFresh c = (c.made ≡ nothing_made) × (c.drafts ≡ []) × (c.denials ≡ []) × (c.starts ≡ 0) × (c.unjoined ≡ []) × (c.phase ≡ phase.Running)
+
+-- A child as it begins, by the call of the actor that starts it: the number of a draft, the entry, the argument and the fuel. Its
+-- sheet is what the draft gives, and is within what its starter holds.
+pub record IsChild (i : Image) (a c : ActorState) : Type 0 where
+  pub draft : Draft
+  pub drafted : slice_get a.drafts (reg a.hart.regs 10) ≡ Some draft
+  pub allowed : first_excess a.sheet a.made draft ≡ None
+  pub sheet : c.sheet ≡ granted a.sheet a.made draft
+  pub within : IsWithin a.sheet a.made c.sheet
+  pub name : c.name ≡ a.name ++ (a.starts + 1) ∷ []
+  pub compartment : c.compartment ≡ reg a.hart.regs 11
+  pub hart : c.hart ≡ record { pc = reg a.hart.regs 11; regs = slice_set (slice_set (replicate 32 0) 2 0x20020000) 10 (reg a.hart.regs 12) }
+  pub memory : c.memory ≡ pristine i
+  pub fuel : c.fuel ≡ reg a.hart.regs 13
+  pub fresh : IsFresh c
+
+-- its starter: it is answered the child's number, and the child's fuel goes from its own
+abbrev pub started : ActorState → ActorState
+started a = record a {
+  hart = answered a (a.starts + 1) 0;
+  starts = a.starts + 1;
+  unjoined = with_child a.unjoined (a.starts + 1) (reg a.hart.regs 13);
+  fuel = a.fuel - reg a.hart.regs 13;
+  phase = phase.Running;
+}
+
+pub record IsStart (old : WorldState) (a : ActorState) (name : List ℕ) (new : WorldState) : Type 0 where
+  pub child : ActorState
+  pub begins : IsChild old.image a child
+  pub named : name ≡ child.name
+  pub actors : new.actors ≡ put_actor old.actors (started a) ++ child ∷ []
+
+-- ---- a join
+
+-- a call answered with a value, the code 0 and one value more
+abbrev pub answered_twice : ActorState → ℕ → ℕ → Hart
+answered_twice a value more = record { pc = (answered a value 0).pc; regs = slice_set (answered a value 0).regs 12 more }
+
+-- The joiner: the child's fuel comes back to it. A call is answered the child's value and the number of its end; an actor whose end
+-- is decided goes on with it.
+abbrev pub joined : ActorState → Phase → ℕ → End → ℕ → ActorState
+joined a (phase.Ending x) k e fuel = record a { fuel = a.fuel + fuel; unjoined = without_child a.unjoined k }
+joined a p k e fuel = record a { hart = answered_twice a (end_value e) (end_number e); fuel = a.fuel + fuel; unjoined = without_child a.unjoined k; phase = phase.Running }
+
+-- an actor whose end is decided joins the first of its children, which are in the order of their numbers
+abbrev pub IsFirst : Phase → Children → ℕ → Type 0
+IsFirst (phase.Ending x) [] k = ⊥
+IsFirst (phase.Ending x) (c ∷ cs) k = k ≡ c.0
+IsFirst p cs k = Unit {0}
+
+-- the child is one that the actor started and has not joined, and has ended so
+pub record IsJoined (old : WorldState) (a : ActorState) (k : ℕ) (e : End) (fuel : ℕ) (new : WorldState) : Type 0 where
+  pub listed : is_child a.unjoined k ≡ true
+  pub child : IsSomeAnd (actor_named old.actors (a.name ++ k ∷ [])) (λ c. (c.phase ≡ phase.Ended e) × (c.fuel ≡ fuel))
+  pub first : IsFirst a.phase a.unjoined k
+  pub actors : new.actors ≡ put_actor old.actors (joined a a.phase k e fuel)
+
+-- ---- anything else
+
+-- Nothing else changes another actor, nor what an actor may do and whom it started. A life that is claimed is for a child to be
+-- started next, and who ends has joined all its children.
+pub record ActsAlone (old : WorldState) (a : ActorState) (e : Option Event) (new : WorldState) : Type 0 where
+  pub after : ActorState
+  pub actors : new.actors ≡ put_actor old.actors after
+  pub name : after.name ≡ a.name
+  pub compartment : after.compartment ≡ a.compartment
+  pub sheet : after.sheet ≡ a.sheet
+  pub made : after.made ≡ a.made
+  pub starts : after.starts ≡ a.starts
+  pub unjoined : after.unjoined ≡ a.unjoined
+  pub claimed : e ≡ Some (event.Lives lives_ask.Claim lives_reply.Claimed) → after ≡ record a { phase = phase.Starting }
+  pub starting : a.phase ≡ phase.Starting → ⊥
+  pub childless : is_end_event e ≡ true → a.unjoined ≡ []
+
+abbrev pub KeepsFamily : WorldState → ActorState → Option Event → WorldState → Type 0
+KeepsFamily old a (Some (event.Start child)) new = IsStart old a child new
+KeepsFamily old a (Some (event.Join k e fuel)) new = IsJoined old a k e fuel new
+KeepsFamily old a e new = ActsAlone old a e new

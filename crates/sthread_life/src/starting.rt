@@ -1,0 +1,236 @@
+//! Starting and joining children.
+
+ghost use Rattle.std.specs.Prelude.{◌≡◌, ◌<◌, ◌≤◌, [], List, Some, None, length, option_map, IfOk, IfSome, OnOk, IsSomeAnd, false};
+ghost use Rattle.wedge_base.specs.Names.{most_parts};
+ghost use Rattle.wedge_base.specs.Sheets as sheets;
+ghost use Rattle.wedge_base.specs.declared.events.Want.{Want as AWant};
+ghost use Rattle.wedge_base.specs.declared.image.MemoryRange.{MemoryRange as ARange};
+ghost use Rattle.image_form.specs.Rules.{most_fuel};
+ghost use Rattle.sthread_life.specs.Actors.{whole};
+ghost use Rattle.sthread_life.specs.Between.{MayStart, WantFits, funds};
+ghost use Rattle.sthread_life.specs.Calls as calls;
+ghost use Rattle.sthread_life.specs.Children.{child_name, fuel_given};
+ghost use Rattle.sthread_life.specs.Taking as taking;
+
+use crate::actor::Actor;
+use crate::calls::{A0, A1, A2, A3};
+use crate::memory::Memory;
+use crate::phase::Phase;
+use crate::unjoined::Children;
+use grant_sheet::{Made, first_excess, sheet_of};
+use image_form::Image;
+use rv_hart::Hart;
+use wedge_base::{
+    ActorName, Code, Denial, End, Items, LivesAsk, MOST_PARTS, NameFault, NoMemory, PRIVATE_BASE,
+    PRIVATE_SIZE, Want,
+};
+
+impl Actor {
+    /// The call that starts a child, up to the claim of a life for it.
+    pub(crate) fn create(&mut self, image: &Image) -> Result<(), NoMemory>
+        requires { funds self.old.starts self.old.fuel self.old.unjoined < most_fuel }
+        ensures { OnOk result ((m : List ARange) → whole self.new m
+            ≡ calls.create image.now (whole self.old m)) }
+    {
+        let number = self.hart.reg(A0) as usize;
+        if number >= self.drafts.len() {
+            self.refuse(Code::NoSuch);
+            return Ok(());
+        }
+        if image.proc_at(self.hart.reg(A1)).is_none() {
+            self.refuse(Code::Bad);
+            return Ok(());
+        }
+        let excess = first_excess(&self.sheet, &self.made, &self.drafts[number]);
+        self.create_checked(excess)
+    }
+
+    /// The call that starts a child, with the first part of the draft that it may not give.
+    fn create_checked(&mut self, excess: Option<Denial>) -> Result<(), NoMemory>
+        requires paid { funds self.old.starts self.old.fuel self.old.unjoined < most_fuel }
+        requires drafted { calls.a0 (whole self.old []) < length self.old.drafts }
+        requires excess { excess ≡ sheets.first_excess self.old.sheet self.old.made
+            (taking.draft_at self.old.drafts (calls.a0 (whole self.old []))) }
+        ensures { OnOk result ((m : List ARange) → whole self.new m
+            ≡ calls.create_checked (whole self.old m) excess) }
+    {
+        match excess {
+            Some(denial) => {
+                self.note(denial)?;
+                self.refuse(Code::Denied);
+            }
+            None => self.create_allowed(),
+        }
+        Ok(())
+    }
+
+    /// The call that starts a child, where it may give every grant of the draft.
+    fn create_allowed(&mut self)
+        requires room { funds self.old.starts self.old.fuel self.old.unjoined < most_fuel }
+        requires drafted { calls.a0 (whole self.old []) < length self.old.drafts }
+        requires allowed { sheets.first_excess self.old.sheet self.old.made
+            (taking.draft_at self.old.drafts (calls.a0 (whole self.old []))) ≡ None }
+        ensures { (m : List ARange) → whole self.new m ≡ calls.create_allowed (whole self.old m) }
+    {
+        if self.name.parts().len() >= MOST_PARTS {
+            self.refuse(Code::Deep);
+        } else if self.fuel < self.hart.reg(A3) {
+            self.refuse(Code::FuelShort);
+        } else {
+            self.phase = Phase::Within(Want::Lives(LivesAsk::Claim));
+        }
+    }
+
+    /// The call that joins a child.
+    pub(crate) fn join(&mut self)
+        ensures { (m : List ARange) → whole self.new m ≡ calls.join (whole self.old m) }
+    {
+        let child = self.hart.reg(A0);
+        if self.unjoined.contains(child) {
+            self.phase = Phase::Within(Want::Join { child });
+        } else {
+            self.refuse(Code::NoSuch);
+        }
+    }
+
+    /// What it wants once its end is decided: to join its children, the least number first, and then to end.
+    pub(crate) fn ending_want(&self, end: End) -> Want
+        ensures is { result ≡ taking.ending_want self.now.unjoined end }
+        ensures fits { WantFits (whole self.now []) result }
+    {
+        match self.unjoined.least() {
+            Some(child) => Want::Join { child },
+            None => Want::Lives(LivesAsk::Release { end }),
+        }
+    }
+
+    /// What it wants once a life is claimed: to start the child of its next number.
+    pub(crate) fn starting_want(&self) -> Result<Want, NoMemory>
+        requires { MayStart (whole self.now []) }
+        ensures { IfOk result (λ q. q
+            ≡ AWant.Start (child_name self.now.name (taking.next_start (whole self.now [])))) }
+    {
+        match self.name.child(self.alloc, self.starts + 1) {
+            Ok(child) => Ok(Want::Start { child }),
+            Err(NameFault::NoMemory) => Err(NoMemory),
+            Err(NameFault::Deep) => unreachable!(),
+        }
+    }
+
+    /// The child of a name that it is ready to start, with its private memory.
+    fn child(&self, image: &Image, name: &ActorName) -> Result<(Actor, Memory), NoMemory>
+        requires { MayStart (whole self.now []) }
+        ensures is { IfOk result (λ c. whole c.0 c.1 ≡ taking.child_of image.now (whole self.now []) name.now) }
+        ensures going { IfOk result (λ c. c.0.stopped ≡ false) }
+    {
+        let alloc = self.alloc;
+        let entry = self.hart.reg(A1);
+        let draft = &self.drafts[self.hart.reg(A0) as usize];
+        let sheet = sheet_of(alloc, &self.sheet, &self.made, draft)?;
+        let memory = Memory::pristine(alloc, image)?;
+        let mut hart = Hart::new(entry);
+        hart.put(2, PRIVATE_BASE + PRIVATE_SIZE);
+        hart.put(A0, self.hart.reg(A2));
+        let child = Actor {
+            alloc,
+            name: name.copy()?,
+            compartment: entry,
+            sheet,
+            made: Made::new(alloc),
+            drafts: Vec::new(alloc),
+            hart,
+            fuel: self.hart.reg(A3),
+            denials: Items::new(Vec::new(alloc)),
+            starts: 0,
+            unjoined: Children::new(alloc),
+            phase: Phase::Running,
+            stopped: false,
+        };
+        Ok((child, memory))
+    }
+
+    /// A child of a name starts. Returns the child with its private memory: there always is one.
+    pub(crate) fn start(
+        &mut self,
+        image: &Image,
+        name: &ActorName,
+    ) -> Result<Option<(Actor, Memory)>, NoMemory>
+        requires { MayStart (whole self.old []) }
+        ensures takes { OnOk result ((m : List ARange) → whole self.new m
+            ≡ taking.has_started (whole self.old m)) }
+        ensures begun { IfOk result (λ c. option_map (λ p. whole p.0 p.1) c
+            ≡ Some (taking.child_of image.now (whole self.old []) name.now)) }
+        ensures going { IfOk result (λ c. IfSome c (λ p. p.0.stopped ≡ false)) }
+        ensures name { OnOk result (self.new.name ≡ self.old.name) }
+    {
+        let (child, memory) = self.child(image, name)?;
+        self.give_to_child()?;
+        Ok(Some((child, memory)))
+    }
+
+    /// What a start makes of its starter: it has one child more, to which the fuel goes.
+    fn give_to_child(&mut self) -> Result<(), NoMemory>
+        requires { MayStart (whole self.old []) }
+        ensures takes { OnOk result ((m : List ARange) → whole self.new m
+            ≡ taking.has_started (whole self.old m)) }
+        ensures name { OnOk result (self.new.name ≡ self.old.name) }
+    {
+        let number = self.starts + 1;
+        let fuel = self.hart.reg(A3);
+        self.unjoined.add(number, fuel)?;
+        self.starts = number;
+        self.fuel -= fuel;
+        self.phase = Phase::Running;
+        self.hart.answer(number, 0, None);
+        Ok(())
+    }
+
+    /// A child that ended so, with so much fuel left, is joined.
+    pub(crate) fn take_join(&mut self, child: u32, end: End, fuel: u32)
+        requires { IsSomeAnd (fuel_given self.old.unjoined child) (λ given. fuel ≤ given) }
+        ensures takes { (m : List ARange) → whole self.new m
+            ≡ taking.has_joined (whole self.old m) child end fuel }
+        ensures name { self.new.name ≡ self.old.name }
+    {
+        match self.phase {
+            Phase::Ending(_) => {
+                self.unjoined.remove(child, fuel);
+                self.fuel += fuel;
+            }
+            _ => {
+                self.unjoined.remove(child, fuel);
+                self.fuel += fuel;
+                self.phase = Phase::Running;
+                self.hart.answer(end_value(end), 0, Some(end_number(end)));
+            }
+        }
+    }
+}
+
+/// The value of an actor that ended so: 0 unless it exited with another.
+fn end_value(end: End) -> u32
+    ensures { result ≡ taking.end_value end }
+{
+    match end {
+        End::Exited(value) => value,
+        _ => 0,
+    }
+}
+
+/// The number of an end, as programs see it.
+fn end_number(end: End) -> u32
+    ensures { result ≡ taking.end_number end }
+{
+    match end {
+        End::Exited(_) => 0,
+        End::Denied => 1,
+        End::Misaligned => 2,
+        End::JumpMisaligned => 3,
+        End::BadInstruction => 4,
+        End::FetchFault => 5,
+        End::TextStore => 6,
+        End::Unmapped => 7,
+        End::Break => 8,
+        End::FuelOut => 9,
+    }
+}

@@ -1,0 +1,205 @@
+-- Runs in serial order: the actor that was started last and has not ended never waits, and those that live are a stack.
+use Rattle.std.proofs.Common.{◌≡◌, ℕ, zero, suc, ◌+◌, ◌-◌, ◌<◌, ◌≤◌, Bool, true, false, true≢false, List, [], ◌∷◌, ◌++◌, length, get_or, refl, sym, ap, subst, ◌∙◌, append-nil, append_assoc, arith}
+use Rattle.std.specs.Prelude.{Option, Some, None, IsSomeAnd, is_some, slice_get, slice_set, if◌then◌else◌}
+use Rattle.wedge_base.specs.Images.{Image}
+use Rattle.wedge_base.specs.Names.{same, root_name}
+use Rattle.wedge_base.specs.declared.rights.End.{End}
+use Rattle.wedge_base.specs.declared.events.Event.{Event}
+use Rattle.wedge_base.specs.declared.events.Event.TheVariants as event
+use Rattle.wedge_base.specs.declared.events.Turn.{Turn}
+use Rattle.wedge_base.specs.declared.events.Want.TheVariants as want
+use Rattle.sthread_life.specs.declared.phase.Phase.{Phase}
+use Rattle.sthread_life.specs.declared.phase.Phase.TheVariants as phase
+use Rattle.sthread_life.specs.Actors.{ActorState, root}
+use Rattle.sthread_life.specs.Children.{Children, fuel_given, is_child, child_name}
+use Rattle.sthread_life.specs.FamilyTrees.{Holds, AllBehind, Family}
+use Rattle.sthread_life.specs.Fuel.{work_left}
+use Rattle.sthread_life.specs.Local.{rest, has_ended}
+use Rattle.sthread_life.specs.Names.{IsNew, AreDistinct}
+use Rattle.sthread_life.specs.Taking.{wanted, wanted_at, ending_want, takes, begun, child_of}
+use Rattle.sthread_life.specs.Worlds.{WorldState, opening, actor_named, put_actor, with_begun, Runs, is_ended, is_whole}
+use Rattle.sthread_life.proofs.Between.{takes_name, turn_parts}
+use Rattle.sthread_life.proofs.FamilyKept.{found_apart}
+use Rattle.sthread_life.proofs.FamilyRuns.{run_family}
+use Rattle.sthread_life.proofs.FuelGiven.{number_self}
+use Rattle.sthread_life.proofs.Meeting.{IsWanted, ReadsAs, LoadsAt}
+use Rattle.sthread_life.proofs.Named.{same_self, found_name}
+use Rattle.sthread_life.proofs.Resting.{rest-name}
+use Rattle.sthread_life.proofs.Settling.{AllReady, named_ready, run_ready}
+use Rattle.sthread_life.proofs.Trees.{apart_too}
+use Rattle.sthread_life.proofs.WorkLeft.{turn_works}
+use Rattle.wedge_core.specs.Progress.{Progress, IsFound, IsWaiting, GoesOnBy, HasEnded, opened}
+use Rattle.wedge_core.specs.Serial.{newest, live_names, IsSerial}
+use Rattle.wedge_core.specs.declared.serially.Live.{Live}
+use Rattle.wedge_core.proofs.AtRest.{unjoined_at_rest}
+use Rattle.wedge_core.proofs.FamilyTurns.{is_given}
+use Rattle.wedge_core.proofs.Replays.{EachStep-push}
+use Rattle.wedge_core.proofs.Runs.{Runs-push}
+use Rattle.wedge_core.proofs.Turning.{set_get, set_length, not_ended}
+
+-- ---- who lives
+
+pub one_lives : (a : ActorState) (as_ : List ActorState) → has_ended a.phase ≡ false → live_names (a ∷ as_) ≡ a.name ∷ live_names as_
+one_lives a as_ e = ap (λ t. if t then live_names as_ else a.name ∷ live_names as_) e
+
+one_ended : (a : ActorState) (as_ : List ActorState) → has_ended a.phase ≡ true → live_names (a ∷ as_) ≡ live_names as_
+one_ended a as_ e = ap (λ t. if t then live_names as_ else a.name ∷ live_names as_) e
+
+pub live_append : (xs ys : List ActorState) → live_names (xs ++ ys) ≡ live_names xs ++ live_names ys
+live_append [] ys = refl
+live_append (a ∷ as_) ys = by_end (has_ended a.phase) refl (live_append as_ ys)
+  where
+    by_end : (t : Bool) → has_ended a.phase ≡ t → live_names (as_ ++ ys) ≡ live_names as_ ++ live_names ys → live_names (a ∷ (as_ ++ ys)) ≡ live_names (a ∷ as_) ++ live_names ys
+    by_end true e others = one_ended a (as_ ++ ys) e ∙ (others ∙ ap (λ ns. ns ++ live_names ys) (sym (one_ended a as_ e)))
+    by_end false e others = one_lives a (as_ ++ ys) e ∙ (ap (λ ns. a.name ∷ ns) others ∙ ap (λ ns. ns ++ live_names ys) (sym (one_lives a as_ e)))
+
+-- the actor that was started last and has not ended
+pub record IsNewest (actors : List ActorState) (a : ActorState) : Type 0 where
+  pub before : List ActorState
+  pub behind : List ActorState
+  pub is : actors ≡ before ++ a ∷ behind
+  pub lives : has_ended a.phase ≡ false
+  pub others : live_names behind ≡ []
+
+pub newest_of : (actors : List ActorState) → 0 < length (live_names actors) → (a : ActorState) × IsNewest actors a
+newest_of [] lt = absurd (omega (arith, lt))
+newest_of (y ∷ ys) lt = by_others (live_names ys) refl (newest_of ys)
+  where
+    later : (n : (a : ActorState) × IsNewest ys a) → (a : ActorState) × IsNewest (y ∷ ys) a
+    later n = (n.0, record { before = y ∷ n.1.before; behind = n.1.behind; is = ap (λ zs. y ∷ zs) n.1.is; lives = n.1.lives; others = n.1.others })
+
+    by_end : (t : Bool) → has_ended y.phase ≡ t → live_names ys ≡ [] → (a : ActorState) × IsNewest (y ∷ ys) a
+    by_end true e none = let no : length (live_names (y ∷ ys)) ≡ 0 = ap length (one_ended y ys e ∙ none) in absurd (omega (arith, lt, no))
+    by_end false e none = (y, record { before = []; behind = ys; is = refl; lives = e; others = none })
+
+    by_others : (ns : List (List ℕ)) → live_names ys ≡ ns → (0 < length (live_names ys) → (a : ActorState) × IsNewest ys a) → (a : ActorState) × IsNewest (y ∷ ys) a
+    by_others [] e rec_ = by_end (has_ended y.phase) refl e
+    by_others (m ∷ ms) e rec_ = let count : length (live_names ys) ≡ suc (length ms) = ap length e in later (rec_ (omega (arith, count)))
+
+-- the names of those that live: the newest is the last of them
+pub live_where : (before behind : List ActorState) (a : ActorState) → has_ended a.phase ≡ false → live_names behind ≡ [] → live_names (before ++ a ∷ behind) ≡ live_names before ++ a.name ∷ []
+live_where before behind a lives others = live_append before (a ∷ behind) ∙ ap (λ ns. live_names before ++ ns) (one_lives a behind lives ∙ ap (λ ns. a.name ∷ ns) others)
+
+pub ended_where : (before behind : List ActorState) (a : ActorState) → has_ended a.phase ≡ true → live_names behind ≡ [] → live_names (before ++ a ∷ behind) ≡ live_names before
+ended_where before behind a ended others = live_append before (a ∷ behind) ∙ (ap (λ ns. live_names before ++ ns) (one_ended a behind ended ∙ others) ∙ append-nil (live_names before))
+
+none_newest : (as_ : List ActorState) → live_names as_ ≡ [] → newest as_ ≡ None
+none_newest [] none = refl
+none_newest (a ∷ as_) none = by_end (has_ended a.phase) refl (none_newest as_)
+  where
+    by_end : (t : Bool) → has_ended a.phase ≡ t → (live_names as_ ≡ [] → newest as_ ≡ None) → newest (a ∷ as_) ≡ None
+    by_end false e others = let some = sym (one_lives a as_ e) ∙ none in absurd cc
+    by_end true e others =
+        ap (λ o. elim o [ Some name ↦ Some name | None ↦ if has_ended a.phase then None else Some a.name ]) (others (sym (one_ended a as_ e) ∙ none))
+        ∙ ap (λ t. if t then None else Some a.name) e
+
+pub newest_is : (before behind : List ActorState) (a : ActorState) → has_ended a.phase ≡ false → live_names behind ≡ [] → newest (before ++ a ∷ behind) ≡ Some a.name
+newest_is [] behind a lives others =
+    ap (λ o. elim o [ Some name ↦ Some name | None ↦ if has_ended a.phase then None else Some a.name ]) (none_newest behind others) ∙ ap (λ t. if t then None else Some a.name) lives
+newest_is (y ∷ ys) behind a lives others =
+    ap (λ o. elim o [ Some name ↦ Some name | None ↦ if has_ended y.phase then None else Some y.name ]) (newest_is ys behind a lives others)
+
+-- ---- its place among actors of which no two have one name
+
+new_in : (n : List ℕ) (before behind : List ActorState) (a : ActorState) → IsNew n (before ++ a ∷ behind) → same a.name n ≡ false
+new_in n [] behind a new = new.0
+new_in n (y ∷ ys) behind a new = new_in n ys behind a new.1
+
+pub named_in : (before behind : List ActorState) (a : ActorState) → AreDistinct (before ++ a ∷ behind) → actor_named (before ++ a ∷ behind) a.name ≡ Some a
+named_in [] behind a all = ap (λ t. if t then Some a else actor_named behind a.name) (same_self a.name)
+named_in (y ∷ ys) behind a all =
+    ap (λ t. if t then Some y else actor_named (ys ++ a ∷ behind) a.name) (apart_too a.name y.name (new_in y.name ys behind a all.0)) ∙ named_in ys behind a all.1
+
+pub put_in : (before behind : List ActorState) (a x : ActorState) → AreDistinct (before ++ a ∷ behind) → x.name ≡ a.name → put_actor (before ++ a ∷ behind) x ≡ before ++ x ∷ behind
+put_in [] behind a x all own = ap (λ t. if t then x ∷ behind else a ∷ put_actor behind x) (ap (same a.name) own ∙ same_self a.name)
+put_in (y ∷ ys) behind a x all own =
+    ap (λ t. if t then x ∷ (ys ++ a ∷ behind) else y ∷ put_actor (ys ++ a ∷ behind) x) (ap (same y.name) own ∙ apart_too a.name y.name (new_in y.name ys behind a all.0))
+    ∙ ap (λ zs. y ∷ zs) (put_in ys behind a x all.1 own)
+
+-- a child that is not joined stands behind it
+behind_in : (before behind : List ActorState) (a : ActorState) (k g : ℕ) → AllBehind (before ++ a ∷ behind) → fuel_given a.unjoined k ≡ Some g → Holds (actor_named behind (child_name a.name k)) g
+behind_in [] behind a k g all given = all.0 k g given
+behind_in (y ∷ ys) behind a k g all given = behind_in ys behind a k g all.1 given
+
+skip_first : (y : ActorState) (ys : List ActorState) (m : List ℕ) → same y.name m ≡ false → actor_named (y ∷ ys) m ≡ actor_named ys m
+skip_first y ys m e = ap (λ t. if t then Some y else actor_named ys m) e
+
+found_in : (before behind : List ActorState) (a : ActorState) (m : List ℕ) (g : ℕ) → AreDistinct (before ++ a ∷ behind) → Holds (actor_named behind m) g → actor_named (before ++ a ∷ behind) m ≡ actor_named behind m
+found_in [] behind a m g all h = skip_first a behind m (found_apart a behind m g all.0 h)
+found_in (y ∷ ys) behind a m g all h =
+    let others = found_in ys behind a m g all.1 h in
+    skip_first y (ys ++ a ∷ behind) m (found_apart y (ys ++ a ∷ behind) m g all.0 (subst (λ o. Holds o g) (sym others) h)) ∙ others
+
+ended_in : (as_ : List ActorState) (m : List ℕ) → live_names as_ ≡ [] → IsSomeAnd (actor_named as_ m) (λ (c : ActorState). Unit {0}) → is_ended (actor_named as_ m) ≡ true
+ended_in [] m none there = absurd there
+ended_in (y ∷ ys) m none there = by_name (same y.name m) refl (ended_in ys m)
+  where
+    is_true : has_ended y.phase ≡ true
+    is_true = by_end (has_ended y.phase) refl
+      where
+        by_end : (t : Bool) → has_ended y.phase ≡ t → has_ended y.phase ≡ true
+        by_end true e = e
+        by_end false e = let some = sym (one_lives y ys e) ∙ none in absurd cc
+
+    by_name : (t : Bool) → same y.name m ≡ t → (live_names ys ≡ [] → IsSomeAnd (actor_named ys m) (λ (c : ActorState). Unit {0}) → is_ended (actor_named ys m) ≡ true) → is_ended (actor_named (y ∷ ys) m) ≡ true
+    by_name true e others = ap (λ t. is_ended (if t then Some y else actor_named ys m)) e ∙ is_true
+    by_name false e others =
+        let skip = skip_first y ys m e in
+        ap is_ended skip ∙ others (sym (one_ended y ys is_true) ∙ none) (subst (λ o. IsSomeAnd o (λ (c : ActorState). Unit {0})) skip there)
+
+-- ---- it never waits
+
+-- what is joined is a child that is not joined
+first_listed : (c : ℕ × ℕ) (cs : Children) → is_child (c ∷ cs) c.0 ≡ true
+first_listed c cs = ap (λ t. is_some (if t then Some c.1 else fuel_given cs c.0)) (number_self c.0)
+
+ending_listed : (cs : Children) (x : End) (k : ℕ) → ending_want cs x ≡ want.Join k → is_child cs k ≡ true
+ending_listed [] x k is = absurd cc
+ending_listed (c ∷ cs) x k is = let one : c.0 ≡ k = cc in subst (λ n. is_child (c ∷ cs) n ≡ true) one (first_listed c cs)
+
+waits_for : (i : Image) (b : ActorState) (p : Phase) (k : ℕ) → ReadsAs i b p → wanted_at b p ≡ Some (want.Join k) → is_child b.unjoined k ≡ true
+waits_for i b phase.Running k reads wants = absurd cc
+waits_for i b (phase.Within q) k reads wants = let is : q ≡ want.Join k = cc in subst (λ x. IsWanted (LoadsAt i b.hart reads.0 reads.1) b x) is reads.3
+waits_for i b phase.Starting k reads wants = absurd cc
+waits_for i b (phase.Ending x) k reads wants = ending_listed b.unjoined x k cc
+waits_for i b (phase.Ended x) k reads wants = absurd cc
+
+-- the newest actor of a run wants to join no child that has not ended
+pub newest_waits_not : (i : Image) (turns : List Turn) (w : WorldState) (a : ActorState) (name : List ℕ) → Runs (opening i) turns w → IsNewest w.actors a → a.name ≡ name → IsWaiting w name → ⊥
+newest_waits_not i turns w a name run n own s =
+    let family = run_family i turns w run in
+    let ready = named_ready w name s.actor (run_ready i turns w run) s.named in
+    let all : AreDistinct (n.before ++ a ∷ n.behind) = subst AreDistinct n.is family.distinct in
+    let there : actor_named w.actors a.name ≡ Some a = ap (λ as_. actor_named as_ a.name) n.is ∙ named_in n.before n.behind a all in
+    let same_one : s.actor ≡ a = one_of (sym s.named ∙ (ap (actor_named w.actors) (sym own) ∙ there)) in
+    let b = rest w.image s.actor in
+    let listed : is_child b.unjoined s.child ≡ true = waits_for w.image b b.phase s.child ready s.wants in
+    let here : is_child a.unjoined s.child ≡ true = ap (λ cs. is_child cs s.child) (ap (λ (x : ActorState). x.unjoined) (sym same_one) ∙ sym (unjoined_at_rest w.image s.actor)) ∙ listed in
+    let given = is_given (fuel_given a.unjoined s.child) here in
+    let holds = behind_in n.before n.behind a s.child given.0 (subst AllBehind n.is family.behind) given.1 in
+    let m = child_name a.name s.child in
+    let ended : is_ended (actor_named n.behind m) ≡ true = ended_in n.behind m n.others (there_of (actor_named n.behind m) given.0 holds) in
+    let whole : is_ended (actor_named w.actors m) ≡ true = ap (λ as_. is_ended (actor_named as_ m)) n.is ∙ (ap is_ended (found_in n.before n.behind a m given.0 all holds) ∙ ended) in
+    let not_so : is_ended (actor_named w.actors m) ≡ false = ap (λ l. is_ended (actor_named w.actors (child_name l s.child))) own ∙ s.not_ended in
+    true≢false (sym whole ∙ not_so)
+  where
+    one_of : {x y : ActorState} → Some x ≡ Some y → x ≡ y
+    one_of e = cc
+
+    there_of : (o : Option ActorState) (g : ℕ) → Holds o g → IsSomeAnd o (λ (c : ActorState). Unit {0})
+    there_of None g h = h
+    there_of (Some c) g h = tt
+
+-- ---- the stack of those that live
+
+pub opening_serial : (i : Image) (p : Progress) (live : List Live) → p ≡ opened i → live ≡ record { name = root_name; place = 0 } ∷ [] → IsSerial i p live
+unfolding root
+opening_serial i p live is one = subst (λ q. IsSerial i q live) (sym is) (subst (λ ls. IsSerial i (opened i) ls) (sym one) (record {
+  going = refl;
+  run = refl;
+  order = tt;
+  goes_on = tt;
+  stack = refl;
+  placed = (refl, tt);
+  root_first = record { root_ = root i; others = []; first = refl; named = refl; last = λ e. refl };
+}))

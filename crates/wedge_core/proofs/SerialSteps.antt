@@ -1,0 +1,423 @@
+-- One turn in serial order, and the end of it all.
+use Rattle.std.proofs.Common.{◌≡◌, ℕ, zero, suc, ◌+◌, ◌-◌, ◌<◌, ◌≤◌, Bool, true, false, cond, List, [], ◌∷◌, ◌++◌, length, get_or, refl, sym, ap, subst, ◌∙◌, append_assoc, arith}
+use Rattle.std.specs.Prelude.{Option, Some, None, IfSome, IsSome, slice_get, slice_set, if◌then◌else◌}
+use Rattle.std.specs.Option.{option_to_list}
+use Rattle.wedge_base.specs.Images.{Image}
+use Rattle.wedge_base.specs.Names.{same, root_name}
+use Rattle.wedge_base.specs.declared.events.Event.{Event}
+use Rattle.wedge_base.specs.declared.events.Event.TheVariants as event
+use Rattle.wedge_base.specs.declared.events.Turn.{Turn}
+use Rattle.sthread_life.specs.Actors.{ActorState}
+use Rattle.sthread_life.specs.Fuel.{work_left}
+use Rattle.sthread_life.specs.Local.{rest, has_ended}
+use Rattle.sthread_life.specs.Names.{IsNew, AreDistinct}
+use Rattle.sthread_life.specs.Taking.{takes, begun, child_of}
+use Rattle.sthread_life.specs.Worlds.{WorldState, opening, actor_named, put_actor, with_begun, Runs, is_ended, is_whole}
+use Rattle.sthread_life.proofs.Between.{takes_name, turn_parts}
+use Rattle.sthread_life.proofs.FamilyRuns.{run_family}
+use Rattle.sthread_life.proofs.Named.{same_self, same_equal, found_name}
+use Rattle.sthread_life.proofs.Resting.{rest-name}
+use Rattle.sthread_life.proofs.Settling.{run_ready}
+use Rattle.sthread_life.proofs.Trees.{apart_too}
+use Rattle.sthread_life.proofs.WorkLeft.{turn_works}
+use Rattle.wedge_core.specs.Progress.{Progress, IsFound, IsPlaceOf, IsWaiting, GoesOnBy, HasEnded}
+use Rattle.wedge_core.specs.Serial.{newest, live_names, InSerialOrder, RootGoesOn, RootIsFirst, ArePlaced, names_in, IsSerial, LivesAfter}
+use Rattle.wedge_core.specs.Places.{place_in}
+use Rattle.wedge_core.specs.declared.serially.Live.{Live}
+use Rattle.wedge_core.proofs.Indexing.{place_found, place_push, place_put_back}
+use Rattle.wedge_core.proofs.Advancing.{length-push}
+use Rattle.wedge_core.proofs.Replays.{EachStep-push}
+use Rattle.wedge_core.proofs.Runs.{Runs-push}
+use Rattle.wedge_core.proofs.LiveStack.{IsNewest, newest_of, live_where, ended_where, live_append, one_lives, newest_is, named_in, put_in, newest_waits_not}
+use Rattle.wedge_core.proofs.Turning.{set_get, set_length, not_ended}
+
+-- ---- lists
+
+at_last : {X : Type 0} (xs : List X) (x y : X) (n : ℕ) → n ≡ length xs → get_or (xs ++ x ∷ []) n y ≡ x
+at_last [] x y zero e = refl
+at_last [] x y (suc n) e = absurd (omega (arith, e))
+at_last (z ∷ zs) x y zero e = absurd (omega (arith, e))
+at_last (z ∷ zs) x y (suc n) e = at_last zs x y n (omega (arith, e))
+
+last_of : {X : Type 0} (xs : List X) (x y : X) → y ≡ get_or (xs ++ x ∷ []) (length (xs ++ x ∷ []) - 1) y → y ≡ x
+last_of xs x y is = is ∙ at_last xs x y (length (xs ++ x ∷ []) - 1) (let len = length-push xs x in omega (arith, len))
+
+get_last : {X : Type 0} (xs : List X) (x : X) → slice_get (xs ++ x ∷ []) (length xs) ≡ Some x
+get_last [] x = refl
+get_last (y ∷ ys) x = get_last ys x
+
+push_one : {X : Type 0} (xs ys : List X) (x y : X) → xs ++ x ∷ [] ≡ ys ++ y ∷ [] → xs ≡ ys
+push_one [] [] x y e = refl
+push_one [] (z ∷ []) x y e = absurd cc
+push_one [] (z ∷ w ∷ ws) x y e = absurd cc
+push_one (z ∷ []) [] x y e = absurd cc
+push_one (z ∷ w ∷ ws) [] x y e = absurd cc
+push_one (z ∷ zs) (w ∷ ws) x y e =
+    let first : z ≡ w = cc in
+    let others : zs ++ x ∷ [] ≡ ws ++ y ∷ [] = cc in
+    ap (λ v. v ∷ zs) first ∙ ap (λ vs. w ∷ vs) (push_one zs ws x y others)
+
+pub popped_one : {X : Type 0} (r : Option X) (old new : List X) → old ≡ new ++ option_to_list r → IsSome r → (x : X) × (old ≡ new ++ x ∷ [])
+popped_one None old new is some = absurd cc
+popped_one (Some x) old new is some = (x, is)
+
+not_empty : {X A : Type 0} (xs : List X) (x : X) → xs ++ x ∷ [] ≡ [] → A
+not_empty [] x e = absurd cc
+not_empty (y ∷ ys) x e = absurd cc
+
+-- ---- the newest actor in a serial run
+
+pub record Newest (p : Progress) (name : List ℕ) : Type 0 where
+  pub actor : ActorState
+  pub is_newest : IsNewest p.state.actors actor
+  pub own : actor.name ≡ name
+  pub distinct : AreDistinct (is_newest.before ++ actor ∷ is_newest.behind)
+  pub named : actor_named p.state.actors name ≡ Some actor
+
+newest_by : (i : Image) (p : Progress) (turns : List Turn) (live : List (List ℕ)) (name : List ℕ) → Runs (opening i) turns p.state → live ≡ live_names p.state.actors → 0 < length live
+    → name ≡ get_or live (length live - 1) name → Newest p name
+newest_by i p turns live name run stack some at =
+    let n = newest_of p.state.actors (subst (λ ns. 0 < length ns) stack some) in
+    let names : live ≡ live_names n.1.before ++ n.0.name ∷ [] = stack ∙ (ap live_names n.1.is ∙ live_where n.1.before n.1.behind n.0 n.1.lives n.1.others) in
+    let own : name ≡ n.0.name = last_of (live_names n.1.before) n.0.name name (subst (λ ns. name ≡ get_or ns (length ns - 1) name) names at) in
+    let all : AreDistinct (n.1.before ++ n.0 ∷ n.1.behind) = subst AreDistinct n.1.is (run_family i turns p.state run).distinct in
+    record {
+      actor = n.0;
+      is_newest = n.1;
+      own = sym own;
+      distinct = all;
+      named = ap (actor_named p.state.actors) own ∙ (ap (λ as_. actor_named as_ n.0.name) n.1.is ∙ named_in n.1.before n.1.behind n.0 all);
+    }
+
+get_name : (live : List Live) (n : ℕ) (l : Live) → n < length live → l ≡ get_or live n l → l.name ≡ get_or (names_in live) n l.name
+get_name [] n l lt is = absurd (omega (arith, lt))
+get_name (x ∷ xs) zero l lt is = ap (λ (y : Live). y.name) is
+get_name (x ∷ xs) (suc n) l lt is = get_name xs n l (omega (arith, lt)) is
+
+count_names : (live : List Live) → length (names_in live) ≡ length live
+count_names [] = refl
+count_names (l ∷ ls) = ap suc (count_names ls)
+
+-- the last of those that live is the newest, and is at its index
+pub newest_named : (i : Image) (p : Progress) (live : List Live) (l : Live) → IsSerial i p live → 0 < length live → l ≡ get_or live (length live - 1) l → Newest p l.name
+newest_named i p live l s some at =
+    let count = count_names live in
+    newest_by i p p.turns (names_in live) l.name s.run s.stack (omega (arith, some, count))
+    (get_name live (length live - 1) l (omega (arith, some)) at ∙ ap (λ n. get_or (names_in live) (n - 1) l.name) (sym count))
+
+placed_at : (actors : List ActorState) (live : List Live) (n : ℕ) (l : Live) → ArePlaced actors live → n < length live → l ≡ get_or live n l → place_in actors l.name ≡ Some l.place
+placed_at actors [] n l all lt is = absurd (omega (arith, lt))
+placed_at actors (x ∷ xs) zero l all lt is = subst (λ (y : Live). place_in actors y.name ≡ Some y.place) (sym is) all.0
+placed_at actors (x ∷ xs) (suc n) l all lt is = placed_at actors xs n l all.1 (omega (arith, lt)) is
+
+pub newest_placed : (i : Image) (p : Progress) (live : List Live) (l : Live) → IsSerial i p live → 0 < length live → l ≡ get_or live (length live - 1) l → IsPlaceOf p.state.actors l.name l.place
+newest_placed i p live l s some at =
+    subst (λ o. IfSome o (IsPlaceOf p.state.actors l.name)) (placed_at p.state.actors live (length live - 1) l s.placed (omega (arith, some)) at) (place_found p.state.actors l.name)
+
+-- it has not ended, and it does not wait
+pub newest_lives : {A : Type 0} (p : Progress) (name : List ℕ) → Newest p name → HasEnded p.state.actors name → A
+newest_lives p name n ended = not_ended p.state.actors name n.actor n.named n.is_newest.lives ended
+
+pub newest_goes_on : {A : Type 0} (i : Image) (p : Progress) (live : List Live) (name : List ℕ) → IsSerial i p live → Newest p name → IsWaiting p.state name → A
+newest_goes_on i p live name s n waits = absurd (newest_waits_not i p.turns p.state n.actor name s.run n.is_newest n.own waits)
+
+-- ---- what its turn leaves
+
+-- an event that begins an actor leaves both alive
+begins_alive : (i : Image) (b : ActorState) (e : Event) (c : ActorState) → begun i b e ≡ Some c → (has_ended c.phase ≡ false) × (has_ended (takes i b e).phase ≡ false)
+unfolding takes
+begins_alive i b (event.Start child) c is = let same_one : child_of i b child ≡ c = cc in (ap (λ (x : ActorState). has_ended x.phase) (sym same_one), refl)
+begins_alive i b e c is = absurd cc
+
+record Left (p : Progress) (name : List ℕ) (n : Newest p name) (q : Progress) : Type 0 where
+  after : ActorState
+  begins : Option ActorState
+  own : after.name ≡ name
+  alive : (c : ActorState) → begins ≡ Some c → (has_ended c.phase ≡ false) × (has_ended after.phase ≡ false)
+  put : put_actor p.state.actors after ≡ n.is_newest.before ++ after ∷ n.is_newest.behind
+  are : q.state.actors ≡ with_begun (put_actor p.state.actors after) begins
+
+left : (p : Progress) (name : List ℕ) (n : Newest p name) (q : Progress) → GoesOnBy p name q → Left p name n q
+left p name n q g =
+    let t = turn_parts p.state name g.event q.state g.turn in
+    let i = p.state.image in
+    let b = rest i t.actor in
+    let own : (takes i b g.event).name ≡ name = takes_name i b g.event ∙ (rest-name i t.actor ∙ found_name p.state.actors name t.actor t.named) in
+    record {
+      after = takes i b g.event;
+      begins = begun i b g.event;
+      own = own;
+      alive = begins_alive i b g.event;
+      put = ap (λ as_. put_actor as_ (takes i b g.event)) n.is_newest.is ∙ put_in n.is_newest.before n.is_newest.behind n.actor (takes i b g.event) n.distinct (own ∙ sym n.own);
+      are = ap (λ (w : WorldState). w.actors) t.new_is;
+    }
+
+-- the names of those that live then
+record NamesAfter (actors : List ActorState) (place count : ℕ) (old new : List (List ℕ)) : Type 0 where
+  begun : count < length actors → (c : ActorState) × (slice_get actors count ≡ Some c) × (new ≡ old ++ c.name ∷ [])
+  ended : length actors ≤ count → (a : ActorState) → slice_get actors place ≡ Some a → has_ended a.phase ≡ true → (name : List ℕ) × (old ≡ new ++ name ∷ [])
+  goes_on : length actors ≤ count → (a : ActorState) → slice_get actors place ≡ Some a → has_ended a.phase ≡ false → new ≡ old
+
+names_push : (live : List Live) (l : Live) → names_in (live ++ l ∷ []) ≡ names_in live ++ l.name ∷ []
+names_push [] l = refl
+names_push (x ∷ xs) l = ap (λ ns. x.name ∷ ns) (names_push xs l)
+
+names_after : (actors : List ActorState) (place count : ℕ) (old new : List Live) → LivesAfter actors place count old new → NamesAfter actors place count (names_in old) (names_in new)
+names_after actors place count old new after = record {
+  begun = λ more. let b = after.begun more in (b.0, b.1, ap names_in b.2 ∙ names_push old (record { name = b.0.name; place = count }));
+  ended = λ few a at e. let l = after.ended few a at e in (l.0.name, ap names_in l.1 ∙ names_push new l.0);
+  goes_on = λ few a at e. ap names_in (after.goes_on few a at e);
+}
+
+stack_after : (p q : Progress) (live new : List (List ℕ)) (name : List ℕ) (place : ℕ) (n : Newest p name) → live ≡ live_names p.state.actors → IsPlaceOf p.state.actors name place
+    → Left p name n q → NamesAfter q.state.actors place (length p.state.actors) live new → new ≡ live_names q.state.actors
+stack_after p q live new name place n stack at l after = by_begun l.begins refl
+  where
+    before : List ActorState
+    before = n.is_newest.before
+
+    behind : List ActorState
+    behind = n.is_newest.behind
+
+    f : IsFound p.state.actors name place at.0
+    f = at.1
+
+    was : live ≡ live_names before ++ name ∷ []
+    was = stack ∙ (ap live_names n.is_newest.is ∙ (live_where before behind n.actor n.is_newest.lives n.is_newest.others ∙ ap (λ m. live_names before ++ m ∷ []) n.own))
+
+    set : put_actor p.state.actors l.after ≡ slice_set p.state.actors place l.after
+    set = f.put l.after l.own
+
+    count : length (put_actor p.state.actors l.after) ≡ length p.state.actors
+    count = ap length set ∙ set_length p.state.actors place l.after
+
+    goes_on : has_ended l.after.phase ≡ false → live_names (put_actor p.state.actors l.after) ≡ live
+    goes_on e = ap live_names l.put ∙ (live_where before behind l.after e n.is_newest.others ∙ (ap (λ m. live_names before ++ m ∷ []) l.own ∙ sym was))
+
+    there : q.state.actors ≡ put_actor p.state.actors l.after → slice_get q.state.actors place ≡ Some l.after
+    there is = ap (λ as_. slice_get as_ place) (is ∙ set) ∙ set_get p.state.actors place l.after f.inside
+
+    by_end : (t : Bool) → has_ended l.after.phase ≡ t → q.state.actors ≡ put_actor p.state.actors l.after → new ≡ live_names q.state.actors
+    by_end true e is =
+        let few : length q.state.actors ≤ length p.state.actors = let same_length = ap length is ∙ count in omega (arith, same_length) in
+        let popped = after.ended few l.after (there is) e in
+        push_one new (live_names before) popped.0 name (sym popped.1 ∙ was) ∙ sym (ap live_names (is ∙ l.put) ∙ ended_where before behind l.after e n.is_newest.others)
+    by_end false e is =
+        let few : length q.state.actors ≤ length p.state.actors = let same_length = ap length is ∙ count in omega (arith, same_length) in
+        after.goes_on few l.after (there is) e ∙ sym (ap live_names is ∙ goes_on e)
+
+    by_begun : (o : Option ActorState) → l.begins ≡ o → new ≡ live_names q.state.actors
+    by_begun None e = by_end (has_ended l.after.phase) refl (l.are ∙ ap (with_begun (put_actor p.state.actors l.after)) e)
+    by_begun (Some c) e =
+        let put = put_actor p.state.actors l.after in
+        let is : q.state.actors ≡ put ++ c ∷ [] = l.are ∙ ap (with_begun put) e in
+        let alive = l.alive c e in
+        let len = length-push put c in
+        let more : length p.state.actors < length q.state.actors = let longer = ap length is in omega (arith, longer, len, count) in
+        let pushed = after.begun more in
+        let last : slice_get q.state.actors (length p.state.actors) ≡ Some c = ap (λ as_. slice_get as_ (length p.state.actors)) is ∙ (ap (slice_get (put ++ c ∷ [])) (sym count) ∙ get_last put c) in
+        let one : pushed.0 ≡ c = one_of (sym pushed.1 ∙ last) in
+        pushed.2 ∙ (ap (λ (x : ActorState). live ++ x.name ∷ []) one
+        ∙ sym (ap live_names is ∙ (live_append put (c ∷ []) ∙ (ap (λ ns. ns ++ live_names (c ∷ [])) (goes_on alive.1) ∙ ap (λ ns. live ++ ns) (one_lives c [] alive.0)))))
+      where
+        one_of : {x y : ActorState} → Some x ≡ Some y → x ≡ y
+        one_of e = cc
+
+-- ---- each is at its index still
+
+-- one of those behind whom another was added
+placed_before : (actors : List ActorState) (live : List Live) (l : Live) → ArePlaced actors (live ++ l ∷ []) → ArePlaced actors live
+placed_before actors [] l all = tt
+placed_before actors (x ∷ xs) l all = (all.0, placed_before actors xs l all.1)
+
+placed_put : (actors : List ActorState) (place : ℕ) (a x : ActorState) (live : List Live) → slice_get actors place ≡ Some a → x.name ≡ a.name → ArePlaced actors live → ArePlaced (slice_set actors place x) live
+placed_put actors place a x [] there own all = tt
+placed_put actors place a x (l ∷ ls) there own all = (place_put_back actors place a x there own l.name ∙ all.0, placed_put actors place a x ls there own all.1)
+
+-- the last of actors that have names of their own
+last_fresh : (actors : List ActorState) (c : ActorState) → AreDistinct (actors ++ c ∷ []) → actor_named actors c.name ≡ None
+last_fresh [] c all = refl
+last_fresh (y ∷ ys) c all = ap (λ t. if t then Some y else actor_named ys c.name) (apart_too c.name y.name (new_last ys all.0)) ∙ last_fresh ys c all.1
+  where
+    new_last : (zs : List ActorState) → IsNew y.name (zs ++ c ∷ []) → same c.name y.name ≡ false
+    new_last [] new = new.0
+    new_last (z ∷ zs) new = new_last zs new.1
+
+not_there : (actors : List ActorState) (name : List ℕ) (place : ℕ) → place_in actors name ≡ Some place → actor_named actors name ≡ None → ⊥
+not_there actors name place is none = let found = subst (λ o. IfSome o (IsPlaceOf actors name)) is (place_found actors name) in let there = found.1.named in cc
+
+placed_push : (actors : List ActorState) (c : ActorState) (live : List Live) → actor_named actors c.name ≡ None → ArePlaced actors live → ArePlaced (actors ++ c ∷ []) (live ++ record { name = c.name; place = length actors } ∷ [])
+placed_push actors c [] none all = (place_push actors c c.name none ∙ ap (λ t. cond t (Some (length actors)) (place_in actors c.name)) (same_self c.name), tt)
+placed_push actors c (l ∷ ls) none all = (by_name (same c.name l.name) refl, placed_push actors c ls none all.1)
+  where
+    by_name : (t : Bool) → same c.name l.name ≡ t → place_in (actors ++ c ∷ []) l.name ≡ Some l.place
+    by_name true e = absurd (not_there actors l.name l.place all.0 (ap (actor_named actors) (sym (same_equal c.name l.name e)) ∙ none))
+    by_name false e = place_push actors c l.name none ∙ (ap (λ t. cond t (Some (length actors)) (place_in actors l.name)) e ∙ all.0)
+
+placed_after : (p q : Progress) (live new : List Live) (name : List ℕ) (place : ℕ) (n : Newest p name) → ArePlaced p.state.actors live → IsPlaceOf p.state.actors name place
+    → AreDistinct q.state.actors → Left p name n q → LivesAfter q.state.actors place (length p.state.actors) live new → ArePlaced q.state.actors new
+placed_after p q live new name place n all at distinct l after = by_begun l.begins refl
+  where
+    f : IsFound p.state.actors name place at.0
+    f = at.1
+
+    put : List ActorState
+    put = put_actor p.state.actors l.after
+
+    set : put ≡ slice_set p.state.actors place l.after
+    set = f.put l.after l.own
+
+    count : length put ≡ length p.state.actors
+    count = ap length set ∙ set_length p.state.actors place l.after
+
+    still : ArePlaced put live
+    still = subst (λ as_. ArePlaced as_ live) (sym set)
+        (placed_put p.state.actors place at.0 l.after live f.there (l.own ∙ sym (found_name p.state.actors name at.0 f.named)) all)
+
+    there : q.state.actors ≡ put → slice_get q.state.actors place ≡ Some l.after
+    there is = ap (λ as_. slice_get as_ place) (is ∙ set) ∙ set_get p.state.actors place l.after f.inside
+
+    by_end : (t : Bool) → has_ended l.after.phase ≡ t → q.state.actors ≡ put → ArePlaced q.state.actors new
+    by_end true e is =
+        let few : length q.state.actors ≤ length p.state.actors = let same_length = ap length is ∙ count in omega (arith, same_length) in
+        let popped = after.ended few l.after (there is) e in
+        subst (λ as_. ArePlaced as_ new) (sym is) (placed_before put new popped.0 (subst (ArePlaced put) popped.1 still))
+    by_end false e is =
+        let few : length q.state.actors ≤ length p.state.actors = let same_length = ap length is ∙ count in omega (arith, same_length) in
+        subst (λ as_. ArePlaced as_ new) (sym is) (subst (ArePlaced put) (sym (after.goes_on few l.after (there is) e)) still)
+
+    by_begun : (o : Option ActorState) → l.begins ≡ o → ArePlaced q.state.actors new
+    by_begun None e = by_end (has_ended l.after.phase) refl (l.are ∙ ap (with_begun put) e)
+    by_begun (Some c) e =
+        let is : q.state.actors ≡ put ++ c ∷ [] = l.are ∙ ap (with_begun put) e in
+        let len = length-push put c in
+        let more : length p.state.actors < length q.state.actors = let longer = ap length is in omega (arith, longer, len, count) in
+        let pushed = after.begun more in
+        let last : slice_get q.state.actors (length p.state.actors) ≡ Some c = ap (λ as_. slice_get as_ (length p.state.actors)) is ∙ (ap (slice_get (put ++ c ∷ [])) (sym count) ∙ get_last put c) in
+        let one : pushed.0 ≡ c = one_of (sym pushed.1 ∙ last) in
+        let are : new ≡ live ++ record { name = c.name; place = length put } ∷ [] = pushed.2 ∙ (ap (λ (x : ActorState). live ++ record { name = x.name; place = length p.state.actors } ∷ []) one
+        ∙ ap (λ k. live ++ record { name = c.name; place = k } ∷ []) (sym count)) in
+        subst (λ as_. ArePlaced as_ new) (sym is) (subst (ArePlaced (put ++ c ∷ [])) (sym are) (placed_push put c live (last_fresh put c (subst AreDistinct is distinct)) still))
+      where
+        one_of : {x y : ActorState} → Some x ≡ Some y → x ≡ y
+        one_of h = cc
+
+-- ---- the root is first, and ends last
+
+-- the root, and what it says of the others
+root_after : (p q : Progress) (name : List ℕ) (n : Newest p name) → RootIsFirst p.state.actors → Left p name n q → RootIsFirst q.state.actors
+root_after p q name n r l = by_before n.is_newest.before refl l.begins refl
+  where
+    behind : List ActorState
+    behind = n.is_newest.behind
+
+    as_begun : (y : ActorState) (ys : List ActorState) (o : Option ActorState) → with_begun (y ∷ ys) o ≡ y ∷ with_begun ys o
+    as_begun y ys None = refl
+    as_begun y ys (Some c) = refl
+
+    by_before : (bs : List ActorState) → n.is_newest.before ≡ bs → (o : Option ActorState) → l.begins ≡ o → RootIsFirst q.state.actors
+    by_before [] e o eo =
+        let old : r.root_ ∷ r.others ≡ n.actor ∷ behind = sym r.first ∙ (n.is_newest.is ∙ ap (λ zs. zs ++ n.actor ∷ behind) e) in
+        let first : r.root_ ≡ n.actor = cc in
+        let root_own : l.after.name ≡ root_name = l.own ∙ (sym n.own ∙ (ap (λ (x : ActorState). x.name) (sym first) ∙ r.named)) in
+        record {
+          root_ = l.after;
+          others = with_begun behind o;
+          first = l.are ∙ (ap (λ as_. with_begun as_ l.begins) (l.put ∙ ap (λ zs. zs ++ l.after ∷ behind) e) ∙ (ap (with_begun (l.after ∷ behind)) eo ∙ as_begun l.after behind o));
+          named = root_own;
+          last = λ ended. by_o o eo ended;
+        }
+      where
+        by_o : (x : Option ActorState) → l.begins ≡ x → has_ended l.after.phase ≡ true → live_names (with_begun behind x) ≡ []
+        by_o None ex ended = n.is_newest.others
+        by_o (Some c) ex ended = let alive = (l.alive c ex).1 in absurd cc
+    by_before (y ∷ ys) e o eo =
+        let old : r.root_ ∷ r.others ≡ y ∷ (ys ++ n.actor ∷ behind) = sym r.first ∙ (n.is_newest.is ∙ ap (λ zs. zs ++ n.actor ∷ behind) e) in
+        let first : r.root_ ≡ y = cc in
+        let others : r.others ≡ ys ++ n.actor ∷ behind = cc in
+        record {
+          root_ = y;
+          others = with_begun (ys ++ l.after ∷ behind) o;
+          first = l.are ∙ (ap (λ as_. with_begun as_ l.begins) (l.put ∙ ap (λ zs. zs ++ l.after ∷ behind) e) ∙ (ap (with_begun (y ∷ (ys ++ l.after ∷ behind))) eo ∙ as_begun y (ys ++ l.after ∷ behind) o));
+          named = ap (λ (x : ActorState). x.name) (sym first) ∙ r.named;
+          last = λ ended. not_empty (live_names ys) n.actor.name
+              (sym (live_where ys behind n.actor n.is_newest.lives n.is_newest.others) ∙ (ap live_names (sym others) ∙ r.last (ap (λ (x : ActorState). has_ended x.phase) first ∙ ended)));
+        }
+
+-- the root of a world is the first of its actors
+is_whole_first : (w : WorldState) (r : RootIsFirst w.actors) → is_whole w ≡ has_ended r.root_.phase
+is_whole_first w r =
+    ap (λ as_. is_ended (actor_named as_ root_name)) r.first
+    ∙ ap (λ t. is_ended (if t then Some r.root_ else actor_named r.others root_name)) (ap (λ n. same n root_name) r.named ∙ same_self root_name)
+
+-- while one lives, the root does
+pub not_whole : (w : WorldState) (live : List (List ℕ)) → RootIsFirst w.actors → live ≡ live_names w.actors → 0 < length live → is_whole w ≡ false
+not_whole w live r stack some = is_whole_first w r ∙ by_end (has_ended r.root_.phase) refl
+  where
+    by_end : (t : Bool) → has_ended r.root_.phase ≡ t → has_ended r.root_.phase ≡ false
+    by_end false e = e
+    by_end true e =
+        let none : live ≡ [] = stack ∙ (ap live_names r.first ∙ (ap (λ t. if t then live_names r.others else r.root_.name ∷ live_names r.others) e ∙ r.last e)) in
+        let no : length live ≡ 0 = ap length none in
+        absurd (omega (arith, some, no))
+
+-- once none does, it has ended
+pub whole_at_last : (i : Image) (p : Progress) (live : List Live) → IsSerial i p live → length live ≤ 0 → is_whole p.state ≡ true
+whole_at_last i p live s none = let r = s.root_first in is_whole_first p.state r ∙ by_end r (has_ended r.root_.phase) refl
+  where
+    by_end : (r : RootIsFirst p.state.actors) (t : Bool) → has_ended r.root_.phase ≡ t → has_ended r.root_.phase ≡ true
+    by_end r true e = e
+    by_end r false e =
+        let some : names_in live ≡ r.root_.name ∷ live_names r.others = s.stack ∙ (ap live_names r.first ∙ one_lives r.root_ r.others e) in
+        let one : length (names_in live) ≡ suc (length (live_names r.others)) = ap length some in
+        let count = count_names live in
+        absurd (omega (arith, none, one, count))
+
+-- ---- the next turn
+
+pub serial_next : (i : Image) (p q : Progress) (live new : List Live) (name : List ℕ) (place count : ℕ) → IsSerial i p live → 0 < length live → (n : Newest p name) → IsPlaceOf p.state.actors name place
+    → count ≡ length p.state.actors → GoesOnBy p name q → q.stopped ≡ false → LivesAfter q.state.actors place count live new → IsSerial i q new
+serial_next i p q live new name place count s some n at many g going after =
+    let t : Turn = record { actor = name; event = g.event } in
+    let l = left p name n q g in
+    let after_all = subst (λ k. LivesAfter q.state.actors place k live new) many after in
+    let names = count_names live in
+    let run : Runs (opening i) q.turns q.state = subst (λ ts. Runs (opening i) ts q.state) (sym g.noted) (Runs-push (opening i) p.state q.state p.turns t s.run g.turn) in
+    let is_newest = ap newest n.is_newest.is ∙ (newest_is n.is_newest.before n.is_newest.behind n.actor n.is_newest.lives n.is_newest.others ∙ ap (λ m. Some m) n.own) in
+    record {
+      going = going;
+      run = run;
+      order = subst (λ ts. InSerialOrder (opening i) ts) (sym g.noted) (EachStep-push _ (opening i) p.state q.state p.turns t s.order s.run g.turn is_newest);
+      goes_on = subst (λ ts. RootGoesOn (opening i) ts) (sym g.noted) (EachStep-push _ (opening i) p.state q.state p.turns t s.goes_on s.run g.turn (not_whole p.state (names_in live) s.root_first s.stack (omega (arith, some, names))));
+      stack = stack_after p q (names_in live) (names_in new) name place n s.stack at l (names_after q.state.actors place (length p.state.actors) live new after_all);
+      placed = placed_after p q live new name place n s.placed at (run_family i q.turns q.state run).distinct l after_all;
+      root_first = root_after p q name n s.root_first l;
+    }
+
+pub serial_less : (i : Image) (p q : Progress) (live : List Live) (name : List ℕ) → IsSerial i p live → GoesOnBy p name q → work_left q.state < work_left p.state
+serial_less i p q live name s g = turn_works p.state name g.event q.state (run_ready i p.turns p.state s.run) (run_family i p.turns p.state s.run) g.turn
+
+-- an actor begun stands at the end
+pub place_still : (p q : Progress) (name : List ℕ) (place : ℕ) → IsPlaceOf p.state.actors name place → GoesOnBy p name q → place < length q.state.actors
+place_still p q name place at g =
+    let t = turn_parts p.state name g.event q.state g.turn in
+    let i = p.state.image in
+    let b = rest i t.actor in
+    let x = takes i b g.event in
+    let own : x.name ≡ name = takes_name i b g.event ∙ (rest-name i t.actor ∙ found_name p.state.actors name t.actor t.named) in
+    let count : length (put_actor p.state.actors x) ≡ length p.state.actors = ap length (at.1.put x own) ∙ set_length p.state.actors place x in
+    let are : length q.state.actors ≡ length (with_begun (put_actor p.state.actors x) (begun i b g.event)) = ap (λ (w : WorldState). length w.actors) t.new_is in
+    let inside = at.1.inside in
+    let more = longer (put_actor p.state.actors x) (begun i b g.event) in
+    omega (arith, count, are, inside, more)
+  where
+    longer : (as_ : List ActorState) (o : Option ActorState) → length as_ ≤ length (with_begun as_ o)
+    longer as_ None = omega arith
+    longer as_ (Some c) = let h = length-push as_ c in omega (arith, h)
+
+-- the actor at an index is one
+pub ends_as : (actors : List ActorState) (place : ℕ) (a x : ActorState) → slice_get actors place ≡ Some a → slice_get actors place ≡ Some x → has_ended a.phase ≡ has_ended x.phase
+ends_as actors place a x is at = let one : a ≡ x = one_of (sym is ∙ at) in ap (λ (y : ActorState). has_ended y.phase) one
+  where
+    one_of : {y z : ActorState} → Some y ≡ Some z → y ≡ z
+    one_of e = cc

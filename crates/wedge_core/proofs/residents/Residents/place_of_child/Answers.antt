@@ -1,0 +1,25 @@
+use Rattle.std.proofs.Common.{◌≡◌, ◌++◌, ◌∷◌, [], ℕ, List, ap, sym, subst, ◌∙◌, rules}
+use Rattle.std.specs.Prelude.{Option, None, IfSome, IfNone}
+use Rattle.sthread_life.specs.Actors.{ActorState}
+use Rattle.sthread_life.specs.Children.{child_name}
+use Rattle.sthread_life.specs.Worlds.{actor_named}
+use Rattle.wedge_core.specs.Progress.{IsPlaceOf}
+use Rattle.wedge_core.specs.Places.{place_in, place_by}
+use Rattle.wedge_core.proofs.Indexing.{place_found, place_none}
+use Rattle.wedge_core.proofs.residents.Residents.place_of_child.Goals as goal
+
+place : (c : goal.After-drop-parts-2) → c.copied.result ≡ place_in c.args.self.now (child_name c.args.name.now c.args.k)
+place c =
+    let name : c.as_slice.result.now ≡ child_name c.args.name.now c.args.k = search rules in
+    c.copied.ensures ∙ c.get.ensures.value ∙ ap (place_by c.self.inside.index) name ∙ c.self.invariant (child_name c.args.name.now c.args.k)
+    ∙ ap (λ (actors : List ActorState). place_in actors (child_name c.args.name.now c.args.k)) c.self.view_is
+
+pub returns-clause-found : goal.returns-clause-found
+returns-clause-found c =
+    let name = child_name c.args.name.now c.args.k in
+    subst (λ (o : Option ℕ). IfSome o (IsPlaceOf c.args.self.now name)) (sym (place c)) (place_found c.args.self.now name)
+
+pub returns-clause-unknown : goal.returns-clause-unknown
+returns-clause-unknown c =
+    let name = child_name c.args.name.now c.args.k in
+    subst (λ (o : Option ℕ). IfNone o (actor_named c.args.self.now name ≡ None)) (sym (place c)) (place_none c.args.self.now name)
