@@ -1,6 +1,6 @@
 #!/bin/sh
-# Measures the program: local instructions, shared accesses, a schedule printed and replayed, reading a large image,
-# assembling a long text.
+# Measures the program: local instructions, shared accesses, a schedule printed and replayed, children started and joined,
+# reading a large image, assembling a long text.
 # It prints the seconds that each takes and, where valgrind is there, the host instructions that an instruction
 # of the program costs, and fails where that is more than its bound. The program is the one that bin/wedge builds, or $WEDGE.
 root=$(cd "$(dirname "$(readlink -f "$0")")/.." && pwd) || exit 1
@@ -44,6 +44,17 @@ printf '.proc main\nli t0, seg_box\nagain:\nlw a0, 0(t0)\nsw a0, 4(t0)\nj again\
 measure 'turns, with their schedule' 1000000 "$wedge" run "$work/turns.wedge" --schedule 2> "$work/report"
 mv "$work/out" "$work/schedule"
 measure 'turns, replayed' 1000000 "$wedge" replay "$work/turns.wedge" "$work/schedule"
+cmp "$work/out" "$work/report" || exit 1
+
+# A hundred thousand children, one started and joined after another, and the same replayed.
+{
+    printf '.proc main\nsvc sc_new\nli s0, 100000\nagain:\nli a0, 0\nla a1, kid\nli a3, 10\nsvc sthread_create\n'
+    printf 'svc sthread_join\naddi s0, s0, -1\nbnez s0, again\nsvc exit\n.proc kid\nsvc exit\n'
+} | partition 5000000 > "$work/children.toml"
+"$wedge" build "$work/children.toml" > "$work/children.wedge" || exit 1
+measure 'children, one by one' 100000 "$wedge" run "$work/children.wedge" --schedule 2> "$work/report"
+mv "$work/out" "$work/schedule"
+measure 'children, replayed' 100000 "$wedge" replay "$work/children.wedge" "$work/schedule"
 cmp "$work/out" "$work/report" || exit 1
 
 # An image of nearly 16 MiB: 255 tags with 65,536 bytes of content each.

@@ -118,7 +118,7 @@ impl Actor {
     }
 
     /// The child of a name that it is ready to start, with its private memory.
-    fn child(&self, image: &Image, name: &ActorName) -> Result<(Actor, Memory), NoMemory>
+    fn build_child(&self, image: &Image, name: &ActorName) -> Result<(Actor, Memory), NoMemory>
         requires { MayStart (whole self.now []) }
         ensures is { IfOk result (λ c. whole c.0 c.1 ≡ taking.child_of image.now (whole self.now []) name.now) }
         ensures going { IfOk result (λ c. c.0.stopped ≡ false) }
@@ -163,7 +163,7 @@ impl Actor {
         ensures going { IfOk result (λ c. IfSome c (λ p. p.0.stopped ≡ false)) }
         ensures name { OnOk result (self.new.name ≡ self.old.name) }
     {
-        let (child, memory) = self.child(image, name)?;
+        let (child, memory) = self.build_child(image, name)?;
         self.give_to_child()?;
         Ok(Some((child, memory)))
     }

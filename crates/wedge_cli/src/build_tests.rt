@@ -9,24 +9,34 @@ use std::sync::Wait;
 use std::test::Fail;
 use std::thread::Threads;
 
-/// What stands after the fuel and before the text of a partition, and what stands after it: a tag `box` of one page on which
-/// the root has no right, and a stream `out` to which it may append.
+/// What stands after the fuel and before the text of a partition; and what stands after the right that the root has on a tag
+/// `box` of one page: a stream `out` to which it may append.
 static HEAD: &str = "user = 0\nroot = \"/\"\nentry = \"main\"\ntext = \"\"\"\n";
 
-static TAIL: &str =
-    "\"\"\"\n[[tag]]\nname = \"box\"\npages = 1\nright = \"none\"\n[[fd]]\nname = \"out\"\nkind = \"append\"\nbits = \"append\"\n";
+static TAIL: &str = "\"\n[[fd]]\nname = \"out\"\nkind = \"append\"\nbits = \"append\"\n";
 
-/// A partition with a line for its fuel and a text.
-fn partition(alloc: Global, fuel: &str, text: &str) -> Result<Vec<u8>, Fail> {
+/// A partition with a line for its fuel, a text, and the root's right on the tag.
+pub(crate) fn partition(
+    alloc: Global,
+    fuel: &str,
+    text: &str,
+    right: &str,
+) -> Result<Vec<u8>, Fail> {
     let mut bytes = Vec::from_slice(alloc, fuel.as_bytes())?;
-    bytes.extend_from_slice(HEAD.as_bytes())?;
-    bytes.extend_from_slice(text.as_bytes())?;
-    bytes.extend_from_slice(TAIL.as_bytes())?;
+    for piece in [
+        HEAD,
+        text,
+        "\"\"\"\n[[tag]]\nname = \"box\"\npages = 1\nright = \"",
+        right,
+        TAIL,
+    ] {
+        bytes.extend_from_slice(piece.as_bytes())?;
+    }
     Ok(bytes)
 }
 
 /// What `build` writes of a partition, with the status 0.
-fn built<R: Threads + Wait + Abort + Sync>(
+pub(crate) fn built<R: Threads + Wait + Abort + Sync>(
     rt: &R,
     alloc: Global,
     bytes: Vec<u8>,
@@ -90,7 +100,7 @@ fn reports<R: Threads + Wait + Abort + Sync>(
     report: &str,
     turns: usize,
 ) -> Result<(), Fail> {
-    let bytes = built(rt, alloc, partition(alloc, fuel, text)?)?;
+    let bytes = built(rt, alloc, partition(alloc, fuel, text, "none")?)?;
     let run = Run {
         bytes,
         read_fails: 0,
@@ -299,7 +309,12 @@ fn what_is_no_partition_says_why(rt: HostRuntime) -> Result<(), Fail> {
         let bytes = Vec::from_slice(alloc, bytes)?;
         refused(&rt, alloc, bytes, 0, 3, err)?;
     }
-    let line = partition(alloc, "fuel = 100\n", ".proc main\naddd a0, a0, a0\n")?;
+    let line = partition(
+        alloc,
+        "fuel = 100\n",
+        ".proc main\naddd a0, a0, a0\n",
+        "none",
+    )?;
     refused(
         &rt,
         alloc,
@@ -336,7 +351,7 @@ fn a_partition_has_a_limit(rt: HostRuntime) -> Result<(), Fail> {
 #[test]
 fn a_partition_that_is_not_read_or_not_written(rt: HostRuntime) -> Result<(), Fail> {
     let alloc = rt.alloc();
-    let bytes = partition(alloc, "fuel = 100\n", ".proc main\nret\n")?;
+    let bytes = partition(alloc, "fuel = 100\n", ".proc main\nret\n", "none")?;
     refused(&rt, alloc, bytes.clone()?, 1, 4, "wedge: read fault: a\n")?;
     let run = Run {
         bytes,

@@ -5,6 +5,8 @@
 mod build_tests;
 mod commands;
 mod headings;
+#[cfg(test)]
+mod interleaving_tests;
 mod lines;
 mod loading;
 mod refusal;
@@ -13,6 +15,8 @@ mod replay_tests;
 mod replaying;
 mod show;
 mod status;
+#[cfg(test)]
+mod sthread_tests;
 #[cfg(test)]
 mod tests;
 mod top;

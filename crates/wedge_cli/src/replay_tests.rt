@@ -12,27 +12,32 @@ use std::thread::Threads;
 /// The report of the image.
 static REPORT: &str = "actor 0 main exited 0 pc 00010028 fuel 87\nstream 0 out \"ok\"\n";
 
+/// How many bytes each stream takes.
+static ROOM: usize = 2_000_000;
+
 /// Arguments over an image `a` and a schedule `s`, and what they leave.
 #[derive(Clone, Copy)]
-struct Case<'a> {
-    words: &'a [&'a str],
-    schedule: &'a str,
-    status: u8,
-    out: &'a str,
-    err: &'a str,
+pub(crate) struct Case<'a> {
+    pub words: &'a [&'a str],
+    pub schedule: &'a str,
+    pub status: u8,
+    pub out: &'a str,
+    pub err: &'a str,
 }
 
-/// Does what the arguments ask, with a failure of this write on the error stream, and compares what is left.
-fn is_left<R: Threads + Wait + Abort + Sync>(
+/// Does what the arguments ask over the bytes of an image, with a failure of this write on the error stream, and compares
+/// what is left.
+pub(crate) fn is_left<R: Threads + Wait + Abort + Sync>(
     rt: &R,
     alloc: Global,
+    bytes: Vec<u8>,
     case: Case<'_>,
     err_fails: u64,
 ) -> Result<(), Fail> {
     let words = strings(alloc, case.words)?;
     let a = MemFile {
         name: String::from_str(alloc, "a")?,
-        bytes: image(alloc)?,
+        bytes,
     };
     let s = MemFile {
         name: String::from_str(alloc, "s")?,
@@ -41,8 +46,8 @@ fn is_left<R: Threads + Wait + Abort + Sync>(
     let files = vec![in alloc; a, s]?;
     assert!(rt; MemFiles::names_differ(files.as_slice()));
     let mut files = MemFiles::new(files, Vec::new(alloc));
-    let mut out = MemSink::new(alloc, 1000, Vec::new(alloc))?;
-    let mut err = MemSink::new(alloc, 1000, vec![in alloc; err_fails]?)?;
+    let mut out = MemSink::new(alloc, ROOM, Vec::new(alloc))?;
+    let mut err = MemSink::new(alloc, ROOM, vec![in alloc; err_fails]?)?;
     let ended = wedge(
         rt,
         alloc,
@@ -74,7 +79,7 @@ fn a_schedule_is_written_before_the_report(rt: HostRuntime) -> Result<(), Fail> 
             out: "0\n0\n",
             err,
         };
-        is_left(&rt, alloc, case, err_fails)?;
+        is_left(&rt, alloc, image(alloc)?, case, err_fails)?;
     }
     Ok(())
 }
@@ -101,7 +106,7 @@ fn a_schedule_is_replayed_or_says_why_not(rt: HostRuntime) -> Result<(), Fail> {
             out,
             err,
         };
-        is_left(&rt, alloc, case, 0)?;
+        is_left(&rt, alloc, image(alloc)?, case, 0)?;
     }
     Ok(())
 }
@@ -122,7 +127,7 @@ fn a_schedule_has_at_most_64_mib(rt: HostRuntime) -> Result<(), Fail> {
             out: "",
             err,
         };
-        is_left(&rt, alloc, case, 0)?;
+        is_left(&rt, alloc, image(alloc)?, case, 0)?;
     }
     Ok(())
 }
@@ -159,7 +164,7 @@ fn files_come_before_forms_and_flags_stand_after_run(rt: HostRuntime) -> Result<
             out: "",
             err,
         };
-        is_left(&rt, alloc, case, 0)?;
+        is_left(&rt, alloc, image(alloc)?, case, 0)?;
     }
     Ok(())
 }

@@ -1,0 +1,135 @@
+//! Every order of turns, up to some length, of two children that wait for each other.
+
+use super::refusal::{Refusal, ScheduleRefusal};
+use super::replaying::replay_text;
+use super::sthread_tests::{HANDSHAKE, Row, image_of};
+use super::*;
+use std::alloc::Global;
+use std::process::Abort;
+use std::test::Fail;
+use wedge_core::Why;
+
+/// The schedules of some length: those that go on, and those that are complete.
+#[derive(Drop)]
+struct Schedules {
+    open: Vec<String>,
+    complete: Vec<String>,
+}
+
+/// How many turns beyond three an actor takes in a schedule.
+fn turns_beyond_three(schedule: &str, name: &str) -> usize {
+    schedule
+        .as_bytes()
+        .split(|byte| *byte == b'\n')
+        .filter(|line| *line == name.as_bytes())
+        .count()
+        .saturating_sub(3)
+}
+
+/// The report of a complete schedule: each child has 12 instructions, and two more for each turn beyond three, in which it
+/// looks again.
+fn report_of(alloc: Global, schedule: &str) -> Result<String, Fail> {
+    let again_1 = turns_beyond_three(schedule, "0.1").saturating_mul(2);
+    let again_2 = turns_beyond_three(schedule, "0.2").saturating_mul(2);
+    Ok(format!(in alloc;
+        "actor 0 main exited 0 pc 00010074 fuel {}\n\
+        actor 0.1 kid exited 0 pc 000100a4 fuel {}\n\
+        actor 0.2 kid exited 0 pc 000100a4 fuel {}\n\
+        stream 0 out \"\"\n",
+        2_999_946usize
+            .saturating_sub(again_1)
+            .saturating_sub(again_2),
+        999_988usize.saturating_sub(again_1),
+        999_988usize.saturating_sub(again_2)
+    )?)
+}
+
+/// What a replay gives, of an image and a schedule that are short.
+fn replayed(
+    rt: &impl Abort,
+    alloc: Global,
+    image: &[u8],
+    schedule: &[u8],
+) -> Result<Vec<u8>, Refusal> {
+    assert!(rt; image.len() <= 1000);
+    assert!(rt; schedule.len() <= 1000);
+    replay_text(alloc, image, schedule)
+}
+
+/// Every schedule of one turn more, of those that go on; the others are refused at their last line, of this number.
+fn longer(
+    rt: &impl Abort,
+    alloc: Global,
+    image: &[u8],
+    open: &[String],
+    last: usize,
+) -> Result<Schedules, Fail> {
+    let mut schedules = Schedules {
+        open: Vec::new(alloc),
+        complete: Vec::new(alloc),
+    };
+    for prefix in open {
+        for name in ["0", "0.1", "0.2"] {
+            let schedule = format!(in alloc; "{prefix}{name}\n")?;
+            match replayed(rt, alloc, image, schedule.as_bytes()) {
+                Ok(report) => {
+                    let wanted = report_of(alloc, schedule.as_str())?;
+                    assert_eq!(rt; report.as_slice(), wanted.as_bytes());
+                    schedules.complete.push(schedule)?;
+                }
+                Err(Refusal::Schedule(ScheduleRefusal::Replay { at, why })) => {
+                    if why == Why::Short {
+                        assert_eq!(rt; at, last.saturating_add(1));
+                        schedules.open.push(schedule)?;
+                    } else {
+                        assert_eq!(rt; at, last);
+                        assert!(rt; why != Why::Extra);
+                    }
+                }
+                Err(_) => assert!(rt; false),
+            }
+        }
+    }
+    Ok(schedules)
+}
+
+#[test]
+fn every_order_of_a_handshake(rt: HostRuntime) -> Result<(), Fail> {
+    let alloc = rt.alloc();
+    let row = Row {
+        fuel: "fuel = 3000000\n",
+        right: "ReadWrite",
+        text: HANDSHAKE,
+        schedule: "",
+        report: "",
+    };
+    let image = image_of(&rt, alloc, row)?;
+    let mut open = Vec::new(alloc);
+    open.push(String::new(alloc))?;
+    // The number of turns, and how many schedules go on and how many are complete: counted by a model of the three programs apart
+    // from the machine.
+    for (last, going, complete) in [
+        (1usize, 1usize, 0usize),
+        (2, 1, 0),
+        (3, 2, 0),
+        (4, 4, 0),
+        (5, 8, 0),
+        (6, 16, 0),
+        (7, 32, 0),
+        (8, 64, 0),
+        (9, 124, 0),
+        (10, 225, 0),
+        (11, 371, 0),
+        (12, 572, 0),
+        (13, 798, 40),
+        (14, 1069, 70),
+        (15, 1385, 110),
+        (16, 1746, 160),
+    ] {
+        let schedules = longer(&rt, alloc, image.as_slice(), open.as_slice(), last)?;
+        assert_eq!(rt; schedules.open.len(), going);
+        assert_eq!(rt; schedules.complete.len(), complete);
+        open = schedules.open;
+    }
+    Ok(())
+}
