@@ -6,6 +6,9 @@ use Rattle.wedge_base.specs.declared.events.Want.{Want}
 use Rattle.wedge_base.specs.declared.events.Want.TheVariants as want
 use Rattle.wedge_base.specs.declared.events.Event.{Event}
 use Rattle.wedge_base.specs.declared.events.Event.TheVariants as event
+use Rattle.wedge_base.specs.declared.cells.DirectoryAsk.TheVariants as directory_ask
+use Rattle.wedge_base.specs.declared.cells.DirectoryReply.TheVariants as directory_reply
+use Rattle.wedge_base.specs.declared.cells.SlotAsk.TheVariants as slot_ask
 use Rattle.wedge_base.specs.declared.cells.SlotReply.TheVariants as slot_reply
 use Rattle.rv_isa.specs.declared.Instr.{Instr}
 use Rattle.rv_isa.specs.Table.{decode}
@@ -51,11 +54,16 @@ pub joined_is : (Q : ActorState → Type 0) (a : ActorState) (p : Phase) (e : En
 joined_is Q a phase.Running e own other = other
 joined_is Q a (phase.Within q) e own other = other
 joined_is Q a phase.Starting e own other = other
+joined_is Q a (phase.Opening slot tag) e own other = other
+joined_is Q a (phase.Releasing slot) e own other = other
 joined_is Q a (phase.Ending x) e own other = own
 joined_is Q a (phase.Ended x) e own other = other
 
--- An event leaves the actor that did it between instructions; one that claimed a life is about to start a child.
+-- An event leaves the actor that did it between instructions; one that claimed a life is about to start a child, one that
+-- claimed a slot to open a tag there, and one that closed a tag to release its slot.
 abbrev pub Leaves : Event → Phase → Type 0
+Leaves (event.Slots directory_ask.Claim (directory_reply.Claimed place number)) p = p ≡ phase.Opening place number
+Leaves (event.Slot slot q slot_reply.Closed) p = p ≡ phase.Releasing slot
 Leaves (event.Lives lives_ask.Claim lives_reply.Claimed) p = p ≡ phase.Starting
 Leaves e p = IsBetween p
 
@@ -63,12 +71,21 @@ joined_between : (a : ActorState) (p : Phase) (e : End) → a.phase ≡ p → Is
 joined_between a phase.Running e is = tt
 joined_between a (phase.Within q) e is = tt
 joined_between a phase.Starting e is = tt
+joined_between a (phase.Opening slot tag) e is = tt
+joined_between a (phase.Releasing slot) e is = tt
 joined_between a (phase.Ending x) e is = subst IsBetween (sym is) tt
 joined_between a (phase.Ended x) e is = tt
 
 pub takes_between : (i : Image) (a : ActorState) (e : Event) → Leaves e (takes i a e).phase
 unfolding takes
 takes_between i a (event.Slot slot q (slot_reply.Loaded value)) = subst IsBetween (sym (loaded_runs (runs a) (option_and_then decode (fetch i a.hart.pc)) value refl)) tt
+takes_between i a (event.Slots (directory_ask.Release place) r) = tt
+takes_between i a (event.Slots directory_ask.Claim (directory_reply.Claimed place number)) = refl
+takes_between i a (event.Slots directory_ask.Claim directory_reply.Full) = tt
+takes_between i a (event.Slots directory_ask.Claim directory_reply.Released) = tt
+takes_between i a (event.Slot slot q slot_reply.Closed) = refl
+takes_between i a (event.Slot slot (slot_ask.Sfree offset live) (slot_reply.Denied tag wants)) = tt
+takes_between i a (event.Slot slot (slot_ask.Open tag pages) slot_reply.Opened) = tt
 takes_between i a (event.Slot slot q r) = tt
 takes_between i a (event.Fd fd q stream_reply.Opened) = tt
 takes_between i a (event.Fd fd q (stream_reply.Given bytes)) = tt
@@ -100,6 +117,12 @@ loads_name a (Some ins) value = loaded_name ins (local ins a.hart).need a value
 pub takes_name : (i : Image) (b : ActorState) (e : Event) → (takes i b e).name ≡ b.name
 unfolding takes
 takes_name i b (event.Slot slot q (slot_reply.Loaded value)) = loads_name (runs b) (option_and_then decode (fetch i b.hart.pc)) value
+takes_name i b (event.Slots (directory_ask.Release place) r) = refl
+takes_name i b (event.Slots directory_ask.Claim (directory_reply.Claimed place number)) = refl
+takes_name i b (event.Slots directory_ask.Claim directory_reply.Full) = refl
+takes_name i b (event.Slots directory_ask.Claim directory_reply.Released) = refl
+takes_name i b (event.Slot slot (slot_ask.Sfree offset live) (slot_reply.Denied tag wants)) = refl
+takes_name i b (event.Slot slot (slot_ask.Open tag pages) slot_reply.Opened) = refl
 takes_name i b (event.Slot slot q r) = refl
 takes_name i b (event.Fd fd q stream_reply.Opened) = refl
 takes_name i b (event.Fd fd q (stream_reply.Given bytes)) = refl

@@ -1,7 +1,7 @@
 -- Whatever a cell holds beside its bytes is changed by its own events alone.
-use Rattle.std.proofs.Common.{◌≡◌, ℕ, List, [], ◌∷◌, refl, sym, ap, subst, ◌∙◌}
+use Rattle.std.proofs.Common.{◌≡◌, ℕ, ◌<◌, List, [], ◌∷◌, length, refl, sym, ap, subst, ◌∙◌}
 use Rattle.std.specs.Prelude.{Option, Some, None, option_map}
-use Rattle.wedge_base.specs.Slots.{Segment, slot_reply as slot_reply_of, slot_after, stored}
+use Rattle.wedge_base.specs.Slots.{Segment, slot_reply as slot_reply_of, slot_after, opened, stored, placed, freed}
 use Rattle.wedge_base.specs.Streams.{Stream, stream_reply as stream_reply_of, stream_after, grown}
 use Rattle.wedge_base.specs.declared.grants.GateId.{GateId}
 use Rattle.wedge_base.specs.declared.rights.FdBits.{FdBits}
@@ -9,6 +9,9 @@ use Rattle.wedge_base.specs.declared.events.SlotWant.TheVariants as slot_want
 use Rattle.wedge_base.specs.declared.events.Want.{Want}
 use Rattle.wedge_base.specs.declared.events.Want.TheVariants as want
 use Rattle.wedge_base.specs.declared.events.Event.{Event}
+use Rattle.wedge_base.specs.declared.events.Event.TheVariants as event
+use Rattle.wedge_base.specs.declared.cells.DirectoryAsk.TheVariants as directory_ask
+use Rattle.wedge_base.specs.declared.cells.SlotAsk.{SlotAsk}
 use Rattle.wedge_base.specs.declared.events.Turn.{Turn}
 use Rattle.wedge_base.specs.declared.cells.Live.{Live}
 use Rattle.wedge_base.specs.declared.cells.LivesAsk.TheVariants as lives_ask
@@ -20,15 +23,16 @@ use Rattle.wedge_base.specs.declared.cells.StreamReply.{StreamReply}
 use Rattle.wedge_base.specs.declared.cells.StreamReply.TheVariants as reply
 use Rattle.sthread_life.specs.Actors.{ActorState}
 use Rattle.sthread_life.specs.Local.{rest}
+use Rattle.sthread_life.specs.Calls.{a0}
 use Rattle.sthread_life.specs.Taking.{pair}
 use Rattle.sthread_life.specs.Cells.{Cells, slot_in, stream_in, kept_in, cells_after}
 use Rattle.sthread_life.specs.Worlds.{WorldState, turn_of, Runs}
-use Rattle.sthread_life.specs.CellHistories.{after_turns, Occupant, occupant, occupant_in, occupant_after_event, Mode, mode, mode_in, mode_after_event, places_after_event, numbers_after_event, lives_after_event, kept_after_event, CellsFollow}
+use Rattle.sthread_life.specs.CellHistories.{after_turns, Occupant, occupant, occupant_in, occupant_by, occupant_after_event, Mode, mode, mode_in, mode_after_event, places_after_event, numbers_after_event, lives_after_event, kept_after_event, CellsFollow}
 use Rattle.sthread_life.proofs.Between.{event_for, turn_parts}
-use Rattle.sthread_life.proofs.Happening.{Happens, Requested, Joined, Started, LastJoined, Ended}
-use Rattle.sthread_life.proofs.Settling.{AllReady, turn_happens, turn_ready}
+use Rattle.sthread_life.proofs.Happening.{Happens, Requested, Joined, Started, Opens, Releases, LastJoined, Ended}
+use Rattle.sthread_life.proofs.Settling.{AreCells, AllReady, turn_happens, turn_ready}
 use Rattle.sthread_life.proofs.Meeting.{IsRequest}
-use Rattle.sthread_life.proofs.OneCell.{follows}
+use Rattle.sthread_life.proofs.OneCell.{follows, follows_in}
 
 -- what an event makes of everything that the cells hold beside bytes
 pub record IsChanged (old : Cells) (e : Event) (new : Cells) : Type 0 where
@@ -59,6 +63,39 @@ store_stays : (offset width value : ℕ) (live : Option Live) (g : Option Segmen
 store_stays offset width value live g slot_reply.Stored e = ap (option_map (stored offset width value)) e
 store_stays offset width value live g r e = e
 
+-- a close, a block that is placed, and one that is freed
+close_shows : (tag : ℕ) (g : Option Segment) (r : SlotReply) → occupant_of (slot_after g (slot_ask.Close tag) r) ≡ occupant_by (occupant_of g) (slot_ask.Close tag) r
+close_shows tag g slot_reply.Closed = refl
+close_shows tag g r = refl
+
+close_stays : (tag : ℕ) (g : Option Segment) (r : SlotReply) → g ≡ None → slot_after g (slot_ask.Close tag) r ≡ None
+close_stays tag g slot_reply.Closed e = refl
+close_stays tag g r e = e
+
+placed_occupant : (tag size offset : ℕ) (g : Option Segment) → occupant_of (option_map (placed offset size) g) ≡ occupant_by (occupant_of g) (slot_ask.Smalloc tag size) (slot_reply.Placed offset)
+placed_occupant tag size offset None = refl
+placed_occupant tag size offset (Some g) = refl
+
+place_shows : (tag size : ℕ) (g : Option Segment) (r : SlotReply) → occupant_of (slot_after g (slot_ask.Smalloc tag size) r) ≡ occupant_by (occupant_of g) (slot_ask.Smalloc tag size) r
+place_shows tag size g (slot_reply.Placed offset) = placed_occupant tag size offset g
+place_shows tag size g r = refl
+
+place_stays : (tag size : ℕ) (g : Option Segment) (r : SlotReply) → g ≡ None → slot_after g (slot_ask.Smalloc tag size) r ≡ None
+place_stays tag size g (slot_reply.Placed offset) e = ap (option_map (placed offset size)) e
+place_stays tag size g r e = e
+
+freed_occupant : (offset : ℕ) (live : Option Live) (g : Option Segment) → occupant_of (option_map (freed offset) g) ≡ occupant_by (occupant_of g) (slot_ask.Sfree offset live) slot_reply.Freed
+freed_occupant offset live None = refl
+freed_occupant offset live (Some g) = refl
+
+free_shows : (offset : ℕ) (live : Option Live) (g : Option Segment) (r : SlotReply) → occupant_of (slot_after g (slot_ask.Sfree offset live) r) ≡ occupant_by (occupant_of g) (slot_ask.Sfree offset live) r
+free_shows offset live g slot_reply.Freed = freed_occupant offset live g
+free_shows offset live g r = refl
+
+free_stays : (offset : ℕ) (live : Option Live) (g : Option Segment) (r : SlotReply) → g ≡ None → slot_after g (slot_ask.Sfree offset live) r ≡ None
+free_stays offset live g slot_reply.Freed e = ap (option_map (freed offset)) e
+free_stays offset live g r e = e
+
 grown_mode : (bytes : List ℕ) (s : Option Stream) → mode_of (option_map (grown bytes) s) ≡ mode_of s
 grown_mode bytes None = refl
 grown_mode bytes (Some s) = refl
@@ -73,27 +110,38 @@ append_stays bits bytes s r e = e
 
 -- ---- what an event that an actor comes to makes of them
 
-want_changes : (N : ℕ → Type 0) (c : Cells) (b : ActorState) (q : Want) → IsRequest N b q → IsChanged c (event_for c b q) (cells_after c (event_for c b q))
-want_changes N c b (want.Slot s (slot_want.Load offset width)) own = record {
-  occupants = λ slot. follows occupant_of (λ x. x) c.slots s slot (slot_in c s) (slot_in c s) _ refl refl (λ e. e) refl;
+-- an ask of a slot in which a tag need not live, and which lets none live there anew
+slot_changes : (c : Cells) (s : ℕ) (q : SlotAsk) → (slot_in c s ≡ None → slot_after (slot_in c s) q (slot_reply_of (slot_in c s) q) ≡ None)
+    → occupant_of (slot_after (slot_in c s) q (slot_reply_of (slot_in c s) q)) ≡ occupant_by (occupant_of (slot_in c s)) q (slot_reply_of (slot_in c s) q)
+    → IsChanged c (event.Slot s q (slot_reply_of (slot_in c s) q)) (cells_after c (event.Slot s q (slot_reply_of (slot_in c s) q)))
+slot_changes c s q stays shows = record {
+  occupants = λ slot. follows occupant_of (λ x. occupant_by x q (slot_reply_of (slot_in c s) q)) c.slots s slot (slot_in c s) (slot_after (slot_in c s) q (slot_reply_of (slot_in c s) q)) _ refl refl stays shows;
   modes = λ fd. refl;
   places = refl;
   numbers = refl;
   lives = refl;
   gates = λ id. refl;
 }
+
+load_shows : (offset width : ℕ) (live : Option Live) (g : Option Segment) (r : SlotReply) → occupant_of (slot_after g (slot_ask.Load offset width live) r) ≡ occupant_by (occupant_of g) (slot_ask.Load offset width live) r
+load_shows offset width live g r = refl
+
+store_shows_by : (offset width value : ℕ) (live : Option Live) (g : Option Segment) (r : SlotReply) → occupant_of (slot_after g (slot_ask.Store offset width value live) r) ≡ occupant_by (occupant_of g) (slot_ask.Store offset width value live) r
+store_shows_by offset width value live g r = store_shows offset width value live g r
+
+want_changes : (N : ℕ → Type 0) (c : Cells) (b : ActorState) (q : Want) → IsRequest N b q → IsChanged c (event_for c b q) (cells_after c (event_for c b q))
+want_changes N c b (want.Slots directory_ask.Claim) own = record { occupants = λ slot. refl; modes = λ fd. refl; places = refl; numbers = refl; lives = refl; gates = λ id. refl }
+want_changes N c b (want.Slot s (slot_want.Close tag)) own = slot_changes c s (slot_ask.Close tag) (close_stays tag (slot_in c s) _) (close_shows tag (slot_in c s) _)
+want_changes N c b (want.Slot s (slot_want.Load offset width)) own =
+    let live = pair b (option_map (λ g. g.tag) (slot_in c s)) in
+    slot_changes c s (slot_ask.Load offset width live) (λ e. e) (load_shows offset width live (slot_in c s) (slot_reply_of (slot_in c s) (slot_ask.Load offset width live)))
 want_changes N c b (want.Slot s (slot_want.Store offset width value)) own =
     let live = pair b (option_map (λ g. g.tag) (slot_in c s)) in
-    let q = slot_ask.Store offset width value live in
-    let r = slot_reply_of (slot_in c s) q in
-    record {
-      occupants = λ slot. follows occupant_of (λ x. x) c.slots s slot (slot_in c s) (slot_after (slot_in c s) q r) _ refl refl (store_stays offset width value live (slot_in c s) r) (store_shows offset width value live (slot_in c s) r);
-      modes = λ fd. refl;
-      places = refl;
-      numbers = refl;
-      lives = refl;
-      gates = λ id. refl;
-    }
+    slot_changes c s (slot_ask.Store offset width value live) (store_stays offset width value live (slot_in c s) _) (store_shows_by offset width value live (slot_in c s) _)
+want_changes N c b (want.Slot s (slot_want.Smalloc tag size)) own = slot_changes c s (slot_ask.Smalloc tag size) (place_stays tag size (slot_in c s) _) (place_shows tag size (slot_in c s) _)
+want_changes N c b (want.Slot s (slot_want.Sfree offset)) own =
+    let live = pair b (option_map (λ g. g.tag) (slot_in c s)) in
+    slot_changes c s (slot_ask.Sfree offset live) (free_stays offset live (slot_in c s) _) (free_shows offset live (slot_in c s) _)
 want_changes N c b (want.Fd fd (stream_ask.Append bits bytes)) own =
     let r = stream_reply_of (stream_in c fd) (stream_ask.Append bits bytes) in
     record {
@@ -107,25 +155,40 @@ want_changes N c b (want.Fd fd (stream_ask.Append bits bytes)) own =
 want_changes N c b (want.Lives lives_ask.Claim) own = record { occupants = λ slot. refl; modes = λ fd. refl; places = refl; numbers = refl; lives = refl; gates = λ id. refl }
 want_changes N c b q own = absurd own
 
-pub event_changes : (w : WorldState) (b : ActorState) (e : Event) → Happens w b e → IsChanged w.cells e (cells_after w.cells e)
-event_changes w b e (Requested r) = subst (λ y. IsChanged w.cells y (cells_after w.cells y)) (sym r.is) (want_changes _ w.cells b r.want r.own)
-event_changes w b e (Joined j) =
+-- a tag is opened in a slot that is there
+open_changes : (c : Cells) (s tag pages : ℕ) → s < length c.slots → IsChanged c (event.Slot s (slot_ask.Open tag pages) slot_reply.Opened) (cells_after c (event.Slot s (slot_ask.Open tag pages) slot_reply.Opened))
+open_changes c s tag pages inside = record {
+  occupants = λ slot. follows_in occupant_of (λ x. Some (occupant tag [])) c.slots s slot (Some (opened tag pages)) _ inside refl refl;
+  modes = λ fd. refl;
+  places = refl;
+  numbers = refl;
+  lives = refl;
+  gates = λ id. refl;
+}
+
+pub event_changes : (w : WorldState) (b : ActorState) (e : Event) → AreCells w.image w.cells → Happens w b e → IsChanged w.cells e (cells_after w.cells e)
+event_changes w b e cells (Requested r) = subst (λ y. IsChanged w.cells y (cells_after w.cells y)) (sym r.is) (want_changes _ w.cells b r.want r.own)
+event_changes w b e cells (Joined j) =
     subst (λ y. IsChanged w.cells y (cells_after w.cells y)) (sym j.join.is) (record { occupants = λ slot. refl; modes = λ fd. refl; places = refl; numbers = refl; lives = refl; gates = λ id. refl })
-event_changes w b e (Started s) =
+event_changes w b e cells (Started s) =
     subst (λ y. IsChanged w.cells y (cells_after w.cells y)) (sym s.is) (record { occupants = λ slot. refl; modes = λ fd. refl; places = refl; numbers = refl; lives = refl; gates = λ id. refl })
-event_changes w b e (LastJoined j) =
+event_changes w b e cells (Opens o) =
+    subst (λ y. IsChanged w.cells y (cells_after w.cells y)) (sym o.is) (open_changes w.cells o.slot o.tag (a0 b) (subst (λ n. o.slot < n) (sym cells.slots) o.inside))
+event_changes w b e cells (Releases r) =
+    subst (λ y. IsChanged w.cells y (cells_after w.cells y)) (sym r.is) (record { occupants = λ slot. refl; modes = λ fd. refl; places = refl; numbers = refl; lives = refl; gates = λ id. refl })
+event_changes w b e cells (LastJoined j) =
     subst (λ y. IsChanged w.cells y (cells_after w.cells y)) (sym j.join.is) (record { occupants = λ slot. refl; modes = λ fd. refl; places = refl; numbers = refl; lives = refl; gates = λ id. refl })
-event_changes w b e (Ended f) =
+event_changes w b e cells (Ended f) =
     subst (λ y. IsChanged w.cells y (cells_after w.cells y)) (sym f.is) (record { occupants = λ slot. refl; modes = λ fd. refl; places = refl; numbers = refl; lives = refl; gates = λ id. refl })
 
 -- a turn's event makes the cells
 pub turn_cells : (w : WorldState) (t : Turn) (new : WorldState) → turn_of w t.actor ≡ Some (record { event = t.event; world = new }) → new.cells ≡ cells_after w.cells t.event
 turn_cells w t new e = let p = turn_parts w t.actor t.event new e in ap (λ (x : WorldState). x.cells) p.new_is
 
-turn_changes : (w : WorldState) (t : Turn) (new : WorldState) → AllReady w → turn_of w t.actor ≡ Some (record { event = t.event; world = new }) → IsChanged w.cells t.event new.cells
+pub turn_changes : (w : WorldState) (t : Turn) (new : WorldState) → AllReady w → turn_of w t.actor ≡ Some (record { event = t.event; world = new }) → IsChanged w.cells t.event new.cells
 turn_changes w t new all e =
     let p = turn_parts w t.actor t.event new e in
-    let changed = event_changes w (rest w.image p.actor) t.event (turn_happens w t.actor t.event new all p) in
+    let changed = event_changes w (rest w.image p.actor) t.event all.cells (turn_happens w t.actor t.event new all p) in
     subst (IsChanged w.cells t.event) (sym (turn_cells w t new e)) changed
 
 -- what a run leaves of something, if each of its turns leaves what its event does

@@ -8,15 +8,20 @@ use Rattle.wedge_base.specs.Images.{Image, fetch, in_text, read_text, slot_of}
 use Rattle.wedge_base.specs.Memory.{range_at}
 use Rattle.wedge_base.specs.Names.{most_parts}
 use Rattle.wedge_base.specs.Sheets.{Draft, empty_draft, takes_tag, takes_fd, with_tag, with_fd, first_excess}
+use Rattle.wedge_base.specs.Maps.{has}
+use Rattle.wedge_base.specs.Rights.{at_least}
 use Rattle.wedge_base.specs.declared.rights.Denial.{Denial}
+use Rattle.wedge_base.specs.declared.rights.Denial.TheVariants as denial
 use Rattle.wedge_base.specs.declared.cells.LivesReply.TheVariants as lives_reply
 use Rattle.wedge_base.specs.Streams.{most_fds}
 use Rattle.wedge_base.specs.declared.address.Place.{Place}
 use Rattle.wedge_base.specs.declared.events.Event.{Event}
 use Rattle.wedge_base.specs.declared.events.Event.TheVariants as event
 use Rattle.wedge_base.specs.declared.cells.LivesAsk.TheVariants as lives_ask
+use Rattle.wedge_base.specs.declared.cells.DirectoryAsk.TheVariants as directory_ask
+use Rattle.wedge_base.specs.declared.cells.DirectoryReply.TheVariants as directory_reply
+use Rattle.wedge_base.specs.declared.cells.SlotAsk.TheVariants as slot_ask
 use Rattle.wedge_base.specs.declared.cells.SlotReply.TheVariants as slot_reply
-use Rattle.wedge_base.specs.declared.cells.StreamReply.{StreamReply}
 use Rattle.wedge_base.specs.declared.cells.StreamReply.TheVariants as reply
 use Rattle.wedge_base.specs.declared.image.MemoryRange.{MemoryRange}
 use Rattle.wedge_base.specs.declared.rights.Code.TheVariants as code
@@ -28,14 +33,14 @@ use Rattle.rv_hart.specs.declared.Hart.{Hart}
 use Rattle.rv_hart.specs.declared.Need.{Need}
 use Rattle.rv_hart.specs.declared.Need.TheVariants as need
 use Rattle.rv_hart.specs.Local.{local}
-use Rattle.sthread_life.specs.Actors.{ActorState, answers, refuses, ends, spends}
+use Rattle.sthread_life.specs.Actors.{ActorState, right_of, denies, answers, refuses, ends, spends}
 use Rattle.sthread_life.specs.Private.{loads, stores, load_window, load_range, store_window, store_range, has_loaded, fits_read}
 use Rattle.sthread_life.specs.Children.{is_child, without_child}
 use Rattle.sthread_life.proofs.Between.{joined_is}
-use Rattle.sthread_life.specs.Calls.{serves, exit, is_procedure, create, create_with, create_checked, create_allowed, join, fd_append, draft_call, sc_new, sc_mem_add, sc_fd_add, with_draft, add_right, add_right_to, add_bits, add_bits_to, bits, a0, a1, a2, a3, a7}
+use Rattle.sthread_life.specs.Calls.{serves, exit, is_procedure, create, create_with, create_checked, join, are_pages, tag_new, tag_delete, smalloc, free_at, sfree, fd_append, draft_call, sc_new, sc_mem_add, sc_fd_add, with_draft, add_right, add_right_to, add_bits, add_bits_to, bits, a0, a1, a2, a3, a7}
 use Rattle.sthread_life.specs.Drafting.{right_of_number, bits_of_number, edited, with_new, drafts_by_call, drafts_by_need, drafts_by_instr, drafts_by_fuel, drafts_by_word, drafts_after}
 use Rattle.sthread_life.specs.Local.{needed, executed, fuelled, fetched, step}
-use Rattle.sthread_life.specs.Refusals.{full, no_such, bad, new_refusal, right_refusal, bits_refusal}
+use Rattle.sthread_life.specs.Refusals.{full, bad, right_refusal, bits_refusal}
 use Rattle.sthread_life.specs.Taking.{runs, loads_by, loads_at, takes}
 
 -- ---- what leaves them as they are
@@ -89,6 +94,13 @@ create_stays i a (Some d) = stays_if a (refuses a code.Bad) _ (not (is_procedure
 
 join_stays : (a : ActorState) → Stays a (join a)
 join_stays a = stays_if a _ (refuses a code.NoSuch) (is_child a.unjoined (a0 a)) refl refl
+
+smalloc_stays : (a : ActorState) → Stays a (smalloc a)
+smalloc_stays a = stays_if a (refuses a code.Bad) _ (a1 a == 0) refl (stays_if a _ (denies a (denial.Tag (a0 a) right.ReadWrite)) (at_least (right_of a (a0 a)) right.ReadWrite) refl refl)
+
+free_stays : (a : ActorState) (p : Option Place) → Stays a (free_at a p)
+free_stays a None = refl
+free_stays a (Some p) = refl
 
 -- ---- the calls on drafts
 
@@ -159,9 +171,17 @@ call_edits i a n =
     (λ e. create_stays i a (slice_get a.drafts (a0 a)) ∙ subst (λ m. a.drafts ≡ drafts_by_call a.drafts a.hart.regs m) (sym (eqb-true n 1 e)) refl)
     (λ _. picked (λ x. x.drafts ≡ drafts_by_call a.drafts a.hart.regs n) (n == 2) (join a) _
     (λ e. join_stays a ∙ subst (λ m. a.drafts ≡ drafts_by_call a.drafts a.hart.regs m) (sym (eqb-true n 2 e)) refl)
+    (λ _. picked (λ x. x.drafts ≡ drafts_by_call a.drafts a.hart.regs n) (n == 3) (tag_new a) _
+    (λ e. stays_if a _ (refuses a code.Bad) (are_pages (a0 a)) refl refl ∙ subst (λ m. a.drafts ≡ drafts_by_call a.drafts a.hart.regs m) (sym (eqb-true n 3 e)) refl)
+    (λ _. picked (λ x. x.drafts ≡ drafts_by_call a.drafts a.hart.regs n) (n == 4) (tag_delete a) _
+    (λ e. stays_if a _ (denies a (denial.NotMaker (a0 a))) (has a.made.tags (a0 a)) refl refl ∙ subst (λ m. a.drafts ≡ drafts_by_call a.drafts a.hart.regs m) (sym (eqb-true n 4 e)) refl)
+    (λ _. picked (λ x. x.drafts ≡ drafts_by_call a.drafts a.hart.regs n) (n == 5) (smalloc a) _
+    (λ e. smalloc_stays a ∙ subst (λ m. a.drafts ≡ drafts_by_call a.drafts a.hart.regs m) (sym (eqb-true n 5 e)) refl)
+    (λ _. picked (λ x. x.drafts ≡ drafts_by_call a.drafts a.hart.regs n) (n == 6) (sfree a) _
+    (λ e. free_stays a (slot_of (a0 a)) ∙ subst (λ m. a.drafts ≡ drafts_by_call a.drafts a.hart.regs m) (sym (eqb-true n 6 e)) refl)
     (λ _. picked (λ x. x.drafts ≡ drafts_by_call a.drafts a.hart.regs n) (n == 16) (fd_append i a) _
     (λ e. append_stays i a ∙ subst (λ m. a.drafts ≡ drafts_by_call a.drafts a.hart.regs m) (sym (eqb-true n 16 e)) refl)
-    (λ _. draft_edits a n))))
+    (λ _. draft_edits a n))))))))
 
 -- ---- an instruction
 
@@ -206,6 +226,12 @@ loads_stay a (Some ins) value = loaded_stays ins (local ins a.hart).need a value
 pub event_edits : (i : Image) (a : ActorState) (e : Event) → (takes i a e).drafts ≡ a.drafts
 unfolding takes
 event_edits i a (event.Slot slot q (slot_reply.Loaded value)) = loads_stay (runs a) (option_and_then decode (fetch i a.hart.pc)) value
+event_edits i a (event.Slots (directory_ask.Release place) r) = refl
+event_edits i a (event.Slots directory_ask.Claim (directory_reply.Claimed place number)) = refl
+event_edits i a (event.Slots directory_ask.Claim directory_reply.Full) = refl
+event_edits i a (event.Slots directory_ask.Claim directory_reply.Released) = refl
+event_edits i a (event.Slot slot (slot_ask.Sfree offset live) (slot_reply.Denied tag wants)) = refl
+event_edits i a (event.Slot slot (slot_ask.Open tag pages) slot_reply.Opened) = refl
 event_edits i a (event.Slot slot q r) = refl
 event_edits i a (event.Fd fd q reply.Opened) = refl
 event_edits i a (event.Fd fd q (reply.Given given)) = refl

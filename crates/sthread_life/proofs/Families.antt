@@ -1,10 +1,10 @@
 -- Starts, joins and ends among actors are as the registers, the drafts and the child say.
-use Rattle.std.proofs.Common.{◌≡◌, ℕ, ◌+◌, Bool, true, false, true≢false, List, [], ◌∷◌, ◌++◌, refl, sym, ap, subst, ◌∙◌, arith}
+use Rattle.std.proofs.Common.{◌≡◌, ℕ, ◌+◌, Bool, true, false, List, [], ◌∷◌, ◌++◌, refl, sym, ap, subst, ◌∙◌, arith, inl, inr}
 use Rattle.std.proofs.lemmas.Bool.{eq-eqb}
-use Rattle.std.specs.Prelude.{Option, Some, None, IsSomeAnd, option_and_then, unwrap_or, is_some, slice_get, ◌==◌, ◌&&◌, if◌then◌else◌}
+use Rattle.std.specs.Prelude.{Option, Some, None, ◌⊎◌, IsSomeAnd, option_and_then, unwrap_or, is_some, ◌&&◌, if◌then◌else◌}
 use Rattle.wedge_base.specs.Images.{Image, fetch}
 use Rattle.wedge_base.specs.Names.{same}
-use Rattle.wedge_base.specs.Sheets.{Draft, empty_draft, granted}
+use Rattle.wedge_base.specs.Sheets.{Made, empty_draft, granted}
 use Rattle.wedge_base.specs.declared.rights.End.{End}
 use Rattle.wedge_base.specs.declared.events.Want.{Want}
 use Rattle.wedge_base.specs.declared.events.Want.TheVariants as want
@@ -13,6 +13,11 @@ use Rattle.wedge_base.specs.declared.events.Event.{Event}
 use Rattle.wedge_base.specs.declared.events.Event.TheVariants as event
 use Rattle.wedge_base.specs.declared.cells.LivesAsk.TheVariants as lives_ask
 use Rattle.wedge_base.specs.declared.cells.LivesReply.TheVariants as lives_reply
+use Rattle.wedge_base.specs.declared.cells.DirectoryAsk.TheVariants as directory_ask
+use Rattle.wedge_base.specs.declared.cells.DirectoryReply.TheVariants as directory_reply
+use Rattle.wedge_base.specs.declared.cells.SlotAsk.{SlotAsk}
+use Rattle.wedge_base.specs.declared.cells.SlotAsk.TheVariants as slot_ask
+use Rattle.wedge_base.specs.declared.cells.SlotReply.{SlotReply}
 use Rattle.wedge_base.specs.declared.cells.SlotReply.TheVariants as slot_reply
 use Rattle.wedge_base.specs.declared.cells.StreamReply.TheVariants as reply
 use Rattle.wedge_base.specs.declared.cells.StreamAsk.TheVariants as stream_ask
@@ -30,30 +35,27 @@ use Rattle.sthread_life.specs.Calls.{a0}
 use Rattle.sthread_life.specs.Cells.{Cells}
 use Rattle.sthread_life.specs.Children.{Children, is_number, fuel_given, is_child, without_child, child_name}
 use Rattle.sthread_life.specs.Ends.{is_end_event}
-use Rattle.sthread_life.specs.Families.{IsChild, IsStart, IsFirst, IsJoined, ActsAlone, joined, KeepsFamily}
+use Rattle.sthread_life.specs.Families.{IsChild, IsStart, IsFirst, ActsAlone, made_in, made_by, joined, KeepsFamily}
 use Rattle.sthread_life.specs.Local.{end_reached, step}
 use Rattle.sthread_life.specs.Moments.{with_actor}
 use Rattle.sthread_life.specs.Taking.{runs, loads_by, loads_at, next_start, draft_at, takes, child_of}
 use Rattle.sthread_life.specs.Worlds.{WorldState, actor_named, put_actor, happened}
-use Rattle.sthread_life.proofs.Between.{event_for, IsJoin, takes_name}
-use Rattle.sthread_life.proofs.Happening.{Happens, Requested, Joined, Started, LastJoined, Ended, joined_at}
+use Rattle.sthread_life.proofs.Between.{event_for, IsJoin, joined_is, takes_name}
+use Rattle.sthread_life.proofs.Happening.{AtOpen, Happens, Requested, Joined, Started, Opens, Releases, LastJoined, Ended, joined_at}
 use Rattle.sthread_life.proofs.Meeting.{IsRequest, IsStartable}
-use Rattle.sthread_life.proofs.Named.{put_put, named_put_other, same_equal}
+use Rattle.sthread_life.proofs.Named.{put_put, named_put_other}
 use Rattle.sthread_life.proofs.Resting.{steps_step}
 
 -- ---- what an event leaves as it is
 
-pub record IsSame (a x : ActorState) : Type 0 where
+pub record IsSame (e : Option Event) (a x : ActorState) : Type 0 where
   pub compartment : x.compartment ≡ a.compartment
   pub sheet : x.sheet ≡ a.sheet
-  pub made : x.made ≡ a.made
+  pub made : x.made ≡ made_by a.made e
   pub starts : x.starts ≡ a.starts
   pub unjoined : x.unjoined ≡ a.unjoined
 
-abbrev all_same : (a : ActorState) → IsSame a a
-all_same a = record { compartment = refl; sheet = refl; made = refl; starts = refl; unjoined = refl }
-
-loaded_same : (ins : Instr) (n : Need) (a : ActorState) (value : ℕ) → IsSame a (loads_by ins n a value)
+loaded_same : (ins : Instr) (n : Need) (a : ActorState) (value : ℕ) → IsSame None a (loads_by ins n a value)
 loaded_same ins need.Done a value = record { compartment = refl; sheet = refl; made = refl; starts = refl; unjoined = refl }
 loaded_same ins (need.Load address width s) a value = record { compartment = refl; sheet = refl; made = refl; starts = refl; unjoined = refl }
 loaded_same ins (need.Store address width v) a value = record { compartment = refl; sheet = refl; made = refl; starts = refl; unjoined = refl }
@@ -61,7 +63,7 @@ loaded_same ins need.Call a value = record { compartment = refl; sheet = refl; m
 loaded_same ins need.Break a value = record { compartment = refl; sheet = refl; made = refl; starts = refl; unjoined = refl }
 loaded_same ins need.JumpMisaligned a value = record { compartment = refl; sheet = refl; made = refl; starts = refl; unjoined = refl }
 
-loads_same : (a : ActorState) (ins : Option Instr) (value : ℕ) → IsSame a (loads_at a ins value)
+loads_same : (a : ActorState) (ins : Option Instr) (value : ℕ) → IsSame None a (loads_at a ins value)
 loads_same a None value = record { compartment = refl; sheet = refl; made = refl; starts = refl; unjoined = refl }
 loads_same a (Some ins) value = loaded_same ins (local ins a.hart).need a value
 
@@ -71,11 +73,17 @@ IsOfOne (event.Start child) = ⊥
 IsOfOne (event.Join k e fuel) = ⊥
 IsOfOne e = Unit {0}
 
-pub takes_same : (i : Image) (a : ActorState) (e : Event) → IsOfOne e → IsSame a (takes i a e)
+pub takes_same : (i : Image) (a : ActorState) (e : Event) → IsOfOne e → IsSame (Some e) a (takes i a e)
 unfolding takes
 takes_same i a (event.Slot slot q (slot_reply.Loaded value)) h =
     let s = loads_same (runs a) (option_and_then decode (fetch i a.hart.pc)) value in
     record { compartment = s.compartment; sheet = s.sheet; made = s.made; starts = s.starts; unjoined = s.unjoined }
+takes_same i a (event.Slots (directory_ask.Release place) r) h = record { compartment = refl; sheet = refl; made = refl; starts = refl; unjoined = refl }
+takes_same i a (event.Slots directory_ask.Claim (directory_reply.Claimed place number)) h = record { compartment = refl; sheet = refl; made = refl; starts = refl; unjoined = refl }
+takes_same i a (event.Slots directory_ask.Claim directory_reply.Full) h = record { compartment = refl; sheet = refl; made = refl; starts = refl; unjoined = refl }
+takes_same i a (event.Slots directory_ask.Claim directory_reply.Released) h = record { compartment = refl; sheet = refl; made = refl; starts = refl; unjoined = refl }
+takes_same i a (event.Slot slot (slot_ask.Sfree offset live) (slot_reply.Denied tag wants)) h = record { compartment = refl; sheet = refl; made = refl; starts = refl; unjoined = refl }
+takes_same i a (event.Slot slot (slot_ask.Open tag pages) slot_reply.Opened) h = record { compartment = refl; sheet = refl; made = refl; starts = refl; unjoined = refl }
 takes_same i a (event.Slot slot q r) h = record { compartment = refl; sheet = refl; made = refl; starts = refl; unjoined = refl }
 takes_same i a (event.Fd fd q reply.Opened) h = record { compartment = refl; sheet = refl; made = refl; starts = refl; unjoined = refl }
 takes_same i a (event.Fd fd q (reply.Given bytes)) h = record { compartment = refl; sheet = refl; made = refl; starts = refl; unjoined = refl }
@@ -142,11 +150,77 @@ not_starting : (b : ActorState) (q : Want) → b.phase ≡ phase.Within q → b.
 not_starting b q at e = let f : phase.Within q ≡ phase.Starting = sym at ∙ e in cc
 
 want_family : (w : WorldState) (b : ActorState) (N : ℕ → Type 0) (q : Want) → IsRequest N b q → b.phase ≡ phase.Within q → KeepsFamily (with_actor w b) b (Some (event_for w.cells b q)) (after w b (event_for w.cells b q))
+want_family w b N (want.Slots directory_ask.Claim) own at = alone w b _ tt refl (not_starting b _ at) (λ e. absurd cc)
+want_family w b N (want.Slot slot (slot_want.Close tag)) own at = alone w b _ tt refl (not_starting b _ at) (λ e. absurd cc)
+want_family w b N (want.Slot slot (slot_want.Smalloc tag size)) own at = alone w b _ tt refl (not_starting b _ at) (λ e. absurd cc)
+want_family w b N (want.Slot slot (slot_want.Sfree offset)) own at = alone w b _ tt refl (not_starting b _ at) (λ e. absurd cc)
 want_family w b N (want.Slot slot (slot_want.Load offset width)) own at = alone w b _ tt refl (not_starting b _ at) (λ e. absurd cc)
 want_family w b N (want.Slot slot (slot_want.Store offset width value)) own at = alone w b _ tt refl (not_starting b _ at) (λ e. absurd cc)
 want_family w b N (want.Fd fd (stream_ask.Append bits bytes)) own at = alone w b _ tt refl (not_starting b _ at) (λ e. absurd cc)
 want_family w b N (want.Lives lives_ask.Claim) own at = alone w b _ tt refl (not_starting b _ at) (λ e. absurd cc)
 want_family w b N q own at = absurd own
+
+-- an event makes a tag of its actor's only where it opens one
+pub takes_made : (i : Image) (a : ActorState) (e : Event) → (takes i a e).made ≡ made_by a.made (Some e)
+unfolding takes
+takes_made i a (event.Start child) = refl
+takes_made i a (event.Join k x fuel) = joined_is (λ y. y.made ≡ a.made) (record a { fuel = a.fuel + fuel; unjoined = without_child a.unjoined k }) a.phase x refl refl
+takes_made i a (event.Slots q r) = (takes_same i a (event.Slots q r) tt).made
+takes_made i a (event.Slot slot q r) = (takes_same i a (event.Slot slot q r) tt).made
+takes_made i a (event.Fds q r) = (takes_same i a (event.Fds q r) tt).made
+takes_made i a (event.Fd fd q r) = (takes_same i a (event.Fd fd q r) tt).made
+takes_made i a (event.Lives q r) = (takes_same i a (event.Lives q r) tt).made
+takes_made i a (event.Gate id q r) = (takes_same i a (event.Gate id q r) tt).made
+takes_made i a (event.Enter run) = (takes_same i a (event.Enter run) tt).made
+takes_made i a (event.Leave end) = (takes_same i a (event.Leave end) tt).made
+
+pub takes_sheet : (i : Image) (a : ActorState) (e : Event) → (takes i a e).sheet ≡ a.sheet
+unfolding takes
+takes_sheet i a (event.Start child) = refl
+takes_sheet i a (event.Join k x fuel) = joined_is (λ y. y.sheet ≡ a.sheet) (record a { fuel = a.fuel + fuel; unjoined = without_child a.unjoined k }) a.phase x refl refl
+takes_sheet i a (event.Slots q r) = (takes_same i a (event.Slots q r) tt).sheet
+takes_sheet i a (event.Slot slot q r) = (takes_same i a (event.Slot slot q r) tt).sheet
+takes_sheet i a (event.Fds q r) = (takes_same i a (event.Fds q r) tt).sheet
+takes_sheet i a (event.Fd fd q r) = (takes_same i a (event.Fd fd q r) tt).sheet
+takes_sheet i a (event.Lives q r) = (takes_same i a (event.Lives q r) tt).sheet
+takes_sheet i a (event.Gate id q r) = (takes_same i a (event.Gate id q r) tt).sheet
+takes_sheet i a (event.Enter run) = (takes_same i a (event.Enter run) tt).sheet
+takes_sheet i a (event.Leave end) = (takes_same i a (event.Leave end) tt).sheet
+
+-- no tag is made where none was to be opened
+abbrev IsNoOpening : SlotAsk → Type 0
+IsNoOpening (slot_ask.Open tag pages) = ⊥
+IsNoOpening q = Unit {0}
+
+made_same : (m : Made) (slot : ℕ) (r : SlotReply) (q : SlotAsk) → IsNoOpening q → made_in m slot r q ≡ m
+made_same m slot slot_reply.Opened (slot_ask.Open tag pages) k = absurd k
+made_same m slot slot_reply.Opened (slot_ask.Close tag) k = refl
+made_same m slot slot_reply.Opened (slot_ask.Load offset width live) k = refl
+made_same m slot slot_reply.Opened (slot_ask.Store offset width value live) k = refl
+made_same m slot slot_reply.Opened (slot_ask.Smalloc tag size) k = refl
+made_same m slot slot_reply.Opened (slot_ask.Sfree offset live) k = refl
+made_same m slot slot_reply.Opened (slot_ask.Snap tag) k = refl
+made_same m slot r q k = refl
+
+pub want_made : (N : ℕ → Type 0) (c : Cells) (b : ActorState) (q : Want) → IsRequest N b q → made_by b.made (Some (event_for c b q)) ≡ b.made
+want_made N c b (want.Slots directory_ask.Claim) own = refl
+want_made N c b (want.Slot slot (slot_want.Close tag)) own = made_same b.made slot _ _ tt
+want_made N c b (want.Slot slot (slot_want.Load offset width)) own = made_same b.made slot _ _ tt
+want_made N c b (want.Slot slot (slot_want.Store offset width value)) own = made_same b.made slot _ _ tt
+want_made N c b (want.Slot slot (slot_want.Smalloc tag size)) own = made_same b.made slot _ _ tt
+want_made N c b (want.Slot slot (slot_want.Sfree offset)) own = made_same b.made slot _ _ tt
+want_made N c b (want.Fd fd (stream_ask.Append bits bytes)) own = refl
+want_made N c b (want.Lives lives_ask.Claim) own = refl
+want_made N c b q own = absurd own
+
+pub happens_made : (w : WorldState) (b : ActorState) (e : Event) → Happens w b e → (made_by b.made (Some e) ≡ b.made) ⊎ AtOpen w b e
+happens_made w b e (Requested r) = inl (ap (λ y. made_by b.made (Some y)) r.is ∙ want_made _ w.cells b r.want r.own)
+happens_made w b e (Joined j) = inl (ap (λ y. made_by b.made (Some y)) j.join.is)
+happens_made w b e (Started s) = inl (ap (λ y. made_by b.made (Some y)) s.is)
+happens_made w b e (Opens o) = inr o
+happens_made w b e (Releases r) = inl (ap (λ y. made_by b.made (Some y)) r.is)
+happens_made w b e (LastJoined j) = inl (ap (λ y. made_by b.made (Some y)) j.join.is)
+happens_made w b e (Ended f) = inl (ap (λ y. made_by b.made (Some y)) f.is)
 
 -- ---- a start
 
@@ -187,6 +261,8 @@ ended_so : (p : Phase) (x : End) → end_reached p ≡ Some x → p ≡ phase.En
 ended_so phase.Running x e = absurd cc
 ended_so (phase.Within q) x e = absurd cc
 ended_so phase.Starting x e = absurd cc
+ended_so (phase.Opening slot tag) x e = absurd cc
+ended_so (phase.Releasing slot) x e = absurd cc
 ended_so (phase.Ending y) x e = absurd cc
 ended_so (phase.Ended y) x e = cc
 
@@ -200,6 +276,8 @@ unfolding takes
 joins_as i b phase.Running k x fuel at = joined_at b phase.Running x k fuel at
 joins_as i b (phase.Within q) k x fuel at = joined_at b (phase.Within q) x k fuel at
 joins_as i b phase.Starting k x fuel at = joined_at b phase.Starting x k fuel at
+joins_as i b (phase.Opening slot tag) k x fuel at = joined_at b (phase.Opening slot tag) x k fuel at
+joins_as i b (phase.Releasing slot) k x fuel at = joined_at b (phase.Releasing slot) x k fuel at
 joins_as i b (phase.Ending y) k x fuel at = joined_at b (phase.Ending y) x k fuel at
 joins_as i b (phase.Ended y) k x fuel at = joined_at b (phase.Ended y) x k fuel at
 
@@ -234,6 +312,12 @@ event_family w b e (Started s) = subst (λ y. KeepsFamily (with_actor w b) b (So
 event_family w b e (LastJoined j) =
     join_family w b j.first.0 e j.join (subst (λ p. IsFirst p b.unjoined j.first.0) (sym j.at) (subst (λ cs. IsFirst (phase.Ending j.end_) cs j.first.0) (sym j.left) refl))
     (subst (λ cs. is_child cs j.first.0 ≡ true) (sym j.left) (first_child j.first j.others))
+event_family w b e (Opens o) =
+    subst (λ y. KeepsFamily (with_actor w b) b (Some y) (after w b y)) (sym o.is)
+    (alone w b (event.Slot o.slot (slot_ask.Open o.tag (a0 b)) slot_reply.Opened) tt refl (λ h. let g : phase.Opening o.slot o.tag ≡ phase.Starting = sym o.at ∙ h in absurd cc) (λ h. absurd cc))
+event_family w b e (Releases r) =
+    subst (λ y. KeepsFamily (with_actor w b) b (Some y) (after w b y)) (sym r.is)
+    (alone w b (event.Slots (directory_ask.Release r.slot) directory_reply.Released) tt refl (λ h. let g : phase.Releasing r.slot ≡ phase.Starting = sym r.at ∙ h in absurd cc) (λ h. absurd cc))
 event_family w b e (Ended f) =
     subst (λ y. KeepsFamily (with_actor w b) b (Some y) (after w b y)) (sym f.is)
     (alone w b (event.Lives (lives_ask.Release f.end_) lives_reply.Released) tt refl (λ h. let g : phase.Ending f.end_ ≡ phase.Starting = sym f.at ∙ h in absurd cc) (λ h. f.left))

@@ -1,7 +1,7 @@
 -- What holds of the actors of every run: each but the root was started by another that is there; names differ; a child that is
 -- not joined stands behind its starter and is worth at most what it was given; and who has not ended is not joined.
-use Rattle.std.proofs.Common.{◌≡◌, ℕ, zero, suc, ◌+◌, ◌≤◌, ◌<◌, Bool, true, false, true≢false, List, [], ◌∷◌, ◌++◌, length, refl, sym, ap, subst, ◌∙◌, arith, inl, inr}
-use Rattle.std.specs.Prelude.{Option, Some, None, IsSomeAnd, is_some, ◌&&◌, ◌||◌, ◌⊎◌, if◌then◌else◌}
+use Rattle.std.proofs.Common.{◌≡◌, ℕ, ◌+◌, ◌≤◌, Bool, true, false, true≢false, List, [], ◌∷◌, ◌++◌, refl, sym, ap, subst, ◌∙◌, arith, inl, inr}
+use Rattle.std.specs.Prelude.{Option, Some, None, is_some, ◌||◌, ◌⊎◌, if◌then◌else◌}
 use Rattle.wedge_base.specs.Names.{same, root_name}
 use Rattle.sthread_life.specs.Actors.{ActorState}
 use Rattle.sthread_life.specs.Children.{Children, is_number, fuel_given, is_child, with_child, without_child, all_given, child_name}
@@ -9,10 +9,10 @@ use Rattle.sthread_life.specs.FamilyTrees.{worth, Holds, AllBehind, IsChildOf, I
 use Rattle.sthread_life.specs.Fuel.{starter_of, number_in, has_child, is_unjoined}
 use Rattle.sthread_life.specs.Names.{IsNew, AreDistinct}
 use Rattle.sthread_life.specs.Local.{has_ended}
-use Rattle.sthread_life.specs.Worlds.{actor_named, put_actor, with_begun}
-use Rattle.sthread_life.proofs.Distinct.{new_put, put_distinct}
+use Rattle.sthread_life.specs.Worlds.{actor_named, put_actor}
+use Rattle.sthread_life.proofs.Distinct.{put_distinct}
 use Rattle.sthread_life.proofs.FuelGiven.{given_with, taken_back, number_is, number_self, given_there, given_elsewhere, given_gone}
-use Rattle.sthread_life.proofs.Named.{same_self, same_equal, found_name, named_begun}
+use Rattle.sthread_life.proofs.Named.{same_self, same_equal, named_begun}
 use Rattle.sthread_life.proofs.Trees.{starter-child, number-child, child_apart, not_root, apart_too, IsPut, found_put, found_else, IsDoer, IsOther, FoundPut, find_put, found_behind, found_before, none_new, new_none, distinct_behind}
 
 -- ---- the tree of names

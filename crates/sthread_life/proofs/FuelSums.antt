@@ -1,6 +1,6 @@
 -- Sums of fuel over actors: who counts, and what the actors that count have.
-use Rattle.std.proofs.Common.{◌≡◌, ℕ, ◌+◌, ◌≤◌, Bool, true, false, true≢false, List, [], ◌∷◌, ◌++◌, refl, sym, ap, subst, ◌∙◌, arith}
-use Rattle.std.specs.Prelude.{Option, Some, None, is_some, ◌||◌, if◌then◌else◌}
+use Rattle.std.proofs.Common.{◌≡◌, ℕ, ◌+◌, Bool, true, false, List, [], ◌∷◌, ◌++◌, refl, ap, subst, ◌∙◌, arith}
+use Rattle.std.specs.Prelude.{Some, is_some, ◌||◌, if◌then◌else◌}
 use Rattle.wedge_base.specs.Names.{same, root_name}
 use Rattle.sthread_life.specs.Actors.{ActorState}
 use Rattle.sthread_life.specs.Children.{is_child, child_name}
@@ -12,8 +12,8 @@ use Rattle.sthread_life.proofs.Distinct.{put_distinct}
 use Rattle.sthread_life.specs.FamilyTrees.{Family}
 use Rattle.sthread_life.proofs.FamilyKept.{unjoined_put, unjoined_behind, child_not_root, JoinsChild, joined_others, StartsChild, started_others, started_new, started_unjoined}
 use Rattle.sthread_life.proofs.FuelGiven.{given_gone}
-use Rattle.sthread_life.proofs.Named.{same_self, same_equal}
-use Rattle.sthread_life.proofs.Trees.{starter-child, number-child, child_apart, apart_too, IsPut, found_put, found_else, none_new}
+use Rattle.sthread_life.proofs.Named.{same_equal}
+use Rattle.sthread_life.proofs.Trees.{starter-child, number-child, child_apart, IsPut, found_put, found_else, none_new}
 
 -- ---- sums
 

@@ -18,15 +18,19 @@ use Rattle.rv_hart.specs.declared.Need.TheVariants as need
 use Rattle.rv_hart.specs.Local.{local, next_pc}
 use Rattle.sthread_life.specs.declared.phase.Phase.{Phase}
 use Rattle.sthread_life.specs.declared.phase.Phase.TheVariants as phase
-use Rattle.sthread_life.specs.Actors.{ActorState, answers, ends, refuses}
+use Rattle.sthread_life.specs.Actors.{ActorState, right_of, denies, ends, refuses}
 use Rattle.sthread_life.specs.Private.{loads, stores, load_window, load_range, store_window, store_range, has_loaded, fits_read}
 use Rattle.wedge_base.specs.Names.{most_parts}
 use Rattle.wedge_base.specs.Sheets.{Draft, takes_tag, takes_fd, first_excess}
+use Rattle.wedge_base.specs.Maps.{has}
+use Rattle.wedge_base.specs.Rights.{at_least}
 use Rattle.wedge_base.specs.declared.rights.Denial.{Denial}
+use Rattle.wedge_base.specs.declared.rights.Denial.TheVariants as denial
+use Rattle.wedge_base.specs.declared.rights.Right.TheVariants as right
 use Rattle.wedge_base.specs.declared.rights.FdBits.{FdBits}
 use Rattle.wedge_base.specs.declared.rights.Right.{Right}
 use Rattle.sthread_life.specs.Children.{is_child}
-use Rattle.sthread_life.specs.Calls.{serves, exit, is_procedure, create, create_with, create_checked, create_allowed, join, fd_append, most_drafts, sc_new, right_asked, bits_asked, add_right, add_right_to, sc_mem_add, add_bits, add_bits_to, sc_fd_add, draft_call, a0, a1, a2, a3, a7}
+use Rattle.sthread_life.specs.Calls.{serves, exit, is_procedure, create, create_with, create_checked, create_allowed, join, are_pages, tag_new, tag_delete, smalloc, free_at, sfree, fd_append, most_drafts, sc_new, right_asked, bits_asked, add_right, add_right_to, sc_mem_add, add_bits, add_bits_to, sc_fd_add, draft_call, a0, a1, a2, a3, a7}
 use Rattle.sthread_life.specs.Local.{needed, executed, fuelled, fetched, step, is_running}
 use Rattle.sthread_life.specs.Worlds.{WorldState, actor_named, put_actor}
 use Rattle.sthread_life.specs.Moments.{with_actor}
@@ -115,13 +119,26 @@ next_create i a (Some d) = next_if a.hart (refuses a code.Bad) _ (not (is_proced
 next_join : (a : ActorState) → IsNext a.hart (join a)
 next_join a = next_if a.hart _ (refuses a code.NoSuch) (is_child a.unjoined (a0 a)) (λ e. absurd cc, λ e. refl) (λ e. refl, λ e. absurd cc)
 
+next_smalloc : (a : ActorState) → IsNext a.hart (smalloc a)
+next_smalloc a =
+    next_if a.hart (refuses a code.Bad) _ (a1 a == 0) (λ e. refl, λ e. absurd cc)
+    (next_if a.hart _ (denies a (denial.Tag (a0 a) right.ReadWrite)) (at_least (right_of a (a0 a)) right.ReadWrite) (λ e. absurd cc, λ e. refl) (λ e. refl, λ e. absurd cc))
+
+next_free : (a : ActorState) (p : Option Place) → IsNext a.hart (free_at a p)
+next_free a None = (λ e. refl, λ e. absurd cc)
+next_free a (Some p) = (λ e. absurd cc, λ e. refl)
+
 next_call : (i : Image) (a : ActorState) (n : ℕ) → IsNext a.hart (serves i a n)
 unfolding serves
 next_call i a n =
     next_if a.hart (exit a) _ (n == 0) (λ e. absurd cc, λ e. refl)
     (next_if a.hart (create i a) _ (n == 1) (next_create i a (slice_get a.drafts (a0 a)))
     (next_if a.hart (join a) _ (n == 2) (next_join a)
-    (next_if a.hart (fd_append i a) _ (n == 16) (next_append i a) (next_draft a n))))
+    (next_if a.hart (tag_new a) _ (n == 3) (next_if a.hart _ (refuses a code.Bad) (are_pages (a0 a)) (λ e. absurd cc, λ e. refl) (λ e. refl, λ e. absurd cc))
+    (next_if a.hart (tag_delete a) _ (n == 4) (next_if a.hart _ (denies a (denial.NotMaker (a0 a))) (has a.made.tags (a0 a)) (λ e. absurd cc, λ e. refl) (λ e. refl, λ e. absurd cc))
+    (next_if a.hart (smalloc a) _ (n == 5) (next_smalloc a)
+    (next_if a.hart (sfree a) _ (n == 6) (next_free a (slot_of (a0 a)))
+    (next_if a.hart (fd_append i a) _ (n == 16) (next_append i a) (next_draft a n))))))))
 
 -- the actor that was put is at the next word if it runs
 pub put_next : (w : WorldState) (b x a : ActorState) → actor_named w.actors b.name ≡ Some a → x.name ≡ b.name → IsNext b.hart x

@@ -1,7 +1,14 @@
 -- What an actor at rest comes to: the event of its request, the join of a child, the start of one, or its end.
-use Rattle.std.proofs.Common.{◌≡◌, ℕ, ◌+◌, Bool, true, List, [], ◌∷◌, refl, sym, ap, subst, ◌∙◌}
+use Rattle.std.proofs.Common.{◌≡◌, ℕ, ◌+◌, ◌<◌, Bool, true, [], ◌∷◌, refl, sym, ap, subst, ◌∙◌}
 use Rattle.std.specs.Prelude.{Option, Some, None}
+use Rattle.wedge_base.specs.Directories.{directory_reply as directory_reply_of}
 use Rattle.wedge_base.specs.Images.{Image}
+use Rattle.wedge_base.specs.Slots.{Segment, slot_reply as slot_reply_of}
+use Rattle.wedge_base.specs.declared.cells.DirectoryAsk.TheVariants as directory_ask
+use Rattle.wedge_base.specs.declared.cells.DirectoryReply.TheVariants as directory_reply
+use Rattle.wedge_base.specs.declared.cells.SlotAsk.TheVariants as slot_ask
+use Rattle.wedge_base.specs.declared.cells.SlotReply.TheVariants as slot_reply
+use Rattle.wedge_base.specs.declared.events.SlotWant.TheVariants as slot_want
 use Rattle.wedge_base.specs.declared.rights.End.{End}
 use Rattle.wedge_base.specs.declared.events.Want.{Want}
 use Rattle.wedge_base.specs.declared.events.Want.TheVariants as want
@@ -12,15 +19,17 @@ use Rattle.wedge_base.specs.declared.cells.LivesReply.TheVariants as lives_reply
 use Rattle.sthread_life.specs.declared.phase.Phase.{Phase}
 use Rattle.sthread_life.specs.declared.phase.Phase.TheVariants as phase
 use Rattle.sthread_life.specs.Actors.{ActorState}
-use Rattle.sthread_life.specs.Between.{IsBetween}
-use Rattle.sthread_life.specs.Cells.{Cells}
+use Rattle.sthread_life.specs.Between.{IsBetween, GivesBelow}
+use Rattle.sthread_life.specs.Calls.{a0}
+use Rattle.sthread_life.specs.Cells.{Cells, slot_in}
 use Rattle.sthread_life.specs.Children.{Children, is_child, without_child, child_name}
 use Rattle.sthread_life.specs.Refusals.{refusal_after}
-use Rattle.sthread_life.specs.Requests.{Request, request_at}
+use Rattle.sthread_life.specs.Requests.{request_at}
 use Rattle.sthread_life.specs.Taking.{next_start, ending_want, wanted, wanted_at, answered_end, takes}
 use Rattle.sthread_life.specs.Worlds.{WorldState, event_at}
 use Rattle.sthread_life.proofs.Between.{event_for, IsJoin, ComesOf, comes_of, Leaves, takes_between}
-use Rattle.sthread_life.proofs.Meeting.{request_for, refusal_for, IsRequest, IsWanted, IsStartable, startable_at, ReadsAs, LoadsAt}
+use Rattle.sthread_life.proofs.Directing.{claimed_inside}
+use Rattle.sthread_life.proofs.Meeting.{request_for, refusal_for, slots_in, AsksForPages, IsRequest, IsWanted, IsStartable, startable_at, ReadsAs, LoadsAt}
 
 -- the event of a request
 pub record AtRequest (w : WorldState) (b : ActorState) (e : Event) : Type 0 where
@@ -48,6 +57,21 @@ pub record AtStart (b : ActorState) (e : Event) : Type 0 where
   pub ready : IsStartable b
   pub is : e ≡ event.Start (child_name b.name (next_start b))
 
+-- the opening of a tag in the slot that was claimed for it
+pub record AtOpen (w : WorldState) (b : ActorState) (e : Event) : Type 0 where
+  pub slot : ℕ
+  pub tag : ℕ
+  pub at : b.phase ≡ phase.Opening slot tag
+  pub inside : slot < slots_in w.image
+  pub pages : AsksForPages b
+  pub is : e ≡ event.Slot slot (slot_ask.Open tag (a0 b)) slot_reply.Opened
+
+-- the release of the slot of a tag that was closed
+pub record AtRelease (b : ActorState) (e : Event) : Type 0 where
+  pub slot : ℕ
+  pub at : b.phase ≡ phase.Releasing slot
+  pub is : e ≡ event.Slots (directory_ask.Release slot) directory_reply.Released
+
 -- the join of its first child by an actor whose end is decided
 pub record AtLastJoin (w : WorldState) (b : ActorState) (e : Event) : Type 0 where
   pub end_ : End
@@ -68,8 +92,15 @@ pub data Happens (w : WorldState) (b : ActorState) (e : Event) : Type 0 where
   Requested : AtRequest w b e → Happens w b e
   Joined : AtJoin w b e → Happens w b e
   Started : AtStart b e → Happens w b e
+  Opens : AtOpen w b e → Happens w b e
+  Releases : AtRelease b e → Happens w b e
   LastJoined : AtLastJoin w b e → Happens w b e
   Ended : AtEnd b e → Happens w b e
+
+-- whatever lives in a slot, a tag is opened there
+pub opens_so : (g : Option Segment) (tag pages : ℕ) → slot_reply_of g (slot_ask.Open tag pages) ≡ slot_reply.Opened
+opens_so None tag pages = refl
+opens_so (Some g) tag pages = refl
 
 module _ (w : WorldState) (b : ActorState) (e : Event) where
   requested : (x : Want) (rd : ℕ) (s : Bool) → b.phase ≡ phase.Within x → ((c : Cells) → request_at w.image c b ≡ request_for c b rd s x) → IsRequest (LoadsAt w.image b.hart rd s) b x
@@ -78,7 +109,7 @@ module _ (w : WorldState) (b : ActorState) (e : Event) where
 
   within : (x : Want) (rd : ℕ) (s : Bool) → b.phase ≡ phase.Within x → ((c : Cells) → request_at w.image c b ≡ request_for c b rd s x) → IsWanted (LoadsAt w.image b.hart rd s) b x
       → ((c : Cells) → refusal_after w.image c b ≡ refusal_for c b x) → ComesOf w b x e → Happens w b e
-  within (want.Slots q) rd s at asked own later comes = absurd own
+  within (want.Slots q) rd s at asked own later comes = requested (want.Slots q) rd s at asked own later comes
   within (want.Slot slot q) rd s at asked own later comes = requested (want.Slot slot q) rd s at asked own later comes
   within (want.Fds q) rd s at asked own later comes = absurd own
   within (want.Fd fd q) rd s at asked own later comes = requested (want.Fd fd q) rd s at asked own later comes
@@ -101,6 +132,13 @@ module _ (w : WorldState) (b : ActorState) (e : Event) where
   by_phase phase.Starting q at reads wants comes =
       let is : want.Start (child_name b.name (next_start b)) ≡ q = cc in
       Started (record { at = at; ready = reads; is = subst (λ y. ComesOf w b y e) (sym is) comes })
+  by_phase (phase.Opening slot tag) q at reads wants comes =
+      let is : want.Slot slot (slot_want.Open tag (a0 b)) ≡ q = cc in
+      let same : e ≡ event_for w.cells b (want.Slot slot (slot_want.Open tag (a0 b))) = subst (λ y. ComesOf w b y e) (sym is) comes in
+      Opens (record { slot = slot; tag = tag; at = at; inside = reads.0; pages = reads.1; is = same ∙ ap (event.Slot slot (slot_ask.Open tag (a0 b))) (opens_so (slot_in w.cells slot) tag (a0 b)) })
+  by_phase (phase.Releasing slot) q at reads wants comes =
+      let is : want.Slots (directory_ask.Release slot) ≡ q = cc in
+      Releases (record { slot = slot; at = at; is = subst (λ y. ComesOf w b y e) (sym is) comes })
   by_phase (phase.Ending x) q at reads wants comes = let is : ending_want b.unjoined x ≡ q = cc in ending b.unjoined x q at refl is comes
   by_phase (phase.Ended x) q at reads wants comes = absurd cc
 
@@ -113,20 +151,49 @@ between_reads : (i : Image) (x : ActorState) (p : Phase) → IsBetween p → Rea
 between_reads i x phase.Running h = tt
 between_reads i x (phase.Within q) h = absurd h
 between_reads i x phase.Starting h = absurd h
+between_reads i x (phase.Opening slot tag) h = absurd h
+between_reads i x (phase.Releasing slot) h = absurd h
 between_reads i x (phase.Ending e) h = tt
 between_reads i x (phase.Ended e) h = tt
 
--- one that leaves its phase between instructions is in nothing more, and one that claimed a life may start a child
-leaves_reads : (i : Image) (x : ActorState) (e : Event) (p : Phase) → Leaves e p → (e ≡ event.Lives lives_ask.Claim lives_reply.Claimed → IsStartable x) → ReadsAs i x p
-leaves_reads i x (event.Lives lives_ask.Claim lives_reply.Claimed) p h ready = subst (ReadsAs i x) (sym h) (ready refl)
-leaves_reads i x (event.Lives lives_ask.Claim lives_reply.Full) p h ready = between_reads i x p h
-leaves_reads i x (event.Lives lives_ask.Claim lives_reply.Released) p h ready = between_reads i x p h
-leaves_reads i x (event.Lives (lives_ask.Release end) r) p h ready = between_reads i x p h
-leaves_reads i x e p h ready = between_reads i x p h
+-- one that leaves its phase between instructions is in nothing more; one that claimed a life may start a child, and one that
+-- claimed a slot may open a tag there
+leaves_reads : (i : Image) (x : ActorState) (e : Event) (p : Phase) → Leaves e p → (e ≡ event.Lives lives_ask.Claim lives_reply.Claimed → IsStartable x)
+    → ((slot tag : ℕ) → e ≡ event.Slots directory_ask.Claim (directory_reply.Claimed slot tag) → (slot < slots_in i) × AsksForPages x) → ReadsAs i x p
+leaves_reads i x (event.Lives lives_ask.Claim lives_reply.Claimed) p h ready opens = subst (ReadsAs i x) (sym h) (ready refl)
+leaves_reads i x (event.Lives lives_ask.Claim lives_reply.Full) p h ready opens = between_reads i x p h
+leaves_reads i x (event.Lives lives_ask.Claim lives_reply.Released) p h ready opens = between_reads i x p h
+leaves_reads i x (event.Lives (lives_ask.Release end) r) p h ready opens = between_reads i x p h
+leaves_reads i x (event.Slots directory_ask.Claim (directory_reply.Claimed slot tag)) p h ready opens = subst (ReadsAs i x) (sym h) (opens slot tag refl)
+leaves_reads i x (event.Slots directory_ask.Claim directory_reply.Full) p h ready opens = between_reads i x p h
+leaves_reads i x (event.Slots directory_ask.Claim directory_reply.Released) p h ready opens = between_reads i x p h
+leaves_reads i x (event.Slots (directory_ask.Release slot) r) p h ready opens = between_reads i x p h
+leaves_reads i x (event.Slot slot q slot_reply.Closed) p h ready opens = subst (ReadsAs i x) (sym h) tt
+leaves_reads i x (event.Slot slot q r) p h ready opens = between_reads i x p h
+leaves_reads i x e p h ready opens = between_reads i x p h
+
+-- an actor is about to open a tag only once it claimed the slot for it
+pub opens_by_claim : (e : Event) (p : Phase) (slot tag : ℕ) → Leaves e p → p ≡ phase.Opening slot tag → e ≡ event.Slots directory_ask.Claim (directory_reply.Claimed slot tag)
+opens_by_claim (event.Lives lives_ask.Claim lives_reply.Claimed) p slot tag h is = let f : phase.Starting ≡ phase.Opening slot tag = sym h ∙ is in absurd cc
+opens_by_claim (event.Lives lives_ask.Claim lives_reply.Full) p slot tag h is = absurd (subst IsBetween is h)
+opens_by_claim (event.Lives lives_ask.Claim lives_reply.Released) p slot tag h is = absurd (subst IsBetween is h)
+opens_by_claim (event.Lives (lives_ask.Release end) r) p slot tag h is = absurd (subst IsBetween is h)
+opens_by_claim (event.Slots directory_ask.Claim (directory_reply.Claimed s t)) p slot tag h is =
+    let same : phase.Opening s t ≡ phase.Opening slot tag = sym h ∙ is in
+    let first : s ≡ slot = cc in
+    let second : t ≡ tag = cc in
+    ap (λ n. event.Slots directory_ask.Claim (directory_reply.Claimed n t)) first ∙ ap (λ n. event.Slots directory_ask.Claim (directory_reply.Claimed slot n)) second
+opens_by_claim (event.Slots directory_ask.Claim directory_reply.Full) p slot tag h is = absurd (subst IsBetween is h)
+opens_by_claim (event.Slots directory_ask.Claim directory_reply.Released) p slot tag h is = absurd (subst IsBetween is h)
+opens_by_claim (event.Slots (directory_ask.Release s) r) p slot tag h is = absurd (subst IsBetween is h)
+opens_by_claim (event.Slot s q slot_reply.Closed) p slot tag h is = let f : phase.Releasing s ≡ phase.Opening slot tag = sym h ∙ is in absurd cc
+opens_by_claim (event.Slot s q r) p slot tag h is = absurd (subst IsBetween is h)
+opens_by_claim e p slot tag h is = absurd (subst IsBetween is h)
 
 -- a life is claimed by an actor that is about to start a child, and by no other
 claims_ready : (i : Image) (b : ActorState) (x : Want) (c : Cells) (N : ℕ → Type 0) → IsRequest N b x → event_for c b x ≡ event.Lives lives_ask.Claim lives_reply.Claimed → IsStartable b
 claims_ready i b (want.Lives lives_ask.Claim) c N own is = own
+claims_ready i b (want.Slots q) c N own is = absurd cc
 claims_ready i b (want.Slot slot q) c N own is = absurd cc
 claims_ready i b (want.Fd fd q) c N own is = absurd cc
 claims_ready i b q c N own is = absurd own
@@ -135,6 +202,8 @@ happens_ready : (w : WorldState) (b : ActorState) (e : Event) → Happens w b e 
 happens_ready w b e (Requested r) is = claims_ready w.image b r.want w.cells _ r.own (sym r.is ∙ is)
 happens_ready w b e (Joined j) is = let f = sym j.join.is ∙ is in absurd cc
 happens_ready w b e (Started s) is = s.ready
+happens_ready w b e (Opens o) is = let f = sym o.is ∙ is in absurd cc
+happens_ready w b e (Releases r) is = let f = sym r.is ∙ is in absurd cc
 happens_ready w b e (LastJoined j) is = let f = sym j.join.is ∙ is in absurd cc
 happens_ready w b e (Ended f) is = let g = sym f.is ∙ is in absurd cc
 
@@ -142,8 +211,34 @@ claimed_startable : (i : Image) (b : ActorState) (e : Event) → e ≡ event.Liv
 unfolding takes
 claimed_startable i b e is ready = subst (λ y. IsStartable (takes i b y)) (sym is) (startable_at b phase.Starting ready)
 
-pub takes_reads : (w : WorldState) (b : ActorState) (e : Event) → Happens w b e → ReadsAs w.image (takes w.image b e) (takes w.image b e).phase
-takes_reads w b e h = leaves_reads w.image (takes w.image b e) e (takes w.image b e).phase (takes_between w.image b e) (λ is. claimed_startable w.image b e is (happens_ready w b e h is))
+-- a slot is claimed by an actor that asks for pages that a tag may have, and is one of the directory's
+claims_slot : (b : ActorState) (x : Want) (c : Cells) (N : ℕ → Type 0) (slot tag : ℕ) → IsRequest N b x → event_for c b x ≡ event.Slots directory_ask.Claim (directory_reply.Claimed slot tag)
+    → AsksForPages b × (directory_reply_of c.places directory_ask.Claim ≡ directory_reply.Claimed slot tag)
+claims_slot b (want.Slots directory_ask.Claim) c N slot tag own is = (own, cc)
+claims_slot b (want.Slots (directory_ask.Release place)) c N slot tag own is = absurd own
+claims_slot b (want.Slot s q) c N slot tag own is = absurd cc
+claims_slot b (want.Fd fd q) c N slot tag own is = absurd cc
+claims_slot b (want.Lives q) c N slot tag own is = absurd cc
+claims_slot b q c N slot tag own is = absurd own
+
+pub happens_claim : (w : WorldState) (b : ActorState) (e : Event) (slot tag : ℕ) → Happens w b e → e ≡ event.Slots directory_ask.Claim (directory_reply.Claimed slot tag)
+    → AsksForPages b × (directory_reply_of w.cells.places directory_ask.Claim ≡ directory_reply.Claimed slot tag)
+happens_claim w b e slot tag (Requested r) is = claims_slot b r.want w.cells _ slot tag r.own (sym r.is ∙ is)
+happens_claim w b e slot tag (Joined j) is = let f = sym j.join.is ∙ is in absurd cc
+happens_claim w b e slot tag (Started s) is = let f = sym s.is ∙ is in absurd cc
+happens_claim w b e slot tag (Opens o) is = let f = sym o.is ∙ is in absurd cc
+happens_claim w b e slot tag (Releases r) is = let f = sym r.is ∙ is in absurd cc
+happens_claim w b e slot tag (LastJoined j) is = let f = sym j.join.is ∙ is in absurd cc
+happens_claim w b e slot tag (Ended f) is = let g = sym f.is ∙ is in absurd cc
+
+claimed_pages : (i : Image) (b : ActorState) (e : Event) (slot tag : ℕ) → e ≡ event.Slots directory_ask.Claim (directory_reply.Claimed slot tag) → AsksForPages b → AsksForPages (takes i b e)
+unfolding takes
+claimed_pages i b e slot tag is pages = subst (λ y. AsksForPages (takes i b y)) (sym is) pages
+
+pub takes_reads : (w : WorldState) (b : ActorState) (e : Event) → GivesBelow (slots_in w.image) w.cells.places → Happens w b e → ReadsAs w.image (takes w.image b e) (takes w.image b e).phase
+takes_reads w b e sound h =
+    leaves_reads w.image (takes w.image b e) e (takes w.image b e).phase (takes_between w.image b e) (λ is. claimed_startable w.image b e is (happens_ready w b e h is))
+    (λ slot tag is. let c = happens_claim w b e slot tag h is in (claimed_inside (slots_in w.image) w.cells.places slot tag sound c.1, claimed_pages w.image b e slot tag is c.0))
 
 -- what a join makes of the actor, by what it was at
 pub joined_at : (b : ActorState) (p : Phase) (x : End) (k fuel : ℕ) → b.phase ≡ p

@@ -1,6 +1,6 @@
 -- Private memory over an instruction and over an event.
 use Rattle.std.proofs.Common.{◌≡◌, ℕ, zero, suc, ◌+◌, ◌-◌, Bool, true, false, refl, sym, ap, subst, ◌∙◌, arith}
-use Rattle.std.specs.Prelude.{Option, Some, None, option_map, option_and_then, not, ◌&&◌, ◌==◌, nat_lt, nat_le, if◌then◌else◌, List, length, slice_get}
+use Rattle.std.specs.Prelude.{Option, Some, None, option_map, option_and_then, not, ◌&&◌, ◌==◌, nat_lt, nat_le, if◌then◌else◌, length, slice_get}
 use Rattle.wedge_base.specs.Bytes.{number_of, bytes_of}
 use Rattle.wedge_base.specs.Images.{Image, fetch, read_text, slot_of}
 use Rattle.wedge_base.specs.Memory.{range_at, read_range}
@@ -10,6 +10,9 @@ use Rattle.wedge_base.specs.declared.image.MemoryRange.{MemoryRange}
 use Rattle.wedge_base.specs.declared.events.Event.{Event}
 use Rattle.wedge_base.specs.declared.events.Event.TheVariants as event
 use Rattle.wedge_base.specs.declared.cells.LivesAsk.TheVariants as lives_ask
+use Rattle.wedge_base.specs.declared.cells.DirectoryAsk.TheVariants as directory_ask
+use Rattle.wedge_base.specs.declared.cells.DirectoryReply.TheVariants as directory_reply
+use Rattle.wedge_base.specs.declared.cells.SlotAsk.TheVariants as slot_ask
 use Rattle.wedge_base.specs.declared.cells.SlotReply.TheVariants as slot_reply
 use Rattle.wedge_base.specs.declared.cells.StreamReply.TheVariants as reply
 use Rattle.wedge_base.specs.declared.rights.End.TheVariants as end_
@@ -20,17 +23,21 @@ use Rattle.rv_hart.specs.declared.Hart.{Hart}
 use Rattle.rv_hart.specs.declared.Need.{Need}
 use Rattle.rv_hart.specs.declared.Need.TheVariants as need
 use Rattle.rv_hart.specs.Local.{local}
-use Rattle.sthread_life.specs.Actors.{ActorState, answers, ends, refuses}
+use Rattle.sthread_life.specs.Actors.{ActorState, right_of, denies, ends, refuses}
 use Rattle.sthread_life.specs.Private.{load_window, load_range, store_window, store_range, has_loaded, fits_read}
 use Rattle.wedge_base.specs.Names.{most_parts}
 use Rattle.wedge_base.specs.Sheets.{Draft, takes_tag, takes_fd, first_excess}
+use Rattle.wedge_base.specs.Maps.{has}
+use Rattle.wedge_base.specs.Rights.{at_least}
 use Rattle.wedge_base.specs.declared.rights.Denial.{Denial}
+use Rattle.wedge_base.specs.declared.rights.Denial.TheVariants as denial
 use Rattle.wedge_base.specs.declared.cells.LivesReply.TheVariants as lives_reply
 use Rattle.wedge_base.specs.declared.rights.FdBits.{FdBits}
 use Rattle.wedge_base.specs.declared.rights.Right.{Right}
+use Rattle.wedge_base.specs.declared.rights.Right.TheVariants as right
 use Rattle.sthread_life.specs.Children.{is_child, without_child}
 use Rattle.sthread_life.proofs.Between.{joined_is}
-use Rattle.sthread_life.specs.Calls.{serves, exit, is_procedure, create, create_with, create_checked, create_allowed, join, fd_append, most_drafts, sc_new, right_asked, bits_asked, add_right, add_right_to, sc_mem_add, add_bits, add_bits_to, sc_fd_add, draft_call, a0, a1, a2, a3, a7}
+use Rattle.sthread_life.specs.Calls.{serves, exit, is_procedure, create, create_with, create_checked, join, are_pages, tag_new, tag_delete, smalloc, free_at, sfree, fd_append, most_drafts, sc_new, right_asked, bits_asked, add_right, add_right_to, sc_mem_add, add_bits, add_bits_to, sc_fd_add, draft_call, a0, a1, a2, a3, a7}
 use Rattle.sthread_life.specs.Local.{needed, executed, fuelled, fetched, step}
 use Rattle.sthread_life.specs.Taking.{runs, loads_by, loads_at, takes}
 use Rattle.sthread_life.specs.Remembering.{LoadGives, StoreWrites, NeedRemembers, InstrRemembers, WordRemembers, EventRemembers}
@@ -111,13 +118,24 @@ create_keeps i a (Some d) = keeps_if a (refuses a code.Bad) _ (not (is_procedure
 join_keeps : (a : ActorState) → Keeps a (join a)
 join_keeps a = keeps_if a _ (refuses a code.NoSuch) (is_child a.unjoined (a0 a)) refl refl
 
+smalloc_keeps : (a : ActorState) → Keeps a (smalloc a)
+smalloc_keeps a = keeps_if a (refuses a code.Bad) _ (a1 a == 0) refl (keeps_if a _ (denies a (denial.Tag (a0 a) right.ReadWrite)) (at_least (right_of a (a0 a)) right.ReadWrite) refl refl)
+
+free_keeps : (a : ActorState) (p : Option Place) → Keeps a (free_at a p)
+free_keeps a None = refl
+free_keeps a (Some p) = refl
+
 call_keeps : (i : Image) (a : ActorState) (n : ℕ) → Keeps a (serves i a n)
 unfolding serves
 call_keeps i a n =
     keeps_if a (exit a) _ (n == 0) refl
     (keeps_if a (create i a) _ (n == 1) (create_keeps i a (slice_get a.drafts (a0 a)))
     (keeps_if a (join a) _ (n == 2) (join_keeps a)
-    (keeps_if a (fd_append i a) _ (n == 16) (append_keeps i a) (draft_keeps a n))))
+    (keeps_if a (tag_new a) _ (n == 3) (keeps_if a _ (refuses a code.Bad) (are_pages (a0 a)) refl refl)
+    (keeps_if a (tag_delete a) _ (n == 4) (keeps_if a _ (denies a (denial.NotMaker (a0 a))) (has a.made.tags (a0 a)) refl refl)
+    (keeps_if a (smalloc a) _ (n == 5) (smalloc_keeps a)
+    (keeps_if a (sfree a) _ (n == 6) (free_keeps a (slot_of (a0 a)))
+    (keeps_if a (fd_append i a) _ (n == 16) (append_keeps i a) (draft_keeps a n))))))))
 
 -- an instruction
 need_remembers : (i : Image) (ins : Instr) (a : ActorState) (h : Hart) (n : Need) → NeedRemembers i ins.rd a n (needed i ins a h n)
@@ -157,6 +175,12 @@ loads_keep a (Some ins) value = loaded_keeps ins (local ins a.hart).need a value
 pub event_remembers : (i : Image) (a : ActorState) (e : Event) → EventRemembers a e (takes i a e)
 unfolding takes
 event_remembers i a (event.Slot slot q (slot_reply.Loaded value)) = loads_keep (runs a) (option_and_then decode (fetch i a.hart.pc)) value
+event_remembers i a (event.Slots (directory_ask.Release place) r) = refl
+event_remembers i a (event.Slots directory_ask.Claim (directory_reply.Claimed place number)) = refl
+event_remembers i a (event.Slots directory_ask.Claim directory_reply.Full) = refl
+event_remembers i a (event.Slots directory_ask.Claim directory_reply.Released) = refl
+event_remembers i a (event.Slot slot (slot_ask.Sfree offset live) (slot_reply.Denied tag wants)) = refl
+event_remembers i a (event.Slot slot (slot_ask.Open tag pages) slot_reply.Opened) = refl
 event_remembers i a (event.Slot slot q r) = refl
 event_remembers i a (event.Fd fd q reply.Opened) = refl
 event_remembers i a (event.Fd fd q (reply.Given bytes)) = refl

@@ -1,6 +1,8 @@
 pub mod WritingRanges
 pub mod FuelGiven
+pub mod SlotsHeld
 pub mod Resting
+pub mod Directing
 pub mod Between
 pub mod Named
 pub mod Meeting
@@ -14,6 +16,8 @@ pub mod DraftEdits
 pub mod PutBack
 pub mod Creating
 pub mod Keeping
+pub mod Checking
+pub mod TagMoments
 pub mod Mediating
 pub mod OneCell
 pub mod CellChanging
@@ -24,6 +28,9 @@ pub mod Distinct
 pub mod FamilyKept
 pub mod FuelSums
 pub mod FamilyRuns
+pub mod Bounding
+pub mod Occupying
+pub mod OccupiedRuns
 pub mod WorkLeft
 pub mod Canonical
 pub mod LyingBelow

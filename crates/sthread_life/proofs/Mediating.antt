@@ -1,7 +1,7 @@
 -- Each moment of a run: each request is mediated, and each end has its cause.
-use Rattle.std.proofs.Common.{◌≡◌, ◌+◌, ◌↔◌, ℕ, zero, suc, Bool, true, false, List, [], ◌∷◌, refl, sym, ap, subst, ◌∙◌}
+use Rattle.std.proofs.Common.{◌≡◌, ◌+◌, ℕ, zero, suc, Bool, true, false, List, [], ◌∷◌, refl, sym, ap, subst, ◌∙◌}
 use Rattle.wedge_base.specs.Lives.{most_lives, lives_next}
-use Rattle.std.specs.Prelude.{Option, Some, None, nat_lt, is_none, IsSomeAnd, option_map, not, ◌&&◌, ◌+◌, slice_get, slice_set, slice_range, option_and_then, if◌then◌else◌}
+use Rattle.std.specs.Prelude.{Option, Some, None, nat_lt, IsSomeAnd, option_map, not, ◌+◌, slice_get, slice_set, slice_range, option_and_then, if◌then◌else◌}
 use Rattle.wedge_base.specs.Bytes.{number_of}
 use Rattle.wedge_base.specs.Images.{Image, fetch}
 use Rattle.wedge_base.specs.Rights.{append_bit}
@@ -21,6 +21,9 @@ use Rattle.wedge_base.specs.declared.events.Want.TheVariants as want
 use Rattle.wedge_base.specs.declared.events.Event.{Event}
 use Rattle.wedge_base.specs.declared.events.Event.TheVariants as event
 use Rattle.wedge_base.specs.declared.events.Turn.{Turn}
+use Rattle.wedge_base.specs.Directories.{Directory, Claim, claim, claim_reply}
+use Rattle.wedge_base.specs.declared.cells.DirectoryAsk.TheVariants as directory_ask
+use Rattle.wedge_base.specs.declared.cells.DirectoryReply.TheVariants as directory_reply
 use Rattle.wedge_base.specs.declared.cells.Live.{Live}
 use Rattle.wedge_base.specs.declared.cells.LivesAsk.TheVariants as lives_ask
 use Rattle.wedge_base.specs.declared.cells.LivesReply.TheVariants as lives_reply
@@ -41,25 +44,27 @@ use Rattle.rv_hart.specs.declared.Need.TheVariants as need
 use Rattle.rv_hart.specs.Local.{local, put, extended}
 use Rattle.sthread_life.specs.declared.phase.Phase.{Phase}
 use Rattle.sthread_life.specs.declared.phase.Phase.TheVariants as phase
-use Rattle.sthread_life.specs.Actors.{ActorState, right_of, bits_of, ends, refuses, spends, answers}
+use Rattle.sthread_life.specs.Actors.{ActorState, bits_of, ends, refuses, spends, answers}
 use Rattle.sthread_life.specs.Calls.{a0, a2}
 use Rattle.sthread_life.specs.Private.{has_stored}
 use Rattle.sthread_life.specs.Local.{step, rest, has_ended, is_running, run_local}
 use Rattle.sthread_life.specs.Children.{without_child}
 use Rattle.sthread_life.specs.Taking.{pair, runs, loads_by, loads_at, answered_end, has_started, takes_lives, takes, child_of, begun}
 use Rattle.sthread_life.specs.Cells.{Cells, held, slot_in, stream_in, cells_after}
-use Rattle.sthread_life.specs.Worlds.{WorldState, opening, actor_named, put_actor, with_begun, happened, turn_of, Runs}
-use Rattle.sthread_life.specs.Requests.{Access, Request, Loads, Stores, Appends, Creates, request_at, in_tag, to_stream}
+use Rattle.sthread_life.specs.Worlds.{WorldState, opening, actor_named, put_actor, with_begun, turn_of, Runs}
+use Rattle.sthread_life.specs.Requests.{Access, Request, Loads, Stores, Appends, Creates, Deletes, Allots, Frees, request_at, in_tag, to_stream}
 use Rattle.sthread_life.specs.Allowed.{may_use, lacks, is_refused, is_source, next_word, IsDone, denied}
 use Rattle.sthread_life.specs.Moments.{EachMoment, TurnHas, with_actor, is_use, NothingDenied, IsChecked, ComesToEvent, IsMet, IsAnswered, MeetsWith, AnswersAt}
-use Rattle.sthread_life.specs.Ends.{GoesTo, is_end_event, end_of, end_at, end_by, reply_end, event_end}
-use Rattle.sthread_life.specs.Refusals.{RefusesIn, RefusesAfter, stream_refusal, refusal_after, refused}
+use Rattle.sthread_life.specs.Ends.{GoesTo, is_end_event, end_of, end_at, end_by, reply_end}
+use Rattle.sthread_life.specs.Refusals.{full, no_such, bad, RefusesIn, RefusesAfter, slot_refuses, stream_refuses, is_refusal, stream_refusal, refused}
 use Rattle.sthread_life.specs.Remembering.{WordRemembers, EventRemembers}
 use Rattle.sthread_life.specs.Laws.{IsLawful, MomentsAreLawful}
-use Rattle.sthread_life.proofs.Named.{found_name, put_put, named_put, named_begun, begun_noted, same_noted}
+use Rattle.sthread_life.proofs.Checking.{kept, put_there, checked_denied, checked_allowed, after, stayed, same_slots, same_streams, pair_on, slot_world, stream_world}
+use Rattle.sthread_life.proofs.TagMoments.{claim_unused, close_answered, place_answered, free_answered, opened_denials, released_denials, claim_slot_next, close_next, place_next, free_next, opened_next, released_next, slots_told, claim_slot_refused, close_refused, place_refused, free_refused, claim_slot_passed, close_passed, place_passed, free_passed, step_makes, event_makes}
+use Rattle.sthread_life.proofs.Named.{found_name, put_put, named_begun, begun_noted}
 use Rattle.sthread_life.proofs.Keeping.{step_remembers, event_remembers}
 use Rattle.sthread_life.proofs.Settling.{AllReady, turn_happens, turn_ready, opening_ready}
-use Rattle.sthread_life.proofs.Meeting.{request_for, refusal_for, IsRequest, IsStartable, IsCheckedNow, MetBy, InstrLoads, NeedLoads, LoadsAt, stuck, step_comes}
+use Rattle.sthread_life.proofs.Meeting.{wanted_for, request_for, refusal_for, IsRequest, IsStartable, IsCheckedNow, MetBy, InstrLoads, NeedLoads, LoadsAt, stuck, step_comes}
 use Rattle.sthread_life.specs.Paying.{cost_at, cost_by, given_by, brought_by}
 use Rattle.sthread_life.proofs.Paying.{step_pays, event_pays}
 use Rattle.sthread_life.specs.Drafting.{drafts_after}
@@ -67,49 +72,17 @@ use Rattle.sthread_life.proofs.DraftEdits.{step_edits, event_edits}
 use Rattle.sthread_life.proofs.Going.{IsNext, step_goes}
 use Rattle.sthread_life.proofs.Resting.{steps_step, stays, goes_on, running_is, rest-stops}
 use Rattle.sthread_life.proofs.Between.{event_for, IsJoin, joined_is, takes_name, turn_parts, loaded_runs}
-use Rattle.sthread_life.proofs.Happening.{Happens, Requested, Joined, Started, LastJoined, Ended, joined_at}
+use Rattle.sthread_life.proofs.Happening.{Happens, Requested, Joined, Started, Opens, Releases, LastJoined, Ended, joined_at}
 use Rattle.sthread_life.proofs.Families.{step_family, event_family}
-
--- putting what a place holds there changes nothing
-pub set_held : {X : Type 0} (xs : List (Option X)) (n : ℕ) (x : Option X) → held (slice_get xs n) ≡ x → slice_set xs n x ≡ xs
-set_held [] n x e = refl
-set_held (y ∷ ys) zero x e = ap (λ z. z ∷ ys) (sym e)
-set_held (y ∷ ys) (suc n) x e = ap (λ zs. y ∷ zs) (set_held ys n x e)
 
 -- ---- an instruction
 
--- no denial, where the actor of the name keeps its own
-kept : (w : WorldState) (cells : Cells) (b x : ActorState) → x.name ≡ b.name → x.denials ≡ b.denials → NothingDenied (with_actor w b) (record w { cells = cells; actors = put_actor w.actors x })
-kept w cells b x n d name = same_noted w.actors b x name n d
-
--- the actor that was put is there
-put_there : (w : WorldState) (b x a : ActorState) → actor_named w.actors b.name ≡ Some a → x.name ≡ b.name → actor_named (put_actor w.actors x) b.name ≡ Some x
-put_there w b x a named n =
-    subst (λ m. actor_named (put_actor w.actors x) m ≡ Some x) n (named_put w.actors x a (subst (λ m. actor_named w.actors m ≡ Some a) (sym n) named))
-
--- what checks a request that lacks a grant, and one that lacks none
-checked_denied : (old : WorldState) (a : ActorState) (r : Request) (e : Option Event) (new : WorldState) (d : Denial) → lacks a r ≡ Some d → (IsDone a r e (actor_named new.actors a.name) → ⊥) → new ≡ with_actor old (denied a r d) → IsChecked old a r e new
-checked_denied old a r e new d lack undone is = record {
-  done = (λ h. absurd (undone h), λ h. let f : false ≡ true = ap (λ (l : Option Denial). is_none l && not (is_refused a r)) (sym lack) ∙ h in absurd cc);
-  denied = λ x y. let same : d ≡ x = let f : Some d ≡ Some x = sym lack ∙ y in cc in subst (λ z. new ≡ with_actor old (denied a r z)) same is;
-  allowed = λ y. let f : Some d ≡ None = sym lack ∙ y in absurd cc;
-  refused = λ y z. let f : Some d ≡ None = sym lack ∙ y in absurd cc;
-}
-
-checked_allowed : (old : WorldState) (a : ActorState) (r : Request) (e : Option Event) (new : WorldState) (t : Bool) → lacks a r ≡ None → is_refused a r ≡ t → (IsDone a r e (actor_named new.actors a.name) ↔ (not t ≡ true)) → NothingDenied old new → (t ≡ true → new.cells ≡ old.cells) → IsChecked old a r e new
-checked_allowed old a r e new t lack refused done none stay =
-    let is : (is_none (lacks a r) && not (is_refused a r)) ≡ not t = ap (λ (l : Option Denial). is_none l && not (is_refused a r)) lack ∙ ap not refused in
-    record {
-      done = (λ h. is ∙ done.0 h, λ h. done.1 (sym is ∙ h));
-      denied = λ x y. let f : None ≡ Some x = sym lack ∙ y in absurd cc;
-      allowed = λ y. none;
-      refused = λ y z. stay (sym refused ∙ z);
-    }
-
 -- a request that is checked at once
-checked_now : (w : WorldState) (b p x a : ActorState) (d : Draft) → actor_named w.actors b.name ≡ Some a → p.name ≡ b.name → p.denials ≡ b.denials → x.name ≡ b.name → p.phase ≡ phase.Running → IsCheckedNow p (Creates d) x
-    → IsChecked (with_actor w b) p (Creates d) None (with_actor w x)
-checked_now w b p x a d named pn pd xn run now = by_denial (lacks p (Creates d)) refl (is_refused p (Creates d)) refl
+checked_now : (w : WorldState) (b p x a : ActorState) (r : Request) → actor_named w.actors b.name ≡ Some a → p.name ≡ b.name → p.denials ≡ b.denials → x.name ≡ b.name → p.phase ≡ phase.Running
+    → ((o : Option ActorState) → IsDone p r None o → o ≡ Some (record p { phase = phase.Within (wanted_for p r) })) → ((o : Option ActorState) → o ≡ Some (record p { phase = phase.Within (wanted_for p r) }) → IsDone p r None o)
+    → ((y : Denial) → (denied p r y).phase ≡ phase.Running) → ((y : Denial) → (denied p r y).name ≡ p.name) → IsCheckedNow p r x
+    → IsChecked (with_actor w b) p r None (with_actor w x)
+checked_now w b p x a r named pn pd xn run from to runs_on same_name now = by_denial (lacks p r) refl (is_refused p r) refl
   where
     found : actor_named (put_actor w.actors x) p.name ≡ Some x
     found = subst (λ m. actor_named (put_actor w.actors x) m ≡ Some x) (sym pn) (put_there w b x a named xn)
@@ -117,21 +90,21 @@ checked_now w b p x a d named pn pd xn run now = by_denial (lacks p (Creates d))
     put_again_at : (y : ActorState) → y.name ≡ b.name → x ≡ y → with_actor w x ≡ with_actor (with_actor w b) y
     put_again_at y yn is = ap (with_actor w) is ∙ ap (λ (as_ : List ActorState). record w { actors = as_ }) (sym (put_put w.actors b y yn))
 
-    not_within : x.phase ≡ phase.Running → Some x ≡ Some (record p { phase = phase.Within (want.Lives lives_ask.Claim) }) → ⊥
-    not_within runs e = let same : x ≡ record p { phase = phase.Within (want.Lives lives_ask.Claim) } = cc in let f : phase.Running ≡ phase.Within (want.Lives lives_ask.Claim) = sym runs ∙ ap (λ (y : ActorState). y.phase) same in cc
+    not_within : x.phase ≡ phase.Running → Some x ≡ Some (record p { phase = phase.Within (wanted_for p r) }) → ⊥
+    not_within runs e = let same : x ≡ record p { phase = phase.Within (wanted_for p r) } = cc in let f : phase.Running ≡ phase.Within (wanted_for p r) = sym runs ∙ ap (λ (y : ActorState). y.phase) same in cc
 
-    denied_runs : (y : Denial) → x ≡ denied p (Creates d) y → x.phase ≡ phase.Running
-    denied_runs y is = ap (λ (z : ActorState). z.phase) is
+    denied_runs : (y : Denial) → x ≡ denied p r y → x.phase ≡ phase.Running
+    denied_runs y is = ap (λ (z : ActorState). z.phase) is ∙ runs_on y
 
-    by_denial : (o : Option Denial) → lacks p (Creates d) ≡ o → (t : Bool) → is_refused p (Creates d) ≡ t → IsChecked (with_actor w b) p (Creates d) None (with_actor w x)
+    by_denial : (o : Option Denial) → lacks p r ≡ o → (t : Bool) → is_refused p r ≡ t → IsChecked (with_actor w b) p r None (with_actor w x)
     by_denial (Some y) lack t refused =
-        checked_denied (with_actor w b) p (Creates d) None (with_actor w x) y lack (λ e. not_within (denied_runs y (now.denied y lack)) (sym found ∙ e.1)) (put_again_at (denied p (Creates d) y) pn (now.denied y lack))
+        checked_denied (with_actor w b) p r None (with_actor w x) y lack (λ e. not_within (denied_runs y (now.denied y lack)) (sym found ∙ from _ e)) (put_again_at (denied p r y) (same_name y ∙ pn) (now.denied y lack))
     by_denial None lack false refused =
         let is = now.done lack refused in
-        checked_allowed (with_actor w b) p (Creates d) None (with_actor w x) false lack refused (λ e. refl, λ e. (refl, found ∙ ap Some is)) (kept w w.cells b x xn (ap (λ (z : ActorState). z.denials) is ∙ pd)) (λ z. absurd cc)
+        checked_allowed (with_actor w b) p r None (with_actor w x) false lack refused (λ e. refl, λ e. to _ (found ∙ ap Some is)) (kept w w.cells b x xn (ap (λ (z : ActorState). z.denials) is ∙ pd)) (λ z. absurd cc)
     by_denial None lack true refused =
         let is = now.refused lack refused in
-        checked_allowed (with_actor w b) p (Creates d) None (with_actor w x) true lack refused (λ e. absurd (not_within is.0 (sym found ∙ e.1)), λ e. absurd cc) (kept w w.cells b x xn (is.1 ∙ pd)) (λ z. refl)
+        checked_allowed (with_actor w b) p r None (with_actor w x) true lack refused (λ e. absurd (not_within is.0 (sym found ∙ from _ e)), λ e. absurd cc) (kept w w.cells b x xn (is.1 ∙ pd)) (λ z. refl)
 
 comes_there : (w : WorldState) (b p x : ActorState) → p.name ≡ b.name → (q : Want) × (x ≡ record p { phase = phase.Within q }) → ComesToEvent (with_actor w b) p (with_actor w x)
 comes_there w b p x pn q = (q.0, ap (with_actor w) q.1 ∙ ap (λ (as_ : List ActorState). record w { actors = as_ }) (sym (put_put w.actors b (record p { phase = phase.Within q.0 }) pn)))
@@ -140,7 +113,10 @@ met_by : (w : WorldState) (b p x a : ActorState) (r : Request) → actor_named w
 met_by w b p x a (Loads y rd s) named pn pd xn run m = comes_there w b p x pn m
 met_by w b p x a (Stores y value) named pn pd xn run m = comes_there w b p x pn m
 met_by w b p x a (Appends fd s bytes) named pn pd xn run m = comes_there w b p x pn m
-met_by w b p x a (Creates d) named pn pd xn run m = checked_now w b p x a d named pn pd xn run m
+met_by w b p x a (Creates d) named pn pd xn run m = checked_now w b p x a (Creates d) named pn pd xn run (λ o e. e.1) (λ o e. (refl, e)) (λ y. refl) (λ y. refl) m
+met_by w b p x a (Deletes tag) named pn pd xn run m = checked_now w b p x a (Deletes tag) named pn pd xn run (λ o e. e.1) (λ o e. (refl, e)) (λ y. refl) (λ y. refl) m
+met_by w b p x a (Allots tag size) named pn pd xn run m = checked_now w b p x a (Allots tag size) named pn pd xn run (λ o e. e.1) (λ o e. (refl, e)) (λ y. refl) (λ y. refl) m
+met_by w b p x a (Frees q g) named pn pd xn run m = comes_there w b p x pn m
 
 met_as : (w : WorldState) (b p x a : ActorState) (o : Option Request) → actor_named w.actors b.name ≡ Some a → p.name ≡ b.name → p.denials ≡ b.denials → x.name ≡ b.name → p.phase ≡ phase.Running
     → (o ≡ None → x.denials ≡ p.denials) → ((r : Request) → o ≡ Some r → MetBy p r x) → IsMet (with_actor w b) p o (with_actor w x)
@@ -174,20 +150,6 @@ one_more i (suc n) a true e runs =
 
 -- ---- an event
 
--- the world after an event
-abbrev after : WorldState → ActorState → Event → WorldState
-after w b e = (happened w b e).world
-
--- one that leaves the cells as they are
-stayed : (w : WorldState) (b x : ActorState) (cells : Cells) → cells ≡ w.cells → x.name ≡ b.name → record w { cells = cells; actors = put_actor w.actors x } ≡ with_actor (with_actor w b) x
-stayed w b x cells same n = ap (λ (c : Cells). record w { cells = c; actors = put_actor w.actors x }) same ∙ ap (λ (as_ : List ActorState). record w { actors = as_ }) (sym (put_put w.actors b x n))
-
-same_slots : (w : WorldState) (slot : ℕ) (g : Option Segment) → slot_in w.cells slot ≡ g → record w.cells { slots = slice_set w.cells.slots slot g } ≡ w.cells
-same_slots w slot g there = ap (λ (gs : List (Option Segment)). record w.cells { slots = gs }) (set_held w.cells.slots slot g there)
-
-same_streams : (w : WorldState) (fd : ℕ) (s : Option Stream) → stream_in w.cells fd ≡ s → record w.cells { streams = slice_set w.cells.streams fd s } ≡ w.cells
-same_streams w fd s there = ap (λ (ss : List (Option Stream)). record w.cells { streams = ss }) (set_held w.cells.streams fd s there)
-
 -- a load that has its value keeps the name and the denials
 loaded_keeps : (ins : Instr) (n : Need) (a : ActorState) (value : ℕ) → ((loads_by ins n a value).name ≡ a.name) × ((loads_by ins n a value).denials ≡ a.denials)
 loaded_keeps ins need.Done a value = (refl, refl)
@@ -204,16 +166,6 @@ loads_keep a (Some ins) value = loaded_keeps ins (local ins a.hart).need a value
 -- an access inside the bytes of the tag that lives in the slot
 abbrev access : ℕ → ℕ → ℕ → Segment → Access
 access slot offset width g = record { place = record { slot = slot; offset = offset }; width = width; living = g }
-
-abbrev pair_on : ActorState → Segment → Option Live
-pair_on b g = Some (record { tag = g.tag; right = right_of b g.tag })
-
--- the world after an event on a slot where g lives, and on a stream
-abbrev slot_world : WorldState → ActorState → ℕ → Option Segment → SlotAsk → SlotReply → WorldState
-slot_world w b slot g q r = record w { cells = record w.cells { slots = slice_set w.cells.slots slot (slot_after g q r) }; actors = put_actor w.actors (takes w.image b (event.Slot slot q r)) }
-
-abbrev stream_world : WorldState → ActorState → ℕ → Option Stream → StreamAsk → StreamReply → WorldState
-stream_world w b fd s q r = record w { cells = record w.cells { streams = slice_set w.cells.streams fd (stream_after s q r) }; actors = put_actor w.actors (takes w.image b (event.Fd fd q r)) }
 
 -- the actor that a load leaves
 abbrev loaded_as : ActorState → ℕ → ℕ → Bool → ℕ → ActorState
@@ -339,6 +291,10 @@ claimed_for w b None ready there = let f : None ≡ Some ready.draft = sym there
 claimed_for w b (Some d) ready there = (claim_answered w b (record w.cells { lives = lives_next w.cells.lives lives_ask.Claim }) (nat_lt w.cells.lives most_lives), refl)
 
 answered_for : (w : WorldState) (b a : ActorState) (rd : ℕ) (s : Bool) (q : Want) → actor_named w.actors b.name ≡ Some a → IsRequest (LoadsAt w.image b.hart rd s) b q → IsAnsweredFor w b q (request_for w.cells b rd s q)
+answered_for w b a rd s (want.Slots directory_ask.Claim) named own = claim_unused w b (claim w.cells.places) w.cells.places
+answered_for w b a rd s (want.Slot slot (slot_want.Close tag)) named own = close_answered w b a slot tag (slot_in w.cells slot) named refl own.1
+answered_for w b a rd s (want.Slot slot (slot_want.Smalloc tag size)) named own = place_answered w b a slot tag size (slot_in w.cells slot) named refl own.1
+answered_for w b a rd s (want.Slot slot (slot_want.Sfree offset)) named own = free_answered w b a slot offset (slot_in w.cells slot) named refl
 answered_for w b a rd s (want.Slot slot (slot_want.Load offset width)) named own = load_answered w b a slot offset width rd s (slot_in w.cells slot) named own refl
 answered_for w b a rd s (want.Slot slot (slot_want.Store offset width value)) named own = store_answered w b a slot offset width value (slot_in w.cells slot) named refl
 answered_for w b a rd s (want.Fd fd (stream_ask.Append bits bytes)) named own =
@@ -376,6 +332,12 @@ answered_at w b a e named (Joined j) =
 answered_at w b a e named (Started s) =
     subst (λ ph. AnswersAt (with_actor w b) b ph e (after w b e)) (sym s.at)
     (subst (λ y. NothingDenied (with_actor w b) (after w b y) × (is_use y ≡ false)) (sym s.is) (start_unasked w b _, refl))
+answered_at w b a e named (Opens o) =
+    subst (λ ph. AnswersAt (with_actor w b) b ph e (after w b e)) (sym o.at)
+    (subst (λ y. NothingDenied (with_actor w b) (after w b y) × (is_use y ≡ false)) (sym o.is) (unasked w b (event.Slot o.slot (slot_ask.Open o.tag (a0 b)) slot_reply.Opened) refl (opened_denials w.image b o.slot o.tag (a0 b)), refl))
+answered_at w b a e named (Releases r) =
+    subst (λ ph. AnswersAt (with_actor w b) b ph e (after w b e)) (sym r.at)
+    (subst (λ y. NothingDenied (with_actor w b) (after w b y) × (is_use y ≡ false)) (sym r.is) (unasked w b (event.Slots (directory_ask.Release r.slot) directory_reply.Released) refl (released_denials w.image b r.slot), refl))
 answered_at w b a e named (LastJoined j) =
     subst (λ ph. AnswersAt (with_actor w b) b ph e (after w b e)) (sym j.at) (join_unasked w b j.first.0 e j.join)
 answered_at w b a e named (Ended f) =
@@ -386,11 +348,13 @@ answered_at w b a e named (Ended f) =
     end_denials i b x = unfold takes in refl
 
 -- the end of an event
-slot_end : (i : Image) (b : ActorState) (slot : ℕ) (q : SlotAsk) (r : SlotReply) → (end_of (takes i b (event.Slot slot q r)).phase ≡ reply_end r) × ((takes i b (event.Slot slot q r)).name ≡ b.name)
+slot_end : (i : Image) (b : ActorState) (slot : ℕ) (q : SlotAsk) (r : SlotReply) → (end_of (takes i b (event.Slot slot q r)).phase ≡ reply_end q r) × ((takes i b (event.Slot slot q r)).name ≡ b.name)
 unfolding takes
 slot_end i b slot q (slot_reply.Loaded value) =
     let ins = option_and_then decode (fetch i b.hart.pc) in
     (ap end_of (loaded_runs (runs b) ins value refl), (loads_keep (runs b) ins value).0)
+slot_end i b slot (slot_ask.Sfree offset live) (slot_reply.Denied tag wants) = (refl, refl)
+slot_end i b slot (slot_ask.Open tag pages) slot_reply.Opened = (refl, refl)
 slot_end i b slot q r = (refl, refl)
 
 stream_end : (i : Image) (b : ActorState) (fd : ℕ) (q : StreamAsk) (r : StreamReply) → (end_of (takes i b (event.Fd fd q r)).phase ≡ None) × ((takes i b (event.Fd fd q r)).name ≡ b.name)
@@ -412,7 +376,16 @@ unfolding takes
 claim_end i b p true at = ap (λ q. end_by q (event.Lives lives_ask.Claim lives_reply.Claimed)) (sym at)
 claim_end i b p false at = ap (λ q. end_by q (event.Lives lives_ask.Claim lives_reply.Full)) (sym at)
 
+claim_slot_end : (i : Image) (b : ActorState) (o : Option Claim) (d : Directory) → EndsBy i b (phase.Within (want.Slots directory_ask.Claim)) (event.Slots directory_ask.Claim (claim_reply d o))
+unfolding takes
+claim_slot_end i b None d = refl
+claim_slot_end i b (Some c) d = refl
+
 want_end : (w : WorldState) (b : ActorState) (N : ℕ → Type 0) (q : Want) → IsRequest N b q → EndsBy w.image b (phase.Within q) (event_for w.cells b q)
+want_end w b N (want.Slots directory_ask.Claim) own = claim_slot_end w.image b (claim w.cells.places) w.cells.places
+want_end w b N (want.Slot slot (slot_want.Close tag)) own = (slot_end w.image b slot _ _).0
+want_end w b N (want.Slot slot (slot_want.Smalloc tag size)) own = (slot_end w.image b slot _ _).0
+want_end w b N (want.Slot slot (slot_want.Sfree offset)) own = (slot_end w.image b slot _ _).0
 want_end w b N (want.Slot slot (slot_want.Load offset width)) own = (slot_end w.image b slot _ _).0
 want_end w b N (want.Slot slot (slot_want.Store offset width value)) own = (slot_end w.image b slot _ _).0
 want_end w b N (want.Fd fd (stream_ask.Append bits bytes)) own = (stream_end w.image b fd (stream_ask.Append bits bytes) _).0
@@ -424,11 +397,16 @@ unfolding takes
 join_end i b phase.Running k x fuel at live = ap (λ (y : ActorState). end_of y.phase) (joined_at b phase.Running x k fuel at)
 join_end i b (phase.Within q) k x fuel at live = ap (λ (y : ActorState). end_of y.phase) (joined_at b (phase.Within q) x k fuel at)
 join_end i b phase.Starting k x fuel at live = ap (λ (y : ActorState). end_of y.phase) (joined_at b phase.Starting x k fuel at)
+join_end i b (phase.Opening slot tag) k x fuel at live = ap (λ (y : ActorState). end_of y.phase) (joined_at b (phase.Opening slot tag) x k fuel at)
+join_end i b (phase.Releasing slot) k x fuel at live = ap (λ (y : ActorState). end_of y.phase) (joined_at b (phase.Releasing slot) x k fuel at)
 join_end i b (phase.Ending y) k x fuel at live = ap (λ (z : ActorState). end_of z.phase) (joined_at b (phase.Ending y) x k fuel at) ∙ ap end_of at
 join_end i b (phase.Ended y) k x fuel at live = absurd cc
 
 start_end : (i : Image) (b : ActorState) (child : List ℕ) → EndsBy i b phase.Starting (event.Start child)
 start_end i b child = unfold takes in refl
+
+released_end : (i : Image) (b : ActorState) (slot : ℕ) → EndsBy i b (phase.Releasing slot) (event.Slots (directory_ask.Release slot) directory_reply.Released)
+released_end i b slot = unfold takes in refl
 
 last_end : (i : Image) (b : ActorState) (x : End) → EndsBy i b (phase.Ending x) (event.Lives (lives_ask.Release x) lives_reply.Released)
 last_end i b x = unfold takes in refl
@@ -437,6 +415,8 @@ ends_by : (w : WorldState) (b : ActorState) (e : Event) → Happens w b e → En
 ends_by w b e (Requested r) = subst (λ p. EndsBy w.image b p e) (sym r.at) (subst (EndsBy w.image b (phase.Within r.want)) (sym r.is) (want_end w b _ r.want r.own))
 ends_by w b e (Joined j) = subst (λ p. EndsBy w.image b p e) (sym j.at) (subst (EndsBy w.image b (phase.Within (want.Join j.number))) (sym j.join.is) (join_end w.image b _ j.number j.join.how j.join.child.fuel j.at refl))
 ends_by w b e (Started s) = subst (λ p. EndsBy w.image b p e) (sym s.at) (subst (EndsBy w.image b phase.Starting) (sym s.is) (start_end w.image b _))
+ends_by w b e (Opens o) = subst (λ p. EndsBy w.image b p e) (sym o.at) (subst (EndsBy w.image b (phase.Opening o.slot o.tag)) (sym o.is) (slot_end w.image b o.slot (slot_ask.Open o.tag (a0 b)) slot_reply.Opened).0)
+ends_by w b e (Releases r) = subst (λ p. EndsBy w.image b p e) (sym r.at) (subst (EndsBy w.image b (phase.Releasing r.slot)) (sym r.is) (released_end w.image b r.slot))
 ends_by w b e (LastJoined j) = subst (λ p. EndsBy w.image b p e) (sym j.at) (subst (EndsBy w.image b (phase.Ending j.end_)) (sym j.join.is) (join_end w.image b _ j.first.0 j.join.how j.join.child.fuel j.at refl))
 ends_by w b e (Ended f) = subst (λ p. EndsBy w.image b p e) (sym f.at) (subst (EndsBy w.image b (phase.Ending f.end_)) (sym f.is) (last_end w.image b f.end_))
 
@@ -478,6 +458,10 @@ claim_next i b true = (λ e. absurd cc, λ e. refl)
 claim_next i b false = (λ e. refl, λ e. absurd cc)
 
 want_next : (w : WorldState) (b : ActorState) (rd : ℕ) (s : Bool) (q : Want) → IsRequest (LoadsAt w.image b.hart rd s) b q → IsNext b.hart (takes w.image b (event_for w.cells b q))
+want_next w b rd s (want.Slots directory_ask.Claim) own = claim_slot_next w.image b (claim w.cells.places) w.cells.places
+want_next w b rd s (want.Slot slot (slot_want.Close tag)) own = close_next w.image b slot tag (slot_in w.cells slot)
+want_next w b rd s (want.Slot slot (slot_want.Smalloc tag size)) own = place_next w.image b slot tag size (slot_in w.cells slot)
+want_next w b rd s (want.Slot slot (slot_want.Sfree offset)) own = free_next w.image b slot offset _ (slot_in w.cells slot)
 want_next w b rd s (want.Slot slot (slot_want.Load offset width)) own = load_next w.image b slot offset width _ (slot_in w.cells slot) rd s own
 want_next w b rd s (want.Slot slot (slot_want.Store offset width value)) own = store_next w.image b slot offset width value _ (slot_in w.cells slot)
 want_next w b rd s (want.Fd fd (stream_ask.Append bits bytes)) own = append_next w.image b fd bits bytes (stream_in w.cells fd)
@@ -489,6 +473,8 @@ unfolding takes
 join_next i b phase.Running k x fuel at = subst (IsNext b.hart) (sym (joined_at b phase.Running x k fuel at)) (λ e. refl, λ e. absurd cc)
 join_next i b (phase.Within q) k x fuel at = subst (IsNext b.hart) (sym (joined_at b (phase.Within q) x k fuel at)) (λ e. refl, λ e. absurd cc)
 join_next i b phase.Starting k x fuel at = subst (IsNext b.hart) (sym (joined_at b phase.Starting x k fuel at)) (λ e. refl, λ e. absurd cc)
+join_next i b (phase.Opening slot tag) k x fuel at = subst (IsNext b.hart) (sym (joined_at b (phase.Opening slot tag) x k fuel at)) (λ e. refl, λ e. absurd cc)
+join_next i b (phase.Releasing slot) k x fuel at = subst (IsNext b.hart) (sym (joined_at b (phase.Releasing slot) x k fuel at)) (λ e. refl, λ e. absurd cc)
 join_next i b (phase.Ending y) k x fuel at =
     subst (IsNext b.hart) (sym (joined_at b (phase.Ending y) x k fuel at)) (λ e. let f : false ≡ true = sym (ap is_running at) ∙ e in absurd cc, λ e. refl)
 join_next i b (phase.Ended y) k x fuel at = subst (IsNext b.hart) (sym (joined_at b (phase.Ended y) x k fuel at)) (λ e. refl, λ e. absurd cc)
@@ -503,6 +489,8 @@ next_by : (w : WorldState) (b : ActorState) (e : Event) → Happens w b e → Is
 next_by w b e (Requested r) = subst (λ y. IsNext b.hart (takes w.image b y)) (sym r.is) (want_next w b r.rd r.is_signed r.want r.own)
 next_by w b e (Joined j) = subst (λ y. IsNext b.hart (takes w.image b y)) (sym j.join.is) (join_next w.image b _ j.number j.join.how j.join.child.fuel j.at)
 next_by w b e (Started s) = subst (λ y. IsNext b.hart (takes w.image b y)) (sym s.is) (start_next w.image b _)
+next_by w b e (Opens o) = subst (λ y. IsNext b.hart (takes w.image b y)) (sym o.is) (opened_next w.image b o.slot o.tag (a0 b))
+next_by w b e (Releases r) = subst (λ y. IsNext b.hart (takes w.image b y)) (sym r.is) (released_next w.image b r.slot)
 next_by w b e (LastJoined j) = subst (λ y. IsNext b.hart (takes w.image b y)) (sym j.join.is) (join_next w.image b _ j.first.0 j.join.how j.join.child.fuel j.at)
 next_by w b e (Ended f) = subst (λ y. IsNext b.hart (takes w.image b y)) (sym f.is) (last_next w.image b f.end_)
 
@@ -511,12 +499,20 @@ joined_live : (a : ActorState) (p : Phase) (x : End) → a.phase ≡ p → has_e
 joined_live a phase.Running x at = refl
 joined_live a (phase.Within q) x at = refl
 joined_live a phase.Starting x at = refl
+joined_live a (phase.Opening slot tag) x at = refl
+joined_live a (phase.Releasing slot) x at = refl
 joined_live a (phase.Ending y) x at = ap has_ended at
 joined_live a (phase.Ended y) x at = refl
 
 reached : (i : Image) (b : ActorState) (e : Event) → has_ended (takes i b e).phase ≡ is_end_event (Some e)
 unfolding takes
 reached i b (event.Slot slot q (slot_reply.Loaded value)) = ap has_ended (loaded_runs (runs b) (option_and_then decode (fetch i b.hart.pc)) value refl)
+reached i b (event.Slots (directory_ask.Release place) r) = refl
+reached i b (event.Slots directory_ask.Claim (directory_reply.Claimed place number)) = refl
+reached i b (event.Slots directory_ask.Claim directory_reply.Full) = refl
+reached i b (event.Slots directory_ask.Claim directory_reply.Released) = refl
+reached i b (event.Slot slot (slot_ask.Sfree offset live) (slot_reply.Denied tag wants)) = refl
+reached i b (event.Slot slot (slot_ask.Open tag pages) slot_reply.Opened) = refl
 reached i b (event.Slot slot q r) = refl
 reached i b (event.Fd fd q reply.Opened) = refl
 reached i b (event.Fd fd q (reply.Given bytes)) = refl
@@ -568,6 +564,10 @@ claim_refused w b n false told =
 
 refused_for : (w : WorldState) (b : ActorState) (rd : ℕ) (s : Bool) (q : Want) (code : ℕ) → IsRequest (LoadsAt w.image b.hart rd s) b q → refusal_for w.cells b q ≡ Some code
     → after w b (event_for w.cells b q) ≡ with_actor (with_actor w b) (refused b code)
+refused_for w b rd s (want.Slots directory_ask.Claim) code own told = claim_slot_refused w b code (claim w.cells.places) (sym (slots_told w.cells.places) ∙ told)
+refused_for w b rd s (want.Slot slot (slot_want.Close tag)) code own told = close_refused w b slot tag code (slot_in w.cells slot) refl told
+refused_for w b rd s (want.Slot slot (slot_want.Smalloc tag size)) code own told = place_refused w b slot tag size code (slot_in w.cells slot) refl told
+refused_for w b rd s (want.Slot slot (slot_want.Sfree offset)) code own told = free_refused w b slot offset code (slot_in w.cells slot) refl told
 refused_for w b rd s (want.Slot slot (slot_want.Load offset width)) code own told = absurd cc
 refused_for w b rd s (want.Slot slot (slot_want.Store offset width value)) code own told = absurd cc
 refused_for w b rd s (want.Fd fd (stream_ask.Append bits bytes)) code own told =
@@ -575,15 +575,67 @@ refused_for w b rd s (want.Fd fd (stream_ask.Append bits bytes)) code own told =
 refused_for w b rd s (want.Lives lives_ask.Claim) code own told = unfold takes in claim_refused w b code _ told
 refused_for w b rd s q code own told = absurd own
 
-refuses_after : (w : WorldState) (b : ActorState) (e : Event) → Happens w b e → RefusesAfter (with_actor w b) b b.phase (after w b e)
+-- an event of a call that no code is for refuses nothing
+load_passed : (offset width : ℕ) (live : Option Live) (g : Option Segment) → slot_refuses (slot_reply_of g (slot_ask.Load offset width live)) ≡ false
+load_passed offset width live None = refl
+load_passed offset width live (Some g) = by_tests _ _
+  where
+    by_tests : (u t : Bool) → slot_refuses (if not u then slot_reply.Unmapped else if t then slot_reply.Loaded (number_of (slice_range g.bytes offset (offset + width))) else slot_reply.Denied g.tag right.Read) ≡ false
+    by_tests false t = refl
+    by_tests true false = refl
+    by_tests true true = refl
+
+store_passed : (offset width value : ℕ) (live : Option Live) (g : Option Segment) → slot_refuses (slot_reply_of g (slot_ask.Store offset width value live)) ≡ false
+store_passed offset width value live None = refl
+store_passed offset width value live (Some g) = by_tests _ _
+  where
+    by_tests : (u t : Bool) → slot_refuses (if not u then slot_reply.Unmapped else if t then slot_reply.Stored else slot_reply.Denied g.tag right.ReadWrite) ≡ false
+    by_tests false t = refl
+    by_tests true false = refl
+    by_tests true true = refl
+
+append_passed : (b : ActorState) (fd : ℕ) (bytes : List ℕ) (s : Option Stream) → stream_refusal b fd s ≡ None → stream_refuses (stream_reply_of s (stream_ask.Append (bits_of b fd) bytes)) ≡ false
+append_passed b fd bytes None told = absurd cc
+append_passed b fd bytes (Some s) told = by_tests s.live (bits_of b fd).append s.kind told
+  where
+    by_tests : (v t : Bool) (k : StreamKind) → (if not v then Some no_such else if not t then None else if is_source k then Some bad else None) ≡ None
+        → stream_refuses (if v then (if t then append_reply k else reply.Denied append_bit) else reply.NoSuch) ≡ false
+    by_tests false t k h = absurd cc
+    by_tests true false k h = refl
+    by_tests true true kind.Source h = absurd cc
+    by_tests true true kind.Append h = refl
+
+life_passed : (t : Bool) → (if t then None else Some full) ≡ None → is_refusal (event.Lives lives_ask.Claim (if t then lives_reply.Claimed else lives_reply.Full)) ≡ false
+life_passed true told = refl
+life_passed false told = absurd cc
+
+passed_for : (w : WorldState) (b : ActorState) (rd : ℕ) (s : Bool) (q : Want) → IsRequest (LoadsAt w.image b.hart rd s) b q → refusal_for w.cells b q ≡ None → is_refusal (event_for w.cells b q) ≡ false
+passed_for w b rd s (want.Slots directory_ask.Claim) own told = claim_slot_passed (claim w.cells.places) w.cells.places (sym (slots_told w.cells.places) ∙ told)
+passed_for w b rd s (want.Slot slot (slot_want.Close tag)) own told = close_passed tag (slot_in w.cells slot) told
+passed_for w b rd s (want.Slot slot (slot_want.Load offset width)) own told = load_passed offset width _ (slot_in w.cells slot)
+passed_for w b rd s (want.Slot slot (slot_want.Store offset width value)) own told = store_passed offset width value _ (slot_in w.cells slot)
+passed_for w b rd s (want.Slot slot (slot_want.Smalloc tag size)) own told = place_passed tag size (slot_in w.cells slot) told
+passed_for w b rd s (want.Slot slot (slot_want.Sfree offset)) own told = free_passed b offset (slot_in w.cells slot) told
+passed_for w b rd s (want.Fd fd (stream_ask.Append bits bytes)) own told =
+    subst (λ x. stream_refuses (stream_reply_of (stream_in w.cells fd) (stream_ask.Append x bytes)) ≡ false) (sym own.0) (append_passed b fd bytes (stream_in w.cells fd) told)
+passed_for w b rd s (want.Lives lives_ask.Claim) own told = life_passed _ told
+passed_for w b rd s q own told = absurd own
+
+refuses_after : (w : WorldState) (b : ActorState) (e : Event) → Happens w b e → RefusesAfter (with_actor w b) b b.phase e (after w b e)
 refuses_after w b e (Requested r) =
-    subst (λ ph. RefusesAfter (with_actor w b) b ph (after w b e)) (sym r.at)
-    (λ code told. subst (λ y. after w b y ≡ with_actor (with_actor w b) (refused b code)) (sym r.is) (refused_for w b r.rd r.is_signed r.want code r.own (sym (r.later w.cells) ∙ told)))
+    subst (λ ph. RefusesAfter (with_actor w b) b ph e (after w b e)) (sym r.at)
+    (record {
+      refused = λ code told. subst (λ y. after w b y ≡ with_actor (with_actor w b) (refused b code)) (sym r.is) (refused_for w b r.rd r.is_signed r.want code r.own (sym (r.later w.cells) ∙ told));
+      passed = λ told. ap is_refusal r.is ∙ passed_for w b r.rd r.is_signed r.want r.own (sym (r.later w.cells) ∙ told);
+    })
 refuses_after w b e (Joined j) =
-    subst (λ ph. RefusesAfter (with_actor w b) b ph (after w b e)) (sym j.at) (λ code told. let f : None ≡ Some code = sym (j.later w.cells) ∙ told in absurd cc)
-refuses_after w b e (Started s) = subst (λ ph. RefusesAfter (with_actor w b) b ph (after w b e)) (sym s.at) tt
-refuses_after w b e (LastJoined j) = subst (λ ph. RefusesAfter (with_actor w b) b ph (after w b e)) (sym j.at) tt
-refuses_after w b e (Ended f) = subst (λ ph. RefusesAfter (with_actor w b) b ph (after w b e)) (sym f.at) tt
+    subst (λ ph. RefusesAfter (with_actor w b) b ph e (after w b e)) (sym j.at)
+    (record { refused = λ code told. let f : None ≡ Some code = sym (j.later w.cells) ∙ told in absurd cc; passed = λ told. ap is_refusal j.join.is })
+refuses_after w b e (Started s) = subst (λ ph. RefusesAfter (with_actor w b) b ph e (after w b e)) (sym s.at) (ap is_refusal s.is)
+refuses_after w b e (Opens o) = subst (λ ph. RefusesAfter (with_actor w b) b ph e (after w b e)) (sym o.at) (ap is_refusal o.is)
+refuses_after w b e (Releases r) = subst (λ ph. RefusesAfter (with_actor w b) b ph e (after w b e)) (sym r.at) (ap is_refusal r.is)
+refuses_after w b e (LastJoined j) = subst (λ ph. RefusesAfter (with_actor w b) b ph e (after w b e)) (sym j.at) (ap is_refusal j.join.is)
+refuses_after w b e (Ended f) = subst (λ ph. RefusesAfter (with_actor w b) b ph e (after w b e)) (sym f.at) (ap is_refusal f.is)
 
 -- what holds of the actor that was put
 put_such : (Q : ActorState → Type 0) (w : WorldState) (b x a : ActorState) → actor_named w.actors b.name ≡ Some a → x.name ≡ b.name → Q x → IsSomeAnd (actor_named (put_actor w.actors x) b.name) Q
@@ -635,6 +687,7 @@ turn_lawful w t new all e =
       edits = put_such (λ y. y.drafts ≡ drafts_after w.image b None) w b x a named name (step_edits w.image b);
       remembers = put_such (WordRemembers w.image b (option_and_then decode (fetch w.image b.hart.pc)) b.fuel) w b x a named name (step_remembers w.image b);
       family = step_family w b run;
+      makes = step_makes w b _ refl run;
     })
     (λ a b e named h. record {
       mediated = answered_at w b a e named h;
@@ -645,6 +698,7 @@ turn_lawful w t new all e =
       edits = done_such (λ y. y.drafts ≡ b.drafts) w b a e named (event_edits w.image b e);
       remembers = done_such (EventRemembers b e) w b a e named (event_remembers w.image b e);
       family = event_family w b e h;
+      makes = event_makes w b e h;
     })
 
 each_lawful : (old : WorldState) (turns : List Turn) (new : WorldState) → AllReady old → Runs old turns new → EachMoment IsLawful old turns

@@ -1,9 +1,10 @@
 -- What an instruction comes to: the request that it makes, its end, and the code with which it is refused.
-use Rattle.std.proofs.Common.{◌≡◌, ℕ, zero, suc, ◌+◌, ◌-◌, ◌≤◌, Bool, true, false, true≢false, List, [], refl, sym, ap, subst, ◌∙◌, arith}
+use Rattle.std.proofs.Common.{◌≡◌, ℕ, zero, suc, ◌+◌, ◌-◌, ◌≤◌, ◌<◌, Bool, true, false, true≢false, List, [], refl, sym, ap, subst, ◌∙◌, arith}
 use Rattle.std.proofs.lemmas.Bool.{eqb-true}
 use Rattle.std.proofs.lemmas.Bool.Decides.{nat_tests}
 use Rattle.std.specs.Prelude.{Option, Some, None, is_some, option_map, option_and_then, not, ◌&&◌, ◌||◌, ◌==◌, nat_lt, nat_le, if◌then◌else◌, ◌∷◌, ◌++◌, length, slice_get}
-use Rattle.wedge_base.specs.Images.{Image, fetch, in_text, read_text, slot_of}
+use Rattle.wedge_base.specs.Images.{Image, fetch, in_text, read_text, slot_of, slots as most_slots}
+use Rattle.wedge_base.specs.Maps.{has}
 use Rattle.wedge_base.specs.Bytes.{number_of}
 use Rattle.wedge_base.specs.Memory.{range_at, read_range}
 use Rattle.wedge_base.specs.Streams.{most_fds}
@@ -16,6 +17,7 @@ use Rattle.wedge_base.specs.declared.rights.Code.TheVariants as code
 use Rattle.wedge_base.specs.declared.events.SlotWant.TheVariants as slot_want
 use Rattle.wedge_base.specs.declared.events.Want.{Want}
 use Rattle.wedge_base.specs.declared.events.Want.TheVariants as want
+use Rattle.wedge_base.specs.declared.cells.DirectoryAsk.TheVariants as directory_ask
 use Rattle.wedge_base.specs.declared.cells.StreamAsk.TheVariants as stream_ask
 use Rattle.rv_isa.specs.declared.Instr.{Instr}
 use Rattle.rv_isa.specs.Table.{decode}
@@ -25,23 +27,22 @@ use Rattle.rv_hart.specs.declared.Need.TheVariants as need
 use Rattle.rv_hart.specs.Local.{local}
 use Rattle.sthread_life.specs.declared.phase.Phase.{Phase}
 use Rattle.sthread_life.specs.declared.phase.Phase.TheVariants as phase
-use Rattle.sthread_life.specs.Actors.{ActorState, answers, bits_of, code_number, denies, ends, refuses, wants}
+use Rattle.sthread_life.specs.Actors.{ActorState, answers, bits_of, slot_held, code_number, denies, ends, refuses, wants}
 use Rattle.sthread_life.specs.Private.{load_window, load_range, store_window, store_range, has_loaded, fits_read, buffer, buffer_in}
 use Rattle.wedge_base.specs.Sheets.{Draft, empty_draft, takes_tag, takes_fd, first_excess}
 use Rattle.wedge_base.specs.Slots.{Segment}
 use Rattle.wedge_base.specs.Streams.{Stream}
 use Rattle.wedge_base.specs.declared.rights.Denial.{Denial}
+use Rattle.wedge_base.specs.declared.rights.Denial.TheVariants as denial
 use Rattle.wedge_base.specs.declared.cells.LivesAsk.TheVariants as lives_ask
-use Rattle.wedge_base.specs.declared.rights.FdBits.{FdBits}
-use Rattle.wedge_base.specs.declared.rights.Right.{Right}
 use Rattle.wedge_base.specs.declared.rights.Right.TheVariants as right
-use Rattle.sthread_life.specs.Calls.{serves, exit, is_procedure, create, create_with, create_checked, create_allowed, join, fd_append, most_drafts, sc_new, right_asked, bits_asked, add_right, add_right_to, sc_mem_add, add_bits, add_bits_to, sc_fd_add, draft_call, bits, a0, a1, a2, a3, a7}
+use Rattle.sthread_life.specs.Calls.{serves, is_procedure, create_with, create_checked, create_allowed, are_pages, free_at, fd_append, sc_new, add_right, add_right_to, sc_mem_add, add_bits, add_bits_to, sc_fd_add, bits, a0, a1, a2, a3, a7}
 use Rattle.sthread_life.specs.Local.{needed, executed, fuelled, fetched, step, is_running, run_local, rest}
 use Rattle.sthread_life.proofs.Resting.{stays, goes_on, running_is}
 use Rattle.sthread_life.specs.Cells.{Cells, slot_in, stream_in}
-use Rattle.sthread_life.specs.Refusals.{fuel_short, full, deep, no_such, bad, start_refusal, create_refusal, join_refusal, life_refusal, new_refusal, right_refusal, bits_refusal, draft_refusal, append_refusal, need_refusal, instr_refusal, word_refusal, refusal_at, stream_refusal, need_refusal_after, instr_refusal_after, word_refusal_after, refusal_after, refused}
-use Rattle.sthread_life.specs.Requests.{Access, Request, Loads, Stores, Appends, Creates, create_of, in_tag, in_window, bytes_in_range, bytes_at, to_stream, append_of, needed_request, instr_request, word_request, request_at}
-use Rattle.sthread_life.specs.Allowed.{lacks, is_refused, is_checked_at_event, denied as denied_of}
+use Rattle.sthread_life.specs.Refusals.{fuel_short, full, deep, no_such, bad, start_refusal, create_refusal, pages_refusal, address_refusal, life_refusal, slots_refusal, close_refusal, place_refusal, block_refusal, free_refusal, call_refusal, call_refusal_after, new_refusal, right_refusal, bits_refusal, append_refusal, need_refusal, instr_refusal, word_refusal, refusal_at, stream_refusal, need_refusal_after, instr_refusal_after, word_refusal_after, refusal_after, refused}
+use Rattle.sthread_life.specs.Requests.{Access, Request, Loads, Stores, Appends, Creates, Deletes, Allots, Frees, create_of, in_tag, in_window, bytes_in_range, bytes_at, to_stream, append_of, free_of, call_request, needed_request, instr_request, word_request, request_at}
+use Rattle.sthread_life.specs.Allowed.{may_use, lacks, is_refused, is_checked_at_event, denied as denied_of}
 use Rattle.sthread_life.specs.Children.{is_child}
 use Rattle.sthread_life.specs.Ends.{end_of, needed_end, instr_end, fuel_end, word_end, end_at}
 
@@ -50,11 +51,18 @@ abbrev pub request_for : Cells → ActorState → ℕ → Bool → Want → Opti
 request_for c a rd s (want.Slot slot (slot_want.Load offset width)) = in_tag (λ x. Loads x rd s) (record { slot = slot; offset = offset }) width (slot_in c slot)
 request_for c a rd s (want.Slot slot (slot_want.Store offset width value)) = in_tag (λ x. Stores x value) (record { slot = slot; offset = offset }) width (slot_in c slot)
 request_for c a rd s (want.Fd fd (stream_ask.Append bits bytes)) = to_stream fd bytes (stream_in c fd)
+request_for c a rd s (want.Slot slot (slot_want.Close tag)) = Some (Deletes tag)
+request_for c a rd s (want.Slot slot (slot_want.Smalloc tag size)) = Some (Allots tag size)
+request_for c a rd s (want.Slot slot (slot_want.Sfree offset)) = option_map (Frees (record { slot = slot; offset = offset })) (slot_in c slot)
 request_for c a rd s (want.Lives lives_ask.Claim) = option_map (λ d. Creates d) (slice_get a.drafts (a0 a))
 request_for c a rd s q = None
 
 -- the code with which its event refuses it
 abbrev pub refusal_for : Cells → ActorState → Want → Option ℕ
+refusal_for c a (want.Slots directory_ask.Claim) = slots_refusal c.places
+refusal_for c a (want.Slot slot (slot_want.Close tag)) = close_refusal tag (slot_in c slot)
+refusal_for c a (want.Slot slot (slot_want.Smalloc tag size)) = place_refusal tag size (slot_in c slot)
+refusal_for c a (want.Slot slot (slot_want.Sfree offset)) = block_refusal a offset (slot_in c slot)
 refusal_for c a (want.Fd fd (stream_ask.Append bits bytes)) = stream_refusal a fd (stream_in c fd)
 refusal_for c a (want.Lives lives_ask.Claim) = life_refusal c.lives
 refusal_for c a q = None
@@ -72,9 +80,23 @@ pub record IsStartable (a : ActorState) : Type 0 where
 pub startable_at : (a : ActorState) (p : Phase) → IsStartable a → IsStartable (record a { phase = p })
 startable_at a p s = record { draft = s.draft; drafted = s.drafted; allowed = s.allowed; shallow = s.shallow; enough = s.enough }
 
+-- an actor asks for pages that a tag may have, deletes a tag that it made, and places a block in one that it may write to
+abbrev pub AsksForPages : ActorState → Type 0
+AsksForPages a = are_pages (a0 a) ≡ true
+
+abbrev pub MayDelete : ActorState → ℕ → ℕ → Type 0
+MayDelete a slot tag = (has a.made.tags tag ≡ true) × (slot ≡ slot_held a tag)
+
+abbrev pub MayAllot : ActorState → ℕ → ℕ → ℕ → Type 0
+MayAllot a slot tag size = (may_use a tag right.ReadWrite ≡ true) × (slot ≡ slot_held a tag) × ((size == 0) ≡ false)
+
 -- the wants that are requests today, an append with the bits of the actor and the fuel for it; N is what is known
 -- where a load is wanted
 abbrev pub IsRequest : (ℕ → Type 0) → ActorState → Want → Type 0
+IsRequest N a (want.Slots directory_ask.Claim) = AsksForPages a
+IsRequest N a (want.Slot slot (slot_want.Close tag)) = MayDelete a slot tag
+IsRequest N a (want.Slot slot (slot_want.Smalloc tag size)) = MayAllot a slot tag size
+IsRequest N a (want.Slot slot (slot_want.Sfree offset)) = Unit {0}
 IsRequest N a (want.Slot slot (slot_want.Load offset width)) = N width
 IsRequest N a (want.Slot slot (slot_want.Store offset width value)) = Unit {0}
 IsRequest N a (want.Fd fd (stream_ask.Append bits bytes)) = (bits ≡ bits_of a fd) × (a2 a ≤ a.fuel)
@@ -91,13 +113,21 @@ abbrev pub WantsAs : (ℕ → Bool → ℕ → Type 0) → ActorState → (Cells
 WantsAs N a asked later x (phase.Within q) = (rd : ℕ) × (s : Bool) × (x ≡ record a { phase = phase.Within q }) × ((c : Cells) → asked c ≡ request_for c a rd s q) × IsWanted (N rd s) a q × ((c : Cells) → later c ≡ refusal_for c a q)
 WantsAs N a asked later x phase.Running = Unit {0}
 WantsAs N a asked later x phase.Starting = ⊥
+WantsAs N a asked later x (phase.Opening slot tag) = ⊥
+WantsAs N a asked later x (phase.Releasing slot) = ⊥
 WantsAs N a asked later x (phase.Ending e) = Unit {0}
 WantsAs N a asked later x (phase.Ended e) = Unit {0}
 
--- a request that is checked at once: the actor is denied, or claims a life, or is refused
+-- the event to which a request comes that is checked at once
+abbrev pub wanted_for : ActorState → Request → Want
+wanted_for a (Deletes tag) = want.Slot (slot_held a tag) (slot_want.Close tag)
+wanted_for a (Allots tag size) = want.Slot (slot_held a tag) (slot_want.Smalloc tag size)
+wanted_for a r = want.Lives lives_ask.Claim
+
+-- a request that is checked at once: the actor is denied, or comes to its event, or is refused
 pub record IsCheckedNow (a : ActorState) (r : Request) (x : ActorState) : Type 0 where
   pub denied : (d : Denial) → lacks a r ≡ Some d → x ≡ denied_of a r d
-  pub done : lacks a r ≡ None → is_refused a r ≡ false → x ≡ record a { phase = phase.Within (want.Lives lives_ask.Claim) }
+  pub done : lacks a r ≡ None → is_refused a r ≡ false → x ≡ record a { phase = phase.Within (wanted_for a r) }
   pub refused : lacks a r ≡ None → is_refused a r ≡ true → (x.phase ≡ phase.Running) × (x.denials ≡ a.denials)
 
 -- what an instruction makes of its actor where it makes a request
@@ -150,6 +180,8 @@ wants_as : (N : ℕ → Bool → ℕ → Type 0) (a : ActorState) (asked told : 
 wants_as N a asked told later x (phase.Within q) same w = (w.0, w.1, w.2, λ c. same c ∙ w.3 c, w.4, w.5)
 wants_as N a asked told later x phase.Running same w = tt
 wants_as N a asked told later x phase.Starting same w = w
+wants_as N a asked told later x (phase.Opening slot tag) same w = w
+wants_as N a asked told later x (phase.Releasing slot) same w = w
 wants_as N a asked told later x (phase.Ending e) same w = tt
 wants_as N a asked told later x (phase.Ended e) same w = tt
 
@@ -169,6 +201,9 @@ met_at_event a x q (Loads y rd s) is e = (q, is)
 met_at_event a x q (Stores y value) is e = (q, is)
 met_at_event a x q (Appends fd s bytes) is e = (q, is)
 met_at_event a x q (Creates d) is e = absurd cc
+met_at_event a x q (Deletes tag) is e = absurd cc
+met_at_event a x q (Allots tag size) is e = absurd cc
+met_at_event a x q (Frees p g) is e = (q, is)
 
 tag_event : (of : Access → Request) (p : Place) (width : ℕ) (g : Option Segment) (r : Request) → ((x : Access) → is_checked_at_event (of x) ≡ true) → in_tag of p width g ≡ Some r → is_checked_at_event r ≡ true
 tag_event of p width None r h e = absurd cc
@@ -438,24 +473,140 @@ join_tests : (N : ℕ → Bool → ℕ → Type 0) (a : ActorState) (t : Bool) �
 join_tests N a true e = record { name = refl; quiet = λ c h. refl; met = λ c r h. absurd cc; ends = refl; wants = (0, false, refl, λ c. refl, e, λ c. refl); codes = λ n h. absurd cc }
 join_tests N a false e = comes_refused N a _ _ code.NoSuch (λ c. refl)
 
--- calls
-at_number : (n k m : ℕ) → (n == k) ≡ true → (n == m) ≡ (k == m)
-at_number n k m e = ap (λ x. x == m) (eqb-true n k e)
+-- ---- calls on tags
 
-call_comes : (N : ℕ → Bool → ℕ → Type 0) (i : Image) (a : ActorState) (n : ℕ) (t u v x : Bool) → (n == 0) ≡ t → (n == 1) ≡ u → (n == 2) ≡ v → (n == 16) ≡ x
-    → Comes N a (λ c. if u then create_of i (a1 a) (slice_get a.drafts (a0 a)) else if x then append_of c a (a0 a) (a2 a) (bytes_at i a (a1 a) (a2 a)) else None)
-    (λ c. if u then life_refusal c.lives else if x then stream_refusal a (a0 a) (stream_in c (a0 a)) else None)
-    (if t then Some (end_.Exited (a0 a)) else None)
-    (if t then None else if u then create_refusal i a (a1 a) (slice_get a.drafts (a0 a)) else if v then join_refusal a (a0 a) else if x then append_refusal a (a0 a) (a2 a) (bytes_at i a (a1 a) (a2 a)) else draft_refusal a.drafts a.hart.regs n)
-    (if t then exit a else if u then create i a else if v then join a else if x then fd_append i a else draft_call a n)
-call_comes N i a n true true v x e f g h = absurd (true≢false (sym f ∙ at_number n 0 1 e))
-call_comes N i a n true false v true e f g h = absurd (true≢false (sym h ∙ at_number n 0 16 e))
-call_comes N i a n true false v false e f g h = comes_end N a _ _ (end_.Exited (a0 a)) (λ c. refl)
-call_comes N i a n false true v x e f g h = create_comes N i a (slice_get a.drafts (a0 a)) refl
-call_comes N i a n false false true true e f g h = absurd (true≢false (sym h ∙ at_number n 2 16 g))
-call_comes N i a n false false true false e f g h = join_tests N a (is_child a.unjoined (a0 a)) refl
-call_comes N i a n false false false true e f g h = append_comes N i a
-call_comes N i a n false false false false e f g h = draft_comes N a n (n == 7) (n == 8) (n == 9)
+-- a call that comes to its event, with a request that is checked there or with none
+comes_wanting : (N : ℕ → Bool → ℕ → Type 0) (a : ActorState) (q : Want) (later : Cells → Option ℕ) → IsWanted (N 0 false) a q → ((c : Cells) → later c ≡ refusal_for c a q)
+    → ((c : Cells) (r : Request) → request_for c a 0 false q ≡ Some r → MetBy a r (wants a q)) → Comes N a (λ c. request_for c a 0 false q) later None None (wants a q)
+comes_wanting N a q later own coded met = record { name = refl; quiet = λ c h. refl; met = met; ends = refl; wants = (0, false, refl, λ c. refl, own, coded); codes = λ n h. absurd cc }
+
+pub pages_tests : (n : ℕ) → (nat_lt 0 n && nat_lt n 17) ≡ are_pages n
+pages_tests n = grind (arith, nat_tests)
+
+pages_told : (t : Bool) (n : ℕ) → (nat_lt 0 n && nat_lt n 17) ≡ t → pages_refusal n ≡ (if t then None else Some bad)
+pages_told t n e = ap (λ u. if u then None else Some bad) e
+
+new_tag_comes : (N : ℕ → Bool → ℕ → Type 0) (a : ActorState) (t : Bool) → are_pages (a0 a) ≡ t
+    → Comes N a (λ c. None) (λ c. slots_refusal c.places) None (pages_refusal (a0 a)) (if t then wants a (want.Slots directory_ask.Claim) else refuses a code.Bad)
+new_tag_comes N a true e =
+    comes_as N a _ _ _ None _ _ _ (λ c. refl) (pages_told true (a0 a) (pages_tests (a0 a) ∙ e))
+    (comes_wanting N a (want.Slots directory_ask.Claim) (λ c. slots_refusal c.places) e (λ c. refl) (λ c r h. absurd cc))
+new_tag_comes N a false e =
+    comes_as N a _ _ _ None _ _ _ (λ c. refl) (pages_told false (a0 a) (pages_tests (a0 a) ∙ e))
+    (comes_refused N a (λ c. None) (λ c. slots_refusal c.places) code.Bad (λ c. refl))
+
+-- a request that is checked at once, of an actor that is denied, and of one that comes to its event
+same_some : {X : Type 0} (x y : X) → Some x ≡ Some y → x ≡ y
+same_some x y e = cc
+
+met_now : (r : Request) {a x : ActorState} → is_checked_at_event r ≡ false → IsCheckedNow a r x → MetBy a r x
+met_now (Loads y rd s) now h = absurd cc
+met_now (Stores y value) now h = absurd cc
+met_now (Appends fd s bytes) now h = absurd cc
+met_now (Creates d) now h = h
+met_now (Deletes tag) now h = h
+met_now (Allots tag size) now h = h
+met_now (Frees p g) now h = absurd cc
+
+denied_now : (N : ℕ → Bool → ℕ → Type 0) (a : ActorState) (r : Request) (d : Denial) (later : Cells → Option ℕ) → is_checked_at_event r ≡ false → lacks a r ≡ Some d → denied_of a r d ≡ denies a d
+    → Comes N a (λ c. Some r) later None None (denies a d)
+denied_now N a r d later now lack is = record {
+  name = refl;
+  quiet = λ c h. absurd cc;
+  met = λ c x h. subst (λ y. MetBy a y (denies a d)) (same_some r x h) (met_now r now (record {
+    denied = λ y e. sym (subst (λ z. denied_of a r z ≡ denies a d) (same_some d y (sym lack ∙ e)) is);
+    done = λ e f. let g : Some d ≡ None = sym lack ∙ e in absurd cc;
+    refused = λ e f. let g : Some d ≡ None = sym lack ∙ e in absurd cc;
+  }));
+  ends = refl;
+  wants = tt;
+  codes = λ n h. absurd cc;
+}
+
+comes_now : (N : ℕ → Bool → ℕ → Type 0) (a : ActorState) (r : Request) (q : Want) (later : Cells → Option ℕ) → is_checked_at_event r ≡ false → lacks a r ≡ None → is_refused a r ≡ false → wanted_for a r ≡ q
+    → IsWanted (N 0 false) a q → ((c : Cells) → Some r ≡ request_for c a 0 false q) → ((c : Cells) → later c ≡ refusal_for c a q) → Comes N a (λ c. Some r) later None None (wants a q)
+comes_now N a r q later now lack goes is own asked coded = record {
+  name = refl;
+  quiet = λ c h. absurd cc;
+  met = λ c x h. subst (λ y. MetBy a y (wants a q)) (same_some r x h) (met_now r now (record {
+    denied = λ y e. let g : None ≡ Some y = sym lack ∙ e in absurd cc;
+    done = λ e f. ap (λ z. record a { phase = phase.Within z }) (sym is);
+    refused = λ e f. absurd (true≢false (sym f ∙ goes));
+  }));
+  ends = refl;
+  wants = (0, false, refl, asked, own, coded);
+  codes = λ n h. absurd cc;
+}
+
+delete_comes : (N : ℕ → Bool → ℕ → Type 0) (a : ActorState) (t : Bool) → has a.made.tags (a0 a) ≡ t
+    → Comes N a (λ c. Some (Deletes (a0 a))) (λ c. close_refusal (a0 a) (slot_in c (slot_held a (a0 a)))) None None
+    (if t then wants a (want.Slot (slot_held a (a0 a)) (slot_want.Close (a0 a))) else denies a (denial.NotMaker (a0 a)))
+delete_comes N a true e =
+    comes_now N a (Deletes (a0 a)) _ _ refl (ap (λ u. if u then None else Some (denial.NotMaker (a0 a))) e) refl refl (e, refl) (λ c. refl) (λ c. refl)
+delete_comes N a false e = denied_now N a (Deletes (a0 a)) (denial.NotMaker (a0 a)) _ refl (ap (λ u. if u then None else Some (denial.NotMaker (a0 a))) e) refl
+
+allot_comes : (N : ℕ → Bool → ℕ → Type 0) (a : ActorState) (t u : Bool) → (a1 a == 0) ≡ t → may_use a (a0 a) right.ReadWrite ≡ u
+    → Comes N a (λ c. if t then None else Some (Allots (a0 a) (a1 a))) (λ c. place_refusal (a0 a) (a1 a) (slot_in c (slot_held a (a0 a)))) None (if t then Some bad else None)
+    (if t then refuses a code.Bad else if u then wants a (want.Slot (slot_held a (a0 a)) (slot_want.Smalloc (a0 a) (a1 a))) else denies a (denial.Tag (a0 a) right.ReadWrite))
+allot_comes N a true u e f = comes_refused N a _ _ code.Bad (λ c. refl)
+allot_comes N a false true e f =
+    comes_now N a (Allots (a0 a) (a1 a)) _ _ refl (ap (λ x. if x then None else Some (denial.Tag (a0 a) right.ReadWrite)) f) refl refl (f, refl, e) (λ c. refl) (λ c. refl)
+allot_comes N a false false e f =
+    denied_now N a (Allots (a0 a) (a1 a)) (denial.Tag (a0 a) right.ReadWrite) _ refl (ap (λ x. if x then None else Some (denial.Tag (a0 a) right.ReadWrite)) f) refl
+
+freed_event : (p : Place) (g : Option Segment) (r : Request) → option_map (Frees p) g ≡ Some r → is_checked_at_event r ≡ true
+freed_event p None r e = absurd cc
+freed_event p (Some g) r e = subst (λ y. is_checked_at_event y ≡ true) (same_some (Frees p g) r e) refl
+
+free_comes : (N : ℕ → Bool → ℕ → Type 0) (a : ActorState) (p : Option Place) → Comes N a (λ c. free_of c p) (λ c. free_refusal c a p) None (address_refusal p) (free_at a p)
+free_comes N a None = comes_refused N a _ _ code.Bad (λ c. refl)
+free_comes N a (Some p) =
+    comes_wanting N a (want.Slot p.slot (slot_want.Sfree p.offset)) (λ c. block_refusal a p.offset (slot_in c p.slot)) tt (λ c. refl)
+    (λ c r h. met_at_event a _ (want.Slot p.slot (slot_want.Sfree p.offset)) r refl (freed_event p (slot_in c p.slot) r h))
+
+-- ---- a call by its number
+
+abbrev CallComes : (ℕ → Bool → ℕ → Type 0) → Image → ActorState → ℕ → Type 0
+CallComes N i a n = Comes N a (λ c. call_request i c a a.hart.regs n) (λ c. call_refusal_after c a a.hart.regs n) (if n == 0 then Some (end_.Exited (a0 a)) else None) (call_refusal i a a.hart.regs n) (serves i a n)
+
+call_comes : (N : ℕ → Bool → ℕ → Type 0) (i : Image) (a : ActorState) (n : ℕ) → CallComes N i a n
+unfolding serves
+call_comes N i a n = by_0 (n == 0) refl
+  where
+    at : (k : ℕ) → (n == k) ≡ true → CallComes N i a k → CallComes N i a n
+    at k e h = subst (CallComes N i a) (sym (eqb-true n k e)) h
+
+    by_16 : (t : Bool) → (n == 16) ≡ t → (n == 0) ≡ false → (n == 1) ≡ false → (n == 2) ≡ false → (n == 3) ≡ false → (n == 4) ≡ false → (n == 5) ≡ false → (n == 6) ≡ false → CallComes N i a n
+    by_16 true e e0 e1 e2 e3 e4 e5 e6 = at 16 e (append_comes N i a)
+    by_16 false e e0 e1 e2 e3 e4 e5 e6 = rw (e0, e1, e2, e3, e4, e5, e6, e) (draft_comes N a n (n == 7) (n == 8) (n == 9))
+
+    by_6 : (t : Bool) → (n == 6) ≡ t → (n == 0) ≡ false → (n == 1) ≡ false → (n == 2) ≡ false → (n == 3) ≡ false → (n == 4) ≡ false → (n == 5) ≡ false → CallComes N i a n
+    by_6 true e e0 e1 e2 e3 e4 e5 = at 6 e (free_comes N a (slot_of (a0 a)))
+    by_6 false e e0 e1 e2 e3 e4 e5 = by_16 (n == 16) refl e0 e1 e2 e3 e4 e5 e
+
+    by_5 : (t : Bool) → (n == 5) ≡ t → (n == 0) ≡ false → (n == 1) ≡ false → (n == 2) ≡ false → (n == 3) ≡ false → (n == 4) ≡ false → CallComes N i a n
+    by_5 true e e0 e1 e2 e3 e4 = at 5 e (allot_comes N a (a1 a == 0) (may_use a (a0 a) right.ReadWrite) refl refl)
+    by_5 false e e0 e1 e2 e3 e4 = by_6 (n == 6) refl e0 e1 e2 e3 e4 e
+
+    by_4 : (t : Bool) → (n == 4) ≡ t → (n == 0) ≡ false → (n == 1) ≡ false → (n == 2) ≡ false → (n == 3) ≡ false → CallComes N i a n
+    by_4 true e e0 e1 e2 e3 = at 4 e (delete_comes N a (has a.made.tags (a0 a)) refl)
+    by_4 false e e0 e1 e2 e3 = by_5 (n == 5) refl e0 e1 e2 e3 e
+
+    by_3 : (t : Bool) → (n == 3) ≡ t → (n == 0) ≡ false → (n == 1) ≡ false → (n == 2) ≡ false → CallComes N i a n
+    by_3 true e e0 e1 e2 = at 3 e (new_tag_comes N a (are_pages (a0 a)) refl)
+    by_3 false e e0 e1 e2 = by_4 (n == 4) refl e0 e1 e2 e
+
+    by_2 : (t : Bool) → (n == 2) ≡ t → (n == 0) ≡ false → (n == 1) ≡ false → CallComes N i a n
+    by_2 true e e0 e1 = at 2 e (join_tests N a (is_child a.unjoined (a0 a)) refl)
+    by_2 false e e0 e1 = by_3 (n == 3) refl e0 e1 e
+
+    by_1 : (t : Bool) → (n == 1) ≡ t → (n == 0) ≡ false → CallComes N i a n
+    by_1 true e e0 = at 1 e (create_comes N i a (slice_get a.drafts (a0 a)) refl)
+    by_1 false e e0 = by_2 (n == 2) refl e0 e
+
+    by_0 : (t : Bool) → (n == 0) ≡ t → CallComes N i a n
+    by_0 true e = at 0 e (comes_end N a _ _ (end_.Exited (a0 a)) (λ c. refl))
+    by_0 false e = by_1 (n == 1) refl e
 
 -- a load is wanted only where the instruction needs one, into this register and with this sign
 abbrev pub NeedLoads : ℕ → Need → ℕ → Bool → ℕ → Type 0
@@ -479,7 +630,7 @@ unfolding serves
 needed_comes i ins a h need.Done run = comes_on (NeedLoads ins.rd need.Done) a (record a { hart = h }) _ _ refl refl run (λ c. refl)
 needed_comes i ins a h (need.Load address width s) run = load_comes (NeedLoads ins.rd (need.Load address width s)) i ins s a address width _ _ (range_at a.memory address width) (refl, refl, refl) run
 needed_comes i ins a h (need.Store address width value) run = store_comes (NeedLoads ins.rd (need.Store address width value)) a address width value _ _ (range_at a.memory address width) run
-needed_comes i ins a h need.Call run = call_comes (NeedLoads ins.rd need.Call) i a (a7 a) _ _ _ _ refl refl refl refl
+needed_comes i ins a h need.Call run = call_comes (NeedLoads ins.rd need.Call) i a (a7 a)
 needed_comes i ins a h need.Break run = comes_end (NeedLoads ins.rd need.Break) a _ _ end_.Break (λ c. refl)
 needed_comes i ins a h need.JumpMisaligned run = comes_end (NeedLoads ins.rd need.JumpMisaligned) a _ _ end_.JumpMisaligned (λ c. refl)
 
@@ -513,17 +664,27 @@ pub step_comes : (i : Image) (a : ActorState) (n : ℕ) → a.phase ≡ phase.Ru
 unfolding step
 step_comes i a n run has = fetched_comes i a n (fetch i a.hart.pc) run has
 
+-- how many slots a run of an image has: 4,096, or as many as it declares tags
+abbrev pub slots_in : Image → ℕ
+slots_in i = length i.tags + (most_slots - length i.tags)
+
 -- what an actor is in by its phase: within an instruction it wants what that comes to, and one that is about to start a
 -- child may do so
 abbrev pub ReadsAs : Image → ActorState → Phase → Type 0
 ReadsAs i a (phase.Within q) = (rd : ℕ) × (s : Bool) × ((c : Cells) → request_at i c a ≡ request_for c a rd s q) × IsWanted (LoadsAt i a.hart rd s) a q × ((c : Cells) → refusal_after i c a ≡ refusal_for c a q)
 ReadsAs i a phase.Running = Unit {0}
 ReadsAs i a phase.Starting = IsStartable a
+ReadsAs i a (phase.Opening slot tag) = (slot < slots_in i) × AsksForPages a
+ReadsAs i a (phase.Releasing slot) = Unit {0}
 ReadsAs i a (phase.Ending e) = Unit {0}
 ReadsAs i a (phase.Ended e) = Unit {0}
 
 -- what is asked does not turn on what the actor is at
 wanted_within : (N : ℕ → Type 0) (p : ActorState) (ph : Phase) (q : Want) → IsWanted N p q → IsWanted N (record p { phase = ph }) q
+wanted_within N p ph (want.Slots directory_ask.Claim) k = k
+wanted_within N p ph (want.Slot slot (slot_want.Close tag)) k = k
+wanted_within N p ph (want.Slot slot (slot_want.Smalloc tag size)) k = k
+wanted_within N p ph (want.Slot slot (slot_want.Sfree offset)) k = k
 wanted_within N p ph (want.Slot slot (slot_want.Load offset width)) k = k
 wanted_within N p ph (want.Slot slot (slot_want.Store offset width value)) k = k
 wanted_within N p ph (want.Fd fd (stream_ask.Append bits bytes)) k = k
@@ -539,6 +700,7 @@ request_within c p ph rd s (want.Lives lives_ask.Claim) = refl
 request_within c p ph rd s q = refl
 
 refusal_within : (c : Cells) (p : ActorState) (ph : Phase) (q : Want) → refusal_for c p q ≡ refusal_for c (record p { phase = ph }) q
+refusal_within c p ph (want.Slot slot (slot_want.Sfree offset)) = refl
 refusal_within c p ph (want.Fd fd (stream_ask.Append bits bytes)) = refl
 refusal_within c p ph (want.Lives lives_ask.Claim) = refl
 refusal_within c p ph q = refl
@@ -552,6 +714,8 @@ reads_of : (i : Image) (p x : ActorState) (ph : Phase) → WantsAs (LoadsAt i p.
 reads_of i p x (phase.Within q) w = subst (λ y. ReadsAs i y (phase.Within q)) (sym w.2) (reads_within i p q w.0 w.1 w.3 w.4 w.5)
 reads_of i p x phase.Running w = tt
 reads_of i p x phase.Starting w = absurd w
+reads_of i p x (phase.Opening slot tag) w = absurd w
+reads_of i p x (phase.Releasing slot) w = absurd w
 reads_of i p x (phase.Ending e) w = tt
 reads_of i p x (phase.Ended e) w = tt
 

@@ -1,9 +1,9 @@
 -- One cell among others: what is put there, and what it shows.
-use Rattle.std.proofs.Common.{◌≡◌, ℕ, zero, suc, ◌==◌, Bool, true, false, List, [], ◌∷◌, refl, sym, ap, subst, ◌∙◌}
+use Rattle.std.proofs.Common.{◌≡◌, ℕ, zero, suc, ◌<◌, ◌==◌, Bool, true, false, List, [], ◌∷◌, length, refl, sym, ap, subst, ◌∙◌, arith}
 use Rattle.std.proofs.lemmas.Bool.{eqb-true, eq-eqb}
 use Rattle.std.specs.Prelude.{Option, Some, None, slice_get, slice_set, if◌then◌else◌}
 use Rattle.sthread_life.specs.Cells.{held}
-use Rattle.sthread_life.proofs.Mediating.{set_held}
+use Rattle.sthread_life.proofs.Checking.{set_held}
 
 get_put_same : {X : Type 0} (xs : List (Option X)) (s : ℕ) (old : X) (new : Option X) → held (slice_get xs s) ≡ Some old → held (slice_get (slice_set xs s new) s) ≡ new
 get_put_same [] s old new e = absurd cc
@@ -38,3 +38,17 @@ follows view f xs s n (Some old) new true there eq stays shows =
     let put : held (slice_get (slice_set xs s new) n) ≡ new = subst (λ m. held (slice_get (slice_set xs s new) m) ≡ new) same (get_put_same xs s old new there) in
     ap view put ∙ (shows ∙ ap (λ x. f (view x)) (sym here))
 follows view f xs s n (Some old) new false there eq stays shows = ap (λ x. view (held x)) (get_put_other xs s n new (not_equal s n eq))
+
+-- the same of a cell that is there, whatever was in it
+get_put_in : {X : Type 0} (xs : List (Option X)) (s : ℕ) (new : Option X) → s < length xs → held (slice_get (slice_set xs s new) s) ≡ new
+get_put_in [] s new inside = absurd (omega (arith, inside))
+get_put_in (y ∷ ys) zero new inside = refl
+get_put_in (y ∷ ys) (suc m) new inside = get_put_in ys m new (omega (arith, inside))
+
+pub follows_in : {X F : Type 0} (view : Option X → F) (f : F → F) (xs : List (Option X)) (s n : ℕ) (new : Option X) (t : Bool)
+    → s < length xs → (s == n) ≡ t → view new ≡ f (view (held (slice_get xs s)))
+    → view (held (slice_get (slice_set xs s new) n)) ≡ (if t then f (view (held (slice_get xs n))) else view (held (slice_get xs n)))
+follows_in view f xs s n new true inside eq shows =
+    let same : s ≡ n = eqb-true s n eq in
+    ap view (subst (λ m. held (slice_get (slice_set xs s new) m) ≡ new) same (get_put_in xs s new inside)) ∙ (shows ∙ ap (λ m. f (view (held (slice_get xs m)))) same)
+follows_in view f xs s n new false inside eq shows = ap (λ x. view (held x)) (get_put_other xs s n new (not_equal s n eq))

@@ -1,15 +1,8 @@
 -- What each moment costs is paid.
-use Rattle.std.proofs.Common.{◌≡◌, ℕ, zero, suc, ◌+◌, ◌-◌, ◌≤◌, Bool, true, false, List, refl, sym, ap, subst, ◌∙◌, arith}
-use Rattle.std.specs.Prelude.{Option, Some, None, option_map, option_and_then, slice_range, not, nat_lt, if◌then◌else◌}
+use Rattle.std.proofs.Common.{◌≡◌, ℕ, zero, suc, ◌+◌, ◌≤◌, List, refl, sym, subst, arith}
+use Rattle.std.specs.Prelude.{Option, Some, None, option_and_then}
 use Rattle.wedge_base.specs.Images.{Image, fetch}
-use Rattle.wedge_base.specs.Bytes.{number_of}
-use Rattle.wedge_base.specs.Rights.{at_least, append_bit}
-use Rattle.wedge_base.specs.Slots.{Segment, slot_reply as slot_reply_of}
-use Rattle.wedge_base.specs.Streams.{Stream, stream_reply as stream_reply_of, append_reply}
 use Rattle.wedge_base.specs.declared.rights.FdBits.{FdBits}
-use Rattle.wedge_base.specs.declared.rights.Right.TheVariants as right
-use Rattle.wedge_base.specs.declared.rights.StreamKind.{StreamKind}
-use Rattle.wedge_base.specs.declared.rights.StreamKind.TheVariants as kind
 use Rattle.wedge_base.specs.declared.events.SlotWant.TheVariants as slot_want
 use Rattle.wedge_base.specs.declared.events.Want.{Want}
 use Rattle.wedge_base.specs.declared.events.Want.TheVariants as want
@@ -20,25 +13,29 @@ use Rattle.wedge_base.specs.declared.cells.LivesAsk.TheVariants as lives_ask
 use Rattle.wedge_base.specs.declared.cells.LivesReply.{LivesReply}
 use Rattle.wedge_base.specs.declared.cells.LivesReply.TheVariants as lives_reply
 use Rattle.wedge_base.specs.declared.rights.End.{End}
+use Rattle.wedge_base.specs.declared.cells.DirectoryAsk.{DirectoryAsk}
+use Rattle.wedge_base.specs.declared.cells.DirectoryAsk.TheVariants as directory_ask
+use Rattle.wedge_base.specs.declared.cells.DirectoryReply.{DirectoryReply}
+use Rattle.wedge_base.specs.declared.cells.DirectoryReply.TheVariants as directory_reply
 use Rattle.wedge_base.specs.declared.cells.SlotAsk.{SlotAsk}
+use Rattle.wedge_base.specs.declared.cells.SlotAsk.TheVariants as slot_ask
 use Rattle.wedge_base.specs.declared.cells.SlotReply.{SlotReply}
 use Rattle.wedge_base.specs.declared.cells.SlotReply.TheVariants as slot_reply
 use Rattle.wedge_base.specs.declared.cells.StreamAsk.TheVariants as stream_ask
 use Rattle.wedge_base.specs.declared.cells.StreamReply.{StreamReply}
 use Rattle.wedge_base.specs.declared.cells.StreamReply.TheVariants as reply
-use Rattle.rv_isa.specs.declared.Instr.{Instr}
 use Rattle.rv_isa.specs.Table.{decode}
 use Rattle.sthread_life.specs.Actors.{ActorState, spends}
 use Rattle.sthread_life.specs.Calls.{a2, a3}
 use Rattle.sthread_life.specs.Children.{without_child}
-use Rattle.sthread_life.specs.Cells.{Cells, stream_in}
-use Rattle.sthread_life.specs.Local.{executed, fuelled, fetched, step}
+use Rattle.sthread_life.specs.Cells.{Cells}
+use Rattle.sthread_life.specs.Local.{fuelled, fetched, step}
 use Rattle.sthread_life.specs.Taking.{runs, answered_end, takes}
 use Rattle.sthread_life.specs.Worlds.{WorldState}
 use Rattle.sthread_life.specs.Paying.{cost_of_word, cost_at, cost_by, given_by, brought_by}
 use Rattle.sthread_life.proofs.Resting.{goes_executed}
 use Rattle.sthread_life.proofs.Between.{event_for, loads_fuel, joined_is}
-use Rattle.sthread_life.proofs.Happening.{Happens, Requested, Joined, Started, LastJoined, Ended}
+use Rattle.sthread_life.proofs.Happening.{Happens, Requested, Joined, Started, Opens, Releases, LastJoined, Ended}
 use Rattle.sthread_life.proofs.Meeting.{IsRequest}
 
 -- ---- an instruction
@@ -63,7 +60,16 @@ EventPays i b e = (takes i b e).fuel + cost_by b e + given_by b (Some e) ≡ b.f
 slot_pays : (i : Image) (b : ActorState) (slot : ℕ) (q : SlotAsk) (r : SlotReply) → EventPays i b (event.Slot slot q r)
 unfolding takes
 slot_pays i b slot q (slot_reply.Loaded value) = let same = loads_fuel (runs b) (option_and_then decode (fetch i b.hart.pc)) value in omega (arith, same)
+slot_pays i b slot (slot_ask.Sfree offset live) (slot_reply.Denied tag wants) = omega arith
+slot_pays i b slot (slot_ask.Open tag pages) slot_reply.Opened = omega arith
 slot_pays i b slot q r = omega arith
+
+place_pays : (i : Image) (b : ActorState) (q : DirectoryAsk) (r : DirectoryReply) → EventPays i b (event.Slots q r)
+unfolding takes
+place_pays i b (directory_ask.Release place) r = omega arith
+place_pays i b directory_ask.Claim (directory_reply.Claimed place number) = omega arith
+place_pays i b directory_ask.Claim directory_reply.Full = omega arith
+place_pays i b directory_ask.Claim directory_reply.Released = omega arith
 
 append_pays : (i : Image) (b : ActorState) (fd : ℕ) (bits : FdBits) (bytes : List ℕ) (r : StreamReply) → a2 b ≤ b.fuel → EventPays i b (event.Fd fd (stream_ask.Append bits bytes) r)
 unfolding takes
@@ -83,6 +89,10 @@ lives_pay i b lives_ask.Claim lives_reply.Full = omega arith
 lives_pay i b lives_ask.Claim lives_reply.Released = omega arith
 
 want_pays : (i : Image) (c : Cells) (b : ActorState) (N : ℕ → Type 0) (q : Want) → IsRequest N b q → EventPays i b (event_for c b q)
+want_pays i c b N (want.Slots directory_ask.Claim) own = place_pays i b _ _
+want_pays i c b N (want.Slot slot (slot_want.Close tag)) own = slot_pays i b slot _ _
+want_pays i c b N (want.Slot slot (slot_want.Smalloc tag size)) own = slot_pays i b slot _ _
+want_pays i c b N (want.Slot slot (slot_want.Sfree offset)) own = slot_pays i b slot _ _
 want_pays i c b N (want.Slot slot (slot_want.Load offset width)) own = slot_pays i b slot _ _
 want_pays i c b N (want.Slot slot (slot_want.Store offset width value)) own = slot_pays i b slot _ _
 want_pays i c b N (want.Fd fd (stream_ask.Append bits bytes)) own = append_pays i b fd bits bytes _ own.1
@@ -104,5 +114,7 @@ pub event_pays : (w : WorldState) (b : ActorState) (e : Event) → Happens w b e
 event_pays w b e (Requested r) = subst (EventPays w.image b) (sym r.is) (want_pays w.image w.cells b _ r.want r.own)
 event_pays w b e (Joined j) = subst (EventPays w.image b) (sym j.join.is) (join_pays w.image b j.number j.join.how j.join.child.fuel)
 event_pays w b e (Started s) = subst (EventPays w.image b) (sym s.is) (start_pays w.image b _ s.ready.enough)
+event_pays w b e (Opens o) = subst (EventPays w.image b) (sym o.is) (slot_pays w.image b o.slot _ _)
+event_pays w b e (Releases r) = subst (EventPays w.image b) (sym r.is) (place_pays w.image b _ _)
 event_pays w b e (LastJoined j) = subst (EventPays w.image b) (sym j.join.is) (join_pays w.image b j.first.0 j.join.how j.join.child.fuel)
 event_pays w b e (Ended f) = subst (EventPays w.image b) (sym f.is) (lives_pay w.image b _ _)

@@ -21,16 +21,31 @@ use Rattle.rv_hart.specs.declared.Hart.{Hart}
 use Rattle.rv_hart.specs.Local.{local}
 use Rattle.sthread_life.specs.declared.phase.Phase.{Phase}
 use Rattle.sthread_life.specs.declared.phase.Phase.TheVariants as phase
-use Rattle.sthread_life.specs.Actors.{ActorState, answers, ends, refuses, spends}
+use Rattle.sthread_life.specs.Actors.{ActorState, right_of, answers, denies, ends, refuses, spends, wants}
 use Rattle.sthread_life.specs.Private.{loads, stores, load_window, load_range, store_window, store_range, has_loaded, fits_read}
 use Rattle.wedge_base.specs.Names.{most_parts}
 use Rattle.wedge_base.specs.Sheets.{Draft, takes_tag, takes_fd, first_excess}
+use Rattle.wedge_base.specs.Maps.{has}
+use Rattle.wedge_base.specs.Rights.{at_least}
+use Rattle.wedge_base.specs.declared.events.Want.{Want}
 use Rattle.wedge_base.specs.declared.rights.Denial.{Denial}
+use Rattle.wedge_base.specs.declared.rights.Denial.TheVariants as denial
+use Rattle.wedge_base.specs.declared.rights.Right.TheVariants as right
 use Rattle.wedge_base.specs.declared.rights.FdBits.{FdBits}
 use Rattle.wedge_base.specs.declared.rights.Right.{Right}
 use Rattle.sthread_life.specs.Children.{is_child}
-use Rattle.sthread_life.specs.Calls.{serves, exit, is_procedure, create, create_with, create_checked, create_allowed, join, fd_append, most_drafts, sc_new, right_asked, bits_asked, add_right, add_right_to, sc_mem_add, add_bits, add_bits_to, sc_fd_add, draft_call, a0, a1, a2, a3, a7}
+use Rattle.sthread_life.specs.Calls.{serves, exit, is_procedure, create, create_with, create_checked, create_allowed, join, are_pages, tag_new, tag_delete, smalloc, free_at, sfree, fd_append, most_drafts, sc_new, right_asked, bits_asked, add_right, add_right_to, sc_mem_add, add_bits, add_bits_to, sc_fd_add, draft_call, a0, a1, a2, a3, a7}
 use Rattle.sthread_life.specs.Local.{needed, executed, fuelled, fetched, step, is_running, has_ended, run_local, rest}
+
+-- no event is still to come of a call that had one
+abbrev pub IsCalm : Phase → Type 0
+IsCalm phase.Running = Unit {0}
+IsCalm (phase.Within q) = Unit {0}
+IsCalm phase.Starting = ⊥
+IsCalm (phase.Opening slot tag) = ⊥
+IsCalm (phase.Releasing slot) = ⊥
+IsCalm (phase.Ending e) = Unit {0}
+IsCalm (phase.Ended e) = Unit {0}
 
 -- what the work of an instruction keeps, and how it leaves the actor
 pub record Goes (a b : ActorState) : Type 0 where
@@ -42,23 +57,24 @@ pub record Goes (a b : ActorState) : Type 0 where
   pub starts : b.starts ≡ a.starts
   pub unjoined : b.unjoined ≡ a.unjoined
   pub live : has_ended a.phase ≡ false → has_ended b.phase ≡ false
+  pub calm : IsCalm a.phase → IsCalm b.phase
 
 goes_if : (a x y : ActorState) (b : Bool) → Goes a x → Goes a y → Goes a (if b then x else y)
 goes_if a x y true p q = p
 goes_if a x y false p q = q
 
 goes_end : (a : ActorState) (e : End) → Goes a (ends a e)
-goes_end a e = record { name = refl; compartment = refl; sheet = refl; fuel = refl; made = refl; starts = refl; unjoined = refl; live = λ h. refl }
+goes_end a e = record { name = refl; compartment = refl; sheet = refl; fuel = refl; made = refl; starts = refl; unjoined = refl; live = λ h. refl; calm = λ h. tt }
 
 goes_refused : (a : ActorState) (c : Code) → Goes a (refuses a c)
-goes_refused a c = record { name = refl; compartment = refl; sheet = refl; fuel = refl; made = refl; starts = refl; unjoined = refl; live = λ h. refl }
+goes_refused a c = record { name = refl; compartment = refl; sheet = refl; fuel = refl; made = refl; starts = refl; unjoined = refl; live = λ h. refl; calm = λ h. tt }
 
 goes_loaded : (ins : Instr) (s : Bool) (a : ActorState) (width value : ℕ) → Goes a (has_loaded ins s a width value)
-goes_loaded ins s a width value = record { name = refl; compartment = refl; sheet = refl; fuel = refl; made = refl; starts = refl; unjoined = refl; live = λ h. h }
+goes_loaded ins s a width value = record { name = refl; compartment = refl; sheet = refl; fuel = refl; made = refl; starts = refl; unjoined = refl; live = λ h. h; calm = λ h. h }
 
 goes_load_window : (a : ActorState) (width : ℕ) (p : Option Place) → Goes a (load_window a width p)
 goes_load_window a width None = goes_end a end_.Unmapped
-goes_load_window a width (Some p) = record { name = refl; compartment = refl; sheet = refl; fuel = refl; made = refl; starts = refl; unjoined = refl; live = λ h. refl }
+goes_load_window a width (Some p) = record { name = refl; compartment = refl; sheet = refl; fuel = refl; made = refl; starts = refl; unjoined = refl; live = λ h. refl; calm = λ h. tt }
 
 goes_load_range : (ins : Instr) (s : Bool) (a : ActorState) (address width : ℕ) (r : Option MemoryRange) → Goes a (load_range ins s a address width r)
 goes_load_range ins s a address width (Some r) = goes_loaded ins s a width (number_of (read_range r address width))
@@ -72,10 +88,10 @@ goes_load i ins s a address width =
 
 goes_store_window : (a : ActorState) (width value : ℕ) (p : Option Place) → Goes a (store_window a width value p)
 goes_store_window a width value None = goes_end a end_.Unmapped
-goes_store_window a width value (Some p) = record { name = refl; compartment = refl; sheet = refl; fuel = refl; made = refl; starts = refl; unjoined = refl; live = λ h. refl }
+goes_store_window a width value (Some p) = record { name = refl; compartment = refl; sheet = refl; fuel = refl; made = refl; starts = refl; unjoined = refl; live = λ h. refl; calm = λ h. tt }
 
 goes_store_range : (a : ActorState) (address width value : ℕ) (r : Option MemoryRange) → Goes a (store_range a address width value r)
-goes_store_range a address width value (Some r) = record { name = refl; compartment = refl; sheet = refl; fuel = refl; made = refl; starts = refl; unjoined = refl; live = λ h. h }
+goes_store_range a address width value (Some r) = record { name = refl; compartment = refl; sheet = refl; fuel = refl; made = refl; starts = refl; unjoined = refl; live = λ h. h; calm = λ h. h }
 goes_store_range a address width value None = goes_store_window a width value (slot_of address)
 
 goes_store : (i : Image) (a : ActorState) (address width value : ℕ) → Goes a (stores i a address width value)
@@ -89,11 +105,11 @@ goes_append i a =
     goes_if a (refuses a code.Bad) _ (not (fits_read i a (a1 a) (a2 a))) (goes_refused a code.Bad)
     (goes_if a (refuses a code.FuelShort) _ (nat_lt a.fuel (a2 a)) (goes_refused a code.FuelShort)
     (goes_if a (refuses a code.NoSuch) _ (nat_le most_fds (a0 a)) (goes_refused a code.NoSuch)
-    (record { name = refl; compartment = refl; sheet = refl; fuel = refl; made = refl; starts = refl; unjoined = refl; live = λ h. refl })))
+    (record { name = refl; compartment = refl; sheet = refl; fuel = refl; made = refl; starts = refl; unjoined = refl; live = λ h. refl; calm = λ h. tt })))
 
 -- an answer to a call, with other drafts
 goes_drafted : (a : ActorState) (ds : List Draft) (value : ℕ) → Goes a (answers (record a { drafts = ds }) value)
-goes_drafted a ds value = record { name = refl; compartment = refl; sheet = refl; fuel = refl; made = refl; starts = refl; unjoined = refl; live = λ h. refl }
+goes_drafted a ds value = record { name = refl; compartment = refl; sheet = refl; fuel = refl; made = refl; starts = refl; unjoined = refl; live = λ h. refl; calm = λ h. tt }
 
 goes_right : (a : ActorState) (d : Draft) (r : Option Right) → Goes a (add_right a d r)
 goes_right a d None = goes_refused a code.Bad
@@ -121,11 +137,11 @@ goes_allowed : (a : ActorState) → Goes a (create_allowed a)
 goes_allowed a =
     goes_if a (refuses a code.Deep) _ (nat_le most_parts (length a.name)) (goes_refused a code.Deep)
     (goes_if a (refuses a code.FuelShort) _ (nat_lt a.fuel (a3 a)) (goes_refused a code.FuelShort)
-    (record { name = refl; compartment = refl; sheet = refl; fuel = refl; made = refl; starts = refl; unjoined = refl; live = λ h. refl }))
+    (record { name = refl; compartment = refl; sheet = refl; fuel = refl; made = refl; starts = refl; unjoined = refl; live = λ h. refl; calm = λ h. tt }))
 
 goes_checked : (a : ActorState) (d : Option Denial) → Goes a (create_checked a d)
 goes_checked a None = goes_allowed a
-goes_checked a (Some d) = record { name = refl; compartment = refl; sheet = refl; fuel = refl; made = refl; starts = refl; unjoined = refl; live = λ h. refl }
+goes_checked a (Some d) = record { name = refl; compartment = refl; sheet = refl; fuel = refl; made = refl; starts = refl; unjoined = refl; live = λ h. refl; calm = λ h. tt }
 
 goes_create : (i : Image) (a : ActorState) (d : Option Draft) → Goes a (create_with i a d)
 goes_create i a None = goes_refused a code.NoSuch
@@ -134,7 +150,29 @@ goes_create i a (Some d) = goes_if a (refuses a code.Bad) _ (not (is_procedure i
 goes_join : (a : ActorState) → Goes a (join a)
 goes_join a =
     goes_if a _ (refuses a code.NoSuch) (is_child a.unjoined (a0 a))
-    (record { name = refl; compartment = refl; sheet = refl; fuel = refl; made = refl; starts = refl; unjoined = refl; live = λ h. refl }) (goes_refused a code.NoSuch)
+    (record { name = refl; compartment = refl; sheet = refl; fuel = refl; made = refl; starts = refl; unjoined = refl; live = λ h. refl; calm = λ h. tt }) (goes_refused a code.NoSuch)
+
+-- calls on tags
+goes_denied : (a : ActorState) (d : Denial) → Goes a (denies a d)
+goes_denied a d = record { name = refl; compartment = refl; sheet = refl; fuel = refl; made = refl; starts = refl; unjoined = refl; live = λ h. refl; calm = λ h. tt }
+
+goes_wanting : (a : ActorState) (q : Want) → Goes a (wants a q)
+goes_wanting a q = record { name = refl; compartment = refl; sheet = refl; fuel = refl; made = refl; starts = refl; unjoined = refl; live = λ h. refl; calm = λ h. tt }
+
+goes_tag_new : (a : ActorState) → Goes a (tag_new a)
+goes_tag_new a = goes_if a _ (refuses a code.Bad) (are_pages (a0 a)) (goes_wanting a _) (goes_refused a code.Bad)
+
+goes_delete : (a : ActorState) → Goes a (tag_delete a)
+goes_delete a = goes_if a _ (denies a (denial.NotMaker (a0 a))) (has a.made.tags (a0 a)) (goes_wanting a _) (goes_denied a _)
+
+goes_smalloc : (a : ActorState) → Goes a (smalloc a)
+goes_smalloc a =
+    goes_if a (refuses a code.Bad) _ (a1 a == 0) (goes_refused a code.Bad)
+    (goes_if a _ (denies a (denial.Tag (a0 a) right.ReadWrite)) (at_least (right_of a (a0 a)) right.ReadWrite) (goes_wanting a _) (goes_denied a _))
+
+goes_free : (a : ActorState) (p : Option Place) → Goes a (free_at a p)
+goes_free a None = goes_refused a code.Bad
+goes_free a (Some p) = goes_wanting a _
 
 goes_call : (i : Image) (a : ActorState) (n : ℕ) → Goes a (serves i a n)
 unfolding serves
@@ -142,10 +180,14 @@ goes_call i a n =
     goes_if a (exit a) _ (n == 0) (goes_end a (end_.Exited (a0 a)))
     (goes_if a (create i a) _ (n == 1) (goes_create i a (slice_get a.drafts (a0 a)))
     (goes_if a (join a) _ (n == 2) (goes_join a)
-    (goes_if a (fd_append i a) _ (n == 16) (goes_append i a) (goes_draft a n))))
+    (goes_if a (tag_new a) _ (n == 3) (goes_tag_new a)
+    (goes_if a (tag_delete a) _ (n == 4) (goes_delete a)
+    (goes_if a (smalloc a) _ (n == 5) (goes_smalloc a)
+    (goes_if a (sfree a) _ (n == 6) (goes_free a (slot_of (a0 a)))
+    (goes_if a (fd_append i a) _ (n == 16) (goes_append i a) (goes_draft a n))))))))
 
 goes_needed : (i : Image) (ins : Instr) (a : ActorState) (h : Hart) (n : Need) → Goes a (needed i ins a h n)
-goes_needed i ins a h need.Done = record { name = refl; compartment = refl; sheet = refl; fuel = refl; made = refl; starts = refl; unjoined = refl; live = λ h. h }
+goes_needed i ins a h need.Done = record { name = refl; compartment = refl; sheet = refl; fuel = refl; made = refl; starts = refl; unjoined = refl; live = λ h. h; calm = λ h. h }
 goes_needed i ins a h (need.Load address width s) = goes_load i ins s a address width
 goes_needed i ins a h (need.Store address width value) = goes_store i a address width value
 goes_needed i ins a h need.Call = goes_call i a (a7 a)
@@ -161,6 +203,8 @@ abbrev pub IsEnding : Phase → Type 0
 IsEnding phase.Running = ⊥
 IsEnding (phase.Within q) = ⊥
 IsEnding phase.Starting = ⊥
+IsEnding (phase.Opening slot tag) = ⊥
+IsEnding (phase.Releasing slot) = ⊥
 IsEnding (phase.Ending e) = Unit {0}
 IsEnding (phase.Ended e) = ⊥
 
@@ -174,15 +218,16 @@ pub record Steps (a b : ActorState) : Type 0 where
   pub starts : b.starts ≡ a.starts
   pub unjoined : b.unjoined ≡ a.unjoined
   pub live : has_ended a.phase ≡ false → has_ended b.phase ≡ false
+  pub calm : IsCalm a.phase → IsCalm b.phase
 
 steps_fuelled : (i : Image) (a : ActorState) (word n : ℕ) → a.fuel ≡ n → Steps a (fuelled i a word n)
-steps_fuelled i a word zero e = record { name = refl; compartment = refl; sheet = refl; spent = inr (refl, tt); made = refl; starts = refl; unjoined = refl; live = λ h. refl }
+steps_fuelled i a word zero e = record { name = refl; compartment = refl; sheet = refl; spent = inr (refl, tt); made = refl; starts = refl; unjoined = refl; live = λ h. refl; calm = λ h. tt }
 steps_fuelled i a word (suc n) e =
     let g = goes_executed i (spends a 1) (decode word) in
-    record { name = g.name; compartment = g.compartment; sheet = g.sheet; spent = inl (omega (arith, g.fuel)); made = g.made; starts = g.starts; unjoined = g.unjoined; live = g.live }
+    record { name = g.name; compartment = g.compartment; sheet = g.sheet; spent = inl (omega (arith, g.fuel)); made = g.made; starts = g.starts; unjoined = g.unjoined; live = g.live; calm = g.calm }
 
 steps_fetched : (i : Image) (a : ActorState) (word : Option ℕ) → Steps a (fetched i a word)
-steps_fetched i a None = record { name = refl; compartment = refl; sheet = refl; spent = inr (refl, tt); made = refl; starts = refl; unjoined = refl; live = λ h. refl }
+steps_fetched i a None = record { name = refl; compartment = refl; sheet = refl; spent = inr (refl, tt); made = refl; starts = refl; unjoined = refl; live = λ h. refl; calm = λ h. tt }
 steps_fetched i a (Some word) = steps_fuelled i a word a.fuel refl
 
 pub steps_step : (i : Image) (a : ActorState) → Steps a (step i a)
@@ -194,6 +239,8 @@ abbrev pub HasPaid : ℕ → ℕ → Phase → Type 0
 HasPaid before after phase.Running = after ≤ before
 HasPaid before after (phase.Within q) = after < before
 HasPaid before after phase.Starting = after < before
+HasPaid before after (phase.Opening slot tag) = after < before
+HasPaid before after (phase.Releasing slot) = after < before
 HasPaid before after (phase.Ending e) = after ≤ before
 HasPaid before after (phase.Ended e) = after ≤ before
 
@@ -207,11 +254,14 @@ pub record Rests (a b : ActorState) : Type 0 where
   pub starts : b.starts ≡ a.starts
   pub unjoined : b.unjoined ≡ a.unjoined
   pub live : has_ended b.phase ≡ false
+  pub calm : IsCalm b.phase
 
 paid_less : (before mid after : ℕ) (p : Phase) → mid ≤ before → HasPaid mid after p → HasPaid before after p
 paid_less before mid after phase.Running le h = omega arith
 paid_less before mid after (phase.Within q) le h = omega arith
 paid_less before mid after phase.Starting le h = omega arith
+paid_less before mid after (phase.Opening slot tag) le h = omega arith
+paid_less before mid after (phase.Releasing slot) le h = omega arith
 paid_less before mid after (phase.Ending e) le h = omega arith
 paid_less before mid after (phase.Ended e) le h = omega arith
 
@@ -222,6 +272,10 @@ paid_step before after (phase.Within q) (inl lt) = lt
 paid_step before after (phase.Within q) (inr h) = absurd h.1
 paid_step before after phase.Starting (inl lt) = lt
 paid_step before after phase.Starting (inr h) = absurd h.1
+paid_step before after (phase.Opening slot tag) (inl lt) = lt
+paid_step before after (phase.Opening slot tag) (inr h) = absurd h.1
+paid_step before after (phase.Releasing slot) (inl lt) = lt
+paid_step before after (phase.Releasing slot) (inr h) = absurd h.1
 paid_step before after (phase.Ending e) (inl lt) = omega arith
 paid_step before after (phase.Ending e) (inr h) = omega arith
 paid_step before after (phase.Ended e) (inl lt) = omega arith
@@ -245,6 +299,8 @@ pub running_is : (p : Phase) → is_running p ≡ true → p ≡ phase.Running
 running_is phase.Running e = refl
 running_is (phase.Within q) e = cc
 running_is phase.Starting e = cc
+running_is (phase.Opening slot tag) e = cc
+running_is (phase.Releasing slot) e = cc
 running_is (phase.Ending x) e = cc
 running_is (phase.Ended x) e = cc
 
@@ -252,8 +308,19 @@ running_live : (p : Phase) → is_running p ≡ true → has_ended p ≡ false
 running_live phase.Running e = refl
 running_live (phase.Within q) e = refl
 running_live phase.Starting e = refl
+running_live (phase.Opening slot tag) e = refl
+running_live (phase.Releasing slot) e = refl
 running_live (phase.Ending x) e = refl
 running_live (phase.Ended x) e = cc
+
+running_calm : (p : Phase) → is_running p ≡ true → IsCalm p
+running_calm phase.Running e = tt
+running_calm (phase.Within q) e = tt
+running_calm phase.Starting e = absurd cc
+running_calm (phase.Opening slot tag) e = absurd cc
+running_calm (phase.Releasing slot) e = absurd cc
+running_calm (phase.Ending x) e = tt
+running_calm (phase.Ended x) e = tt
 
 rests_from : (i : Image) (n : ℕ) (a : ActorState) (b : Bool) → is_running a.phase ≡ b → Rests a (run_local i n a) ⊎ (a ≡ run_local i n a)
 rests_from i n a false e = inr (sym (stays i n a e))
@@ -264,8 +331,8 @@ rests_from i (suc n) a true e =
     let le : b.fuel ≤ a.fuel = spent_le a.fuel b.fuel b.phase s.spent in
     rw (goes_on i n a e) (inl (
     elim (rests_from i n b _ refl) [
-      | inl r ↦ record { name = r.name ∙ s.name; compartment = r.compartment ∙ s.compartment; sheet = r.sheet ∙ s.sheet; made = r.made ∙ s.made; starts = r.starts ∙ s.starts; unjoined = r.unjoined ∙ s.unjoined; paid = paid_less a.fuel b.fuel _ _ le r.paid; live = r.live }
-      | inr same ↦ subst (Rests a) same (record { name = s.name; compartment = s.compartment; sheet = s.sheet; made = s.made; starts = s.starts; unjoined = s.unjoined; paid = paid_step a.fuel b.fuel b.phase s.spent; live = s.live (running_live a.phase e) })
+      | inl r ↦ record { name = r.name ∙ s.name; compartment = r.compartment ∙ s.compartment; sheet = r.sheet ∙ s.sheet; made = r.made ∙ s.made; starts = r.starts ∙ s.starts; unjoined = r.unjoined ∙ s.unjoined; paid = paid_less a.fuel b.fuel _ _ le r.paid; live = r.live; calm = r.calm }
+      | inr same ↦ subst (Rests a) same (record { name = s.name; compartment = s.compartment; sheet = s.sheet; made = s.made; starts = s.starts; unjoined = s.unjoined; paid = paid_step a.fuel b.fuel b.phase s.spent; live = s.live (running_live a.phase e); calm = s.calm (running_calm a.phase e) })
     ]))
 
 -- an actor that runs rests paid
@@ -273,6 +340,8 @@ paid_running : (f : ℕ) (p : Phase) → is_running p ≡ true → HasPaid f f p
 paid_running f phase.Running e = omega arith
 paid_running f (phase.Within q) e = cc
 paid_running f phase.Starting e = cc
+paid_running f (phase.Opening slot tag) e = cc
+paid_running f (phase.Releasing slot) e = cc
 paid_running f (phase.Ending x) e = omega arith
 paid_running f (phase.Ended x) e = omega arith
 
@@ -281,18 +350,28 @@ unfolding rest
 rests i a e =
     elim (rests_from i (a.fuel + 1) a true e) [
       | inl r ↦ r
-      | inr same ↦ subst (Rests a) same (record { name = refl; compartment = refl; sheet = refl; made = refl; starts = refl; unjoined = refl; paid = paid_running a.fuel a.phase e; live = running_live a.phase e })
+      | inr same ↦ subst (Rests a) same (record { name = refl; compartment = refl; sheet = refl; made = refl; starts = refl; unjoined = refl; paid = paid_running a.fuel a.phase e; live = running_live a.phase e; calm = running_calm a.phase e })
     ]
 
 pub rest-stays : (i : Image) (a : ActorState) → is_running a.phase ≡ false → rest i a ≡ a
 unfolding rest
 rest-stays i a e = stays i (a.fuel + 1) a e
 
+-- an event that is still to come of a call was to come before
+pub rest-uncalm : (i : Image) (a : ActorState) (p : Phase) → (IsCalm p → ⊥) → (rest i a).phase ≡ p → a.phase ≡ p
+rest-uncalm i a p uncalm is = by_running (is_running a.phase) refl
+  where
+    by_running : (t : Bool) → is_running a.phase ≡ t → a.phase ≡ p
+    by_running true e = absurd (uncalm (subst IsCalm is (rests i a e).calm))
+    by_running false e = ap (λ (x : ActorState). x.phase) (sym (rest-stays i a e)) ∙ is
+
 -- at rest an actor does not run
 ending_stops : (p : Phase) → IsEnding p → is_running p ≡ false
 ending_stops phase.Running h = absurd h
 ending_stops (phase.Within q) h = refl
 ending_stops phase.Starting h = refl
+ending_stops (phase.Opening slot tag) h = refl
+ending_stops (phase.Releasing slot) h = refl
 ending_stops (phase.Ending e) h = refl
 ending_stops (phase.Ended e) h = refl
 
@@ -325,6 +404,8 @@ ended_stops : (p : Phase) → has_ended p ≡ true → is_running p ≡ false
 ended_stops phase.Running e = cc
 ended_stops (phase.Within q) e = refl
 ended_stops phase.Starting e = refl
+ended_stops (phase.Opening slot tag) e = refl
+ended_stops (phase.Releasing slot) e = refl
 ended_stops (phase.Ending x) e = refl
 ended_stops (phase.Ended x) e = refl
 
@@ -362,6 +443,8 @@ abbrev pub left : Phase → ℕ → ℕ
 left phase.Running n = n + 1
 left (phase.Within q) n = 0
 left phase.Starting n = 0
+left (phase.Opening slot tag) n = 0
+left (phase.Releasing slot) n = 0
 left (phase.Ending e) n = 0
 left (phase.Ended e) n = 0
 
@@ -369,6 +452,8 @@ left_ending : (p : Phase) (n : ℕ) → IsEnding p → left p n ≡ 0
 left_ending phase.Running n h = absurd h
 left_ending (phase.Within q) n h = refl
 left_ending phase.Starting n h = refl
+left_ending (phase.Opening slot tag) n h = refl
+left_ending (phase.Releasing slot) n h = refl
 left_ending (phase.Ending e) n h = refl
 left_ending (phase.Ended e) n h = refl
 
@@ -376,6 +461,8 @@ left_le : (p : Phase) (n : ℕ) → left p n ≤ n + 1
 left_le phase.Running n = omega arith
 left_le (phase.Within q) n = omega arith
 left_le phase.Starting n = omega arith
+left_le (phase.Opening slot tag) n = omega arith
+left_le (phase.Releasing slot) n = omega arith
 left_le (phase.Ending e) n = omega arith
 left_le (phase.Ended e) n = omega arith
 

@@ -1,10 +1,12 @@
 -- Worlds that differ in local events alone: they take the same turns, and such turns lead to worlds that again differ
 -- in local events alone; and what every actor of a run is in as it rests.
-use Rattle.std.proofs.Common.{◌≡◌, ℕ, Bool, true, false, List, [], ◌∷◌, refl, sym, ap, subst, ◌∙◌}
-use Rattle.std.proofs.lemmas.List.{map-append}
-use Rattle.std.specs.Prelude.{◌++◌, map, Option, Some, None, option_map, if◌then◌else◌}
+use Rattle.std.proofs.Common.{◌≡◌, ℕ, zero, suc, ◌+◌, ◌-◌, ◌≤◌, Bool, true, false, List, [], ◌∷◌, length, refl, sym, ap, subst, ◌∙◌, arith}
+use Rattle.std.proofs.lemmas.List.{map-append, length-append}
+use Rattle.std.specs.Prelude.{◌++◌, map, replicate, slice_set, Option, Some, None, option_map, if◌then◌else◌}
 use Rattle.wedge_base.specs.Names.{same, root_name}
-use Rattle.wedge_base.specs.Images.{Image}
+use Rattle.wedge_base.specs.Images.{Image, slots as most_slots}
+use Rattle.wedge_base.specs.Slots.{Segment, declared_slots, slot_after}
+use Rattle.wedge_base.specs.declared.image.TagEntry.{TagEntry}
 use Rattle.wedge_base.specs.declared.events.Want.{Want}
 use Rattle.wedge_base.specs.declared.events.Want.TheVariants as want
 use Rattle.wedge_base.specs.declared.events.Event.{Event}
@@ -17,13 +19,15 @@ use Rattle.sthread_life.specs.Actors.{ActorState, root}
 use Rattle.sthread_life.specs.Local.{rest, has_ended, end_reached}
 use Rattle.sthread_life.specs.Children.{child_name}
 use Rattle.sthread_life.specs.Taking.{wanted, takes, child_of, begun}
-use Rattle.sthread_life.specs.Cells.{cells_after}
+use Rattle.sthread_life.specs.Between.{GivesBelow}
+use Rattle.sthread_life.specs.Cells.{Cells, nothings, slot_in, cells_after}
 use Rattle.sthread_life.specs.Worlds.{WorldState, opening, actor_named, put_actor, with_begun, join_event, event_at, happened, wanting, turn_with, turn_of, Runs, is_ended, is_whole, settled}
 use Rattle.sthread_life.specs.Outcomes.{with_actor, lines_of, streams_of, outcome_of}
 use Rattle.sthread_life.proofs.Resting.{rest-name, rest-ended, ended-stays}
 use Rattle.sthread_life.proofs.Between.{TurnParts, turn_parts}
 use Rattle.sthread_life.proofs.Happening.{Happens, happens, takes_reads}
-use Rattle.sthread_life.proofs.Meeting.{ReadsAs, rest_reads}
+use Rattle.sthread_life.proofs.Directing.{next_sound}
+use Rattle.sthread_life.proofs.Meeting.{slots_in, ReadsAs, rest_reads}
 
 -- ---- actors by name, each at rest
 
@@ -91,6 +95,8 @@ join_at_rest i k (Some c) = by_end (has_ended c.phase) refl
     not_reached phase.Running e = refl
     not_reached (phase.Within q) e = refl
     not_reached phase.Starting e = refl
+    not_reached (phase.Opening slot tag) e = refl
+    not_reached (phase.Releasing slot) e = refl
     not_reached (phase.Ending x) e = refl
     not_reached (phase.Ended x) e = absurd cc
 
@@ -146,6 +152,8 @@ no_line : (i : Image) (a : ActorState) (p : Phase) (ls : List ActorLine) → has
 no_line i a phase.Running ls e = refl
 no_line i a (phase.Within q) ls e = refl
 no_line i a phase.Starting ls e = refl
+no_line i a (phase.Opening slot tag) ls e = refl
+no_line i a (phase.Releasing slot) ls e = refl
 no_line i a (phase.Ending x) ls e = refl
 no_line i a (phase.Ended x) ls e = absurd cc
 
@@ -169,12 +177,21 @@ abbrev pub AllRead : Image → List ActorState → Type 0
 AllRead i [] = Unit {0}
 AllRead i (b ∷ bs) = ReadsAs i b b.phase × AllRead i bs
 
+-- the slots are those of a run of the image, and the directory gives out such alone
+pub record AreCells (i : Image) (c : Cells) : Type 0 where
+  pub places : GivesBelow (slots_in i) c.places
+  pub slots : length c.slots ≡ slots_in i
+
 -- every actor rests at its request, at its end, or at none
-abbrev pub AllReady : WorldState → Type 0
-AllReady w = AllRead w.image (settled w).actors
+pub record AllReady (w : WorldState) : Type 0 where
+  pub actors : AllRead w.image (settled w).actors
+  pub cells : AreCells w.image w.cells
 
 pub ready_alike : (v w : WorldState) → settled v ≡ settled w → AllReady w → AllReady v
-ready_alike v w alike all = subst (λ (x : WorldState). AllRead x.image x.actors) (sym alike) all
+ready_alike v w alike all = record {
+  actors = subst (λ (x : WorldState). AllRead x.image x.actors) (sym alike) all.actors;
+  cells = subst (λ (x : WorldState). AreCells x.image x.cells) (sym alike) all.cells;
+}
 
 first_reads : (i : Image) (b a : ActorState) (o : Option ActorState) (t : Bool) → (if t then Some b else o) ≡ Some a → ReadsAs i b b.phase → (o ≡ Some a → ReadsAs i a a.phase) → ReadsAs i a a.phase
 first_reads i b a o true e h others = let is : b ≡ a = cc in subst (λ (x : ActorState). ReadsAs i x x.phase) is h
@@ -186,7 +203,7 @@ named_reads i (x ∷ xs) name b all e = first_reads i x b (actor_named xs name) 
 
 pub named_ready : (w : WorldState) (name : List ℕ) (a : ActorState) → AllReady w → actor_named w.actors name ≡ Some a → ReadsAs w.image (rest w.image a) (rest w.image a).phase
 named_ready w name a all named =
-    named_reads w.image (settled w).actors name (rest w.image a) all (map_named w.image w.actors name ∙ ap (option_map (rest w.image)) named)
+    named_reads w.image (settled w).actors name (rest w.image a) all.actors (map_named w.image w.actors name ∙ ap (option_map (rest w.image)) named)
 
 put_or_reads : (i : Image) (x b : ActorState) (bs others : List ActorState) (t : Bool) → ReadsAs i x x.phase → ReadsAs i b b.phase → AllRead i bs → AllRead i others → AllRead i (if t then x ∷ bs else b ∷ others)
 put_or_reads i x b bs others true h k all rest_ = (h, all)
@@ -212,19 +229,68 @@ begins_ready i b e c is = absurd cc
 pub turn_happens : (w : WorldState) (name : List ℕ) (e : Event) (new : WorldState) → AllReady w → (p : TurnParts w name e new) → Happens w (rest w.image p.actor) e
 turn_happens w name e new all p = happens w (rest w.image p.actor) p.want e (named_ready w name p.actor all p.named) p.wants p.comes
 
+-- an event leaves the slots and their directory as those of a run
+set_length : {X : Type 0} (xs : List X) (n : ℕ) (x : X) → length (slice_set xs n x) ≡ length xs
+set_length [] n x = refl
+set_length (y ∷ ys) zero x = refl
+set_length (y ∷ ys) (suc n) x = ap suc (set_length ys n x)
+
+cells_kept : (i : Image) (c : Cells) (e : Event) → AreCells i c → AreCells i (cells_after c e)
+cells_kept i c (event.Slots q r) h = record { places = next_sound (slots_in i) c.places q h.places; slots = h.slots }
+cells_kept i c (event.Slot slot q r) h = record { places = h.places; slots = set_length c.slots slot (slot_after (slot_in c slot) q r) ∙ h.slots }
+cells_kept i c (event.Fds q r) h = record { places = h.places; slots = h.slots }
+cells_kept i c (event.Fd fd q r) h = record { places = h.places; slots = h.slots }
+cells_kept i c (event.Lives q r) h = record { places = h.places; slots = h.slots }
+cells_kept i c (event.Gate id q r) h = record { places = h.places; slots = h.slots }
+cells_kept i c (event.Start child) h = h
+cells_kept i c (event.Join k end fuel) h = h
+cells_kept i c (event.Enter run) h = h
+cells_kept i c (event.Leave end) h = h
+
 pub turn_ready : (w : WorldState) (name : List ℕ) (e : Event) (new : WorldState) → AllReady w → turn_of w name ≡ Some (record { event = e; world = new }) → AllReady new
 turn_ready w name e new all t =
     let p = turn_parts w name e new t in
     let b = rest w.image p.actor in
     let x = takes w.image b e in
-    let put = put_reads w.image (settled w).actors (rest w.image x) all (rest_reads w.image x (takes_reads w b e (turn_happens w name e new all p))) in
-    subst AllReady (sym p.new_is)
-    (subst (AllRead w.image) (sym (map_begun w.image (put_actor w.actors x) (begun w.image b e)))
-    (begun_reads w.image (map (rest w.image) (put_actor w.actors x)) (option_map (rest w.image) (begun w.image b e)) (subst (AllRead w.image) (sym (map_put w.image w.actors x)) put) (begins_ready w.image b e)))
+    let reads = takes_reads w b e all.cells.places (turn_happens w name e new all p) in
+    let put = put_reads w.image (settled w).actors (rest w.image x) all.actors (rest_reads w.image x reads) in
+    subst AllReady (sym p.new_is) (record {
+      actors = subst (AllRead w.image) (sym (map_begun w.image (put_actor w.actors x) (begun w.image b e)))
+          (begun_reads w.image (map (rest w.image) (put_actor w.actors x)) (option_map (rest w.image) (begun w.image b e)) (subst (AllRead w.image) (sym (map_put w.image w.actors x)) put) (begins_ready w.image b e));
+      cells = cells_kept w.image w.cells e all.cells;
+    })
+
+-- as a run begins, the slots are those that are declared, and then empty ones
+declared_length : (n : ℕ) (ts : List TagEntry) → length (declared_slots n ts) ≡ length ts
+declared_length n [] = refl
+declared_length n (t ∷ ts) = ap suc (declared_length (n + 1) ts)
+
+replicate_length : (n : ℕ) → length (replicate {A = Option Segment} n None) ≡ n
+replicate_length zero = refl
+replicate_length (suc n) = ap suc (replicate_length n)
+
+nothings_length : (n : ℕ) → length (nothings {X = Segment} n) ≡ n
+unfolding nothings
+nothings_length n = replicate_length n
 
 pub opening_ready : (i : Image) → AllReady (opening i)
 unfolding root
-opening_ready i = (rest_reads i (root i) tt, tt)
+opening_ready i = record {
+  actors = (rest_reads i (root i) tt, tt);
+  cells = record { places = (enough most_slots (length i.tags), some (length i.tags) (most_slots - length i.tags), tt); slots = all };
+}
+  where
+    enough : (m n : ℕ) → m ≤ n + (m - n)
+    enough m n = omega arith
+
+    some : (m n : ℕ) → m ≤ m + n
+    some m n = omega arith
+
+    all : length (declared_slots 0 i.tags ++ nothings (most_slots - length i.tags)) ≡ slots_in i
+    all =
+        length-append (declared_slots 0 i.tags) (nothings (most_slots - length i.tags))
+        ∙ (ap (λ n. n + length (nothings {X = Segment} (most_slots - length i.tags))) (declared_length 0 i.tags)
+        ∙ ap (λ n. length i.tags + n) (nothings_length (most_slots - length i.tags)))
 
 runs_ready : (old : WorldState) (turns : List Turn) (new : WorldState) → AllReady old → Runs old turns new → AllReady new
 runs_ready old [] new all run = subst AllReady (sym run) all

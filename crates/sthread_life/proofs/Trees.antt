@@ -1,14 +1,14 @@
 -- Names as a tree: a child's name and its starter's; and who is found where an actor was put and another began.
-use Rattle.std.proofs.Common.{◌≡◌, ℕ, zero, suc, ◌+◌, ◌≤◌, ◌<◌, Bool, true, false, true≢false, List, [], ◌∷◌, ◌++◌, length, refl, sym, ap, subst, ◌∙◌, arith, inl, inr}
+use Rattle.std.proofs.Common.{◌≡◌, ℕ, Bool, true, false, true≢false, List, [], ◌∷◌, ◌++◌, refl, sym, ap, subst, ◌∙◌, inl, inr}
 use Rattle.std.proofs.lemmas.Bool.{eq-eqb}
-use Rattle.std.specs.Prelude.{Option, Some, None, ◌==◌, ◌&&◌, ◌⊎◌, if◌then◌else◌}
+use Rattle.std.specs.Prelude.{Some, None, ◌==◌, ◌&&◌, ◌⊎◌, if◌then◌else◌}
 use Rattle.wedge_base.specs.Names.{same, root_name}
 use Rattle.sthread_life.specs.Actors.{ActorState}
 use Rattle.sthread_life.specs.Children.{child_name}
 use Rattle.sthread_life.specs.Fuel.{starter_of, number_in}
 use Rattle.sthread_life.specs.Names.{IsNew, AreDistinct}
-use Rattle.sthread_life.specs.Worlds.{actor_named, put_actor, with_begun}
-use Rattle.sthread_life.proofs.Named.{same_self, same_equal, named_put, named_put_other, named_begun}
+use Rattle.sthread_life.specs.Worlds.{actor_named, put_actor}
+use Rattle.sthread_life.proofs.Named.{same_self, same_equal, named_put, named_put_other}
 
 -- ---- names
 

@@ -11,7 +11,10 @@ use Rattle.wedge_base.specs.declared.events.Want.TheVariants as want
 use Rattle.wedge_base.specs.declared.events.Event.{Event}
 use Rattle.wedge_base.specs.declared.events.Event.TheVariants as event
 use Rattle.wedge_base.specs.declared.events.Turn.{Turn}
+use Rattle.wedge_base.specs.declared.cells.DirectoryAsk.TheVariants as directory_ask
+use Rattle.wedge_base.specs.declared.cells.DirectoryReply.TheVariants as directory_reply
 use Rattle.wedge_base.specs.declared.cells.LivesAsk.TheVariants as lives_ask
+use Rattle.wedge_base.specs.declared.cells.SlotReply.TheVariants as slot_reply
 use Rattle.wedge_base.specs.declared.cells.LivesReply.TheVariants as lives_reply
 use Rattle.wedge_base.specs.declared.rights.End.{End}
 use Rattle.sthread_life.specs.declared.phase.Phase.{Phase}
@@ -20,18 +23,16 @@ use Rattle.sthread_life.specs.Actors.{ActorState, root}
 use Rattle.sthread_life.specs.Between.{IsBetween}
 use Rattle.sthread_life.specs.Children.{Children, child_name, is_number, fuel_given, is_child, with_child, without_child}
 use Rattle.sthread_life.specs.FamilyTrees.{Family}
-use Rattle.sthread_life.specs.Fuel.{fuel_in, fuel_of, units_of, units_of_turn, phase_work, tasks_of, tasks_in, work_left, most_turns}
+use Rattle.sthread_life.specs.Fuel.{units_of, phase_work, tasks_of, tasks_in, work_left, most_turns}
 use Rattle.sthread_life.specs.Laws.{RunsEnd}
 use Rattle.sthread_life.specs.Local.{is_running, rest}
-use Rattle.sthread_life.specs.Paying.{cost_by}
 use Rattle.sthread_life.specs.Taking.{next_start, answered_end, takes, begun}
 use Rattle.sthread_life.specs.Worlds.{WorldState, opening, actor_named, put_actor, with_begun, turn_of, Runs}
-use Rattle.sthread_life.specs.Names.{AreDistinct}
 use Rattle.wedge_base.specs.Names.{same}
 use Rattle.sthread_life.proofs.Between.{Leaves, takes_between, takes_name, turn_parts}
 use Rattle.sthread_life.proofs.Families.{IsOfOne, takes_same, first_child}
-use Rattle.sthread_life.proofs.FamilyRuns.{kept_at_rest, rest_units, turn_keeps, turn_family, opening_family, fuel_kept, one_begins, request_of_one, join_keeps_starts}
-use Rattle.sthread_life.proofs.Happening.{Happens, Requested, Joined, Started, LastJoined, Ended, joined_at}
+use Rattle.sthread_life.proofs.FamilyRuns.{kept_at_rest, rest_units, turn_keeps, turn_family, opening_family, one_begins, request_of_one, join_keeps_starts}
+use Rattle.sthread_life.proofs.Happening.{Happens, Requested, Joined, Started, Opens, Releases, LastJoined, Ended}
 use Rattle.sthread_life.proofs.Named.{found_name}
 use Rattle.sthread_life.proofs.Resting.{HasPaid, rests, rest-stays, rest-name, running_is}
 use Rattle.sthread_life.proofs.Settling.{AllReady, turn_happens, turn_ready, opening_ready}
@@ -99,6 +100,8 @@ tasks_begun actors (Some c) = tasks_behind actors c
 record IsPaid (a b : ActorState) (units : ℕ) : Type 0 where
   within : (q : Want) → b.phase ≡ phase.Within q → 7 ≤ 5 * units + phase_work a.phase
   starting : b.phase ≡ phase.Starting → 6 ≤ 5 * units + phase_work a.phase
+  opening : (slot tag : ℕ) → b.phase ≡ phase.Opening slot tag → 6 ≤ 5 * units + phase_work a.phase
+  releasing : (slot : ℕ) → b.phase ≡ phase.Releasing slot → 6 ≤ 5 * units + phase_work a.phase
   ending : (e : End) → b.phase ≡ phase.Ending e → 1 ≤ 5 * units + phase_work a.phase
 
 paid_within : (f g : ℕ) (p : Phase) (q : Want) → p ≡ phase.Within q → HasPaid f g p → g < f
@@ -106,6 +109,12 @@ paid_within f g p q e h = subst (HasPaid f g) e h
 
 paid_starting : (f g : ℕ) (p : Phase) → p ≡ phase.Starting → HasPaid f g p → g < f
 paid_starting f g p e h = subst (HasPaid f g) e h
+
+paid_opening : (f g slot tag : ℕ) (p : Phase) → p ≡ phase.Opening slot tag → HasPaid f g p → g < f
+paid_opening f g slot tag p e h = subst (HasPaid f g) e h
+
+paid_releasing : (f g slot : ℕ) (p : Phase) → p ≡ phase.Releasing slot → HasPaid f g p → g < f
+paid_releasing f g slot p e h = subst (HasPaid f g) e h
 
 rest_paid : (i : Image) (a : ActorState) (t : Bool) → is_running a.phase ≡ t → IsPaid a (rest i a) (units_of i (a.fuel + 1) a)
 rest_paid i a true e =
@@ -115,6 +124,8 @@ rest_paid i a true e =
     record {
       within = λ q is. let less = paid_within a.fuel (rest i a).fuel (rest i a).phase q is r.paid in omega (arith, less, units, work);
       starting = λ is. let less = paid_starting a.fuel (rest i a).fuel (rest i a).phase is r.paid in omega (arith, less, units, work);
+      opening = λ slot tag is. let less = paid_opening a.fuel (rest i a).fuel slot tag (rest i a).phase is r.paid in omega (arith, less, units, work);
+      releasing = λ slot is. let less = paid_releasing a.fuel (rest i a).fuel slot (rest i a).phase is r.paid in omega (arith, less, units, work);
       ending = λ x is. omega (arith, work);
     }
 rest_paid i a false e =
@@ -123,23 +134,36 @@ rest_paid i a false e =
     record {
       within = λ q is. let work : phase_work a.phase ≡ 7 = ap phase_work (sym same ∙ is) in omega (arith, work);
       starting = λ is. let work : phase_work a.phase ≡ 6 = ap phase_work (sym same ∙ is) in omega (arith, work);
+      opening = λ slot tag is. let work : phase_work a.phase ≡ 6 = ap phase_work (sym same ∙ is) in omega (arith, work);
+      releasing = λ slot is. let work : phase_work a.phase ≡ 6 = ap phase_work (sym same ∙ is) in omega (arith, work);
       ending = λ x is. let work : phase_work a.phase ≡ 1 = ap phase_work (sym same ∙ is) in omega (arith, work);
     }
 
--- what an event leaves has little to do: two at most, or six where a life was claimed
-between_work : (p : Phase) → IsBetween p → phase_work p ≤ 6
+-- what an event leaves has little to do: two at most, or six where a life or a slot was claimed, or a tag closed
+between_work : (p : Phase) → IsBetween p → phase_work p ≤ 2
 between_work phase.Running h = omega arith
 between_work (phase.Within q) h = absurd h
 between_work phase.Starting h = absurd h
+between_work (phase.Opening slot tag) h = absurd h
+between_work (phase.Releasing slot) h = absurd h
 between_work (phase.Ending e) h = omega arith
 between_work (phase.Ended e) h = omega arith
 
+work_between : (p : Phase) → IsBetween p → phase_work p ≤ 6
+work_between p h = let few = between_work p h in omega (arith, few)
+
 leaves_work : (e : Event) (p : Phase) → Leaves e p → phase_work p ≤ 6
 leaves_work (event.Lives lives_ask.Claim lives_reply.Claimed) p h = let work : phase_work p ≡ 6 = ap phase_work h in omega (arith, work)
-leaves_work (event.Lives lives_ask.Claim lives_reply.Full) p h = between_work p h
-leaves_work (event.Lives lives_ask.Claim lives_reply.Released) p h = between_work p h
-leaves_work (event.Lives (lives_ask.Release x) r) p h = between_work p h
-leaves_work e p h = between_work p h
+leaves_work (event.Lives lives_ask.Claim lives_reply.Full) p h = work_between p h
+leaves_work (event.Lives lives_ask.Claim lives_reply.Released) p h = work_between p h
+leaves_work (event.Lives (lives_ask.Release x) r) p h = work_between p h
+leaves_work (event.Slots directory_ask.Claim (directory_reply.Claimed slot tag)) p h = let work : phase_work p ≡ 6 = ap phase_work h in omega (arith, work)
+leaves_work (event.Slots directory_ask.Claim directory_reply.Full) p h = work_between p h
+leaves_work (event.Slots directory_ask.Claim directory_reply.Released) p h = work_between p h
+leaves_work (event.Slots (directory_ask.Release slot) r) p h = work_between p h
+leaves_work (event.Slot slot q slot_reply.Closed) p h = let work : phase_work p ≡ 6 = ap phase_work h in omega (arith, work)
+leaves_work (event.Slot slot q r) p h = work_between p h
+leaves_work e p h = work_between p h
 
 -- the tasks of the doer and of a child after the event, against those before and the units
 record IsLess (i : Image) (b : ActorState) (e : Event) (n : ℕ) : Type 0 where
@@ -157,6 +181,8 @@ joined_work : (a : ActorState) (p : Phase) (x : End) → a.phase ≡ p → phase
 joined_work a phase.Running x at = omega arith
 joined_work a (phase.Within q) x at = omega arith
 joined_work a phase.Starting x at = omega arith
+joined_work a (phase.Opening slot tag) x at = omega arith
+joined_work a (phase.Releasing slot) x at = omega arith
 joined_work a (phase.Ending y) x at = let work : phase_work a.phase ≡ 1 = ap phase_work at in omega (arith, work)
 joined_work a (phase.Ended y) x at = omega arith
 
@@ -194,6 +220,26 @@ event_less w a e (Joined j) =
     let count : length b.unjoined ≡ length a.unjoined = ap length k.unjoined in
     omega (arith, paid, few, left, fewer, count) in
     subst (λ y. tasks_of (takes w.image b y) + begun_tasks (begun w.image b y) < 5 * units_of w.image (a.fuel + 1) a + tasks_of a) (sym j.join.is) less
+event_less w a e (Opens o) =
+    let b = rest w.image a in
+    let one = subst IsOfOne (sym o.is) tt in
+    let s = takes_same w.image b e one in
+    let k = kept_at_rest w.image a _ refl in
+    let paid = (rest_paid w.image a _ refl).opening o.slot o.tag o.at in
+    let few : phase_work (takes w.image b e).phase ≤ 2 = between_work (takes w.image b e).phase (subst (λ y. Leaves y (takes w.image b e).phase) o.is (takes_between w.image b e)) in
+    let none : begun_tasks (begun w.image b e) ≡ 0 = ap begun_tasks (one_begins w.image b e one) in
+    let count : length (takes w.image b e).unjoined ≡ length a.unjoined = ap length (s.unjoined ∙ k.unjoined) in
+    omega (arith, paid, few, none, count)
+event_less w a e (Releases r) =
+    let b = rest w.image a in
+    let one = subst IsOfOne (sym r.is) tt in
+    let s = takes_same w.image b e one in
+    let k = kept_at_rest w.image a _ refl in
+    let paid = (rest_paid w.image a _ refl).releasing r.slot r.at in
+    let few : phase_work (takes w.image b e).phase ≤ 2 = between_work (takes w.image b e).phase (subst (λ y. Leaves y (takes w.image b e).phase) r.is (takes_between w.image b e)) in
+    let none : begun_tasks (begun w.image b e) ≡ 0 = ap begun_tasks (one_begins w.image b e one) in
+    let count : length (takes w.image b e).unjoined ≡ length a.unjoined = ap length (s.unjoined ∙ k.unjoined) in
+    omega (arith, paid, few, none, count)
 event_less w a e (Started s) =
     let b = rest w.image a in
     let k = kept_at_rest w.image a _ refl in

@@ -1,12 +1,12 @@
 -- Bytes of tags and of streams by the history of a run, and who wrote them.
-use Rattle.std.proofs.Common.{◌≡◌, ℕ, ◌==◌, Bool, true, false, true≢false, List, [], ◌∷◌, ◌++◌, length, refl, sym, ap, subst, ◌∙◌}
+use Rattle.std.proofs.Common.{◌≡◌, ℕ, ◌<◌, ◌==◌, Bool, true, false, true≢false, List, [], ◌∷◌, ◌++◌, length, refl, sym, ap, subst, ◌∙◌}
 use Rattle.std.proofs.lemmas.Bool.{eqb-true}
 use Rattle.std.specs.Prelude.{Option, Some, None, option_map, not, nat_lt, if◌then◌else◌}
 use Rattle.wedge_base.specs.Bytes.{written, bytes_of}
 use Rattle.wedge_base.specs.Images.{Image}
 use Rattle.wedge_base.specs.Rights.{at_least, append_bit}
 use Rattle.wedge_base.specs.Sheets.{right_on, bits_on}
-use Rattle.wedge_base.specs.Slots.{Segment, slot_reply as slot_reply_of, slot_after, stored}
+use Rattle.wedge_base.specs.Slots.{Segment, slot_reply as slot_reply_of, slot_after, opened, stored, placed, freed}
 use Rattle.wedge_base.specs.Streams.{Stream, stream_reply as stream_reply_of, stream_after, append_reply, grown}
 use Rattle.wedge_base.specs.Histories.{Flow, flow, bytes_by, bytes_after_event, bytes_after, flow_by, flow_after_event, flow_after}
 use Rattle.wedge_base.specs.declared.rights.Right.TheVariants as right
@@ -18,6 +18,7 @@ use Rattle.wedge_base.specs.declared.events.Want.TheVariants as want
 use Rattle.wedge_base.specs.declared.events.Event.{Event}
 use Rattle.wedge_base.specs.declared.events.Event.TheVariants as event
 use Rattle.wedge_base.specs.declared.events.Turn.{Turn}
+use Rattle.wedge_base.specs.declared.cells.DirectoryAsk.TheVariants as directory_ask
 use Rattle.wedge_base.specs.declared.cells.Live.{Live}
 use Rattle.wedge_base.specs.declared.cells.LivesAsk.TheVariants as lives_ask
 use Rattle.wedge_base.specs.declared.cells.SlotAsk.{SlotAsk}
@@ -28,10 +29,9 @@ use Rattle.wedge_base.specs.declared.cells.StreamAsk.TheVariants as stream_ask
 use Rattle.wedge_base.specs.declared.cells.StreamReply.{StreamReply}
 use Rattle.wedge_base.specs.declared.cells.StreamReply.TheVariants as reply
 use Rattle.wedge_base.specs.declared.rights.FdBits.{FdBits}
-use Rattle.sthread_life.specs.declared.phase.Phase.{Phase}
-use Rattle.sthread_life.specs.declared.phase.Phase.TheVariants as phase
 use Rattle.sthread_life.specs.Actors.{ActorState, right_of, bits_of}
 use Rattle.sthread_life.specs.Local.{rest, is_running}
+use Rattle.sthread_life.specs.Calls.{a0}
 use Rattle.sthread_life.specs.Taking.{pair}
 use Rattle.sthread_life.specs.Cells.{Cells, held, slot_in, stream_in, cells_after}
 use Rattle.sthread_life.specs.Worlds.{WorldState, opening, turn_of, Runs}
@@ -41,10 +41,10 @@ use Rattle.sthread_life.specs.Written.{bytes_in, BytesFollow, stores_in, StepWri
 use Rattle.sthread_life.specs.Laws.{RunsWriteTheirOwn}
 use Rattle.sthread_life.proofs.Resting.{rests, rest-stays}
 use Rattle.sthread_life.proofs.Between.{event_for, turn_parts}
-use Rattle.sthread_life.proofs.Happening.{Happens, Requested, Joined, Started, LastJoined, Ended}
-use Rattle.sthread_life.proofs.Settling.{AllReady, turn_happens, turn_ready, opening_ready}
+use Rattle.sthread_life.proofs.Happening.{Happens, Requested, Joined, Started, Opens, Releases, LastJoined, Ended}
+use Rattle.sthread_life.proofs.Settling.{AreCells, AllReady, turn_happens, turn_ready, opening_ready}
 use Rattle.sthread_life.proofs.Meeting.{IsRequest}
-use Rattle.sthread_life.proofs.OneCell.{follows}
+use Rattle.sthread_life.proofs.OneCell.{follows, follows_in}
 use Rattle.sthread_life.proofs.CellChanging.{turn_cells, cells_follow}
 
 -- ---- what a reply makes of the bytes of a tag, and of a stream
@@ -56,17 +56,27 @@ stored_bytes : (offset width value : ℕ) (g : Option Segment) → bytes_of_tag 
 stored_bytes offset width value None = refl
 stored_bytes offset width value (Some g) = refl
 
--- a load or a store
-abbrev IsAccess : SlotAsk → Type 0
-IsAccess (slot_ask.Load offset width live) = Unit {0}
-IsAccess (slot_ask.Store offset width value live) = Unit {0}
-IsAccess q = ⊥
+-- a block that is placed or freed leaves the bytes
+placed_bytes : (offset size : ℕ) (g : Option Segment) → bytes_of_tag (option_map (placed offset size) g) ≡ bytes_of_tag g
+placed_bytes offset size None = refl
+placed_bytes offset size (Some g) = refl
 
-tag_shows : (g : Option Segment) (q : SlotAsk) (r : SlotReply) → IsAccess q → bytes_of_tag (slot_after g q r) ≡ bytes_by (bytes_of_tag g) q r
-tag_shows g (slot_ask.Load offset width live) r k = refl
-tag_shows g (slot_ask.Store offset width value live) slot_reply.Stored k = stored_bytes offset width value g
-tag_shows g (slot_ask.Store offset width value live) r k = refl
-tag_shows g q r k = absurd k
+freed_bytes : (offset : ℕ) (g : Option Segment) → bytes_of_tag (option_map (freed offset) g) ≡ bytes_of_tag g
+freed_bytes offset None = refl
+freed_bytes offset (Some g) = refl
+
+tag_shows : (g : Option Segment) (q : SlotAsk) (r : SlotReply) → bytes_of_tag (slot_after g q r) ≡ bytes_by (bytes_of_tag g) q r
+tag_shows g (slot_ask.Open tag pages) r = refl
+tag_shows g (slot_ask.Close tag) slot_reply.Closed = refl
+tag_shows g (slot_ask.Close tag) r = refl
+tag_shows g (slot_ask.Load offset width live) r = refl
+tag_shows g (slot_ask.Store offset width value live) slot_reply.Stored = stored_bytes offset width value g
+tag_shows g (slot_ask.Store offset width value live) r = refl
+tag_shows g (slot_ask.Smalloc tag size) (slot_reply.Placed offset) = placed_bytes offset size g
+tag_shows g (slot_ask.Smalloc tag size) r = refl
+tag_shows g (slot_ask.Sfree offset live) slot_reply.Freed = freed_bytes offset g
+tag_shows g (slot_ask.Sfree offset live) r = refl
+tag_shows g (slot_ask.Snap tag) r = refl
 
 abbrev flow_of : Option Stream → Option Flow
 flow_of s = option_map (λ x. flow x.bytes x.position) s
@@ -85,29 +95,47 @@ record IsFollowed (c : Cells) (e : Event) : Type 0 where
   tags : (slot : ℕ) → bytes_in (cells_after c e) slot ≡ bytes_after_event slot (bytes_in c slot) e
   streams : (fd : ℕ) → flow_in (cells_after c e) fd ≡ flow_after_event fd (flow_in c fd) e
 
--- an access to a slot in which no tag lives leaves it so
-store_stays : (g : Option Segment) (offset width value : ℕ) (live : Option Live) → g ≡ None → slot_after g (slot_ask.Store offset width value live) (slot_reply_of g (slot_ask.Store offset width value live)) ≡ None
-store_stays g offset width value live e = subst (λ x. slot_after x (slot_ask.Store offset width value live) (slot_reply_of x (slot_ask.Store offset width value live)) ≡ None) (sym e) refl
+-- what is asked of a slot in which no tag lives leaves it so, but for an opening
+abbrev IsNoOpening : SlotAsk → Type 0
+IsNoOpening (slot_ask.Open tag pages) = ⊥
+IsNoOpening q = Unit {0}
+
+empty_stays : (q : SlotAsk) → IsNoOpening q → slot_after None q (slot_reply_of None q) ≡ None
+empty_stays (slot_ask.Open tag pages) k = absurd k
+empty_stays (slot_ask.Close tag) k = refl
+empty_stays (slot_ask.Load offset width live) k = refl
+empty_stays (slot_ask.Store offset width value live) k = refl
+empty_stays (slot_ask.Smalloc tag size) k = refl
+empty_stays (slot_ask.Sfree offset live) k = refl
+empty_stays (slot_ask.Snap tag) k = refl
+
+slot_stays : (g : Option Segment) (q : SlotAsk) → IsNoOpening q → g ≡ None → slot_after g q (slot_reply_of g q) ≡ None
+slot_stays g q k e = subst (λ x. slot_after x q (slot_reply_of x q) ≡ None) (sym e) (empty_stays q k)
 
 append_stays : (s : Option Stream) (bits : FdBits) (bytes : List ℕ) → s ≡ None → stream_after s (stream_ask.Append bits bytes) (stream_reply_of s (stream_ask.Append bits bytes)) ≡ None
 append_stays s bits bytes e = subst (λ x. stream_after x (stream_ask.Append bits bytes) (stream_reply_of x (stream_ask.Append bits bytes)) ≡ None) (sym e) refl
 
+slot_follows : (c : Cells) (s : ℕ) (q : SlotAsk) → IsNoOpening q → IsFollowed c (event.Slot s q (slot_reply_of (slot_in c s) q))
+slot_follows c s q k =
+    let r = slot_reply_of (slot_in c s) q in
+    record {
+      tags = λ slot. follows bytes_of_tag (λ x. bytes_by x q r) c.slots s slot (slot_in c s) (slot_after (slot_in c s) q r) _ refl refl (slot_stays (slot_in c s) q k) (tag_shows (slot_in c s) q r);
+      streams = λ fd. refl;
+    }
+
+open_follows : (c : Cells) (s tag pages : ℕ) → s < length c.slots → IsFollowed c (event.Slot s (slot_ask.Open tag pages) slot_reply.Opened)
+open_follows c s tag pages inside = record {
+  tags = λ slot. follows_in bytes_of_tag (λ x. bytes_by x (slot_ask.Open tag pages) slot_reply.Opened) c.slots s slot (Some (opened tag pages)) _ inside refl refl;
+  streams = λ fd. refl;
+}
+
 want_follows : (N : ℕ → Type 0) (c : Cells) (b : ActorState) (q : Want) → IsRequest N b q → IsFollowed c (event_for c b q)
-want_follows N c b (want.Slot s (slot_want.Load offset width)) own =
-    let q = slot_ask.Load offset width (pair b (option_map (λ g. g.tag) (slot_in c s))) in
-    let r = slot_reply_of (slot_in c s) q in
-    record {
-      tags = λ slot. follows bytes_of_tag (λ x. bytes_by x q r) c.slots s slot (slot_in c s) (slot_after (slot_in c s) q r) _ refl refl (λ e. e) (tag_shows (slot_in c s) q r tt);
-      streams = λ fd. refl;
-    }
-want_follows N c b (want.Slot s (slot_want.Store offset width value)) own =
-    let live = pair b (option_map (λ g. g.tag) (slot_in c s)) in
-    let q = slot_ask.Store offset width value live in
-    let r = slot_reply_of (slot_in c s) q in
-    record {
-      tags = λ slot. follows bytes_of_tag (λ x. bytes_by x q r) c.slots s slot (slot_in c s) (slot_after (slot_in c s) q r) _ refl refl (store_stays (slot_in c s) offset width value live) (tag_shows (slot_in c s) q r tt);
-      streams = λ fd. refl;
-    }
+want_follows N c b (want.Slots directory_ask.Claim) own = record { tags = λ slot. refl; streams = λ fd. refl }
+want_follows N c b (want.Slot s (slot_want.Close tag)) own = slot_follows c s _ tt
+want_follows N c b (want.Slot s (slot_want.Load offset width)) own = slot_follows c s _ tt
+want_follows N c b (want.Slot s (slot_want.Store offset width value)) own = slot_follows c s _ tt
+want_follows N c b (want.Slot s (slot_want.Smalloc tag size)) own = slot_follows c s _ tt
+want_follows N c b (want.Slot s (slot_want.Sfree offset)) own = slot_follows c s _ tt
 want_follows N c b (want.Fd fd (stream_ask.Append bits bytes)) own =
     let q = stream_ask.Append bits bytes in
     let r = stream_reply_of (stream_in c fd) q in
@@ -118,12 +146,14 @@ want_follows N c b (want.Fd fd (stream_ask.Append bits bytes)) own =
 want_follows N c b (want.Lives lives_ask.Claim) own = record { tags = λ slot. refl; streams = λ fd. refl }
 want_follows N c b q own = absurd own
 
-event_follows : (w : WorldState) (b : ActorState) (e : Event) → Happens w b e → IsFollowed w.cells e
-event_follows w b e (Requested r) = subst (IsFollowed w.cells) (sym r.is) (want_follows _ w.cells b r.want r.own)
-event_follows w b e (Joined j) = subst (IsFollowed w.cells) (sym j.join.is) (record { tags = λ slot. refl; streams = λ fd. refl })
-event_follows w b e (Started s) = subst (IsFollowed w.cells) (sym s.is) (record { tags = λ slot. refl; streams = λ fd. refl })
-event_follows w b e (LastJoined j) = subst (IsFollowed w.cells) (sym j.join.is) (record { tags = λ slot. refl; streams = λ fd. refl })
-event_follows w b e (Ended f) = subst (IsFollowed w.cells) (sym f.is) (record { tags = λ slot. refl; streams = λ fd. refl })
+event_follows : (w : WorldState) (b : ActorState) (e : Event) → AreCells w.image w.cells → Happens w b e → IsFollowed w.cells e
+event_follows w b e cells (Requested r) = subst (IsFollowed w.cells) (sym r.is) (want_follows _ w.cells b r.want r.own)
+event_follows w b e cells (Joined j) = subst (IsFollowed w.cells) (sym j.join.is) (record { tags = λ slot. refl; streams = λ fd. refl })
+event_follows w b e cells (Started s) = subst (IsFollowed w.cells) (sym s.is) (record { tags = λ slot. refl; streams = λ fd. refl })
+event_follows w b e cells (Opens o) = subst (IsFollowed w.cells) (sym o.is) (open_follows w.cells o.slot o.tag (a0 b) (subst (λ n. o.slot < n) (sym cells.slots) o.inside))
+event_follows w b e cells (Releases r) = subst (IsFollowed w.cells) (sym r.is) (record { tags = λ slot. refl; streams = λ fd. refl })
+event_follows w b e cells (LastJoined j) = subst (IsFollowed w.cells) (sym j.join.is) (record { tags = λ slot. refl; streams = λ fd. refl })
+event_follows w b e cells (Ended f) = subst (IsFollowed w.cells) (sym f.is) (record { tags = λ slot. refl; streams = λ fd. refl })
 
 record TurnFollows (w : WorldState) (e : Event) (new : WorldState) : Type 0 where
   tags : (slot : ℕ) → bytes_in new.cells slot ≡ bytes_after_event slot (bytes_in w.cells slot) e
@@ -133,7 +163,7 @@ turn_follows : (w : WorldState) (t : Turn) (new : WorldState) → AllReady w →
 turn_follows w t new all e =
     let p = turn_parts w t.actor t.event new e in
     let cells = turn_cells w t new e in
-    let f = event_follows w (rest w.image p.actor) t.event (turn_happens w t.actor t.event new all p) in
+    let f = event_follows w (rest w.image p.actor) t.event all.cells (turn_happens w t.actor t.event new all p) in
     record {
       tags = λ slot. ap (λ (c : Cells). bytes_in c slot) cells ∙ f.tags slot;
       streams = λ fd. ap (λ (c : Cells). flow_in c fd) cells ∙ f.streams fd;
@@ -191,6 +221,10 @@ record IsOwn (c : Cells) (b : ActorState) (e : Event) : Type 0 where
   appends : (fd : ℕ) → appends_to fd e ≡ true → (bits_of b fd).append ≡ true
 
 want_own : (N : ℕ → Type 0) (c : Cells) (b : ActorState) (q : Want) → IsRequest N b q → IsOwn c b (event_for c b q)
+want_own N c b (want.Slots directory_ask.Claim) own = record { stores = λ slot e. absurd (true≢false (sym e)); appends = λ fd e. absurd (true≢false (sym e)) }
+want_own N c b (want.Slot s (slot_want.Close tag)) own = record { stores = λ slot e. absurd (true≢false (sym e)); appends = λ fd e. absurd (true≢false (sym e)) }
+want_own N c b (want.Slot s (slot_want.Smalloc tag size)) own = record { stores = λ slot e. absurd (true≢false (sym e)); appends = λ fd e. absurd (true≢false (sym e)) }
+want_own N c b (want.Slot s (slot_want.Sfree offset)) own = record { stores = λ slot e. absurd (true≢false (sym e)); appends = λ fd e. absurd (true≢false (sym e)) }
 want_own N c b (want.Slot s (slot_want.Load offset width)) own = record { stores = λ slot e. absurd (true≢false (sym e)); appends = λ fd e. absurd (true≢false (sym e)) }
 want_own N c b (want.Slot s (slot_want.Store offset width value)) own = record { stores = λ slot e. store_owned c b s offset width value slot (slot_in c s) refl e; appends = λ fd e. absurd (true≢false (sym e)) }
 want_own N c b (want.Fd n (stream_ask.Append bits bytes)) own = record { stores = λ slot e. absurd (true≢false (sym e)); appends = λ fd e. append_owned b n fd bits bytes (stream_in c n) own.0 e }
@@ -201,6 +235,8 @@ event_own : (w : WorldState) (b : ActorState) (e : Event) → Happens w b e → 
 event_own w b e (Requested r) = subst (IsOwn w.cells b) (sym r.is) (want_own _ w.cells b r.want r.own)
 event_own w b e (Joined j) = subst (IsOwn w.cells b) (sym j.join.is) (record { stores = λ slot h. absurd (true≢false (sym h)); appends = λ fd h. absurd (true≢false (sym h)) })
 event_own w b e (Started s) = subst (IsOwn w.cells b) (sym s.is) (record { stores = λ slot h. absurd (true≢false (sym h)); appends = λ fd h. absurd (true≢false (sym h)) })
+event_own w b e (Opens o) = subst (IsOwn w.cells b) (sym o.is) (record { stores = λ slot h. absurd (true≢false (sym h)); appends = λ fd h. absurd (true≢false (sym h)) })
+event_own w b e (Releases r) = subst (IsOwn w.cells b) (sym r.is) (record { stores = λ slot h. absurd (true≢false (sym h)); appends = λ fd h. absurd (true≢false (sym h)) })
 event_own w b e (LastJoined j) = subst (IsOwn w.cells b) (sym j.join.is) (record { stores = λ slot h. absurd (true≢false (sym h)); appends = λ fd h. absurd (true≢false (sym h)) })
 event_own w b e (Ended f) = subst (IsOwn w.cells b) (sym f.is) (record { stores = λ slot h. absurd (true≢false (sym h)); appends = λ fd h. absurd (true≢false (sym h)) })
 

@@ -1,9 +1,9 @@
 -- Actors: their records, what the root begins as, and how an answer, a refusal or an end changes one.
-use Rattle.std.specs.Prelude.{ℕ, ◌+◌, ◌-◌, Bool, List, [], ◌∷◌, ◌++◌, replicate, Option, Some}
+use Rattle.std.specs.Prelude.{ℕ, ◌+◌, ◌-◌, Bool, List, [], ◌∷◌, ◌++◌, replicate, Option, Some, unwrap_or}
 use Rattle.wedge_base.specs.Bytes.{zeros}
 use Rattle.wedge_base.specs.Names.{root_name}
 use Rattle.wedge_base.specs.Images.{Image, private_base, private_size}
-use Rattle.wedge_base.specs.Sheets.{Sheet, Made, Draft, nothing_made, root_sheet, right_on, bits_on}
+use Rattle.wedge_base.specs.Sheets.{Sheet, Made, Draft, nothing_made, root_sheet, right_on, bits_on, slot_on}
 use Rattle.wedge_base.specs.declared.image.MemoryRange.{MemoryRange}
 use Rattle.wedge_base.specs.declared.outcome.DenialAt.{DenialAt}
 use Rattle.wedge_base.specs.declared.rights.FdBits.{FdBits}
@@ -67,6 +67,10 @@ right_of a tag = right_on a.sheet a.made tag
 
 abbrev pub bits_of : ActorState → ℕ → FdBits
 bits_of a fd = bits_on a.sheet a.made fd
+
+-- the slot in which a tag that it holds was opened
+abbrev pub slot_held : ActorState → ℕ → ℕ
+slot_held a tag = unwrap_or (slot_on a.sheet a.made tag) 0
 
 -- ---- how answers, refusals and ends change it
 

@@ -1,7 +1,9 @@
 -- What a sheet allows: the grant that a request lacks, what refuses it besides, and what it leaves where it
 -- is done and where it is denied. Nothing here calls the step.
-use Rattle.std.specs.Prelude.{◌≡◌, ℕ, ◌+◌, ◌-◌, ◌%◌, ◌^◌, Bool, true, false, not, ◌||◌, List, [], ◌∷◌, ◌++◌, length, nat_lt, slice_range, slice_set, Option, Some, None, if◌then◌else◌}
+use Rattle.std.specs.Prelude.{◌≡◌, ℕ, ◌+◌, ◌-◌, ◌%◌, ◌^◌, Bool, true, false, not, ◌||◌, List, [], ◌∷◌, ◌++◌, length, nat_lt, slice_range, slice_set, Option, Some, None, is_none, if◌then◌else◌}
+use Rattle.wedge_base.specs.Blocks.{block_at}
 use Rattle.wedge_base.specs.Bytes.{number_of}
+use Rattle.wedge_base.specs.Maps.{has}
 use Rattle.wedge_base.specs.Rights.{at_least, append_bit}
 use Rattle.wedge_base.specs.Sheets.{first_excess}
 use Rattle.wedge_base.specs.declared.rights.Denial.{Denial}
@@ -14,6 +16,8 @@ use Rattle.wedge_base.specs.declared.rights.End.TheVariants as end_
 use Rattle.wedge_base.specs.declared.outcome.DenialAt.{DenialAt}
 use Rattle.wedge_base.specs.declared.events.Event.{Event}
 use Rattle.wedge_base.specs.declared.events.Event.TheVariants as event
+use Rattle.wedge_base.specs.declared.events.SlotWant.TheVariants as slot_want
+use Rattle.wedge_base.specs.declared.events.Want.{Want}
 use Rattle.wedge_base.specs.declared.events.Want.TheVariants as want
 use Rattle.wedge_base.specs.declared.cells.LivesAsk.TheVariants as lives_ask
 use Rattle.wedge_base.specs.declared.cells.Live.{Live}
@@ -24,8 +28,8 @@ use Rattle.wedge_base.specs.declared.cells.StreamReply.TheVariants as stream_rep
 use Rattle.rv_hart.specs.declared.Hart.{Hart}
 use Rattle.rv_hart.specs.Local.{reg, put, extended}
 use Rattle.sthread_life.specs.declared.phase.Phase.TheVariants as phase
-use Rattle.sthread_life.specs.Actors.{ActorState, right_of, bits_of}
-use Rattle.sthread_life.specs.Requests.{Access, Request, Loads, Stores, Appends, Creates}
+use Rattle.sthread_life.specs.Actors.{ActorState, right_of, bits_of, slot_held}
+use Rattle.sthread_life.specs.Requests.{Access, Request, Loads, Stores, Appends, Creates, Deletes, Allots, Frees}
 
 -- whether a tag may be used as asked: a copy is never enough for the tag itself
 abbrev pub may_use : ActorState → ℕ → Right → Bool
@@ -37,9 +41,12 @@ lacks a (Loads x rd s) = if may_use a x.living.tag right.Read then None else Som
 lacks a (Stores x value) = if may_use a x.living.tag right.ReadWrite then None else Some (denial.Tag x.living.tag right.ReadWrite)
 lacks a (Appends fd s bytes) = if (bits_of a fd).append then None else Some (denial.Fd fd append_bit)
 lacks a (Creates d) = first_excess a.sheet a.made d
+lacks a (Deletes tag) = if has a.made.tags tag then None else Some (denial.NotMaker tag)
+lacks a (Allots tag size) = if may_use a tag right.ReadWrite then None else Some (denial.Tag tag right.ReadWrite)
+lacks a (Frees p g) = if may_use a g.tag right.ReadWrite then None else Some (denial.Tag g.tag right.ReadWrite)
 
--- whether one that is allowed is refused for a cause that stands behind the denial: a source takes no bytes; a name has at most
--- 32 parts, and a child is given no more fuel than there is
+-- whether one that is allowed is refused for a cause that comes after the denial: a source takes no bytes; a name has at most
+-- 32 parts, and a child is given no more fuel than there is; no block begins at the place
 abbrev pub is_source : StreamKind → Bool
 is_source kind.Source = true
 is_source kind.Append = false
@@ -49,6 +56,9 @@ is_refused a (Loads x rd s) = false
 is_refused a (Stores x value) = false
 is_refused a (Appends fd s bytes) = is_source s.kind
 is_refused a (Creates d) = not (nat_lt (length a.name) 32) || nat_lt a.fuel (reg a.hart.regs 13)
+is_refused a (Deletes tag) = false
+is_refused a (Allots tag size) = false
+is_refused a (Frees p g) = is_none (block_at g.blocks p.offset)
 
 -- Where a request is checked: at the event to which its instruction comes, or in the instruction itself.
 abbrev pub is_checked_at_event : Request → Bool
@@ -56,17 +66,27 @@ is_checked_at_event (Loads x rd s) = true
 is_checked_at_event (Stores x value) = true
 is_checked_at_event (Appends fd s bytes) = true
 is_checked_at_event (Creates d) = false
+is_checked_at_event (Deletes tag) = false
+is_checked_at_event (Allots tag size) = false
+is_checked_at_event (Frees p g) = true
 
 -- What a request leaves that is done: its event, and its actor at the next word, with what was loaded or
--- with the call's answer and code 0. A child is to be started where a life is left for it: its starter comes to claim one.
+-- with the call's answer and code 0. One that is checked in its instruction has come to its event: a child's starter to the
+-- claim of a life, a tag that is to be deleted to its close, and a block to the slot in which the tag was opened.
 abbrev pub next_word : ActorState → ℕ
 next_word a = (a.hart.pc + 4) % 2 ^ 32
 
 abbrev pub value_in : Access → ℕ
 value_in x = number_of (slice_range x.living.bytes x.place.offset (x.place.offset + x.width))
 
+abbrev pub living_as : ActorState → ℕ → Option Live
+living_as a tag = Some (record { tag = tag; right = right_of a tag })
+
 abbrev pub living_for : ActorState → Access → Option Live
-living_for a x = Some (record { tag = x.living.tag; right = right_of a x.living.tag })
+living_for a x = living_as a x.living.tag
+
+abbrev pub comes_to : ActorState → Want → Option ActorState
+comes_to a q = Some (record a { phase = phase.Within q })
 
 abbrev pub answered : ActorState → ℕ → ℕ → Hart
 answered a value code = record { pc = next_word a; regs = slice_set (slice_set a.hart.regs 10 value) 11 code }
@@ -81,7 +101,12 @@ IsDone a (Stores x value) e now =
 IsDone a (Appends fd s bytes) e now =
     (e ≡ Some (event.Fd fd (stream_ask.Append (bits_of a fd) bytes) stream_reply.Appended))
     × (now ≡ Some (record a { hart = answered a (reg a.hart.regs 12) 0; fuel = a.fuel - reg a.hart.regs 12; phase = phase.Running }))
-IsDone a (Creates d) e now = (e ≡ None) × (now ≡ Some (record a { phase = phase.Within (want.Lives lives_ask.Claim) }))
+IsDone a (Creates d) e now = (e ≡ None) × (now ≡ comes_to a (want.Lives lives_ask.Claim))
+IsDone a (Deletes tag) e now = (e ≡ None) × (now ≡ comes_to a (want.Slot (slot_held a tag) (slot_want.Close tag)))
+IsDone a (Allots tag size) e now = (e ≡ None) × (now ≡ comes_to a (want.Slot (slot_held a tag) (slot_want.Smalloc tag size)))
+IsDone a (Frees p g) e now =
+    (e ≡ Some (event.Slot p.slot (slot_ask.Sfree p.offset (living_as a g.tag)) slot_reply.Freed))
+    × (now ≡ Some (record a { hart = answered a 0 0; phase = phase.Running }))
 
 -- What a denial leaves: it stands last among the actor's, with the pc of the instruction; a load or store
 -- ends its actor, and a call answers 0 with the code 1.
@@ -99,3 +124,6 @@ denied a (Loads x rd s) d = ended_denied a d
 denied a (Stores x value) d = ended_denied a d
 denied a (Appends fd s bytes) d = answered_denied a d
 denied a (Creates draft) d = answered_denied a d
+denied a (Deletes tag) d = answered_denied a d
+denied a (Allots tag size) d = answered_denied a d
+denied a (Frees p g) d = answered_denied a d

@@ -1,8 +1,10 @@
 -- What holds of an actor between instructions, and of what it wants.
-use Rattle.std.specs.Prelude.{◌≡◌, ℕ, ◌+◌, ◌<◌, ◌≤◌, true, List, length, Option, None, IsSomeAnd}
+use Rattle.std.specs.Prelude.{◌≡◌, ℕ, ◌+◌, ◌<◌, ◌≤◌, true, List, length, None, IsSomeAnd}
+use Rattle.std.specs.List.{AllByRecursion}
+use Rattle.wedge_base.specs.Directories.{Directory}
 use Rattle.wedge_base.specs.Names.{most_parts}
 use Rattle.wedge_base.specs.Sheets.{Sheet, Made, Draft, first_excess}
-use Rattle.wedge_base.specs.Images.{slots}
+use Rattle.wedge_base.specs.Images.{slots, window, most_pages}
 use Rattle.wedge_base.specs.Slots.{IsAligned}
 use Rattle.wedge_base.specs.Streams.{most_fds}
 use Rattle.wedge_base.specs.declared.events.Event.{Event}
@@ -10,7 +12,10 @@ use Rattle.wedge_base.specs.declared.events.Event.TheVariants as event
 use Rattle.wedge_base.specs.declared.events.SlotWant.TheVariants as slot_want
 use Rattle.wedge_base.specs.declared.events.Want.{Want}
 use Rattle.wedge_base.specs.declared.events.Want.TheVariants as want
+use Rattle.wedge_base.specs.declared.cells.DirectoryAsk.TheVariants as directory_ask
+use Rattle.wedge_base.specs.declared.cells.DirectoryReply.TheVariants as directory_reply
 use Rattle.wedge_base.specs.declared.cells.LivesAsk.TheVariants as lives_ask
+use Rattle.wedge_base.specs.declared.cells.SlotReply.TheVariants as slot_reply
 use Rattle.wedge_base.specs.declared.cells.StreamAsk.TheVariants as stream_ask
 use Rattle.image_form.specs.Rules.{most_fuel}
 use Rattle.rv_hart.specs.declared.Hart.{Hart}
@@ -26,6 +31,8 @@ abbrev pub IsBetween : Phase → Type 0
 IsBetween phase.Running = Unit {0}
 IsBetween (phase.Within q) = ⊥
 IsBetween phase.Starting = ⊥
+IsBetween (phase.Opening slot tag) = ⊥
+IsBetween (phase.Releasing slot) = ⊥
 IsBetween (phase.Ending e) = Unit {0}
 IsBetween (phase.Ended e) = Unit {0}
 
@@ -50,32 +57,65 @@ MayStart a = IsReady a.name a.sheet a.made a.drafts a.hart a.fuel a.starts a.unj
 abbrev pub IsNextName : List ℕ → ℕ → List ℕ → Type 0
 IsNextName name starts child = child ≡ child_name name (starts + 1)
 
--- What an actor may want: an aligned access inside the window of a slot, an append to a descriptor, a life for a child and
--- the start of its next child where it is ready for that, the join of a child, and its end. Each further call is one more case.
-abbrev pub WantFitsWhere : Type 0 → (List ℕ → Type 0) → (ℕ → Type 0) → Want → Type 0
-WantFitsWhere R S J (want.Slot slot (slot_want.Load offset width)) = (slot < slots) × IsAligned offset width
-WantFitsWhere R S J (want.Slot slot (slot_want.Store offset width value)) = (slot < slots) × IsAligned offset width
-WantFitsWhere R S J (want.Fd fd (stream_ask.Append bits bytes)) = fd < most_fds
-WantFitsWhere R S J (want.Lives lives_ask.Claim) = R
-WantFitsWhere R S J (want.Lives (lives_ask.Release e)) = Unit {0}
-WantFitsWhere R S J (want.Start child) = R × S child
-WantFitsWhere R S J (want.Join child) = J child
-WantFitsWhere R S J q = ⊥
+-- an actor that is about to open a tag has asked for as many pages as a tag may have
+abbrev pub AsksPages : Hart → Type 0
+AsksPages hart = (1 ≤ reg hart.regs 10) × (reg hart.regs 10 ≤ most_pages)
+
+-- the slots in which the tags that it holds were opened are there
+abbrev pub HoldsInSlots : Sheet → Made → Type 0
+HoldsInSlots sheet made = AllByRecursion (λ e. e.1.slot < slots) sheet.tags × AllByRecursion (λ e. e.1 < slots) made.tags
+
+-- a directory has and gives out places below a limit alone
+abbrev pub GivesBelow : ℕ → Directory → Type 0
+GivesBelow limit d = (d.places ≤ limit) × (d.unused ≤ limit) × AllByRecursion (λ p. p < limit) d.released
+
+-- What an actor may want: the claim of a slot for a tag of so many pages, the opening of a tag there, its close and the release
+-- of its slot; an aligned access inside the window of a slot, a block in a tag, and one to be freed; an append to a descriptor,
+-- a life for a child and the start of its next child where it is ready for that, the join of a child, and its end. Each further
+-- call is one more case.
+abbrev pub WantFitsWhere : Type 0 → Type 0 → (List ℕ → Type 0) → (ℕ → Type 0) → Want → Type 0
+WantFitsWhere P R S J (want.Slots directory_ask.Claim) = P
+WantFitsWhere P R S J (want.Slots (directory_ask.Release slot)) = slot < slots
+WantFitsWhere P R S J (want.Slot slot (slot_want.Open tag pages)) = (slot < slots) × (1 ≤ pages) × (pages ≤ most_pages)
+WantFitsWhere P R S J (want.Slot slot (slot_want.Close tag)) = slot < slots
+WantFitsWhere P R S J (want.Slot slot (slot_want.Load offset width)) = (slot < slots) × IsAligned offset width
+WantFitsWhere P R S J (want.Slot slot (slot_want.Store offset width value)) = (slot < slots) × IsAligned offset width
+WantFitsWhere P R S J (want.Slot slot (slot_want.Smalloc tag size)) = (slot < slots) × (1 ≤ size)
+WantFitsWhere P R S J (want.Slot slot (slot_want.Sfree offset)) = (slot < slots) × (offset < window)
+WantFitsWhere P R S J (want.Fd fd (stream_ask.Append bits bytes)) = fd < most_fds
+WantFitsWhere P R S J (want.Lives lives_ask.Claim) = R
+WantFitsWhere P R S J (want.Lives (lives_ask.Release e)) = Unit {0}
+WantFitsWhere P R S J (want.Start child) = R × S child
+WantFitsWhere P R S J (want.Join child) = J child
+WantFitsWhere P R S J q = ⊥
 
 abbrev pub WantFits : ActorState → Want → Type 0
-WantFits a q = WantFitsWhere (MayStart a) (IsNextName a.name a.starts) (λ k. is_child a.unjoined k ≡ true) q
+WantFits a q = WantFitsWhere (AsksPages a.hart) (MayStart a) (IsNextName a.name a.starts) (λ k. is_child a.unjoined k ≡ true) q
 
-abbrev pub PhaseFitsWhere : Type 0 → (List ℕ → Type 0) → (ℕ → Type 0) → Phase → Type 0
-PhaseFitsWhere R S J phase.Running = Unit {0}
-PhaseFitsWhere R S J (phase.Within w) = WantFitsWhere R S J w
-PhaseFitsWhere R S J phase.Starting = R
-PhaseFitsWhere R S J (phase.Ending e) = Unit {0}
-PhaseFitsWhere R S J (phase.Ended e) = Unit {0}
+abbrev pub PhaseFitsWhere : Type 0 → Type 0 → (List ℕ → Type 0) → (ℕ → Type 0) → Phase → Type 0
+PhaseFitsWhere P R S J phase.Running = Unit {0}
+PhaseFitsWhere P R S J (phase.Within w) = WantFitsWhere P R S J w
+PhaseFitsWhere P R S J phase.Starting = R
+PhaseFitsWhere P R S J (phase.Opening slot tag) = (slot < slots) × P
+PhaseFitsWhere P R S J (phase.Releasing slot) = slot < slots
+PhaseFitsWhere P R S J (phase.Ending e) = Unit {0}
+PhaseFitsWhere P R S J (phase.Ended e) = Unit {0}
 
--- An event fits an actor that takes it: a start one that is ready for it, and a join brings back at most what the child
--- was given.
+-- An event is in bounds: its slot is there, and a block begins inside the slot's window. This is a property of the event alone.
+abbrev pub IsInBounds : Event → Type 0
+IsInBounds (event.Slots q (directory_reply.Claimed slot tag)) = slot < slots
+IsInBounds (event.Slot slot q (slot_reply.Placed offset)) = (slot < slots) × (offset < window)
+IsInBounds (event.Slot slot q r) = slot < slots
+IsInBounds e = Unit {0}
+
+-- An event fits an actor that takes it: a slot that is claimed is for pages that a tag may have, a start is by one that is
+-- ready for it, and a join brings back at most what the child was given.
+abbrev pub SuitsActor : ActorState → Event → Type 0
+SuitsActor a (event.Slots directory_ask.Claim r) = AsksPages a.hart
+SuitsActor a (event.Lives lives_ask.Claim r) = MayStart a
+SuitsActor a (event.Start child) = MayStart a
+SuitsActor a (event.Join child e fuel) = IsSomeAnd (fuel_given a.unjoined child) (λ given. fuel ≤ given)
+SuitsActor a e = Unit {0}
+
 abbrev pub TakesFit : ActorState → Event → Type 0
-TakesFit a (event.Lives lives_ask.Claim r) = MayStart a
-TakesFit a (event.Start child) = MayStart a
-TakesFit a (event.Join child e fuel) = IsSomeAnd (fuel_given a.unjoined child) (λ given. fuel ≤ given)
-TakesFit a e = Unit {0}
+TakesFit a e = IsInBounds e × SuitsActor a e

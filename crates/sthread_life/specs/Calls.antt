@@ -1,13 +1,19 @@
 -- The service calls: what the actor itself decides, up to the event that a call wants.
-use Rattle.std.specs.Prelude.{ℕ, ◌==◌, Bool, true, false, not, nat_lt, nat_le, List, [], ◌∷◌, ◌++◌, length, slice_get, slice_set, Option, Some, None, if◌then◌else◌}
-use Rattle.wedge_base.specs.Images.{Image}
+use Rattle.std.specs.Prelude.{ℕ, ◌==◌, Bool, true, false, not, ◌&&◌, nat_lt, nat_le, [], ◌∷◌, ◌++◌, length, slice_get, slice_set, Option, Some, None, if◌then◌else◌}
+use Rattle.wedge_base.specs.Images.{Image, most_pages, slot_of}
+use Rattle.wedge_base.specs.Maps.{has}
+use Rattle.wedge_base.specs.Rights.{at_least}
 use Rattle.wedge_base.specs.Services.{service_number}
 use Rattle.wedge_base.specs.declared.service.Service.TheVariants as service
 use Rattle.wedge_base.specs.Names.{most_parts}
 use Rattle.wedge_base.specs.Sheets.{Draft, empty_draft, takes_tag, takes_fd, with_tag, with_fd, first_excess}
 use Rattle.wedge_base.specs.Streams.{most_fds}
 use Rattle.wedge_base.specs.declared.cells.LivesAsk.TheVariants as lives_ask
+use Rattle.wedge_base.specs.declared.address.Place.{Place}
+use Rattle.wedge_base.specs.declared.cells.DirectoryAsk.TheVariants as directory_ask
+use Rattle.wedge_base.specs.declared.events.SlotWant.TheVariants as slot_want
 use Rattle.wedge_base.specs.declared.rights.Denial.{Denial}
+use Rattle.wedge_base.specs.declared.rights.Denial.TheVariants as denial
 use Rattle.wedge_base.specs.declared.rights.FdBits.{FdBits}
 use Rattle.wedge_base.specs.declared.rights.Right.{Right}
 use Rattle.wedge_base.specs.declared.rights.Right.TheVariants as right
@@ -17,7 +23,7 @@ use Rattle.wedge_base.specs.declared.events.Want.TheVariants as want
 use Rattle.wedge_base.specs.declared.cells.StreamAsk.TheVariants as stream_ask
 use Rattle.image_form.specs.Rules.{begins_at}
 use Rattle.rv_hart.specs.Local.{reg}
-use Rattle.sthread_life.specs.Actors.{ActorState, bits_of, answers, refuses, denies, ends, wants}
+use Rattle.sthread_life.specs.Actors.{ActorState, right_of, bits_of, slot_held, answers, refuses, denies, ends, wants}
 use Rattle.sthread_life.specs.Children.{is_child}
 use Rattle.sthread_life.specs.Private.{fits_read, buffer}
 
@@ -76,6 +82,37 @@ create i a = create_with i a (slice_get a.drafts (a0 a))
 -- sthread_join: child
 abbrev pub join : ActorState → ActorState
 join a = if is_child a.unjoined (a0 a) then wants a (want.Join (a0 a)) else refuses a code.NoSuch
+
+-- ---- tags
+
+-- a tag has 1 to 16 pages
+abbrev pub are_pages : ℕ → Bool
+are_pages n = not (n == 0) && nat_le n most_pages
+
+-- tag_new: pages. A slot is claimed first, and the tag is opened there next.
+abbrev pub tag_new : ActorState → ActorState
+tag_new a = if are_pages (a0 a) then wants a (want.Slots directory_ask.Claim) else refuses a code.Bad
+
+-- tag_delete: tag. It is closed first, and its slot is released next.
+abbrev pub tag_delete : ActorState → ActorState
+tag_delete a =
+    if has a.made.tags (a0 a) then wants a (want.Slot (slot_held a (a0 a)) (slot_want.Close (a0 a)))
+    else denies a (denial.NotMaker (a0 a))
+
+-- smalloc: tag, size. The right is checked here, before the tag is looked for.
+abbrev pub smalloc : ActorState → ActorState
+smalloc a =
+    if a1 a == 0 then refuses a code.Bad
+    else if at_least (right_of a (a0 a)) right.ReadWrite then wants a (want.Slot (slot_held a (a0 a)) (slot_want.Smalloc (a0 a) (a1 a)))
+    else denies a (denial.Tag (a0 a) right.ReadWrite)
+
+-- sfree: address
+abbrev pub free_at : ActorState → Option Place → ActorState
+free_at a None = refuses a code.Bad
+free_at a (Some p) = wants a (want.Slot p.slot (slot_want.Sfree p.offset))
+
+abbrev pub sfree : ActorState → ActorState
+sfree a = free_at a (slot_of (a0 a))
 
 -- ---- drafts: these calls are no events, and nothing is checked before a draft is used
 
@@ -146,5 +183,9 @@ serves i a n =
     if n == service_number service.Exit then exit a
     else if n == service_number service.SthreadCreate then create i a
     else if n == service_number service.SthreadJoin then join a
+    else if n == service_number service.TagNew then tag_new a
+    else if n == service_number service.TagDelete then tag_delete a
+    else if n == service_number service.Smalloc then smalloc a
+    else if n == service_number service.Sfree then sfree a
     else if n == service_number service.FdAppend then fd_append i a
     else draft_call a n

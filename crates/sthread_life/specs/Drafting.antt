@@ -1,6 +1,6 @@
 -- What each moment makes of its actor's drafts, read off the call's number and its arguments: a second statement, beside
 -- the calls. A call that is refused leaves them as they are, and so does everything else.
-use Rattle.std.specs.Prelude.{◌≡◌, ℕ, zero, suc, ◌==◌, Bool, true, false, is_some, List, [], ◌∷◌, ◌++◌, slice_get, slice_set, Option, Some, None, IsSomeAnd, if◌then◌else◌}
+use Rattle.std.specs.Prelude.{◌≡◌, ℕ, zero, suc, ◌==◌, true, false, List, [], ◌∷◌, ◌++◌, slice_get, slice_set, Option, Some, None, IsSomeAnd, if◌then◌else◌}
 use Rattle.wedge_base.specs.Images.{Image, fetch}
 use Rattle.wedge_base.specs.Sheets.{Draft, empty_draft, with_tag, with_fd}
 use Rattle.wedge_base.specs.declared.events.Event.{Event}

@@ -8,6 +8,8 @@ use Rattle.wedge_base.specs.declared.rights.End.TheVariants as end_
 use Rattle.wedge_base.specs.declared.events.Event.{Event}
 use Rattle.wedge_base.specs.declared.events.Event.TheVariants as event
 use Rattle.wedge_base.specs.declared.cells.LivesAsk.TheVariants as lives_ask
+use Rattle.wedge_base.specs.declared.cells.SlotAsk.{SlotAsk}
+use Rattle.wedge_base.specs.declared.cells.SlotAsk.TheVariants as slot_ask
 use Rattle.wedge_base.specs.declared.cells.SlotReply.{SlotReply}
 use Rattle.wedge_base.specs.declared.cells.SlotReply.TheVariants as slot_reply
 use Rattle.rv_isa.specs.declared.Instr.{Instr}
@@ -29,6 +31,8 @@ abbrev pub end_of : Phase → Option End
 end_of phase.Running = None
 end_of (phase.Within q) = None
 end_of phase.Starting = None
+end_of (phase.Opening slot tag) = None
+end_of (phase.Releasing slot) = None
 end_of (phase.Ending e) = Some e
 end_of (phase.Ended e) = Some e
 
@@ -64,14 +68,15 @@ word_end i a (Some word) = fuel_end i a word a.fuel
 abbrev pub end_at : Image → ActorState → Option End
 end_at i a = word_end i a (fetch i a.hart.pc)
 
--- the end to which an event comes: that of a slot's reply; one that was decided stays
-abbrev pub reply_end : SlotReply → Option End
-reply_end slot_reply.Unmapped = Some end_.Unmapped
-reply_end (slot_reply.Denied tag wants) = Some end_.Denied
-reply_end r = None
+-- the end to which an event comes: that of a slot's reply, but that a call that is denied goes on; one that was decided stays
+abbrev pub reply_end : SlotAsk → SlotReply → Option End
+reply_end q slot_reply.Unmapped = Some end_.Unmapped
+reply_end (slot_ask.Sfree offset live) (slot_reply.Denied tag wants) = None
+reply_end q (slot_reply.Denied tag wants) = Some end_.Denied
+reply_end q r = None
 
 abbrev pub event_end : Event → Option End
-event_end (event.Slot slot q r) = reply_end r
+event_end (event.Slot slot q r) = reply_end q r
 event_end e = None
 
 abbrev pub end_by : Phase → Event → Option End

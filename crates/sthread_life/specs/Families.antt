@@ -1,10 +1,14 @@
 -- Starts, joins and ends among actors, read off the registers, the drafts and the child: a second statement, beside the step.
 use Rattle.std.specs.Prelude.{◌≡◌, ℕ, ◌+◌, ◌-◌, true, List, [], ◌∷◌, ◌++◌, replicate, slice_get, slice_set, Option, Some, None, IsSomeAnd}
 use Rattle.wedge_base.specs.Images.{Image}
-use Rattle.wedge_base.specs.Sheets.{Draft, nothing_made, first_excess, granted}
+use Rattle.wedge_base.specs.Sheets.{Made, Draft, nothing_made, made_tag, first_excess, granted}
 use Rattle.wedge_base.specs.declared.rights.End.{End}
 use Rattle.wedge_base.specs.declared.events.Event.{Event}
 use Rattle.wedge_base.specs.declared.events.Event.TheVariants as event
+use Rattle.wedge_base.specs.declared.cells.SlotAsk.{SlotAsk}
+use Rattle.wedge_base.specs.declared.cells.SlotAsk.TheVariants as slot_ask
+use Rattle.wedge_base.specs.declared.cells.SlotReply.{SlotReply}
+use Rattle.wedge_base.specs.declared.cells.SlotReply.TheVariants as slot_reply
 use Rattle.wedge_base.specs.declared.cells.LivesAsk.TheVariants as lives_ask
 use Rattle.wedge_base.specs.declared.cells.LivesReply.TheVariants as lives_reply
 use Rattle.grant_sheet.specs.Granting.{IsWithin}
@@ -83,15 +87,24 @@ pub record IsJoined (old : WorldState) (a : ActorState) (k : ℕ) (e : End) (fue
 
 -- ---- anything else
 
--- Nothing else changes another actor, nor what an actor may do and whom it started. A life that is claimed is for a child to be
--- started next, and who ends has joined all its children.
+-- what an actor has made once an event took place: one tag more where it opened one
+abbrev pub made_in : Made → ℕ → SlotReply → SlotAsk → Made
+made_in m slot slot_reply.Opened (slot_ask.Open tag pages) = made_tag m tag slot
+made_in m slot r q = m
+
+abbrev pub made_by : Made → Option Event → Made
+made_by m (Some (event.Slot slot q r)) = made_in m slot r q
+made_by m e = m
+
+-- Nothing else changes another actor, nor what an actor may do and whom it started, but that it has made a tag that it opened.
+-- A life that is claimed is for a child to be started next, and who ends has joined all its children.
 pub record ActsAlone (old : WorldState) (a : ActorState) (e : Option Event) (new : WorldState) : Type 0 where
   pub after : ActorState
   pub actors : new.actors ≡ put_actor old.actors after
   pub name : after.name ≡ a.name
   pub compartment : after.compartment ≡ a.compartment
   pub sheet : after.sheet ≡ a.sheet
-  pub made : after.made ≡ a.made
+  pub made : after.made ≡ made_by a.made e
   pub starts : after.starts ≡ a.starts
   pub unjoined : after.unjoined ≡ a.unjoined
   pub claimed : e ≡ Some (event.Lives lives_ask.Claim lives_reply.Claimed) → after ≡ record a { phase = phase.Starting }

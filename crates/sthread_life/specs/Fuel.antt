@@ -63,6 +63,8 @@ abbrev pub phase_work : Phase → ℕ
 phase_work phase.Running = 2
 phase_work (phase.Within q) = 7
 phase_work phase.Starting = 6
+phase_work (phase.Opening slot tag) = 6
+phase_work (phase.Releasing slot) = 6
 phase_work (phase.Ending e) = 1
 phase_work (phase.Ended e) = 0
 

@@ -1,5 +1,5 @@
 -- What holds of every run.
-use Rattle.std.specs.Prelude.{◌≡◌, ◌≤◌, ℕ, length, List, [], ◌∷◌, Option, Some}
+use Rattle.std.specs.Prelude.{◌≡◌, ◌≤◌, ℕ, length, List, Option, Some}
 use Rattle.wedge_base.specs.Images.{Image}
 use Rattle.wedge_base.specs.Slots.{slot_opening}
 use Rattle.wedge_base.specs.Streams.{stream_opening}
@@ -12,6 +12,7 @@ use Rattle.sthread_life.specs.Worlds.{WorldState, opening, actor_named, Runs}
 use Rattle.sthread_life.specs.Names.{AreDistinct}
 use Rattle.sthread_life.specs.Fuel.{fuel_of, most_turns, TakesItsUnits}
 use Rattle.sthread_life.specs.Bounds.{IsWithinRoot}
+use Rattle.sthread_life.specs.Occupancy.{AreOccupied, SlotsSuit}
 use Rattle.sthread_life.specs.Written.{BytesFollow, StepWritesOwn, FlowsFollow, StepAppendsOwn}
 use Rattle.sthread_life.specs.CellHistories.{CellsFollow}
 use Rattle.sthread_life.specs.Moments.{EachStep, EachMoment, IsMediated}
@@ -20,12 +21,14 @@ use Rattle.sthread_life.specs.Refusals.{RefusesByRow}
 use Rattle.sthread_life.specs.Paying.{Pays}
 use Rattle.sthread_life.specs.Drafting.{EditsDrafts}
 use Rattle.sthread_life.specs.Families.{KeepsFamily}
+use Rattle.sthread_life.specs.TagCalls.{MakesTags}
 use Rattle.sthread_life.specs.Remembering.{Remembers}
 use Rattle.wedge_base.specs.Directories.{slots_opening, fds_opening}
 
 -- what holds of a moment: its request is mediated, a call is refused by its row, an actor ends by its cause, it
 -- goes on as it should, it pays what the moment costs, its drafts are as its calls made them, its private bytes are those that it
--- stored, and it starts and joins its own children alone, none of which has more rights than it has
+-- stored, it starts and joins its own children alone, none of which has more rights than it has, and it makes tags by its own
+-- claims alone
 pub record IsLawful (old : WorldState) (a : ActorState) (e : Option Event) (new : WorldState) : Type 0 where
   pub mediated : IsMediated old a e new
   pub ends : EndsByCause old a e new
@@ -35,6 +38,7 @@ pub record IsLawful (old : WorldState) (a : ActorState) (e : Option Event) (new 
   pub edits : EditsDrafts old a e new
   pub remembers : Remembers old a e new
   pub family : KeepsFamily old a e new
+  pub makes : MakesTags old a e new
 
 -- each moment of each run is lawful
 abbrev pub MomentsAreLawful : Type 0
@@ -76,6 +80,14 @@ FuelIsKept = (i : Image) (turns : List Turn) (new : WorldState) → Runs (openin
 -- with
 abbrev pub RootBounds : Type 0
 RootBounds = (i : Image) (turns : List Turn) (new : WorldState) → Runs (opening i) turns new → (name : List ℕ) (a : ActorState) → actor_named new.actors name ≡ Some a → IsWithinRoot i a
+
+-- in each run the slots and the tags are as they should be: after each run, and as each turn asks
+pub record AreSlotsKept (i : Image) (turns : List Turn) (new : WorldState) : Type 0 where
+  pub occupied : AreOccupied new.cells new.actors
+  pub suit : EachStep SlotsSuit (opening i) turns
+
+abbrev pub SlotsAreOccupied : Type 0
+SlotsAreOccupied = (i : Image) (turns : List Turn) (new : WorldState) → Runs (opening i) turns new → AreSlotsKept i turns new
 
 -- so every run ends: it has at most so many turns
 abbrev pub RunsEnd : Type 0

@@ -14,6 +14,7 @@ pub mod Ends
 pub mod Refusals
 pub mod Paying
 pub mod Families
+pub mod TagCalls
 pub mod Drafting
 pub mod Remembering
 pub mod Outcomes
@@ -25,5 +26,6 @@ pub mod Names
 pub mod Fuel
 pub mod FamilyTrees
 pub mod Bounds
+pub mod Occupancy
 pub mod Laws
 pub mod Resting

@@ -1,24 +1,29 @@
 -- The moments of a run: each instruction of each turn, and its event; and what holds of each. An
 -- instruction that makes a request comes to the event at which the request is checked, or is checked in it;
 -- where no request is in question, nothing is denied.
-use Rattle.std.specs.Prelude.{◌≡◌, ◌↔◌, ℕ, zero, suc, Bool, true, false, not, ◌&&◌, List, [], ◌∷◌, Option, Some, None, is_none}
+use Rattle.std.specs.Prelude.{◌≡◌, ◌↔◌, ℕ, zero, suc, ◌==◌, Bool, true, false, not, ◌&&◌, List, [], ◌∷◌, length, Option, Some, None, is_none, if◌then◌else◌}
+use Rattle.wedge_base.specs.Blocks.{rounded, first_fit}
+use Rattle.wedge_base.specs.Images.{address_of}
+use Rattle.wedge_base.specs.Slots.{Segment}
 use Rattle.wedge_base.specs.declared.rights.Denial.{Denial}
 use Rattle.wedge_base.specs.declared.outcome.DenialAt.{DenialAt}
 use Rattle.wedge_base.specs.declared.events.Want.{Want}
 use Rattle.wedge_base.specs.declared.events.Event.{Event}
 use Rattle.wedge_base.specs.declared.events.Event.TheVariants as event
 use Rattle.wedge_base.specs.declared.events.Turn.{Turn}
+use Rattle.wedge_base.specs.declared.cells.SlotAsk.TheVariants as slot_ask
 use Rattle.wedge_base.specs.declared.cells.SlotReply.{SlotReply}
 use Rattle.wedge_base.specs.declared.cells.SlotReply.TheVariants as slot_reply
 use Rattle.wedge_base.specs.declared.cells.StreamReply.{StreamReply}
 use Rattle.wedge_base.specs.declared.cells.StreamReply.TheVariants as stream_reply
 use Rattle.sthread_life.specs.declared.phase.Phase.{Phase}
 use Rattle.sthread_life.specs.declared.phase.Phase.TheVariants as phase
-use Rattle.sthread_life.specs.Actors.{ActorState}
+use Rattle.sthread_life.specs.Actors.{ActorState, slot_held}
+use Rattle.sthread_life.specs.Cells.{slot_in, tag_in}
 use Rattle.sthread_life.specs.Local.{is_running, run_local}
 use Rattle.sthread_life.specs.Worlds.{WorldState, actor_named, put_actor, turn_of}
-use Rattle.sthread_life.specs.Requests.{Request, request_at}
-use Rattle.sthread_life.specs.Allowed.{lacks, is_refused, is_checked_at_event, IsDone, denied}
+use Rattle.sthread_life.specs.Requests.{Request, Deletes, Allots, request_at}
+use Rattle.sthread_life.specs.Allowed.{lacks, is_refused, is_checked_at_event, IsDone, denied, answered}
 
 -- of each step of a run
 abbrev pub EachStep : (WorldState → Turn → WorldState → Type 0) → WorldState → List Turn → Type 0
@@ -55,6 +60,8 @@ NothingDenied old new = (name : List ℕ) → noted_by (actor_named new.actors n
 abbrev pub slot_used : SlotReply → Bool
 slot_used (slot_reply.Loaded value) = true
 slot_used slot_reply.Stored = true
+slot_used (slot_reply.Placed offset) = true
+slot_used slot_reply.Freed = true
 slot_used r = false
 
 abbrev pub stream_used : StreamReply → Bool
@@ -84,10 +91,40 @@ abbrev pub IsMet : WorldState → ActorState → Option Request → WorldState �
 IsMet old a None new = NothingDenied old new
 IsMet old a (Some r) new = elim (is_checked_at_event r) [ true ↦ ComesToEvent old a new | false ↦ IsChecked old a r None new ]
 
+-- an event that uses nothing that is shared, and at which nothing is denied
+abbrev pub IsUnused : WorldState → Event → WorldState → Type 0
+IsUnused old e new = NothingDenied old new × (is_use e ≡ false)
+
+-- where a block of so many bytes goes in a tag: the tag lives in the slot, and has a gap for it
+abbrev pub gap_in : Option Segment → ℕ → ℕ → Option ℕ
+gap_in None tag size = None
+gap_in (Some g) tag size = if g.tag == tag then first_fit 0 (rounded size) (length g.bytes) g.blocks else None
+
+-- A block is placed in the first gap of the tag that it fits, and its address is answered; where there is none, or the tag
+-- lives no more, the cells are as before.
+pub record IsPlaced (old : WorldState) (a : ActorState) (slot tag size : ℕ) (e : Event) (new : WorldState) : Type 0 where
+  pub quiet : NothingDenied old new
+  pub done : (offset : ℕ) → gap_in (slot_in old.cells slot) tag size ≡ Some offset
+      → (e ≡ event.Slot slot (slot_ask.Smalloc tag size) (slot_reply.Placed offset)) × (actor_named new.actors a.name ≡ Some (record a { hart = answered a (address_of slot offset) 0; phase = phase.Running }))
+  pub none : gap_in (slot_in old.cells slot) tag size ≡ None → (is_use e ≡ false) × (new.cells ≡ old.cells)
+
+-- A tag that lives is closed, and its slot is to be released; where it lives no more, the cells are as before.
+pub record IsClosed (old : WorldState) (a : ActorState) (slot tag : ℕ) (e : Event) (new : WorldState) : Type 0 where
+  pub unused : IsUnused old e new
+  pub done : tag_in old.cells slot ≡ Some tag
+      → (e ≡ event.Slot slot (slot_ask.Close tag) slot_reply.Closed) × (actor_named new.actors a.name ≡ Some (record a { phase = phase.Releasing slot }))
+  pub none : (tag_in old.cells slot ≡ Some tag → ⊥) → new.cells ≡ old.cells
+
+-- the event to which an allowed request came that was checked in its instruction
+abbrev pub IsCompleted : WorldState → ActorState → Event → Request → WorldState → Type 0
+IsCompleted old a e (Deletes tag) new = IsClosed old a (slot_held a tag) tag e new
+IsCompleted old a e (Allots tag size) new = IsPlaced old a (slot_held a tag) tag size e new
+IsCompleted old a e r new = IsUnused old e new
+
 -- an event of an actor that is within an instruction with this request
 abbrev pub IsAnswered : WorldState → ActorState → Event → Option Request → WorldState → Type 0
-IsAnswered old a e None new = NothingDenied old new × (is_use e ≡ false)
-IsAnswered old a e (Some r) new = elim (is_checked_at_event r) [ true ↦ IsChecked old a r (Some e) new | false ↦ NothingDenied old new × (is_use e ≡ false) ]
+IsAnswered old a e None new = IsUnused old e new
+IsAnswered old a e (Some r) new = elim (is_checked_at_event r) [ true ↦ IsChecked old a r (Some e) new | false ↦ IsCompleted old a e r new ]
 
 -- the request of an instruction, if there is fuel for it; and that of the instruction an actor is within
 abbrev pub MeetsWith : WorldState → ActorState → ℕ → WorldState → Type 0

@@ -1,12 +1,24 @@
 -- The code with which a call is refused, by the row of the call: in its instruction, before its denial, or at
 -- its event, before or behind it. A second statement, beside the calls; the codes are numbers, as programs
 -- see them.
-use Rattle.std.specs.Prelude.{◌≡◌, ℕ, zero, suc, ◌==◌, not, ◌||◌, List, length, slice_get, Option, Some, None, nat_le, nat_lt, if◌then◌else◌}
+use Rattle.std.specs.Prelude.{◌≡◌, ℕ, zero, suc, ◌==◌, Bool, true, false, not, ◌&&◌, ◌||◌, List, [], ◌∷◌, length, slice_get, Option, Some, None, is_none, nat_le, nat_lt, if◌then◌else◌}
 use Rattle.std.specs.List.{list_any}
-use Rattle.wedge_base.specs.Images.{Image, fetch}
+use Rattle.wedge_base.specs.Blocks.{rounded, first_fit, block_at}
+use Rattle.wedge_base.specs.Directories.{Directory}
+use Rattle.wedge_base.specs.Images.{Image, fetch, slot_of}
+use Rattle.wedge_base.specs.Slots.{Segment}
 use Rattle.wedge_base.specs.Sheets.{Draft, takes_tag, takes_fd, first_excess}
 use Rattle.wedge_base.specs.Streams.{Stream, most_fds}
+use Rattle.wedge_base.specs.declared.address.Place.{Place}
 use Rattle.wedge_base.specs.declared.events.Event.{Event}
+use Rattle.wedge_base.specs.declared.events.Event.TheVariants as event
+use Rattle.wedge_base.specs.declared.cells.DirectoryReply.TheVariants as directory_reply
+use Rattle.wedge_base.specs.declared.cells.LivesReply.TheVariants as lives_reply
+use Rattle.wedge_base.specs.declared.cells.SlotReply.{SlotReply}
+use Rattle.wedge_base.specs.declared.cells.SlotReply.TheVariants as slot_reply
+use Rattle.wedge_base.specs.declared.cells.StreamReply.{StreamReply}
+use Rattle.wedge_base.specs.declared.cells.StreamReply.TheVariants as stream_reply
+use Rattle.wedge_base.specs.declared.rights.Right.TheVariants as right
 use Rattle.wedge_base.specs.declared.rights.Denial.{Denial}
 use Rattle.rv_isa.specs.declared.Instr.{Instr}
 use Rattle.rv_isa.specs.Table.{decode}
@@ -15,12 +27,12 @@ use Rattle.rv_hart.specs.declared.Need.TheVariants as need
 use Rattle.rv_hart.specs.Local.{local, reg}
 use Rattle.sthread_life.specs.declared.phase.Phase.{Phase}
 use Rattle.sthread_life.specs.declared.phase.Phase.TheVariants as phase
-use Rattle.sthread_life.specs.Actors.{ActorState, bits_of}
-use Rattle.sthread_life.specs.Cells.{Cells, stream_in}
+use Rattle.sthread_life.specs.Actors.{ActorState, bits_of, slot_held}
+use Rattle.sthread_life.specs.Cells.{Cells, slot_in, stream_in}
 use Rattle.sthread_life.specs.Children.{is_child}
 use Rattle.sthread_life.specs.Worlds.{WorldState}
 use Rattle.sthread_life.specs.Requests.{bytes_at}
-use Rattle.sthread_life.specs.Allowed.{is_source, answered}
+use Rattle.sthread_life.specs.Allowed.{may_use, is_source, answered}
 use Rattle.sthread_life.specs.Moments.{with_actor}
 
 abbrev pub fuel_short : ℕ
@@ -65,6 +77,19 @@ create_refusal i a entry (Some d) = if not (list_any (λ p. p.address == entry) 
 abbrev pub join_refusal : ActorState → ℕ → Option ℕ
 join_refusal a k = if is_child a.unjoined k then None else Some no_such
 
+-- tag_new: pages that are not 1 to 16
+abbrev pub pages_refusal : ℕ → Option ℕ
+pages_refusal n = if nat_lt 0 n && nat_lt n 17 then None else Some bad
+
+-- smalloc: a size of 0
+abbrev pub size_refusal : ℕ → Option ℕ
+size_refusal size = if size == 0 then Some bad else None
+
+-- sfree: an address outside the windows
+abbrev pub address_refusal : Option Place → Option ℕ
+address_refusal None = Some bad
+address_refusal (Some p) = None
+
 -- sc_new: 64 drafts are there
 abbrev pub new_refusal : List Draft → Option ℕ
 new_refusal ds = if nat_lt (length ds) 64 then None else Some full
@@ -92,6 +117,10 @@ call_refusal i a regs n =
     if n == 0 then None
     else if n == 1 then create_refusal i a (reg regs 11) (slice_get a.drafts (reg regs 10))
     else if n == 2 then join_refusal a (reg regs 10)
+    else if n == 3 then pages_refusal (reg regs 10)
+    else if n == 4 then None
+    else if n == 5 then size_refusal (reg regs 11)
+    else if n == 6 then address_refusal (slot_of (reg regs 10))
     else if n == 16 then append_refusal a (reg regs 10) (reg regs 12) (bytes_at i a (reg regs 11) (reg regs 12))
     else draft_refusal a.drafts regs n
 
@@ -125,9 +154,47 @@ stream_refusal a fd (Some s) =
 abbrev pub life_refusal : ℕ → Option ℕ
 life_refusal lives = if nat_lt lives 256 then None else Some full
 
+-- tag_new: no number is left, or no slot, neither one that was released nor one that was never used
+abbrev pub is_left : Directory → List ℕ → Bool
+is_left d [] = nat_lt d.unused d.places
+is_left d (p ∷ ps) = true
+
+abbrev pub slots_refusal : Directory → Option ℕ
+slots_refusal d = if nat_lt d.number 4294967295 && is_left d d.released then None else Some full
+
+-- tag_delete: the tag does not live where it was opened
+abbrev pub close_refusal : ℕ → Option Segment → Option ℕ
+close_refusal tag None = Some no_such
+close_refusal tag (Some g) = if g.tag == tag then None else Some no_such
+
+-- smalloc: the same; and no gap that the block fits
+abbrev pub gap_refusal : Option ℕ → Option ℕ
+gap_refusal None = Some full
+gap_refusal (Some offset) = None
+
+abbrev pub place_refusal : ℕ → ℕ → Option Segment → Option ℕ
+place_refusal tag size None = Some no_such
+place_refusal tag size (Some g) = if g.tag == tag then gap_refusal (first_fit 0 (rounded size) (length g.bytes) g.blocks) else Some no_such
+
+-- sfree: no tag lives there; and, where the right is held, no block begins there
+abbrev pub block_refusal : ActorState → ℕ → Option Segment → Option ℕ
+block_refusal a offset None = Some no_such
+block_refusal a offset (Some g) =
+    if not (may_use a g.tag right.ReadWrite) then None
+    else if is_none (block_at g.blocks offset) then Some bad
+    else None
+
+abbrev pub free_refusal : Cells → ActorState → Option Place → Option ℕ
+free_refusal c a None = None
+free_refusal c a (Some p) = block_refusal a p.offset (slot_in c p.slot)
+
 abbrev pub call_refusal_after : Cells → ActorState → List ℕ → ℕ → Option ℕ
 call_refusal_after c a regs n =
     if n == 1 then life_refusal c.lives
+    else if n == 3 then slots_refusal c.places
+    else if n == 4 then close_refusal (reg regs 10) (slot_in c (slot_held a (reg regs 10)))
+    else if n == 5 then place_refusal (reg regs 10) (reg regs 11) (slot_in c (slot_held a (reg regs 10)))
+    else if n == 6 then free_refusal c a (slot_of (reg regs 10))
     else if n == 16 then stream_refusal a (reg regs 10) (stream_in c (reg regs 10))
     else None
 
@@ -154,11 +221,35 @@ abbrev pub RefusesIn : WorldState → ActorState → ℕ → WorldState → Type
 RefusesIn old a zero new = Unit {0}
 RefusesIn old a (suc n) new = (code : ℕ) → refusal_at old.image (record a { fuel = n }) ≡ Some code → new ≡ with_actor old (refused (record a { fuel = n }) code)
 
-abbrev pub RefusesAfter : WorldState → ActorState → Phase → WorldState → Type 0
-RefusesAfter old a (phase.Within q) new = (code : ℕ) → refusal_after old.image old.cells a ≡ Some code → new ≡ with_actor old (refused a code)
-RefusesAfter old a p new = Unit {0}
+-- whether an event refuses what was asked
+abbrev pub slot_refuses : SlotReply → Bool
+slot_refuses slot_reply.NoSuch = true
+slot_refuses slot_reply.Full = true
+slot_refuses slot_reply.Bad = true
+slot_refuses r = false
+
+abbrev pub stream_refuses : StreamReply → Bool
+stream_refuses stream_reply.NoSuch = true
+stream_refuses stream_reply.Bad = true
+stream_refuses r = false
+
+abbrev pub is_refusal : Event → Bool
+is_refusal (event.Slots q directory_reply.Full) = true
+is_refusal (event.Slot slot q r) = slot_refuses r
+is_refusal (event.Fd fd q r) = stream_refuses r
+is_refusal (event.Lives q lives_reply.Full) = true
+is_refusal e = false
+
+-- an event refuses exactly where the row of its call has a code for it
+pub record RefusesAt (old : WorldState) (a : ActorState) (e : Event) (new : WorldState) : Type 0 where
+  pub refused : (code : ℕ) → refusal_after old.image old.cells a ≡ Some code → new ≡ with_actor old (refused a code)
+  pub passed : refusal_after old.image old.cells a ≡ None → is_refusal e ≡ false
+
+abbrev pub RefusesAfter : WorldState → ActorState → Phase → Event → WorldState → Type 0
+RefusesAfter old a (phase.Within q) e new = RefusesAt old a e new
+RefusesAfter old a p e new = is_refusal e ≡ false
 
 -- a call is refused with the code of its row
 abbrev pub RefusesByRow : WorldState → ActorState → Option Event → WorldState → Type 0
 RefusesByRow old a None new = RefusesIn old a a.fuel new
-RefusesByRow old a (Some e) new = RefusesAfter old a a.phase new
+RefusesByRow old a (Some e) new = RefusesAfter old a a.phase e new

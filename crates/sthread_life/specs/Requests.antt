@@ -1,7 +1,7 @@
 -- The requests that a sheet may forbid, and which of them an instruction makes: read off its word, the
 -- registers, private memory and what lives in the cells. Nothing here calls the step, so that what the step
 -- makes of a request is a theorem.
-use Rattle.std.specs.Prelude.{ℕ, ◌%◌, ◌==◌, Bool, not, ◌&&◌, List, [], length, slice_get, Option, Some, None, is_some, nat_le, nat_lt, if◌then◌else◌}
+use Rattle.std.specs.Prelude.{ℕ, ◌%◌, ◌==◌, Bool, not, ◌&&◌, List, [], length, slice_get, Option, Some, None, is_some, option_map, nat_le, nat_lt, if◌then◌else◌}
 use Rattle.std.specs.List.{list_any}
 use Rattle.wedge_base.specs.Memory.{range_at, read_range}
 use Rattle.wedge_base.specs.Images.{Image, fetch, in_text, read_text, slot_of}
@@ -25,12 +25,16 @@ pub record Access : Type 0 where
   pub living : Segment
 
 -- a request that a sheet may forbid: to load into a register, with a sign or without, to store a value, to
--- append bytes to a live stream, to start a child with the sheet of a draft
+-- append bytes to a live stream, to start a child with the sheet of a draft, to delete a tag, to place a block of so many
+-- bytes in a tag, and to free the block at a place of a tag that lives there
 pub data Request : Type 0 where
   Loads : Access → (rd : ℕ) → (is_signed : Bool) → Request
   Stores : Access → (value : ℕ) → Request
   Appends : (fd : ℕ) → Stream → (bytes : List ℕ) → Request
   Creates : Draft → Request
+  Deletes : (tag : ℕ) → Request
+  Allots : (tag size : ℕ) → Request
+  Frees : Place → Segment → Request
 
 -- ---- which request an instruction makes, once its unit of fuel is taken
 
@@ -72,10 +76,22 @@ abbrev pub create_of : Image → ℕ → Option Draft → Option Request
 create_of i entry None = None
 create_of i entry (Some d) = if list_any (λ p. p.address == entry) i.procedures then Some (Creates d) else None
 
+-- smalloc: the size is not 0; the tag need not live
+abbrev pub allot_of : ℕ → ℕ → Option Request
+allot_of tag size = if size == 0 then None else Some (Allots tag size)
+
+-- sfree: the address is in a window, and a tag lives in its slot
+abbrev pub free_of : Cells → Option Place → Option Request
+free_of c None = None
+free_of c (Some p) = option_map (Frees p) (slot_in c p.slot)
+
 -- a service call, by its number
 abbrev pub call_request : Image → Cells → ActorState → List ℕ → ℕ → Option Request
 call_request i c a regs n =
     if n == 1 then create_of i (reg regs 11) (slice_get a.drafts (reg regs 10))
+    else if n == 4 then Some (Deletes (reg regs 10))
+    else if n == 5 then allot_of (reg regs 10) (reg regs 11)
+    else if n == 6 then free_of c (slot_of (reg regs 10))
     else if n == 16 then append_of c a (reg regs 10) (reg regs 12) (bytes_at i a (reg regs 11) (reg regs 12))
     else None
 

@@ -1,19 +1,26 @@
 -- The actor's part of a shared event: what it wants and asks, and what the reply makes of it.
-use Rattle.std.specs.Prelude.{ℕ, ◌+◌, ◌-◌, List, [], ◌∷◌, slice_get, Option, Some, None, option_map, option_and_then, unwrap_or}
-use Rattle.wedge_base.specs.Images.{Image, fetch}
-use Rattle.wedge_base.specs.Sheets.{Draft, empty_draft, nothing_made, granted}
+use Rattle.std.specs.Prelude.{ℕ, ◌+◌, ◌-◌, List, [], slice_get, Option, Some, None, option_map, option_and_then, unwrap_or}
+use Rattle.wedge_base.specs.Images.{Image, fetch, address_of}
+use Rattle.wedge_base.specs.Sheets.{Draft, empty_draft, nothing_made, granted, made_tag}
 use Rattle.wedge_base.specs.Wants.{asked_with}
 use Rattle.wedge_base.specs.declared.rights.Right.{Right}
 use Rattle.wedge_base.specs.declared.rights.Denial.TheVariants as denial
 use Rattle.wedge_base.specs.declared.rights.Code.TheVariants as code
 use Rattle.wedge_base.specs.declared.rights.End.{End}
 use Rattle.wedge_base.specs.declared.rights.End.TheVariants as end_
+use Rattle.wedge_base.specs.declared.events.SlotWant.TheVariants as slot_want
 use Rattle.wedge_base.specs.declared.events.Want.{Want}
 use Rattle.wedge_base.specs.declared.events.Want.TheVariants as want
 use Rattle.wedge_base.specs.declared.events.Ask.{Ask}
 use Rattle.wedge_base.specs.declared.events.Event.{Event}
 use Rattle.wedge_base.specs.declared.events.Event.TheVariants as event
 use Rattle.wedge_base.specs.declared.cells.Live.{Live}
+use Rattle.wedge_base.specs.declared.cells.DirectoryAsk.{DirectoryAsk}
+use Rattle.wedge_base.specs.declared.cells.DirectoryAsk.TheVariants as directory_ask
+use Rattle.wedge_base.specs.declared.cells.DirectoryReply.{DirectoryReply}
+use Rattle.wedge_base.specs.declared.cells.DirectoryReply.TheVariants as directory_reply
+use Rattle.wedge_base.specs.declared.cells.SlotAsk.{SlotAsk}
+use Rattle.wedge_base.specs.declared.cells.SlotAsk.TheVariants as slot_ask
 use Rattle.wedge_base.specs.declared.cells.SlotReply.{SlotReply}
 use Rattle.wedge_base.specs.declared.cells.SlotReply.TheVariants as slot_reply
 use Rattle.wedge_base.specs.declared.cells.StreamReply.{StreamReply}
@@ -51,6 +58,8 @@ abbrev pub wanted_at : ActorState → Phase → Option Want
 wanted_at a phase.Running = None
 wanted_at a (phase.Within w) = Some w
 wanted_at a phase.Starting = Some (want.Start (child_name a.name (next_start a)))
+wanted_at a (phase.Opening slot tag) = Some (want.Slot slot (slot_want.Open tag (a0 a)))
+wanted_at a (phase.Releasing slot) = Some (want.Slots (directory_ask.Release slot))
 wanted_at a (phase.Ending e) = Some (ending_want a.unjoined e)
 wanted_at a (phase.Ended e) = None
 
@@ -78,18 +87,38 @@ abbrev pub loads_at : ActorState → Option Instr → ℕ → ActorState
 loads_at a None value = a
 loads_at a (Some ins) value = loads_by ins (local ins a.hart).need a value
 
--- a load or store that is denied ends its actor
-abbrev pub denied_on : ActorState → ℕ → Right → ActorState
-denied_on a tag wants = ends (notes a (denial.Tag tag wants)) end_.Denied
+-- a load or store that is denied ends its actor; a call that is denied answers so
+abbrev pub denied_on : ActorState → SlotAsk → ℕ → Right → ActorState
+denied_on a (slot_ask.Sfree offset live) tag wants = denies a (denial.Tag tag wants)
+denied_on a q tag wants = ends (notes a (denial.Tag tag wants)) end_.Denied
 
--- An actor asks a slot for loads and stores alone, a stream for appends alone, and no other cell but the count of lives,
--- until further calls are built; a reply to another ask makes nothing of it but that it goes on.
-abbrev pub takes_slot : Image → ActorState → SlotReply → ActorState
-takes_slot i a (slot_reply.Loaded value) = loads_at (runs a) (option_and_then decode (fetch i a.hart.pc)) value
-takes_slot i a slot_reply.Stored = has_stored (runs a)
-takes_slot i a slot_reply.Unmapped = ends a end_.Unmapped
-takes_slot i a (slot_reply.Denied tag wants) = denied_on a tag wants
-takes_slot i a r = runs a
+-- a tag that it opened in a slot is among those that it made; the call answers its number and its address
+abbrev pub has_opened : ActorState → ℕ → SlotAsk → ActorState
+has_opened a slot (slot_ask.Open tag pages) = answers_more (record a { made = made_tag a.made tag slot }) tag (address_of slot 0)
+has_opened a slot q = runs a
+
+-- A slot's reply, to what was asked of it. A tag that is closed has its slot released next. Copies are not built, so no
+-- actor asks for one; a reply to such an ask makes nothing of it but that it goes on.
+abbrev pub takes_slot : Image → ActorState → ℕ → SlotAsk → SlotReply → ActorState
+takes_slot i a slot q (slot_reply.Loaded value) = loads_at (runs a) (option_and_then decode (fetch i a.hart.pc)) value
+takes_slot i a slot q slot_reply.Stored = has_stored (runs a)
+takes_slot i a slot q slot_reply.Unmapped = ends a end_.Unmapped
+takes_slot i a slot q (slot_reply.Denied tag wants) = denied_on a q tag wants
+takes_slot i a slot q slot_reply.Opened = has_opened a slot q
+takes_slot i a slot q slot_reply.Closed = record a { phase = phase.Releasing slot }
+takes_slot i a slot q (slot_reply.Placed offset) = answers a (address_of slot offset)
+takes_slot i a slot q slot_reply.Freed = answers a 0
+takes_slot i a slot q slot_reply.NoSuch = refuses a code.NoSuch
+takes_slot i a slot q slot_reply.Full = refuses a code.Full
+takes_slot i a slot q slot_reply.Bad = refuses a code.Bad
+takes_slot i a slot q r = runs a
+
+-- a slot that is claimed is for the tag to be opened there, and one that is released ends the call that closed its tag
+abbrev pub takes_place : ActorState → DirectoryAsk → DirectoryReply → ActorState
+takes_place a (directory_ask.Release slot) r = answers a 0
+takes_place a directory_ask.Claim (directory_reply.Claimed slot tag) = record a { phase = phase.Opening slot tag }
+takes_place a directory_ask.Claim directory_reply.Full = refuses a code.Full
+takes_place a directory_ask.Claim directory_reply.Released = runs a
 
 -- an append takes a unit of fuel for each byte
 abbrev pub takes_stream : ActorState → ℕ → StreamReply → ActorState
@@ -137,7 +166,8 @@ has_joined a k e fuel = answered_end (record a { fuel = a.fuel + fuel; unjoined 
 
 -- what an event makes of the actor that did it
 unfoldable pub takes : Image → ActorState → Event → ActorState
-takes i a (event.Slot slot q r) = takes_slot i a r
+takes i a (event.Slots q r) = takes_place a q r
+takes i a (event.Slot slot q r) = takes_slot i a slot q r
 takes i a (event.Fd fd q r) = takes_stream a fd r
 takes i a (event.Lives q r) = takes_lives a q r
 takes i a (event.Start child) = has_started a

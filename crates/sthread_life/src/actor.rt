@@ -3,6 +3,8 @@
 ghost use Rattle.std.specs.Prelude.{◌≡◌, ◌++◌, ◌∷◌, [], List, IfOk, OnOk, OnErr, false};
 ghost use Rattle.wedge_base.specs.declared.image.MemoryRange.{MemoryRange as ARange};
 ghost use Rattle.rv_hart.specs.Local.{answered};
+ghost use Rattle.sthread_life.specs.Between.{HoldsInSlots};
+ghost use Rattle.wedge_base.specs.Sheets.{root_sheet, nothing_made};
 ghost use Rattle.sthread_life.specs.declared.phase.Phase.TheVariants as phase;
 ghost use Rattle.sthread_life.specs.Actors as actors;
 ghost use Rattle.sthread_life.specs.Actors.{whole};
@@ -50,7 +52,7 @@ impl Model for Actor {
     ghost use Rattle.std.specs.Prelude.{◌≡◌, ◌≤◌, true};
     ghost use Rattle.sthread_life.specs.Children.{is_child};
     ghost use Rattle.image_form.specs.Rules.{most_fuel};
-    ghost use Rattle.sthread_life.specs.Between.{IsReady, IsNextName, PhaseFitsWhere, funds};
+    ghost use Rattle.sthread_life.specs.Between.{AsksPages, HoldsInSlots, IsReady, IsNextName, PhaseFitsWhere, funds};
 
     ghost Value = { ActorRecord };
 
@@ -70,8 +72,10 @@ impl Model for Actor {
     } };
 
     ghost invariant = { λ a. record {
-      fits : PhaseFitsWhere (IsReady a.name a.sheet a.made a.drafts.items a.hart a.fuel a.starts
-          a.unjoined) (IsNextName a.name a.starts) (λ k. is_child a.unjoined k ≡ true) a.phase;
+      fits : PhaseFitsWhere (AsksPages a.hart) (IsReady a.name a.sheet a.made a.drafts.items a.hart
+          a.fuel a.starts a.unjoined) (IsNextName a.name a.starts)
+          (λ k. is_child a.unjoined k ≡ true) a.phase;
+      placed : HoldsInSlots a.sheet a.made;
       funded : funds a.starts a.fuel a.unjoined ≤ most_fuel;
     } };
 }
@@ -95,12 +99,11 @@ impl Actor {
     {
         let mut hart = Hart::new(image.entry());
         hart.put(SP, PRIVATE_BASE + PRIVATE_SIZE);
-        let root = root_path(image)?;
         Ok(Actor {
             alloc,
             name: ActorName::root(alloc)?,
             compartment: image.entry(),
-            sheet: Sheet::root(alloc, image.tags(), image.fds(), image.user(), root)?,
+            sheet: root_sheet(alloc, image)?,
             made: Made::new(alloc),
             drafts: Vec::new(alloc),
             hart,
@@ -228,6 +231,16 @@ impl Actor {
         let pc = self.hart.pc;
         self.denials.push(DenialAt { pc, denial })
     }
+}
+
+/// The sheet with which the root of an image's run begins. The tags of its grants are in slots that are there.
+fn root_sheet(alloc: Global, image: &Image) -> Result<Sheet, NoMemory>
+    ensures is { IfOk result (λ s. s ≡ root_sheet image.now.tags image.now.fds image.now.user
+        image.now.root) }
+    ensures placed { IfOk result (λ s. HoldsInSlots s nothing_made) }
+{
+    let root = root_path(image)?;
+    Ok(Sheet::root(alloc, image.tags(), image.fds(), image.user(), root)?)
 }
 
 /// The root directory of an image.

@@ -47,6 +47,14 @@ impl Actor {
             self.create(image)?;
         } else if number == Service::SthreadJoin.number() {
             self.join();
+        } else if number == Service::TagNew.number() {
+            self.tag_new();
+        } else if number == Service::TagDelete.number() {
+            self.tag_delete()?;
+        } else if number == Service::Smalloc.number() {
+            self.smalloc()?;
+        } else if number == Service::Sfree.number() {
+            self.sfree();
         } else if number == Service::FdAppend.number() {
             self.fd_append(image, memory)?;
         } else {

@@ -1,7 +1,7 @@
 //! Laws of the definitions: each is the contract of a function that does nothing.
 
 ghost use Rattle.wedge_base.specs.Images.{Image};
-ghost use Rattle.sthread_life.specs.Laws.{CellsOpen, MomentsAreLawful, NamesAreDistinct, RunsWriteTheirOwn, FuelIsKept, RootBounds, RunsEnd};
+ghost use Rattle.sthread_life.specs.Laws.{CellsOpen, MomentsAreLawful, NamesAreDistinct, RunsWriteTheirOwn, FuelIsKept, RootBounds, SlotsAreOccupied, RunsEnd};
 ghost use Rattle.sthread_life.specs.Walks.{RootsWalk};
 
 /// In every run, whatever the image and the order of the turns, each request that an instruction makes
@@ -54,4 +54,12 @@ pub fn fuel_is_kept()
 /// not have.
 pub fn rights_are_within_the_roots()
     ensures { RootBounds }
+{}
+
+/// In every world of a run a slot was never used, or was released, or is held by the call of one actor, or one tag lives
+/// there; no two live tags have one number, and a tag lives nowhere but in the slot in which those that hold it have it. So a
+/// tag is opened only where none lives, in a slot that its actor claimed, and a slot is released only by the actor that
+/// closed the tag there.
+pub fn slots_are_occupied()
+    ensures { SlotsAreOccupied }
 {}

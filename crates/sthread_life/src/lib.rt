@@ -12,13 +12,14 @@ mod local;
 mod memory;
 mod phase;
 mod starting;
+mod tags;
 mod take;
 mod unjoined;
 
 pub use actor::Actor;
 pub use laws::{
     actors_walk, cells_open_by_their_rules, fuel_is_kept, moments_are_lawful, names_are_distinct,
-    rights_are_within_the_roots, runs_write_their_own,
+    rights_are_within_the_roots, runs_write_their_own, slots_are_occupied,
 };
 pub use lives::Lives;
 pub use local::Next;

@@ -16,6 +16,7 @@ ghost use Rattle.sthread_life.specs.Resting.{want_in, end_in, NextFits};
 use crate::actor::Actor;
 use crate::memory::Memory;
 use crate::phase::Phase;
+use crate::tags::releasing_want;
 use ready_text::Program;
 use rv_hart::Need;
 use rv_isa::Instr;
@@ -96,6 +97,8 @@ impl Actor {
         match &self.phase {
             Phase::Within(want) => Ok(Next::Shared(want.copy(self.alloc)?)),
             Phase::Starting => Ok(Next::Shared(self.starting_want()?)),
+            Phase::Opening { slot, tag } => Ok(Next::Shared(self.opening_want(*slot, *tag))),
+            Phase::Releasing { slot } => Ok(Next::Shared(releasing_want(*slot))),
             Phase::Ending(end) => Ok(Next::Shared(self.ending_want(*end))),
             Phase::Ended(end) => Ok(Next::Ended(*end)),
             Phase::Running => unreachable!(),

@@ -1,6 +1,6 @@
 //! What an actor is at.
 
-use wedge_base::{End, Want};
+use wedge_base::{End, Slot, TagNo, Want};
 
 /// What an actor is at.
 #[derive(Debug, Drop)]
@@ -11,6 +11,10 @@ pub enum Phase {
     Within(Want),
     /// A life is claimed for a child, and it wants the child's start.
     Starting,
+    /// A slot is claimed for a new tag, and it wants to open the tag there.
+    Opening { slot: Slot, tag: TagNo },
+    /// The tag that lived in a slot is closed, and it wants to release the slot.
+    Releasing { slot: Slot },
     /// Its end is decided: it joins the children that it has not joined, and wants the event that ends it.
     Ending(End),
     /// It has ended.

@@ -118,6 +118,7 @@ impl Actor {
     }
 
     /// The child of a name that it is ready to start, with its private memory.
+    #[tactic(auto, using(crate::proofs::SlotsHeld::granted_inside))]
     fn build_child(&self, image: &Image, name: &ActorName) -> Result<(Actor, Memory), NoMemory>
         requires { MayStart (whole self.now []) }
         ensures is { IfOk result (λ c. whole c.0 c.1 ≡ taking.child_of image.now (whole self.now []) name.now) }

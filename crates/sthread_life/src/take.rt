@@ -1,13 +1,14 @@
 //! An actor's part of a shared event.
 
-ghost use Rattle.std.specs.Prelude.{◌≡◌, List, IfOk, IfSome, OnOk, OnErr, true, false, option_map, option_and_then};
+ghost use Rattle.std.specs.Prelude.{◌≡◌, ◌<◌, [], List, IfOk, IfSome, OnOk, OnErr, true, false, option_map, option_and_then};
 ghost use Rattle.wedge_base.specs.declared.image.MemoryRange.{MemoryRange as ARange};
 ghost use Rattle.wedge_base.specs.Images.{fetch};
 ghost use Rattle.wedge_base.specs.declared.events.Event.{Event as AnEvent};
 ghost use Rattle.rv_isa.specs.Table.{decode};
 ghost use Rattle.sthread_life.specs.declared.phase.Phase.TheVariants as phase;
 ghost use Rattle.sthread_life.specs.Actors.{whole};
-ghost use Rattle.sthread_life.specs.Between.{TakesFit};
+ghost use Rattle.sthread_life.specs.Between.{IsInBounds, SuitsActor, TakesFit};
+ghost use Rattle.wedge_base.specs.Images.{slots};
 ghost use Rattle.sthread_life.specs.Taking as taking;
 
 use crate::actor::Actor;
@@ -17,7 +18,8 @@ use crate::phase::Phase;
 use ready_text::Program;
 use rv_hart::Reply;
 use wedge_base::{
-    Code, Denial, End, Event, FdNo, LivesAsk, LivesReply, NoMemory, SlotReply, StreamReply,
+    Code, Denial, DirectoryAsk, DirectoryReply, End, Event, FdNo, LivesAsk, LivesReply, NoMemory,
+    Right, Slot, SlotAsk, SlotReply, StreamReply, TagNo, address_of,
 };
 
 impl Actor {
@@ -66,8 +68,12 @@ impl Actor {
         ensures name { OnOk result (self.new.name ≡ self.old.name) }
     {
         match event {
-            Event::Slot { reply, .. } => {
-                self.take_slot(program, reply)?;
+            Event::Slot { slot, ask, reply } => {
+                self.take_slot(program, *slot, ask, reply)?;
+                Ok(None)
+            }
+            Event::Slots { ask, reply } => {
+                self.take_place(*ask, *reply);
                 Ok(None)
             }
             Event::Fd { fd, reply, .. } => {
@@ -90,11 +96,47 @@ impl Actor {
         }
     }
 
-    /// What a slot's reply makes of it.
+    /// What a slot's reply makes of it. Loads and stores have their arms here, since they are the most.
     #[inline(always)]
-    fn take_slot(&mut self, program: &Program<'_>, reply: &SlotReply) -> Result<(), NoMemory>
-        ensures takes { OnOk result ((m : List ARange)
-            → whole self.new m ≡ taking.takes_slot program.now (whole self.old m) reply.now) }
+    fn take_slot(
+        &mut self,
+        program: &Program<'_>,
+        slot: Slot,
+        ask: &SlotAsk,
+        reply: &SlotReply,
+    ) -> Result<(), NoMemory>
+        requires { IsInBounds (AnEvent.Slot slot ask.now reply.now) }
+        ensures takes { OnOk result ((m : List ARange) → whole self.new m
+            ≡ taking.takes_slot program.now (whole self.old m) slot ask.now reply.now) }
+        ensures name { OnOk result (self.new.name ≡ self.old.name) }
+    {
+        match reply {
+            SlotReply::Loaded { value } => {
+                self.phase = Phase::Running;
+                self.take_load(program, *value);
+                Ok(())
+            }
+            SlotReply::Stored => {
+                self.phase = Phase::Running;
+                self.hart.advance();
+                Ok(())
+            }
+            _ => self.take_other(program, slot, ask, reply),
+        }
+    }
+
+    /// What any reply of a slot makes of it.
+    #[inline(never)]
+    fn take_other(
+        &mut self,
+        program: &Program<'_>,
+        slot: Slot,
+        ask: &SlotAsk,
+        reply: &SlotReply,
+    ) -> Result<(), NoMemory>
+        requires { IsInBounds (AnEvent.Slot slot ask.now reply.now) }
+        ensures takes { OnOk result ((m : List ARange) → whole self.new m
+            ≡ taking.takes_slot program.now (whole self.old m) slot ask.now reply.now) }
         ensures name { OnOk result (self.new.name ≡ self.old.name) }
     {
         match reply {
@@ -107,16 +149,71 @@ impl Actor {
                 self.hart.advance();
             }
             SlotReply::Unmapped => self.end(End::Unmapped),
-            SlotReply::Denied { tag, wants } => {
-                self.note(Denial::Tag {
-                    tag: *tag,
-                    wants: *wants,
-                })?;
-                self.end(End::Denied);
-            }
-            _ => self.phase = Phase::Running,
+            SlotReply::Denied { tag, wants } => self.take_denial(*ask, *tag, *wants)?,
+            SlotReply::Opened => self.take_opened(slot, *ask)?,
+            SlotReply::Closed => self.phase = Phase::Releasing { slot },
+            SlotReply::Placed { offset } => self.answer(address_of(slot, *offset), 0),
+            SlotReply::Freed => self.answer(0, 0),
+            SlotReply::NoSuch => self.refuse(Code::NoSuch),
+            SlotReply::Full => self.refuse(Code::Full),
+            SlotReply::Bad => self.refuse(Code::Bad),
+            SlotReply::Snapped { .. } | SlotReply::Gone => self.phase = Phase::Running,
         }
         Ok(())
+    }
+
+    /// A denial by a slot: a load or a store ends its actor, and a call answers so.
+    fn take_denial(&mut self, ask: SlotAsk, tag: TagNo, wants: Right) -> Result<(), NoMemory>
+        ensures takes { OnOk result ((m : List ARange)
+            → whole self.new m ≡ taking.denied_on (whole self.old m) ask tag wants) }
+        ensures name { OnOk result (self.new.name ≡ self.old.name) }
+    {
+        self.note(Denial::Tag { tag, wants })?;
+        match ask {
+            SlotAsk::Sfree { .. } => self.refuse(Code::Denied),
+            _ => self.end(End::Denied),
+        }
+        Ok(())
+    }
+
+    /// A tag is opened in a slot: the actor has made it, and is answered its number and its address.
+    fn take_opened(&mut self, slot: Slot, ask: SlotAsk) -> Result<(), NoMemory>
+        requires { slot < slots }
+        ensures takes { OnOk result ((m : List ARange)
+            → whole self.new m ≡ taking.has_opened (whole self.old m) slot ask) }
+        ensures name { OnOk result (self.new.name ≡ self.old.name) }
+    {
+        let SlotAsk::Open { tag, .. } = ask else {
+            self.phase = Phase::Running;
+            return Ok(());
+        };
+        self.made.put_tag(tag, slot)?;
+        self.phase = Phase::Running;
+        self.hart.answer(tag.0, 0, Some(address_of(slot, 0)));
+        Ok(())
+    }
+
+    /// What the directory of slots makes of it: a tag is to be opened in a slot that is claimed, and the call that closed a
+    /// tag is answered once the slot is released.
+    #[inline(never)]
+    fn take_place(&mut self, ask: DirectoryAsk, reply: DirectoryReply)
+        requires bounds { IsInBounds (AnEvent.Slots ask reply) }
+        requires suits { SuitsActor (whole self.old []) (AnEvent.Slots ask reply) }
+        ensures takes { (m : List ARange) → whole self.new m
+            ≡ taking.takes_place (whole self.old m) ask reply }
+        ensures name { self.new.name ≡ self.old.name }
+    {
+        match (ask, reply) {
+            (DirectoryAsk::Release { .. }, _) => self.answer(0, 0),
+            (DirectoryAsk::Claim, DirectoryReply::Claimed { place, number }) => {
+                self.phase = Phase::Opening {
+                    slot: Slot(place),
+                    tag: TagNo(number),
+                };
+            }
+            (DirectoryAsk::Claim, DirectoryReply::Full) => self.refuse(Code::Full),
+            (DirectoryAsk::Claim, DirectoryReply::Released) => self.phase = Phase::Running,
+        }
     }
 
     /// The load at hand has its value.
@@ -167,7 +264,7 @@ impl Actor {
     /// its private memory.
     #[inline(never)]
     fn take_lives(&mut self, memory: &mut Memory, ask: LivesAsk, reply: LivesReply)
-        requires { TakesFit (whole self.old memory.old) (AnEvent.Lives ask reply) }
+        requires { SuitsActor (whole self.old memory.old) (AnEvent.Lives ask reply) }
         ensures takes { whole self.new memory.new
             ≡ taking.takes_lives (whole self.old memory.old) ask reply }
         ensures name { self.new.name ≡ self.old.name }

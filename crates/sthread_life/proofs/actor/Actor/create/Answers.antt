@@ -1,6 +1,4 @@
 use Rattle.std.proofs.Common.{◌≡◌, ◌<◌, true, length, sym, ap, subst, ◌∙◌, arith}
-use Rattle.std.specs.Prelude.{OnOk}
-use Rattle.wedge_base.specs.Sheets.{first_excess}
 use Rattle.sthread_life.specs.Actors.{ActorRecord, whole}
 use Rattle.sthread_life.specs.Calls.{is_procedure, create}
 use Rattle.sthread_life.proofs.Creating.{begins_there, on_ok, creates}

@@ -1,4 +1,4 @@
-use Rattle.std.proofs.Common.{◌≡◌, sym, ◌∙◌}
+use Rattle.std.proofs.Common.{sym, ◌∙◌}
 use Rattle.sthread_life.specs.Actors.{whole}
 use Rattle.sthread_life.proofs.Creating.{on_ok, starts_as}
 use Rattle.sthread_life.proofs.actor.Actor.take_event.Goals as goal

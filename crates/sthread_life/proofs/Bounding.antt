@@ -1,0 +1,229 @@
+-- No actor of a run has more rights on what the image declares than the root: a tag that it made is none of those.
+use Rattle.std.proofs.Common.{◌≡◌, ℕ, ◌≤◌, ◌<◌, Bool, true, false, List, [], ◌∷◌, length, refl, sym, ap, subst, ◌∙◌, arith, inl, inr}
+use Rattle.std.proofs.lemmas.Bool.Decides.{nat_tests}
+use Rattle.std.specs.Cmp.{nat_cmp_total}
+use Rattle.std.specs.FinMap.Entries.{find-put}
+use Rattle.std.specs.Ordering.{nat_cmp, eq_by_cmp}
+use Rattle.std.specs.Prelude.{Option, Some, None, is_some, option_map, nat_le, ◌&&◌, ◌||◌, ◌⊎◌, if◌then◌else◌}
+use Rattle.wedge_base.specs.Images.{Image}
+use Rattle.wedge_base.specs.Maps.{Map, at, has, with}
+use Rattle.wedge_base.specs.Names.{same, root_name}
+use Rattle.wedge_base.specs.Rights.{rank, at_least, no_bits, bits_within}
+use Rattle.wedge_base.specs.Sheets.{Made, right_on, bits_on, bits_in, either_bits}
+use Rattle.wedge_base.specs.declared.rights.Right.{Right}
+use Rattle.wedge_base.specs.declared.rights.Right.TheVariants as right
+use Rattle.wedge_base.specs.declared.rights.FdBits.{FdBits}
+use Rattle.wedge_base.specs.declared.rights.Grant.{Grant}
+use Rattle.wedge_base.specs.declared.events.Event.{Event}
+use Rattle.wedge_base.specs.declared.events.Event.TheVariants as event
+use Rattle.wedge_base.specs.declared.events.Turn.{Turn}
+use Rattle.sthread_life.specs.declared.phase.Phase.TheVariants as phase
+use Rattle.sthread_life.specs.Actors.{ActorState, root, right_of, bits_of}
+use Rattle.sthread_life.specs.Cells.{Cells, cells_after}
+use Rattle.sthread_life.specs.Children.{child_name}
+use Rattle.sthread_life.specs.Families.{IsChild, made_by}
+use Rattle.sthread_life.specs.Laws.{RootBounds}
+use Rattle.sthread_life.specs.Local.{rest}
+use Rattle.sthread_life.specs.Taking.{next_start, takes, begun, child_of}
+use Rattle.sthread_life.specs.Worlds.{WorldState, opening, actor_named, put_actor, with_begun, turn_of, Runs}
+use Rattle.sthread_life.proofs.Between.{takes_name, takes_between, turn_parts}
+use Rattle.sthread_life.proofs.Directing.{claimed_number, next_number}
+use Rattle.sthread_life.proofs.Families.{takes_made, takes_sheet, happens_made, child_begins}
+use Rattle.sthread_life.proofs.FamilyRuns.{Acts, ActsAlone, Starts, Joins, acts, one_begins, kept_at_rest}
+use Rattle.sthread_life.proofs.Happening.{AtOpen, Happens, happens_claim, opens_by_claim}
+use Rattle.sthread_life.proofs.Named.{found_name}
+use Rattle.sthread_life.proofs.Resting.{rest-name, rest-uncalm}
+use Rattle.sthread_life.proofs.Settling.{AllReady, turn_happens, turn_ready, opening_ready}
+use Rattle.sthread_life.proofs.Trees.{IsPut, IsDoer, IsOther, FoundPut, find_put, found_or_last}
+
+record IsBounded (i : Image) (a : ActorState) : Type 0 where
+  tags : (tag : ℕ) (r : Right) → tag < length i.tags → at_least (right_of a tag) r ≡ true → at_least (right_of (root i) tag) r ≡ true
+  fds : (fd : ℕ) → bits_within (bits_of a fd) (bits_of (root i) fd) ≡ true
+  opens : (slot tag : ℕ) → a.phase ≡ phase.Opening slot tag → length i.tags ≤ tag
+
+least_of : (o : Option Right) (g r : Right) → at_least o g ≡ true → at_least (Some g) r ≡ true → at_least o r ≡ true
+least_of None g r e f = absurd cc
+least_of (Some h) g r e f = between (rank r) (rank g) (rank h) f e
+  where
+    between : (l m n : ℕ) → nat_le l m ≡ true → nat_le m n ≡ true → nat_le l n ≡ true
+    between l m n e f = grind (arith, nat_tests, e, f)
+
+within_bit : (p q r : Bool) → (if p then q else true) ≡ true → (if q then r else true) ≡ true → (if p then r else true) ≡ true
+within_bit true true r e f = f
+within_bit true false r e f = absurd cc
+within_bit false q r e f = refl
+
+both_of : (p q : Bool) → (p && q) ≡ true → (p ≡ true) × (q ≡ true)
+both_of true q e = (refl, e)
+both_of false q e = absurd cc
+
+both_are : (p q : Bool) → p ≡ true → q ≡ true → (p && q) ≡ true
+both_are true q e f = f
+both_are false q e f = absurd cc
+
+within_bits : (x y z : FdBits) → bits_within x y ≡ true → bits_within y z ≡ true → bits_within x z ≡ true
+within_bits x y z e f =
+    let p = both_of _ _ e in
+    let q = both_of _ _ f in
+    both_are _ _ (within_bit x.read y.read z.read p.0 q.0) (within_bit x.append y.append z.append p.1 q.1)
+
+or_nothing : (p : Bool) → (p || false) ≡ p
+or_nothing true = refl
+or_nothing false = refl
+
+given_alone : (x : FdBits) → either_bits x no_bits ≡ x
+given_alone x = ap (λ r. record { read = r; append = x.append || false }) (or_nothing x.read) ∙ ap (λ a. record { read = x.read; append = a }) (or_nothing x.append)
+
+-- numbers that compare as equal are one
+pub equal_keys : (a b : ℕ) → eq_by_cmp nat_cmp a b ≡ true → a ≡ b
+equal_keys a b e = grind (arith, e)
+
+-- what is put under a number is there, and what is under others stays
+pub with_same : {X : Type 0} (m : Map X) (k : ℕ) (v : X) → at (with m k v) k ≡ Some v
+with_same m k v = find-put nat_cmp nat_cmp_total k k v m ∙ ap (λ t. if t then Some v else at m k) (itself k)
+  where
+    itself : (n : ℕ) → eq_by_cmp nat_cmp n n ≡ true
+    itself n = grind (arith)
+
+pub with_other : {X : Type 0} (m : Map X) (k : ℕ) (v : X) (n : ℕ) → (n ≡ k → ⊥) → at (with m k v) n ≡ at m n
+with_other m k v n apart = find-put nat_cmp nat_cmp_total n k v m ∙ by_key (eq_by_cmp nat_cmp n k) refl
+  where
+    by_key : (t : Bool) → eq_by_cmp nat_cmp n k ≡ t → (if t then Some v else at m n) ≡ at m n
+    by_key true e = absurd (apart (equal_keys n k e))
+    by_key false e = refl
+
+-- a child has at most what its starter has
+child_bounded : (i : Image) (b c : ActorState) → IsChild i b c → IsBounded i b → IsBounded i c
+child_bounded i b c child bounded = record {
+  tags = λ tag r inside e. by_grant tag r inside (at c.sheet.tags tag) refl (ap (λ m. at_least (right_on c.sheet m tag) r) (sym child.fresh.0) ∙ e);
+  fds = λ fd. within_bits (bits_of c fd) (bits_of b fd) (bits_of (root i) fd) (ap (λ x. bits_within x (bits_of b fd)) (ap (λ m. bits_on c.sheet m fd) child.fresh.0 ∙ given_alone (bits_in c.sheet.fds fd)) ∙ child.within.fds fd) (bounded.fds fd);
+  opens = λ slot tag is. let f : phase.Running ≡ phase.Opening slot tag = sym child.fresh.5 ∙ is in absurd cc;
+}
+  where
+    by_grant : (tag : ℕ) (r : Right) → tag < length i.tags → (o : Option Grant) → at c.sheet.tags tag ≡ o → at_least (option_map (λ g. g.right) (at c.sheet.tags tag)) r ≡ true → at_least (right_of (root i) tag) r ≡ true
+    by_grant tag r inside None there e = let f = ap (λ (x : Option Grant). at_least (option_map (λ g. g.right) x) r) (sym there) ∙ e in absurd cc
+    by_grant tag r inside (Some g) there e =
+        bounded.tags tag r inside (least_of (right_of b tag) g.right r (child.within.tags tag g there) (ap (λ (x : Option Grant). at_least (option_map (λ y. y.right) x) r) (sym there) ∙ e))
+
+-- an actor at rest has the rights that it had
+rest_bounded : (i : Image) (a : ActorState) → IsBounded i a → IsBounded i (rest i a)
+rest_bounded i a bounded =
+    let k = kept_at_rest i a _ refl in
+    record {
+      tags = λ tag r inside e. bounded.tags tag r inside (ap (λ o. at_least o r) (sym (k.sheet_ tag)) ∙ e);
+      fds = λ fd. ap (λ b. bits_within b (bits_of (root i) fd)) (k.bits_ fd) ∙ bounded.fds fd;
+      opens = λ slot tag is. bounded.opens slot tag (rest-uncalm i a (phase.Opening slot tag) (λ h. h) is);
+    }
+
+-- what an actor has made, of the tags that are declared
+made_declared : (w : WorldState) (b : ActorState) (e : Event) → IsBounded w.image b → (made_by b.made (Some e) ≡ b.made) ⊎ AtOpen w b e → (tag : ℕ) → tag < length w.image.tags → has (made_by b.made (Some e)).tags tag ≡ has b.made.tags tag
+made_declared w b e bounded (inl same) tag inside = ap (λ (m : Made). has m.tags tag) same
+made_declared w b e bounded (inr o) tag inside =
+    let from = bounded.opens o.slot o.tag o.at in
+    ap (λ y. has (made_by b.made (Some y)).tags tag) o.is ∙ ap (λ x. is_some x) (with_other b.made.tags o.tag o.slot tag (λ same. absurd (omega (arith, inside, from, same))))
+
+made_fds : (w : WorldState) (b : ActorState) (e : Event) → (made_by b.made (Some e) ≡ b.made) ⊎ AtOpen w b e → (made_by b.made (Some e)).fds ≡ b.made.fds
+made_fds w b e (inl same) = ap (λ (m : Made). m.fds) same
+made_fds w b e (inr o) = ap (λ y. (made_by b.made (Some y)).fds) o.is
+
+-- so its event leaves its actor bounded
+doer_bounded : (w : WorldState) (b : ActorState) (e : Event) → length w.image.tags ≤ w.cells.places.number → Happens w b e → IsBounded w.image b → IsBounded w.image (takes w.image b e)
+doer_bounded w b e counted h bounded =
+    let x = takes w.image b e in
+    let sheet = takes_sheet w.image b e in
+    let made = takes_made w.image b e in
+    let by = happens_made w b e h in
+    record {
+      tags = λ tag r inside e2. bounded.tags tag r inside (sym (ap (λ o. at_least o r) (ap (λ s. right_on s x.made tag) sheet ∙ (ap (λ m. right_on b.sheet m tag) made
+          ∙ ap (λ t. if t then Some right.ReadWrite else option_map (λ g. g.right) (at b.sheet.tags tag)) (made_declared w b e bounded by tag inside)))) ∙ e2);
+      fds = λ fd. ap (λ y. bits_within y (bits_of (root w.image) fd)) (ap (λ s. bits_on s x.made fd) sheet ∙ (ap (λ m. bits_on b.sheet m fd) made ∙ ap (λ f. either_bits (bits_in b.sheet.fds fd) (bits_in f fd)) (made_fds w b e by))) ∙ bounded.fds fd;
+      opens = λ slot tag is.
+          let claim = happens_claim w b e slot tag h (opens_by_claim e x.phase slot tag (takes_between w.image b e) is) in
+          let number = claimed_number w.cells.places slot tag claim.1 in
+          omega (arith, counted, number);
+    }
+
+record AllBounded (w : WorldState) : Type 0 where
+  counted : length w.image.tags ≤ w.cells.places.number
+  actors : (m : List ℕ) (a : ActorState) → actor_named w.actors m ≡ Some a → IsBounded w.image a
+
+-- an event leaves the numbers of tags above those that are declared
+cells_counted : (n : ℕ) (c : Cells) (e : Event) → n ≤ c.places.number → n ≤ (cells_after c e).places.number
+cells_counted n c (event.Slots q r) h = let up = next_number c.places q in omega (arith, h, up)
+cells_counted n c (event.Slot slot q r) h = h
+cells_counted n c (event.Fds q r) h = h
+cells_counted n c (event.Fd fd q r) h = h
+cells_counted n c (event.Lives q r) h = h
+cells_counted n c (event.Gate id q r) h = h
+cells_counted n c (event.Start child) h = h
+cells_counted n c (event.Join k end fuel) h = h
+cells_counted n c (event.Enter run) h = h
+cells_counted n c (event.Leave end) h = h
+
+turn_bounded : (w : WorldState) (name : List ℕ) (e : Event) (new : WorldState) → AllReady w → AllBounded w → turn_of w name ≡ Some (record { event = e; world = new }) → AllBounded new
+turn_bounded w name e new all bounded t =
+    let p = turn_parts w name e new t in
+    let a = p.actor in
+    let b = rest w.image a in
+    let x = takes w.image b e in
+    let h = turn_happens w name e new all p in
+    let there : actor_named w.actors a.name ≡ Some a = ap (actor_named w.actors) (found_name w.actors name a p.named) ∙ p.named in
+    let put : IsPut w.actors a x = record { name = takes_name w.image b e ∙ rest-name w.image a; there = there } in
+    let doer = doer_bounded w b e bounded.counted h (rest_bounded w.image a (bounded.actors a.name a there)) in
+    let child = begins_bounded w b e (acts w b e h) (rest_bounded w.image a (bounded.actors a.name a there)) in
+    subst AllBounded (sym p.new_is)
+    (record { counted = cells_counted (length w.image.tags) w.cells e bounded.counted; actors = by_begun w a x bounded put doer (begun w.image b e) child })
+  where
+    by_found : (w : WorldState) (a x : ActorState) → AllBounded w → IsPut w.actors a x → IsBounded w.image x → (m : List ℕ) (y : ActorState) → FoundPut w.actors a x m y → IsBounded w.image y
+    by_found w a x bounded put doer m y (IsDoer is f) = subst (IsBounded w.image) (sym f) doer
+    by_found w a x bounded put doer m y (IsOther apart f) = bounded.actors m y f
+
+    by_begun : (w : WorldState) (a x : ActorState) → AllBounded w → IsPut w.actors a x → IsBounded w.image x → (o : Option ActorState) → ((c : ActorState) → o ≡ Some c → IsBounded w.image c) → (m : List ℕ) (y : ActorState)
+        → actor_named (with_begun (put_actor w.actors x) o) m ≡ Some y → IsBounded w.image y
+    by_begun w a x bounded put doer None child m y found = by_found w a x bounded put doer m y (find_put w.actors a x m y put found)
+    by_begun w a x bounded put doer (Some c) child m y found = elim (found_or_last (put_actor w.actors x) c m y found) [
+      | inl f ↦ by_found w a x bounded put doer m y (find_put w.actors a x m y put f)
+      | inr is ↦ subst (IsBounded w.image) (sym is) (child c refl)
+    ]
+
+    begins_bounded : (w : WorldState) (b : ActorState) (e : Event) → Acts w b e → IsBounded w.image b → (c : ActorState) → begun w.image b e ≡ Some c → IsBounded w.image c
+    begins_bounded w b e (ActsAlone one) bounded c is = let f : None ≡ Some c = sym (one_begins w.image b e one) ∙ is in absurd cc
+    begins_bounded w b e (Starts s) bounded c is =
+        let child = child_of w.image b (child_name b.name (next_start b)) in
+        let both : Some child ≡ Some c = sym (ap (begun w.image b) s.is) ∙ is in
+        let same_child : child ≡ c = cc in
+        subst (IsBounded w.image) same_child (child_bounded w.image b child (child_begins w.image b s.ready) bounded)
+    begins_bounded w b e (Joins k listed j) bounded c is = let f : None ≡ Some c = sym (ap (begun w.image b) j.is) ∙ is in absurd cc
+
+opening_bounded : (i : Image) → AllBounded (opening i)
+opening_bounded i = record { counted = omega arith; actors = λ m y found. by_name (same root_name m) (opening_found m y found) }
+  where
+    by_name : (t : Bool) {y : ActorState} → (if t then Some (root i) else None) ≡ Some y → IsBounded i y
+    by_name true e = let is : root i ≡ _ = cc in subst (IsBounded i) is root_bounded
+      where
+        bits_self : (x : FdBits) → bits_within x x ≡ true
+        bits_self x = both_are _ _ (itself x.read) (itself x.append)
+          where
+            itself : (p : Bool) → (if p then p else true) ≡ true
+            itself true = refl
+            itself false = refl
+
+        root_bounded : IsBounded i (root i)
+        root_bounded = unfold root in record { tags = λ tag r inside e. e; fds = λ fd. bits_self (bits_of (root i) fd); opens = λ slot tag is. absurd cc }
+    by_name false e = absurd cc
+
+    opening_found : (m : List ℕ) (y : ActorState) → actor_named (opening i).actors m ≡ Some y → (if same root_name m then Some (root i) else None) ≡ Some y
+    opening_found m y e = unfold root in e
+
+runs_bounded : (old : WorldState) (turns : List Turn) (new : WorldState) → AllReady old → AllBounded old → Runs old turns new → AllBounded new
+runs_bounded old [] new all bounded run = subst AllBounded (sym run) bounded
+runs_bounded old (t ∷ ts) new all bounded run = runs_bounded run.0 ts new (turn_ready old t.actor t.event run.0 all run.1) (turn_bounded old t.actor t.event run.0 all bounded run.1) run.2
+
+pub run_image : (old : WorldState) (turns : List Turn) (new : WorldState) → Runs old turns new → new.image ≡ old.image
+run_image old [] new run = ap (λ (w : WorldState). w.image) run
+run_image old (t ∷ ts) new run = run_image run.0 ts new run.2 ∙ ap (λ (w : WorldState). w.image) (turn_parts old t.actor t.event run.0 run.1).new_is
+
+pub root_bounds : RootBounds
+root_bounds i turns new run name a named =
+    let bounded = subst (λ j. IsBounded j a) (run_image (opening i) turns new run) ((runs_bounded (opening i) turns new (opening_ready i) (opening_bounded i) run).actors name a named) in
+    record { tags = λ tag inside r. bounded.tags tag r inside; fds = λ fd inside. bounded.fds fd }

@@ -1,0 +1,70 @@
+-- The slots in which the tags of an actor were opened are below 4,096.
+use Rattle.std.proofs.Common.{◌≡◌, ℕ, ◌+◌, ◌<◌, ◌≤◌, Bool, true, false, List, [], ◌∷◌, length, refl, sym, subst, arith}
+use Rattle.std.specs.List.{AllByRecursion}
+use Rattle.std.specs.Option.{option_or}
+use Rattle.std.specs.Ordering.{nat_cmp}
+use Rattle.std.specs.declared.cmp.Ordering.{Ordering}
+use Rattle.std.specs.declared.cmp.Ordering.TheVariants.{Less, Equal, Greater}
+use Rattle.std.specs.FinMap.Entries.{by_order}
+use Rattle.std.specs.Prelude.{Option, Some, None, map, unwrap_or, option_map, if◌then◌else◌}
+use Rattle.wedge_base.specs.Images.{slots}
+use Rattle.wedge_base.specs.Maps.{Map, at, with}
+use Rattle.wedge_base.specs.Sheets.{Sheet, Made, Draft, nothing_made, with_grant, root_tags, root_sheet, slot_on, tag_granted, granted, made_tag}
+use Rattle.wedge_base.specs.declared.image.TagEntry.{TagEntry}
+use Rattle.wedge_base.specs.declared.image.FdEntry.{FdEntry}
+use Rattle.wedge_base.specs.declared.rights.Grant.{Grant}
+use Rattle.wedge_base.specs.declared.rights.Right.{Right}
+use Rattle.sthread_life.specs.Between.{HoldsInSlots}
+
+-- what is found among such entries is such
+found : {X : Type 0} (f : X → ℕ) (es : Map X) (k : ℕ) (x : X) → AllByRecursion (λ e. f e.1 < slots) es → at es k ≡ Some x → f x < slots
+found f [] k x all e = absurd cc
+found f (y ∷ ys) k x all e = by_key _ e (found f ys k x all.1)
+  where
+    by_key : (t : Bool) → (if t then Some y.1 else at ys k) ≡ Some x → (at ys k ≡ Some x → f x < slots) → f x < slots
+    by_key true h others = let is : y.1 ≡ x = cc in subst (λ z. f z < slots) is all.0
+    by_key false h others = others h
+
+pub held_inside : (s : Sheet) (m : Made) (tag : ℕ) → HoldsInSlots s m → unwrap_or (slot_on s m tag) 0 < slots
+held_inside s m tag h = by_made (at m.tags tag) refl
+  where
+    by_sheet : (o : Option Grant) → at s.tags tag ≡ o → unwrap_or (option_map (λ g. g.slot) o) 0 < slots
+    by_sheet None e = omega arith
+    by_sheet (Some g) e = found (λ g. g.slot) s.tags tag g h.0 e
+
+    by_made : (o : Option ℕ) → at m.tags tag ≡ o → unwrap_or (option_or o (option_map (λ g. g.slot) (at s.tags tag))) 0 < slots
+    by_made (Some slot) e = found (λ n. n) m.tags tag slot h.1 e
+    by_made None e = by_sheet (at s.tags tag) refl
+
+-- the root's tags are in the slots of their numbers
+root_entries : (n : ℕ) (ts : List TagEntry) → n + length ts ≤ slots → AllByRecursion (λ e. e.1.slot < slots) (root_tags n ts)
+root_entries n [] few = tt
+root_entries n (t ∷ ts) few = by_right t.right (root_entries (n + 1) ts (omega (arith, few)))
+  where
+    by_right : (o : Option Right) → AllByRecursion (λ e. e.1.slot < slots) (root_tags (n + 1) ts) → AllByRecursion (λ e. e.1.slot < slots) (with_grant n o (root_tags (n + 1) ts))
+    by_right None others = others
+    by_right (Some r) others = (omega (arith, few), others)
+
+pub root_inside : (s : Sheet) (ts : List TagEntry) (fs : List FdEntry) (user : ℕ) (root : List ℕ) → s ≡ root_sheet ts fs user root → length ts ≤ 256 → HoldsInSlots s nothing_made
+root_inside s ts fs user root is few = subst (λ (x : Sheet). HoldsInSlots x nothing_made) (sym is) (root_entries 0 ts (omega (arith, few)), tt)
+
+-- those of a child are where those of its starter are
+granted_entries : (s : Sheet) (m : Made) (es : Map Right) → HoldsInSlots s m → AllByRecursion (λ e. e.1.slot < slots) (map (tag_granted s m) es)
+granted_entries s m [] h = tt
+granted_entries s m (e ∷ es) h = (held_inside s m e.0 h, granted_entries s m es h)
+
+pub granted_inside : (s : Sheet) (m : Made) (d : Draft) → HoldsInSlots s m → HoldsInSlots (granted s m d) nothing_made
+granted_inside s m d h = (granted_entries s m d.tags h, tt)
+
+-- and one that is made is where it is opened
+with_entry : (es : Map ℕ) (k slot : ℕ) → slot < slots → AllByRecursion (λ e. e.1 < slots) es → AllByRecursion (λ e. e.1 < slots) (with es k slot)
+with_entry [] k slot inside all = (inside, tt)
+with_entry (e ∷ es) k slot inside all = by_key (nat_cmp k e.0) (with_entry es k slot inside all.1)
+  where
+    by_key : (o : Ordering) → AllByRecursion (λ x. x.1 < slots) (with es k slot) → AllByRecursion (λ x. x.1 < slots) (by_order o ((k, slot) ∷ e ∷ es) ((e.0, slot) ∷ es) (e ∷ with es k slot))
+    by_key Less others = (inside, all)
+    by_key Equal others = (inside, all.1)
+    by_key Greater others = (all.0, others)
+
+pub made_inside : (m new : Made) (tag slot : ℕ) → new ≡ made_tag m tag slot → slot < slots → AllByRecursion (λ e. e.1 < slots) m.tags → AllByRecursion (λ e. e.1 < slots) new.tags
+made_inside m new tag slot is inside all = subst (λ (x : Made). AllByRecursion (λ e. e.1 < slots) x.tags) (sym is) (with_entry m.tags tag slot inside all)
