@@ -1,5 +1,5 @@
 -- What holds of the actors of a run once each is at rest: a rest keeps names, starts and children, and takes fuel alone.
-use Rattle.std.proofs.Common.{◌≡◌, ℕ, ◌+◌, ◌≤◌, List, [], ◌∷◌, map, refl, sym, ap, subst, ◌∙◌, arith, inl, inr}
+use Rattle.std.proofs.Common.{◌≡◌, ℕ, ◌≤◌, List, [], ◌∷◌, map, refl, sym, ap, subst, ◌∙◌, arith, inl, inr}
 use Rattle.std.specs.Prelude.{Option, Some, None, option_map, ◌||◌}
 use Rattle.wedge_base.specs.Images.{Image}
 use Rattle.wedge_base.specs.Names.{same, root_name}
@@ -11,7 +11,7 @@ use Rattle.sthread_life.specs.Fuel.{starter_of, number_in, has_child, is_unjoine
 use Rattle.sthread_life.specs.Local.{rest, is_running, has_ended}
 use Rattle.sthread_life.specs.Names.{IsNew, AreDistinct}
 use Rattle.sthread_life.specs.Worlds.{WorldState, opening, actor_named, Runs, settled}
-use Rattle.sthread_life.proofs.FamilyRuns.{IsKept, kept_at_rest, rest_units, run_family}
+use Rattle.sthread_life.proofs.FamilyRuns.{kept_at_rest, rest_units, run_family}
 use Rattle.sthread_life.proofs.Resting.{rest-name, rest-ended}
 use Rattle.sthread_life.proofs.Settling.{map_named}
 

@@ -1,5 +1,5 @@
 -- A start and a join by the actor at an index.
-use Rattle.std.proofs.Common.{◌≡◌, ℕ, zero, suc, ◌+◌, ◌<◌, ◌≤◌, Bool, true, false, List, [], ◌∷◌, ◌++◌, length, map, refl, sym, ap, subst, ◌∙◌, arith}
+use Rattle.std.proofs.Common.{◌≡◌, ℕ, zero, suc, ◌+◌, ◌<◌, ◌≤◌, Bool, true, false, List, [], ◌∷◌, ◌++◌, map, refl, sym, ap, subst, ◌∙◌, arith}
 use Rattle.std.specs.Prelude.{Result, Ok, Err, IfOk, IfSome, IfNone, Option, Some, None, IsSomeAnd, is_some, option_map, slice_get, slice_set, if◌then◌else◌}
 use Rattle.wedge_base.specs.Images.{Image}
 use Rattle.wedge_base.specs.Names.{same}
@@ -95,6 +95,8 @@ joins_at : (k : ℕ) (c : ActorState) (p : Phase) (e : Event) → c.phase ≡ p 
 joins_at k c phase.Running e at comes = absurd cc
 joins_at k c (phase.Within q) e at comes = absurd cc
 joins_at k c phase.Starting e at comes = absurd cc
+joins_at k c (phase.Opening slot tag) e at comes = absurd cc
+joins_at k c (phase.Releasing slot) e at comes = absurd cc
 joins_at k c (phase.Ending x) e at comes = absurd cc
 joins_at k c (phase.Ended x) e at comes = record { end = x; is = sym (one_of comes); ended = ap has_ended at }
   where
@@ -130,7 +132,7 @@ join_fits i actors place name child e j comes =
     ap (λ n. actor_named all (child_name n child)) (rest-name i a ∙ j.own) ∙ (found_at_rest i actors (child_name name child) c o.there ∙ ap (λ x. Some x) stays) in
     let least : worth c ≤ given.0 = brings_back all (rest i a) c child given.0 j.family there kid (ap (λ cs. fuel_given cs child) (unjoined_at_rest i a) ∙ given.1) in
     let small : c.fuel ≤ given.0 = omega (arith, least) in
-    subst (TakesFit a) (sym o.joins.is) (subst (λ p. IsSomeAnd p (λ g. c.fuel ≤ g)) (sym given.1) small)
+    subst (TakesFit a) (sym o.joins.is) (tt, subst (λ p. IsSomeAnd p (λ g. c.fuel ≤ g)) (sym given.1) small)
 
 pub joined : (i : Image) (actors : List ActorState) (place : ℕ) (name : List ℕ) (child : ℕ) (e : Event) (o : Option ActorState) (new : List ActorState) (entries new_entries : List LogEntry)
     → (j : IsJoining i actors place name child) → join_event child (actor_named actors (child_name name child)) ≡ Some e → HasTaken i actors place e o new → Notes entries name e new_entries

@@ -14,12 +14,13 @@ use Rattle.wedge_base.specs.Streams.{stream_reply}
 use Rattle.wedge_base.specs.Lives.{lives_reply}
 use Rattle.wedge_base.specs.declared.events.Event.{Event}
 use Rattle.wedge_base.specs.declared.events.Event.TheVariants as event
+use Rattle.wedge_base.specs.declared.cells.DirectoryAsk.TheVariants as directory_ask
 use Rattle.wedge_base.specs.declared.cells.LivesAsk.TheVariants as lives_ask
 use Rattle.wedge_base.specs.declared.events.Ask.{Ask}
 use Rattle.wedge_base.specs.declared.events.Ask.TheVariants as ask
 use Rattle.wedge_base.specs.Directories.{directory_reply}
 use Rattle.wedge_base.specs.Gates.{gate_reply}
-use Rattle.sthread_life.specs.Between.{WantFits, TakesFit}
+use Rattle.sthread_life.specs.Between.{WantFits, IsInBounds, SuitsActor, TakesFit}
 use Rattle.sthread_life.specs.Cells.{Cells, AskFits, live_at, slot_in, stream_in, kept_in, event_of}
 use Rattle.sthread_life.specs.Taking.{asks, pair, begun}
 use Rattle.sthread_life.specs.Worlds.{WorldState, event_at}
@@ -33,31 +34,38 @@ pair_names (Some g) a = refl
 pub asks_fit : (c : Cells) (a b : ActorState) (q : Want) → WantFits b q → IsOfCell q → AskFits c (asks a (live_at c q) q)
 asks_fit c a b (want.Slot slot (slot_want.Load offset width)) h k = (h.0, (h.1, pair_names (slot_in c slot) a))
 asks_fit c a b (want.Slot slot (slot_want.Store offset width value)) h k = (h.0, (h.1, pair_names (slot_in c slot) a))
-asks_fit c a b (want.Slot slot (slot_want.Open tag pages)) h k = absurd h
-asks_fit c a b (want.Slot slot (slot_want.Close tag)) h k = absurd h
-asks_fit c a b (want.Slot slot (slot_want.Smalloc tag size)) h k = absurd h
-asks_fit c a b (want.Slot slot (slot_want.Sfree offset)) h k = absurd h
+asks_fit c a b (want.Slot slot (slot_want.Open tag pages)) h k = (h.0, (h.1, h.2))
+asks_fit c a b (want.Slot slot (slot_want.Close tag)) h k = (h, tt)
+asks_fit c a b (want.Slot slot (slot_want.Smalloc tag size)) h k = (h.0, h.1)
+asks_fit c a b (want.Slot slot (slot_want.Sfree offset)) h k = (h.0, (h.1, pair_names (slot_in c slot) a))
 asks_fit c a b (want.Slot slot (slot_want.Snap tag)) h k = absurd h
 asks_fit c a b (want.Fd fd (stream_ask.Append bits bytes)) h k = h
 asks_fit c a b (want.Fd fd q) h k = absurd h
 asks_fit c a b (want.Lives q) h k = tt
+asks_fit c a b (want.Slots q) h k = tt
 asks_fit c a b (want.Start child) h k = absurd k
 asks_fit c a b (want.Join child) h k = absurd k
 asks_fit c a b q h k = absurd h
 
--- what comes of an ask of a cell fits whoever asked
-pub event_fits : (c : Cells) (a : ActorState) (q : Want) (l : Option ℕ) (e : Event) → WantFits a q → IsOfCell q → event_of c (asks a l q) ≡ Some e → TakesFit a e
-event_fits c a (want.Slots q) l e h k comes = absurd h
-event_fits c a (want.Slot slot q) l e h k comes = let is : event.Slot slot (slot_ask_with q (pair a l)) (slot_reply (slot_in c slot) (slot_ask_with q (pair a l))) ≡ e = cc in subst (TakesFit a) is tt
-event_fits c a (want.Fds q) l e h k comes = absurd h
-event_fits c a (want.Fd fd q) l e h k comes = let is : event.Fd fd q (stream_reply (stream_in c fd) q) ≡ e = cc in subst (TakesFit a) is tt
-event_fits c a (want.Lives lives_ask.Claim) l e h k comes = let is : event.Lives lives_ask.Claim (lives_reply c.lives lives_ask.Claim) ≡ e = cc in subst (TakesFit a) is h
-event_fits c a (want.Lives (lives_ask.Release x)) l e h k comes = let is : event.Lives (lives_ask.Release x) (lives_reply c.lives (lives_ask.Release x)) ≡ e = cc in subst (TakesFit a) is tt
-event_fits c a (want.Gate id q) l e h k comes = absurd h
-event_fits c a (want.Start child) l e h k comes = absurd k
-event_fits c a (want.Join child) l e h k comes = absurd k
-event_fits c a (want.Enter run) l e h k comes = absurd h
-event_fits c a (want.Leave end) l e h k comes = absurd h
+-- what comes of an ask of a cell suits whoever asked
+event_suits : (c : Cells) (a : ActorState) (q : Want) (l : Option ℕ) (e : Event) → WantFits a q → IsOfCell q → event_of c (asks a l q) ≡ Some e → SuitsActor a e
+event_suits c a (want.Slots directory_ask.Claim) l e h k comes = let is : event.Slots directory_ask.Claim (directory_reply c.places directory_ask.Claim) ≡ e = cc in subst (SuitsActor a) is h
+event_suits c a (want.Slots (directory_ask.Release place)) l e h k comes =
+    let is : event.Slots (directory_ask.Release place) (directory_reply c.places (directory_ask.Release place)) ≡ e = cc in
+    subst (SuitsActor a) is tt
+event_suits c a (want.Slot slot q) l e h k comes = let is : event.Slot slot (slot_ask_with q (pair a l)) (slot_reply (slot_in c slot) (slot_ask_with q (pair a l))) ≡ e = cc in subst (SuitsActor a) is tt
+event_suits c a (want.Fds q) l e h k comes = absurd h
+event_suits c a (want.Fd fd q) l e h k comes = let is : event.Fd fd q (stream_reply (stream_in c fd) q) ≡ e = cc in subst (SuitsActor a) is tt
+event_suits c a (want.Lives lives_ask.Claim) l e h k comes = let is : event.Lives lives_ask.Claim (lives_reply c.lives lives_ask.Claim) ≡ e = cc in subst (SuitsActor a) is h
+event_suits c a (want.Lives (lives_ask.Release x)) l e h k comes = let is : event.Lives (lives_ask.Release x) (lives_reply c.lives (lives_ask.Release x)) ≡ e = cc in subst (SuitsActor a) is tt
+event_suits c a (want.Gate id q) l e h k comes = absurd h
+event_suits c a (want.Start child) l e h k comes = absurd k
+event_suits c a (want.Join child) l e h k comes = absurd k
+event_suits c a (want.Enter run) l e h k comes = absurd h
+event_suits c a (want.Leave end) l e h k comes = absurd h
+
+pub event_fits : (c : Cells) (a : ActorState) (q : Want) (l : Option ℕ) (e : Event) → WantFits a q → IsOfCell q → event_of c (asks a l q) ≡ Some e → IsInBounds e → TakesFit a e
+event_fits c a q l e h k comes bounds = (bounds, event_suits c a q l e h k comes)
 
 -- it begins no actor, and is the one to which the actor comes
 pub begins_none : (i : Image) (c : Cells) (a : ActorState) (q : Want) (e : Event) → IsOfCell q → event_asked c a q ≡ Some e → begun i a e ≡ None

@@ -6,6 +6,7 @@ pub mod FamilyTurns
 pub mod Numbering
 pub mod CellPlaces
 pub mod Fitting
+pub mod Placing
 pub mod Advancing
 pub mod Replays
 pub mod Indexing

@@ -1,41 +1,32 @@
 -- Runs in serial order: the actor that was started last and has not ended never waits, and those that live are a stack.
-use Rattle.std.proofs.Common.{◌≡◌, ℕ, zero, suc, ◌+◌, ◌-◌, ◌<◌, ◌≤◌, Bool, true, false, true≢false, List, [], ◌∷◌, ◌++◌, length, get_or, refl, sym, ap, subst, ◌∙◌, append-nil, append_assoc, arith}
-use Rattle.std.specs.Prelude.{Option, Some, None, IsSomeAnd, is_some, slice_get, slice_set, if◌then◌else◌}
+use Rattle.std.proofs.Common.{◌≡◌, ℕ, suc, ◌<◌, Bool, true, false, true≢false, List, [], ◌∷◌, ◌++◌, length, refl, sym, ap, subst, ◌∙◌, append-nil, arith}
+use Rattle.std.specs.Prelude.{Option, Some, None, IsSomeAnd, is_some, if◌then◌else◌}
 use Rattle.wedge_base.specs.Images.{Image}
 use Rattle.wedge_base.specs.Names.{same, root_name}
 use Rattle.wedge_base.specs.declared.rights.End.{End}
-use Rattle.wedge_base.specs.declared.events.Event.{Event}
-use Rattle.wedge_base.specs.declared.events.Event.TheVariants as event
 use Rattle.wedge_base.specs.declared.events.Turn.{Turn}
 use Rattle.wedge_base.specs.declared.events.Want.TheVariants as want
 use Rattle.sthread_life.specs.declared.phase.Phase.{Phase}
 use Rattle.sthread_life.specs.declared.phase.Phase.TheVariants as phase
 use Rattle.sthread_life.specs.Actors.{ActorState, root}
 use Rattle.sthread_life.specs.Children.{Children, fuel_given, is_child, child_name}
-use Rattle.sthread_life.specs.FamilyTrees.{Holds, AllBehind, Family}
-use Rattle.sthread_life.specs.Fuel.{work_left}
+use Rattle.sthread_life.specs.FamilyTrees.{Holds, AllBehind}
 use Rattle.sthread_life.specs.Local.{rest, has_ended}
 use Rattle.sthread_life.specs.Names.{IsNew, AreDistinct}
-use Rattle.sthread_life.specs.Taking.{wanted, wanted_at, ending_want, takes, begun, child_of}
-use Rattle.sthread_life.specs.Worlds.{WorldState, opening, actor_named, put_actor, with_begun, Runs, is_ended, is_whole}
-use Rattle.sthread_life.proofs.Between.{takes_name, turn_parts}
+use Rattle.sthread_life.specs.Taking.{wanted_at, ending_want}
+use Rattle.sthread_life.specs.Worlds.{WorldState, opening, actor_named, put_actor, Runs, is_ended}
 use Rattle.sthread_life.proofs.FamilyKept.{found_apart}
 use Rattle.sthread_life.proofs.FamilyRuns.{run_family}
 use Rattle.sthread_life.proofs.FuelGiven.{number_self}
 use Rattle.sthread_life.proofs.Meeting.{IsWanted, ReadsAs, LoadsAt}
-use Rattle.sthread_life.proofs.Named.{same_self, found_name}
-use Rattle.sthread_life.proofs.Resting.{rest-name}
-use Rattle.sthread_life.proofs.Settling.{AllReady, named_ready, run_ready}
+use Rattle.sthread_life.proofs.Named.{same_self}
+use Rattle.sthread_life.proofs.Settling.{named_ready, run_ready}
 use Rattle.sthread_life.proofs.Trees.{apart_too}
-use Rattle.sthread_life.proofs.WorkLeft.{turn_works}
-use Rattle.wedge_core.specs.Progress.{Progress, IsFound, IsWaiting, GoesOnBy, HasEnded, opened}
+use Rattle.wedge_core.specs.Progress.{Progress, IsWaiting, opened}
 use Rattle.wedge_core.specs.Serial.{newest, live_names, IsSerial}
 use Rattle.wedge_core.specs.declared.serially.Live.{Live}
 use Rattle.wedge_core.proofs.AtRest.{unjoined_at_rest}
 use Rattle.wedge_core.proofs.FamilyTurns.{is_given}
-use Rattle.wedge_core.proofs.Replays.{EachStep-push}
-use Rattle.wedge_core.proofs.Runs.{Runs-push}
-use Rattle.wedge_core.proofs.Turning.{set_get, set_length, not_ended}
 
 -- ---- who lives
 
@@ -161,6 +152,8 @@ waits_for : (i : Image) (b : ActorState) (p : Phase) (k : ℕ) → ReadsAs i b p
 waits_for i b phase.Running k reads wants = absurd cc
 waits_for i b (phase.Within q) k reads wants = let is : q ≡ want.Join k = cc in subst (λ x. IsWanted (LoadsAt i b.hart reads.0 reads.1) b x) is reads.3
 waits_for i b phase.Starting k reads wants = absurd cc
+waits_for i b (phase.Opening slot tag) k reads wants = absurd cc
+waits_for i b (phase.Releasing slot) k reads wants = absurd cc
 waits_for i b (phase.Ending x) k reads wants = ending_listed b.unjoined x k cc
 waits_for i b (phase.Ended x) k reads wants = absurd cc
 

@@ -16,7 +16,9 @@ use Rattle.sthread_life.specs.Taking.{wanted, wanted_at}
 use Rattle.sthread_life.specs.declared.phase.Phase.{Phase}
 use Rattle.sthread_life.specs.declared.phase.Phase.TheVariants as phase
 use Rattle.sthread_life.specs.Worlds.{WorldState, Taken, opening, actor_named, is_ended, join_event, event_at, happened, wanting, turn_with, turn_of, Runs, is_whole}
-use Rattle.sthread_life.proofs.FamilyRuns.{fuel_kept, root_bounds}
+use Rattle.sthread_life.proofs.FamilyRuns.{fuel_kept}
+use Rattle.sthread_life.proofs.Bounding.{root_bounds}
+use Rattle.sthread_life.proofs.OccupiedRuns.{slots_occupied}
 use Rattle.sthread_life.proofs.Mediating.{moments_lawful}
 use Rattle.sthread_life.proofs.Writing.{runs_write_their_own}
 use Rattle.sthread_life.proofs.Named.{found_name}
@@ -68,6 +70,8 @@ ended_wants : (a : ActorState) (p : Phase) → has_ended p ≡ true → wanted_a
 ended_wants a phase.Running e = cc
 ended_wants a (phase.Within q) e = cc
 ended_wants a phase.Starting e = cc
+ended_wants a (phase.Opening slot tag) e = cc
+ended_wants a (phase.Releasing slot) e = cc
 ended_wants a (phase.Ending x) e = cc
 ended_wants a (phase.Ended x) e = refl
 
@@ -99,6 +103,8 @@ no_event k (Some c) e = by_phase c.phase e
     by_phase phase.Running e = refl
     by_phase (phase.Within q) e = refl
     by_phase phase.Starting e = refl
+    by_phase (phase.Opening slot tag) e = refl
+    by_phase (phase.Releasing slot) e = refl
     by_phase (phase.Ending x) e = refl
     by_phase (phase.Ended x) e = absurd cc
 
@@ -205,6 +211,7 @@ complete_of i turns last run whole goes = record {
   written = runs_write_their_own i turns last run;
   all_fuel = (fuel_kept i turns last run).0;
   paid = (fuel_kept i turns last run).1;
+  slots = slots_occupied i turns last run;
   bounded = root_bounds i turns last run;
 }
 

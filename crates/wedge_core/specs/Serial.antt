@@ -15,7 +15,7 @@ use Rattle.wedge_base.specs.declared.events.Turn.{Turn}
 use Rattle.sthread_life.specs.Moments.{EachStep, EachMoment}
 use Rattle.sthread_life.specs.Bounds.{IsWithinRoot}
 use Rattle.sthread_life.specs.Fuel.{fuel_of, TakesItsUnits}
-use Rattle.sthread_life.specs.Laws.{IsLawful, IsWrittenByOwners}
+use Rattle.sthread_life.specs.Laws.{IsLawful, IsWrittenByOwners, AreSlotsKept}
 use Rattle.sthread_life.specs.Worlds.{WorldState, opening, actor_named, Runs, is_whole}
 use Rattle.sthread_life.specs.Outcomes.{outcome_of}
 
@@ -24,8 +24,9 @@ abbrev pub RootGoesOn : WorldState → List Turn → Type 0
 RootGoesOn w turns = EachStep (λ old t new. is_whole old ≡ false) w turns
 
 -- The turns are a complete run of the image, up to the end of its root: each moment of it is lawful; the bytes of each tag
--- and of each stream come from those who may write them alone; each turn takes exactly its units of the image's fuel; and
--- whatever an actor has on a declared tag or descriptor, the root began with.
+-- and of each stream come from those who may write them alone; each turn takes exactly its units of the image's fuel; each
+-- slot was never used, or was released, or is held by one call, or one tag lives there; and whatever an actor has on a
+-- declared tag or descriptor, the root began with.
 pub record IsCompleteRun (i : Image) (turns : List Turn) (last : WorldState) : Type 0 where
   pub run : Runs (opening i) turns last
   pub whole : is_whole last ≡ true
@@ -34,6 +35,7 @@ pub record IsCompleteRun (i : Image) (turns : List Turn) (last : WorldState) : T
   pub written : IsWrittenByOwners i turns last
   pub all_fuel : fuel_of (opening i) ≡ i.fuel
   pub paid : EachStep TakesItsUnits (opening i) turns
+  pub slots : AreSlotsKept i turns last
   pub bounded : (name : List ℕ) (a : ActorState) → actor_named last.actors name ≡ Some a → IsWithinRoot i a
 
 -- entries tell a complete run of the image with this outcome

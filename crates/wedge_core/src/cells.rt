@@ -3,9 +3,12 @@
 ghost use Rattle.std.specs.Prelude.{◌≡◌, ◌<◌, ◌≤◌, ◌-◌, ◌++◌, Some, None, IfOk, OnOk, OnErr, length, map, option_map, slice_get, slice_set};
 ghost use Rattle.std.specs.List.{AllByRecursion};
 ghost use Rattle.wedge_base.specs.Images.{slots as most_slots};
+ghost use Rattle.wedge_base.specs.Directories.{directory_reply, directory_next};
+ghost use Rattle.wedge_base.specs.declared.events.Event.{Event as AnEvent};
 ghost use Rattle.wedge_base.specs.Slots.{SlotFits, slot_reply, slot_next, declared_slots};
 ghost use Rattle.wedge_base.specs.Streams.{most_fds, declared_stream, stream_reply, stream_next};
 ghost use Rattle.image_form.specs.Rules.{IsTag};
+ghost use Rattle.sthread_life.specs.Between.{GivesBelow, IsInBounds};
 ghost use Rattle.sthread_life.specs.Cells.{AskFits, opening_cells, nothings, held, live_at, event_of, cells_after};
 ghost use Rattle.sthread_life.specs.Written.{bytes_in};
 
@@ -18,8 +21,8 @@ use sthread_life::Lives;
 use tag_directory::Directory;
 use tag_segment::SlotState;
 use wedge_base::{
-    Ask, Event, FdEntry, MOST_FDS, NoMemory, Object, SLOTS, Slot, SlotAsk, SlotReply, StreamAsk,
-    StreamReply, TagEntry, TagNo, Want,
+    Ask, DirectoryAsk, DirectoryReply, Event, FdEntry, MOST_FDS, NoMemory, Object, SLOTS, Slot,
+    SlotAsk, SlotReply, StreamAsk, StreamReply, TagEntry, TagNo, Want,
 };
 
 /// The cells of a world: the directory of slots, 4,096 slots with the tag that lives in each, the directory of
@@ -40,6 +43,7 @@ impl Model for Cells {
     ghost use Rattle.std.specs.Prelude.{◌≡◌, length};
     ghost use Rattle.wedge_base.specs.Images.{slots as most_slots};
     ghost use Rattle.wedge_base.specs.Streams.{most_fds};
+    ghost use Rattle.sthread_life.specs.Between.{GivesBelow};
     ghost use Rattle.sthread_life.specs.Cells.{Cells as Plain};
 
     ghost Value = { Plain };
@@ -53,7 +57,11 @@ impl Model for Cells {
       gates = c.gates.items;
     } };
 
-    ghost invariant = { λ c. (length c.slots.items ≡ most_slots) × (length c.streams.items ≡ most_fds) };
+    ghost invariant = { λ c. record {
+      slots : length c.slots.items ≡ most_slots;
+      streams : length c.streams.items ≡ most_fds;
+      places : GivesBelow most_slots c.places;
+    } };
 }
 
 impl Cells {
@@ -107,10 +115,12 @@ impl Cells {
         requires { AskFits self.old ask }
         ensures is { IfOk result (λ e. event_of self.old ask ≡ Some e) }
         ensures after { IfOk result (λ e. self.new ≡ cells_after self.old e) }
+        ensures bounds { IfOk result IsInBounds }
         ensures err { OnErr result (self.new ≡ self.old) }
     {
         match ask {
             Ask::Slot { slot, ask } => {
+                is_in_bounds(&self.slots, slot, &ask);
                 let reply = ask_slot(&mut self.slots, slot, &ask)?;
                 Ok(Event::Slot { slot, ask, reply })
             }
@@ -123,7 +133,7 @@ impl Cells {
                 Ok(Event::Lives { ask, reply })
             }
             Ask::Slots(ask) => {
-                let reply = self.places.act_once(&ask)?;
+                let reply = ask_places(&mut self.places, ask)?;
                 Ok(Event::Slots { ask, reply })
             }
             Ask::Fds(ask) => {
@@ -147,6 +157,36 @@ fn tag_in(slots: &[SlotState], slot: Slot) -> Option<TagNo>
     ensures { result ≡ option_map (λ g. g.tag) (held (slice_get slots.now slot)) }
 {
     slots.get(slot.0 as usize)?.live()
+}
+
+/// A block that is placed in a slot begins inside its window.
+#[tactic(auto, using(crate::proofs::CellPlaces::held_at, crate::proofs::Placing::places_inside, crate::proofs::Placing::others_inside))]
+#[inline(always)]
+fn is_in_bounds(slots: &[SlotState], slot: Slot, ask: &SlotAsk)
+    requires inside { slot < most_slots }
+    requires all { length slots.now ≡ most_slots }
+    requires fits { SlotFits (held (slice_get slots.now slot)) ask.now }
+    ensures { IsInBounds (AnEvent.Slot slot ask.now (slot_reply (held (slice_get slots.now slot)) ask.now)) }
+{
+    if let SlotAsk::Smalloc { .. } = ask {
+        let state = &slots[slot.0 as usize];
+        // The tag is opened here, so that what its type keeps is at hand.
+        let _ = state.blocks();
+        let _ = state.bytes();
+    }
+}
+
+/// Asks the directory of slots.
+#[tactic(auto, using(crate::proofs::Placing::place_in_bounds, sthread_life::proofs::Directing::next_sound))]
+fn ask_places(places: &mut Directory, ask: DirectoryAsk) -> Result<DirectoryReply, NoMemory>
+    requires { GivesBelow most_slots places.old }
+    ensures is { IfOk result (λ r. r ≡ directory_reply places.old ask) }
+    ensures after { OnOk result (places.new ≡ directory_next places.old ask) }
+    ensures below { GivesBelow most_slots places.new }
+    ensures bounds { IfOk result (λ r. IsInBounds (AnEvent.Slots ask r)) }
+    ensures err { OnErr result (places.new ≡ places.old) }
+{
+    places.act_once(&ask)
 }
 
 /// Asks a slot.

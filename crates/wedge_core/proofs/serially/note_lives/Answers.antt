@@ -1,6 +1,5 @@
-use Rattle.std.proofs.Common.{◌≡◌, ◌∙◌, ◌≤◌, true, false, true≢false, length, ap, sym, refl, rules, arith}
+use Rattle.std.proofs.Common.{◌≡◌, ◌∙◌, ◌≤◌, true, false, true≢false, length, sym, refl, rules, arith}
 use Rattle.std.specs.Prelude.{Some, IsSome, slice_get}
-use Rattle.sthread_life.specs.Actors.{ActorState}
 use Rattle.sthread_life.specs.Local.{has_ended}
 use Rattle.wedge_core.proofs.Places.{get_at}
 use Rattle.wedge_core.proofs.SerialSteps.{popped_one, ends_as}

@@ -1,4 +1,4 @@
-use Rattle.std.proofs.Common.{◌≡◌, ◌-◌, ◌∙◌, sym, subst, length, get_or, rules}
+use Rattle.std.proofs.Common.{◌≡◌, ◌-◌, sym, subst, length, get_or, rules}
 use Rattle.sthread_life.proofs.Creating.{on_ok}
 use Rattle.wedge_core.specs.Progress.{IsPlaceOf}
 use Rattle.wedge_core.specs.Serial.{IsSerial}

@@ -4,9 +4,8 @@ use Rattle.wedge_base.specs.declared.events.Want.{Want}
 use Rattle.sthread_life.specs.Actors.{ActorState}
 use Rattle.sthread_life.specs.Local.{rest, has_ended}
 use Rattle.sthread_life.specs.Taking.{wanted}
-use Rattle.sthread_life.proofs.Named.{found_name}
 use Rattle.sthread_life.proofs.Resting.{rest-name}
-use Rattle.wedge_core.specs.Progress.{IsFound, HasEnded}
+use Rattle.wedge_core.specs.Progress.{HasEnded}
 use Rattle.wedge_core.specs.Turning.{IsFamilyAtRest, IsOfCell, IsMade, IsLeft, WantsOfFamily, IsDoneAt, WasTaken, HasWaited}
 use Rattle.wedge_core.proofs.Indexing.{index_put_back}
 use Rattle.wedge_core.proofs.Turning.{found_through, set_same, has_ended_there}

@@ -21,4 +21,4 @@ take-requires c =
     let live : c.live-live.result ≡ live_at c.args.cells.now c.args.want = search rules in
     let asked : c.ask.result ≡ asks a (live_at c.args.cells.now c.args.want) c.args.want = c.ask.ensures c.resident.inside.memory ∙ ap (λ l. asks a l c.args.want) live in
     let comes : event_of c.args.cells.now (asks a (live_at c.args.cells.now c.args.want) c.args.want) ≡ Some c.in_ok-event.event = ap (event_of c.args.cells.now) (sym asked) ∙ c.in_ok-event.ensures.is in
-    event_fits c.args.cells.now a c.args.want (live_at c.args.cells.now c.args.want) c.in_ok-event.event (subst (λ b. WantFits b c.args.want) (sym c.resident.view_is) c.requires.fits) c.requires.of_cell comes
+    event_fits c.args.cells.now a c.args.want (live_at c.args.cells.now c.args.want) c.in_ok-event.event (subst (λ b. WantFits b c.args.want) (sym c.resident.view_is) c.requires.fits) c.requires.of_cell comes c.in_ok-event.ensures.bounds

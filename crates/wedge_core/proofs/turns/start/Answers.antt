@@ -1,9 +1,8 @@
-use Rattle.std.proofs.Common.{◌≡◌, ◌++◌, ◌∷◌, [], ap, sym, rules}
-use Rattle.std.specs.Prelude.{Some, OnOk}
+use Rattle.std.proofs.Common.{◌≡◌, ◌++◌, ◌∷◌, [], rules}
+use Rattle.std.specs.Prelude.{Some}
 use Rattle.wedge_base.specs.declared.events.Event.TheVariants as event
 use Rattle.sthread_life.specs.Actors.{whole}
 use Rattle.sthread_life.proofs.Creating.{on_ok}
-use Rattle.wedge_core.specs.Serial.{Notes}
 use Rattle.wedge_core.specs.Turning.{HasTaken}
 use Rattle.wedge_core.proofs.FamilyTurns.{begun_fresh, started}
 use Rattle.wedge_core.proofs.turns.start.Goals as goal

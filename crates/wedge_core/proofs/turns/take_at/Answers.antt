@@ -1,6 +1,6 @@
 use Rattle.std.proofs.Common.{◌≡◌, ◌∙◌, ap, subst, rules}
 use Rattle.std.specs.Prelude.{Some, slice_get, slice_set, option_map}
-use Rattle.sthread_life.specs.Actors.{ActorState, whole}
+use Rattle.sthread_life.specs.Actors.{whole}
 use Rattle.sthread_life.specs.Taking.{takes, begun}
 use Rattle.wedge_core.specs.Turning.{HasTaken}
 use Rattle.wedge_core.proofs.Indexing.{index_put_back}

@@ -1,6 +1,3 @@
-use Rattle.std.proofs.Common.{rules}
-use Rattle.sthread_life.specs.Actors.{whole}
-use Rattle.sthread_life.specs.Taking.{begun}
 use Rattle.sthread_life.proofs.Creating.{on_ok}
 use Rattle.wedge_core.proofs.FamilyTurns.{join_fits, joined}
 use Rattle.wedge_core.proofs.turns.take_join.Goals as goal

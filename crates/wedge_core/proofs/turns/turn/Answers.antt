@@ -2,7 +2,7 @@ use Rattle.std.proofs.Common.{◌≡◌, ◌-◌, ◌++◌, ◌∷◌, [], ◌�
 use Rattle.wedge_base.specs.Journals.{turns_of}
 use Rattle.sthread_life.proofs.Mediating.{turn_lawful}
 use Rattle.sthread_life.proofs.Writing.{step_appends_own, step_writes_own}
-use Rattle.wedge_core.specs.Progress.{Progress, IsRun, IsTurn, GoesOnBy}
+use Rattle.wedge_core.specs.Progress.{Progress, IsRun, IsTurn}
 use Rattle.wedge_core.proofs.Advancing.{run_is_ready, ended_turns_not, waiting_turns_not, waiting_ended_not, IsUndone, undone, stopped_run}
 use Rattle.wedge_core.proofs.turns.turn.Goals as goal
 

@@ -1,0 +1,138 @@
+-- Events of the directory and of slots are in bounds.
+use Rattle.std.proofs.Common.{◌≡◌, ℕ, ◌+◌, ◌<◌, ◌≤◌, ◌==◌, Bool, true, false, List, [], ◌∷◌, length, refl, sym, arith}
+use Rattle.std.proofs.lemmas.Bool.Decides.{nat_tests}
+use Rattle.std.specs.Prelude.{Option, Some, None, IfSome, not, nat_lt, nat_le, is_some, slice_range, if◌then◌else◌}
+use Rattle.wedge_base.specs.Blocks.{Block, AreBlocks, rounded, first_fit, block_at}
+use Rattle.wedge_base.specs.Bytes.{number_of}
+use Rattle.wedge_base.specs.Directories.{Directory, directory_reply}
+use Rattle.wedge_base.specs.Images.{slots, window}
+use Rattle.wedge_base.specs.Rights.{at_least}
+use Rattle.wedge_base.specs.Slots.{Segment, right_in, place_reply, slot_reply}
+use Rattle.wedge_base.specs.declared.cells.DirectoryAsk.{DirectoryAsk}
+use Rattle.wedge_base.specs.declared.cells.DirectoryAsk.TheVariants as directory_ask
+use Rattle.wedge_base.specs.declared.cells.DirectoryReply.{DirectoryReply}
+use Rattle.wedge_base.specs.declared.cells.DirectoryReply.TheVariants as directory_reply_
+use Rattle.wedge_base.specs.declared.cells.SlotAsk.{SlotAsk}
+use Rattle.wedge_base.specs.declared.cells.SlotAsk.TheVariants as ask
+use Rattle.wedge_base.specs.declared.cells.SlotReply.{SlotReply}
+use Rattle.wedge_base.specs.declared.cells.SlotReply.TheVariants as reply
+use Rattle.wedge_base.specs.declared.events.Event.TheVariants as event
+use Rattle.wedge_base.specs.declared.rights.Right.TheVariants as right
+use Rattle.wedge_base.specs.Pages.{pages_of}
+use Rattle.sthread_life.specs.Between.{GivesBelow, IsInBounds}
+use Rattle.sthread_life.proofs.Directing.{claimed_inside}
+
+-- ---- the directory
+
+pub place_in_bounds : (d : Directory) (q : DirectoryAsk) (r : DirectoryReply) → GivesBelow slots d → r ≡ directory_reply d q → IsInBounds (event.Slots q r)
+place_in_bounds d q r below is = by_ask q r is
+  where
+    by_ask : (q : DirectoryAsk) (r : DirectoryReply) → r ≡ directory_reply d q → IsInBounds (event.Slots q r)
+    by_ask directory_ask.Claim (directory_reply_.Claimed slot tag) is = claimed_inside slots d slot tag below (sym is)
+    by_ask directory_ask.Claim directory_reply_.Full is = tt
+    by_ask directory_ask.Claim directory_reply_.Released is = tt
+    by_ask (directory_ask.Release place) (directory_reply_.Claimed slot tag) is = absurd cc
+    by_ask (directory_ask.Release place) directory_reply_.Full is = tt
+    by_ask (directory_ask.Release place) directory_reply_.Released is = tt
+
+-- ---- a block that is placed
+
+blocks_below : (low room : ℕ) (bs : List Block) → AreBlocks low room bs → low ≤ room
+blocks_below low room [] h = h
+blocks_below low room (b ∷ bs) h = let others = blocks_below (b.offset + b.size) room bs h.4 in omega (arith, h.0, others)
+
+fits_below : (low size room : ℕ) (bs : List Block) (o : ℕ) → AreBlocks low room bs → first_fit low size room bs ≡ Some o → o + size ≤ room
+fits_below low size room [] o h e = by_room (nat_le (low + size) room) refl e
+  where
+    by_room : (t : Bool) → nat_le (low + size) room ≡ t → (if t then Some low else None) ≡ Some o → o + size ≤ room
+    by_room true is f = let same : low ≡ o = cc in below low o room is same
+      where
+        below : (low o room : ℕ) → nat_le (low + size) room ≡ true → low ≡ o → o + size ≤ room
+        below low o room is same = grind (arith, nat_tests, is, same)
+    by_room false is f = absurd cc
+fits_below low size room (b ∷ bs) o h e = by_gap (nat_le (low + size) b.offset) refl e (fits_below (b.offset + b.size) size room bs o h.4)
+  where
+    by_gap : (t : Bool) → nat_le (low + size) b.offset ≡ t → (if t then Some low else first_fit (b.offset + b.size) size room bs) ≡ Some o → (first_fit (b.offset + b.size) size room bs ≡ Some o → o + size ≤ room) → o + size ≤ room
+    by_gap true is f others =
+        let same : low ≡ o = cc in
+        let room_ = blocks_below (b.offset + b.size) room bs h.4 in
+        below low o is same room_
+      where
+        below : (low o : ℕ) → nat_le (low + size) b.offset ≡ true → low ≡ o → b.offset + b.size ≤ room → o + size ≤ room
+        below low o is same room_ = grind (arith, nat_tests, is, same, room_)
+    by_gap false is f others = others f
+
+some_bytes : (size : ℕ) → 1 ≤ size → 0 < rounded size
+some_bytes size h = omega (arith, h)
+
+-- an event of a slot that is there, with a reply that places no block
+abbrev PlacesNone : SlotReply → Type 0
+PlacesNone (reply.Placed offset) = ⊥
+PlacesNone r = Unit {0}
+
+none_in_bounds : (slot : ℕ) (q : SlotAsk) (r : SlotReply) → slot < slots → PlacesNone r → IsInBounds (event.Slot slot q r)
+none_in_bounds slot q (reply.Placed offset) inside k = absurd k
+none_in_bounds slot q r inside k = inside
+
+pub places_inside : (slot tag size : ℕ) (s : Option Segment) → slot < slots → 1 ≤ size → IfSome s (λ g. AreBlocks 0 (length g.bytes) g.blocks) → IfSome s (λ g. length g.bytes ≤ window) → IsInBounds (event.Slot slot (ask.Smalloc tag size) (slot_reply s (ask.Smalloc tag size)))
+places_inside slot tag size None inside some apart few = inside
+places_inside slot tag size (Some g) inside some apart few = by_tests (g.tag == tag) (first_fit 0 (rounded size) (length g.bytes) g.blocks) refl
+  where
+    by_tests : (t : Bool) (o : Option ℕ) → first_fit 0 (rounded size) (length g.bytes) g.blocks ≡ o → IsInBounds (event.Slot slot (ask.Smalloc tag size) (if t then place_reply o else reply.NoSuch))
+    by_tests false o e = inside
+    by_tests true None e = inside
+    by_tests true (Some offset) e =
+        let fits = fits_below 0 (rounded size) (length g.bytes) g.blocks offset apart e in
+        let bytes = some_bytes size some in
+        (inside, omega (arith, fits, bytes, few))
+
+-- ---- what else is asked of a slot
+
+abbrev IsNoBlock : SlotAsk → Type 0
+IsNoBlock (ask.Smalloc tag size) = ⊥
+IsNoBlock q = Unit {0}
+
+pub others_inside : (slot : ℕ) (s : Option Segment) (q : SlotAsk) → slot < slots → IsNoBlock q → IsInBounds (event.Slot slot q (slot_reply s q))
+others_inside slot None q inside k = none_in_bounds slot q (slot_reply None q) inside (empty_places q)
+  where
+    empty_places : (q : SlotAsk) → PlacesNone (slot_reply None q)
+    empty_places (ask.Open tag pages) = tt
+    empty_places (ask.Close tag) = tt
+    empty_places (ask.Load offset width live) = tt
+    empty_places (ask.Store offset width value live) = tt
+    empty_places (ask.Smalloc tag size) = tt
+    empty_places (ask.Sfree offset live) = tt
+    empty_places (ask.Snap tag) = tt
+others_inside slot (Some g) q inside k = none_in_bounds slot q (slot_reply (Some g) q) inside (live_places q k)
+  where
+    by_load : (u t : Bool) (value : ℕ) → PlacesNone (if not u then reply.Unmapped else if t then reply.Loaded value else reply.Denied g.tag right.Read)
+    by_load false t value = tt
+    by_load true false value = tt
+    by_load true true value = tt
+
+    by_store : (u t : Bool) → PlacesNone (if not u then reply.Unmapped else if t then reply.Stored else reply.Denied g.tag right.ReadWrite)
+    by_store false t = tt
+    by_store true false = tt
+    by_store true true = tt
+
+    by_free : (t u : Bool) → PlacesNone (if not t then reply.Denied g.tag right.ReadWrite else if u then reply.Freed else reply.Bad)
+    by_free false u = tt
+    by_free true true = tt
+    by_free true false = tt
+
+    by_close : (t : Bool) → PlacesNone (if t then reply.Closed else reply.NoSuch)
+    by_close true = tt
+    by_close false = tt
+
+    by_snap : (t : Bool) → PlacesNone (if t then reply.Snapped (pages_of g.bytes) else reply.Gone)
+    by_snap true = tt
+    by_snap false = tt
+
+    live_places : (q : SlotAsk) → IsNoBlock q → PlacesNone (slot_reply (Some g) q)
+    live_places (ask.Open tag pages) k = tt
+    live_places (ask.Close tag) k = by_close (g.tag == tag)
+    live_places (ask.Load offset width live) k = by_load (nat_lt offset (length g.bytes)) (at_least (right_in live) right.Read) (number_of (slice_range g.bytes offset (offset + width)))
+    live_places (ask.Store offset width value live) k = by_store (nat_lt offset (length g.bytes)) (at_least (right_in live) right.ReadWrite)
+    live_places (ask.Smalloc tag size) k = absurd k
+    live_places (ask.Sfree offset live) k = by_free (at_least (right_in live) right.ReadWrite) (is_some (block_at g.blocks offset))
+    live_places (ask.Snap tag) k = by_snap (g.tag == tag)

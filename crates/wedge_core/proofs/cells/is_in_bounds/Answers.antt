@@ -1,0 +1,24 @@
+use Rattle.std.proofs.Common.{◌≡◌, ◌<◌, ◌≤◌, length, get_or, sym, ap, subst, ◌∙◌, arith}
+use Rattle.std.specs.Prelude.{Option, IfSome, slice_get}
+use Rattle.wedge_base.specs.Blocks.{AreBlocks}
+use Rattle.wedge_base.specs.Images.{window}
+use Rattle.wedge_base.specs.Slots.{Segment, SlotFits, slot_reply}
+use Rattle.wedge_base.specs.declared.cells.SlotAsk.{SlotAsk}
+use Rattle.wedge_base.specs.declared.cells.SlotAsk.TheVariants as ask
+use Rattle.wedge_base.specs.declared.events.Event.TheVariants as event
+use Rattle.sthread_life.specs.Between.{IsInBounds}
+use Rattle.sthread_life.specs.Cells.{held}
+use Rattle.wedge_core.proofs.CellPlaces.{held_at}
+use Rattle.wedge_core.proofs.Placing.{places_inside}
+use Rattle.wedge_core.proofs.cells.is_in_bounds.Goals as goal
+
+pub returns-in-Smalloc : goal.returns-in-Smalloc
+returns-in-Smalloc c =
+    let s = held (slice_get c.args.slots.now c.args.slot) in
+    let is : c.args.ask.now ≡ ask.Smalloc c.in-Smalloc.tag c.in-Smalloc.size = c.in-Smalloc.is in
+    let inside : c.args.slot < length c.args.slots.now = omega (arith, c.requires.inside, c.requires.all) in
+    let there : s ≡ c.index-slots-slot.result = held_at c.args.slots.now c.args.slot c.index-slots-slot.result inside (c.index-slots-slot.is ∙ ap (λ n. get_or c.args.slots.now n c.index-slots-slot.result) c.slot.view_is) in
+    subst (λ (q : SlotAsk). IsInBounds (event.Slot c.args.slot q (slot_reply s q))) (sym is)
+    (places_inside c.args.slot c.in-Smalloc.tag c.in-Smalloc.size s c.requires.inside (subst (λ (q : SlotAsk). SlotFits s q) is c.requires.fits)
+    (subst (λ (o : Option Segment). IfSome o (λ g. AreBlocks 0 (length g.bytes) g.blocks)) (sym there) c.blocks-in-Smalloc.ensures.apart)
+    (subst (λ (o : Option Segment). IfSome o (λ g. length g.bytes ≤ window)) (sym there) c.bytes.ensures.few))
