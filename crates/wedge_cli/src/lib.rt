@@ -18,6 +18,8 @@ mod status;
 #[cfg(test)]
 mod sthread_tests;
 #[cfg(test)]
+mod tag_tests;
+#[cfg(test)]
 mod tests;
 mod top;
 mod words;

@@ -39,7 +39,7 @@ fn lines(alloc: Global, names: &str) -> Result<String, Fail> {
 }
 
 /// A replay of the row's schedule gives its report.
-fn replays<R: Threads + Wait + Abort + Sync>(
+pub(crate) fn replays<R: Threads + Wait + Abort + Sync>(
     rt: &R,
     alloc: Global,
     row: Row<'_>,
@@ -55,7 +55,11 @@ fn replays<R: Threads + Wait + Abort + Sync>(
 }
 
 /// A run takes its turns in the order of the row's schedule, and gives its report, as a replay of the schedule does.
-fn runs<R: Threads + Wait + Abort + Sync>(rt: &R, alloc: Global, row: Row<'_>) -> Result<(), Fail> {
+pub(crate) fn runs<R: Threads + Wait + Abort + Sync>(
+    rt: &R,
+    alloc: Global,
+    row: Row<'_>,
+) -> Result<(), Fail> {
     let case = Case {
         words: &["run", "a", "--schedule"],
         schedule: "",
