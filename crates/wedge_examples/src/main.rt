@@ -26,7 +26,7 @@ struct Example {
     wanted: &'static str,
 }
 
-static EXAMPLES: [Example; 11] = [
+static EXAMPLES: [Example; 14] = [
     Example {
         name: "hello.toml",
         built: true,
@@ -98,6 +98,30 @@ static EXAMPLES: [Example; 11] = [
         words: &["replay", "image", "schedule"],
         schedule: Some("split.schedule"),
         wanted: "split.report",
+    },
+    Example {
+        name: "session.toml",
+        built: true,
+        title: "run",
+        words: &["run", "image"],
+        schedule: None,
+        wanted: "session.report",
+    },
+    Example {
+        name: "session.toml",
+        built: true,
+        title: "run --schedule",
+        words: &["run", "image", "--schedule"],
+        schedule: None,
+        wanted: "session.schedule",
+    },
+    Example {
+        name: "session.toml",
+        built: true,
+        title: "replay",
+        words: &["replay", "image", "schedule"],
+        schedule: Some("session.schedule"),
+        wanted: "session.report",
     },
     Example {
         name: "ok.wedge",
