@@ -1,6 +1,6 @@
 #!/bin/sh
 # Measures the program: local instructions, shared accesses, a schedule printed and replayed, children started and joined,
-# reading a large image, assembling a long text.
+# tags made and deleted, reading a large image, assembling a long text.
 # It prints the seconds that each takes and, where valgrind is there, the host instructions that an instruction
 # of the program costs, and fails where that is more than its bound. The program is the one that bin/wedge builds, or $WEDGE.
 root=$(cd "$(dirname "$(readlink -f "$0")")/.." && pwd) || exit 1
@@ -56,6 +56,14 @@ measure 'children, one by one' 100000 "$wedge" run "$work/children.wedge" --sche
 mv "$work/out" "$work/schedule"
 measure 'children, replayed' 100000 "$wedge" replay "$work/children.wedge" "$work/schedule"
 cmp "$work/out" "$work/report" || exit 1
+
+# A hundred thousand tags, one made and deleted after another, with a block placed and freed in each.
+{
+    printf '.proc main\nli s0, 100000\nagain:\nli a0, 1\nsvc tag_new\nmv s1, a0\nli a1, 100\nsvc smalloc\nsvc sfree\n'
+    printf 'mv a0, s1\nsvc tag_delete\naddi s0, s0, -1\nbnez s0, again\nli a0, 0\nsvc exit\n'
+} | partition 5000000 > "$work/tags.toml"
+"$wedge" build "$work/tags.toml" > "$work/tags.wedge" || exit 1
+measure 'tags, one by one' 100000 "$wedge" run "$work/tags.wedge"
 
 # An image of nearly 16 MiB: 255 tags with 65,536 bytes of content each.
 {
