@@ -1,7 +1,6 @@
 //! Lists as contracts see them.
 
-ghost use Rattle.std.specs.Prelude.{◌≡◌, ◌+◌, ◌≤◌, ◌⊎◌, ◌++◌, ◌∷◌, [], length, slice_range, IfOk, OnOk, OnErr};
-ghost use Rattle.wedge_base.specs.Bytes.{written, number_of, bytes_of};
+ghost use Rattle.std.specs.Prelude.{◌≡◌, ◌++◌, ◌∷◌, [], IfOk, OnOk, OnErr};
 
 use crate::errors::NoMemory;
 use std::alloc::Global;
@@ -84,50 +83,5 @@ impl Items<u8> {
         ensures { IfOk result (λ b. b ≡ bytes.now) }
     {
         Ok(Items::new(Vec::from_slice(alloc, bytes)?))
-    }
-
-    /// Writes bytes over those from an offset on.
-    pub fn write(&mut self, place: usize, bytes: &[u8])
-        requires { place + length bytes.now ≤ length self.old }
-        ensures { self.new ≡ written self.old place bytes.now }
-    {
-        let part = &mut self.items[place..place + bytes.len()];
-        part.copy_from_slice(bytes);
-    }
-
-    /// Writes the low 1, 2 or 4 bytes of a number, little-endian, over those from an offset on.
-    pub fn write_number(&mut self, place: usize, width: u8, value: u32)
-        requires width { (width ≡ 1) ⊎ (width ≡ 2) ⊎ (width ≡ 4) }
-        requires inside { place + width ≤ length self.old }
-        ensures { self.new ≡ written self.old place (bytes_of width value) }
-    {
-        let bytes = value.to_le_bytes();
-        match width {
-            1 => self.write(place, &bytes[..1]),
-            2 => self.write(place, &bytes[..2]),
-            _ => self.write(place, &bytes),
-        }
-    }
-
-    /// The little-endian number in 1, 2 or 4 bytes from an offset on.
-    pub fn number_at(&self, place: usize, width: u8) -> u32
-        requires width { (width ≡ 1) ⊎ (width ≡ 2) ⊎ (width ≡ 4) }
-        requires inside { place + width ≤ length self.now }
-        ensures { result ≡ number_of (slice_range self.now place (place + width)) }
-    {
-        number_of(&self.items[place..place + usize::from(width)])
-    }
-}
-
-/// The little-endian number in bytes.
-fn number_of(bytes: &[u8]) -> u32
-    requires { (length bytes.now ≡ 1) ⊎ (length bytes.now ≡ 2) ⊎ (length bytes.now ≡ 4) }
-    ensures { result ≡ number_of bytes.now }
-{
-    match bytes {
-        [a] => u32::from(*a),
-        [a, b] => u32::from(*a) + 256 * u32::from(*b),
-        [a, b, c, d] => u32::from_le_bytes([*a, *b, *c, *d]),
-        _ => 0,
     }
 }

@@ -1,67 +1,14 @@
-//! Pages, as events and private memory hold them.
+//! Lists of pages, as events hold them.
 
-ghost use Rattle.std.specs.Prelude.{◌≡◌, ◌+◌, ◌*◌, ◌/◌, ◌%◌, ◌<◌, ◌≤◌, ◌^◌, length, IfOk, slice_range};
-ghost use Rattle.wedge_base.specs.Bytes.{zeros};
-ghost use Rattle.wedge_base.specs.Images.{page};
-ghost use Rattle.wedge_base.specs.Pages.{pages_of};
+ghost use Rattle.std.specs.Prelude.{◌≡◌, IfOk};
 
 use crate::errors::NoMemory;
 use crate::items::Items;
-use crate::limits::PAGE;
 use crate::numbers::Slot;
+use crate::page::Page;
 use std::alloc::{AllocError, Global};
 use std::marker::Model;
 use std::sync::Arc;
-
-/// A page: 4,096 bytes. Contracts see it as the list of its bytes.
-#[derive(Debug, Drop)]
-pub struct Page {
-    bytes: [u8; 4096],
-}
-
-impl Model for Page {
-    ghost use Rattle.std.specs.Prelude.{List, ℕ};
-
-    ghost Value = { List ℕ };
-
-    ghost view = { λ p. p.bytes };
-}
-
-impl Page {
-    /// A page of zeros.
-    #[tactic(auto, unfolding(crate::specs::Bytes::zeros))]
-    pub fn zero() -> Page
-        ensures { result ≡ zeros page }
-    {
-        Page { bytes: [0; 4096] }
-    }
-
-    /// The page of these bytes.
-    pub fn new(bytes: &[u8]) -> Page
-        requires { length bytes.now ≡ page }
-        ensures { result ≡ bytes.now }
-    {
-        let mut copy = [0; 4096];
-        copy.copy_from_slice(bytes);
-        Page { bytes: copy }
-    }
-
-    /// Returns the bytes.
-    pub fn as_slice(&self) -> &[u8]
-        ensures is { result.now ≡ self.now }
-        ensures len { length self.now ≡ page }
-    {
-        &self.bytes
-    }
-}
-
-impl Clone for Page {
-    ghost is_clone = { λ p q. q ≡ p };
-
-    fn clone(&self) -> Result<Page, AllocError> {
-        Ok(Page { bytes: self.bytes })
-    }
-}
 
 /// A page, which others may hold too, and its index among pages. Contracts see its bytes, and not who
 /// holds it.
@@ -109,34 +56,6 @@ impl PartialEq for PageAt {
 
 /// Pages, each with its index.
 pub type PageList = Items<PageAt>;
-
-/// Whole pages of bytes, in order, numbered from 0.
-pub fn pages_of(alloc: Global, bytes: &[u8]) -> Result<PageList, NoMemory>
-    requires whole { length bytes.now % page ≡ 0 }
-    requires few { length bytes.now < 2 ^ 32 }
-    ensures { IfOk result (λ l. l ≡ pages_of bytes.now) }
-{
-    let count = bytes.len() / PAGE as usize;
-    let mut pages = Vec::with_capacity(alloc, count)?;
-    for place in 0..count {
-        pages.push(page_at(alloc, bytes, place)?)?;
-    }
-    Ok(Items::new(pages))
-}
-
-/// The page of bytes at an index.
-fn page_at(alloc: Global, bytes: &[u8], place: usize) -> Result<PageAt, NoMemory>
-    requires inside { place < length bytes.now / page }
-    requires few { length bytes.now < 2 ^ 32 }
-    ensures { IfOk result (λ p. p ≡ record { place = place; bytes = slice_range bytes.now (place * page) (place * page + page) }) }
-{
-    let start = place * PAGE as usize;
-    let page = Page::new(&bytes[start..start + PAGE as usize]);
-    Ok(PageAt {
-        place: place as u32,
-        page: Arc::new(alloc, page)?,
-    })
-}
 
 /// A private copy of a tag: the slot at which it is seen, and its pages.
 #[derive(Debug, PartialEq, Drop)]

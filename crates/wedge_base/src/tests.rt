@@ -1,4 +1,6 @@
 use super::*;
+use std::alloc::Global;
+use std::sync::Arc;
 use std::test::Fail;
 
 /// Places of the address space, worked out by hand.
@@ -39,25 +41,20 @@ fn calls_with_ample_memory_succeed(rt: HostRuntime) -> Result<(), Fail> {
     Ok(())
 }
 
-/// Numbers are little-endian.
+/// Numbers in a page are little-endian, and what is not written stays.
 #[test]
-fn numbers_in_bytes(rt: HostRuntime) -> Result<(), Fail> {
-    let mut bytes = Bytes::from_slice(rt.alloc(), &[0; 8])?;
-    prove_room(&rt, &bytes);
-    if bytes.as_slice().len() == 8 {
-        bytes.write_number(0, 4, 0x1122_3344);
-        bytes.write_number(4, 2, 0xaabb_ccdd);
-        bytes.write_number(7, 1, 0x99);
-        assert_eq!(rt;
-            bytes.as_slice(),
-            [0x44, 0x33, 0x22, 0x11, 0xdd, 0xcc, 0, 0x99].as_slice()
-        );
-    }
-    Ok(())
-}
-
-fn prove_room(rt: &impl std::process::Abort, bytes: &Bytes) {
-    assert_eq!(rt; bytes.as_slice().len(), 8);
+fn numbers_in_a_page(rt: HostRuntime) {
+    let mut page = Page::beginning(b"abcdefghi");
+    page.write_number(0, 4, 0x1122_3344);
+    page.write_number(4, 2, 0xaabb_ccdd);
+    page.write_number(7, 1, 0x99);
+    page.write(4094, &[5, 6]);
+    let bytes = page.as_slice();
+    assert!(&rt; bytes.starts_with(&[0x44, 0x33, 0x22, 0x11, 0xdd, 0xcc, b'g', 0x99, b'i', 0]));
+    assert!(&rt; bytes.ends_with(&[0, 5, 6]));
+    assert_eq!(&rt; page.number_at(4092, 4), 0x0605_0000);
+    assert_eq!(&rt; page.number_at(4, 2), 0xccdd);
+    assert_eq!(&rt; Page::zero().number_at(4095, 1), 0);
 }
 
 /// A name has 32 parts at most.
@@ -103,25 +100,18 @@ fn canonical_paths(rt: HostRuntime) {
     }
 }
 
-/// Whole pages, numbered from 0, and parts that hold them.
+/// Parts hold pages, which their copies share.
 #[test]
-fn pages_of_two_pages(rt: HostRuntime) -> Result<(), Fail> {
-    let mut bytes = Vec::new(rt.alloc());
-    for k in 0..2 * PAGE {
-        bytes.push((k / PAGE) as u8 + 1)?;
-    }
-    if bytes.len() != 2 * PAGE as usize {
-        return Err("two pages".into());
-    }
-    let memory = pages_of(rt.alloc(), &bytes)?;
+fn parts_of_two_pages(rt: HostRuntime) -> Result<(), Fail> {
     let copies = Items::new(vec![in rt.alloc();
         CopyAt {
             slot: Slot(3),
-            pages: pages_of(rt.alloc(), &bytes)?
+            pages: two_pages(rt.alloc())?
         },
     ]?);
-    let parts = ViewParts::new(rt.alloc(), memory, copies)?;
+    let parts = ViewParts::new(rt.alloc(), two_pages(rt.alloc())?, copies)?;
     let copy = parts.copy(rt.alloc())?;
+    assert!(rt; copy.memory() == parts.memory());
     let pages = copy.memory().as_slice();
     assert_eq!(rt; pages.len(), 2);
     let second = &pages[1];
@@ -129,6 +119,16 @@ fn pages_of_two_pages(rt: HostRuntime) -> Result<(), Fail> {
     assert_eq!(rt; second.page.as_slice().first(), Some(&2));
     assert_eq!(rt; copy.copies().as_slice().len(), 1);
     Ok(())
+}
+
+/// Two pages, which begin with 1 and with 2.
+fn two_pages(alloc: Global) -> Result<PageList, NoMemory> {
+    let mut pages = Vec::new(alloc);
+    for place in 0..2u32 {
+        let page = Arc::new(alloc, Page::beginning(&[place as u8 + 1]))?;
+        pages.push(PageAt { place, page })?;
+    }
+    Ok(Items::new(pages))
 }
 
 /// Each service call has a number and a name of its own.

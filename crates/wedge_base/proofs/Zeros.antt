@@ -1,0 +1,10 @@
+-- Content written at the start of zeros.
+use Rattle.std.proofs.Common.{◌≡◌, ℕ, ◌+◌, ◌-◌, List, ◌++◌, length, replicate, ap, arith}
+use Rattle.std.proofs.lemmas.List.{drop-replicate}
+use Rattle.wedge_base.specs.Bytes.{written, zeros}
+
+pub written_on_zeros : (n : ℕ) (new : List ℕ) → written (replicate n 0) 0 new ≡ new ++ zeros (n - length new)
+unfolding zeros
+written_on_zeros n new =
+    let e : 0 + length new ≡ length new = omega arith in
+    rw e (ap (λ (z : List ℕ). new ++ z) (drop-replicate (length new) n 0))
