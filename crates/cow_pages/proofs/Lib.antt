@@ -1,0 +1,9 @@
+pub mod BelowWindows
+pub mod CopyEntries
+pub mod ListPieces
+pub mod PaddedContent
+pub mod PageLists
+pub mod PageOffsets
+pub mod RangeFronts
+pub mod RangeSearch
+pub mod SharedPages
