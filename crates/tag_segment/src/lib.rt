@@ -1,7 +1,6 @@
 //! The cell of a slot: the tag that lives there, its bytes and its blocks.
 #![tactic(auto)]
 
-mod bytes;
 mod laws;
 mod rights;
 mod segment;

@@ -6,18 +6,18 @@ ghost use Rattle.wedge_base.specs.Bytes.{zeros};
 ghost use Rattle.wedge_base.specs.Images.{page, window, most_pages};
 ghost use Rattle.wedge_base.specs.Slots as slots;
 
-use crate::bytes::{opening_bytes, zeroed};
 use crate::rights::{at_least, right_in};
+use cow_pages::Pages;
 use smalloc_heap::{Block, Heap, SmallocFault};
 use std::alloc::Global;
 use std::marker::Model;
-use wedge_base::{Bytes, Live, NoMemory, PAGE, Right, SlotAsk, SlotReply, TagNo, pages_of};
+use wedge_base::{Bytes, Live, NoMemory, PAGE, Right, SlotAsk, SlotReply, TagNo};
 
 /// A live tag: its number, its bytes, and the heap in which its blocks are placed.
 #[derive(Debug, Drop)]
 pub struct Segment {
     tag: TagNo,
-    bytes: Bytes,
+    bytes: Pages,
     heap: Heap,
 }
 
@@ -39,11 +39,10 @@ impl Segment {
         requires { pages ≤ most_pages }
         ensures { IfOk result (λ g. g ≡ slots.opened tag pages) }
     {
-        let size = pages * PAGE;
         Ok(Segment {
             tag,
-            bytes: Bytes::new(zeroed(alloc, size as usize)?),
-            heap: Heap::new(alloc, size),
+            bytes: Pages::new(alloc, &[], pages)?,
+            heap: Heap::new(alloc, pages * PAGE),
         })
     }
 
@@ -59,11 +58,10 @@ impl Segment {
         ensures { let bytes = content.now ++ zeros (pages * page - length content.now)
             in IfOk result (λ g. g ≡ record { tag = tag; bytes = bytes; blocks = [] }) }
     {
-        let size = pages * PAGE;
         Ok(Segment {
             tag,
-            bytes: opening_bytes(alloc, content, size as usize)?,
-            heap: Heap::new(alloc, size),
+            bytes: Pages::new(alloc, content, pages)?,
+            heap: Heap::new(alloc, pages * PAGE),
         })
     }
 
@@ -74,13 +72,20 @@ impl Segment {
         self.tag
     }
 
-    /// Returns the bytes: whole pages, 16 at most.
-    pub fn bytes(&self) -> &[u8]
-        ensures is { result.now ≡ self.now.bytes }
+    /// How many bytes it has: whole pages, 16 at most.
+    pub fn size(&self) -> u32
+        ensures is { result ≡ length self.now.bytes }
         ensures pages { length self.now.bytes % page ≡ 0 }
         ensures few { length self.now.bytes ≤ window }
     {
-        self.bytes.as_slice()
+        self.bytes.len() as u32
+    }
+
+    /// A copy of its bytes.
+    pub fn copy_bytes(&self, alloc: Global) -> Result<Bytes, NoMemory>
+        ensures { IfOk result (λ b. b ≡ self.now.bytes) }
+    {
+        self.bytes.copy(alloc, 0, self.size())
     }
 
     /// Returns the blocks, by offset. They lie in the bytes, apart.
@@ -97,8 +102,7 @@ impl Segment {
         requires { slots.IsAligned offset width }
         ensures { result ≡ slots.live_reply self.now (SlotAsk.Load offset width live) }
     {
-        let place = offset as usize;
-        if place >= self.bytes.as_slice().len() {
+        if offset as usize >= self.bytes.len() {
             return SlotReply::Unmapped;
         }
         if !at_least(right_in(live), Right::Read) {
@@ -107,30 +111,37 @@ impl Segment {
                 wants: Right::Read,
             };
         }
-        let value = self.bytes.number_at(place, width);
+        let value = self.bytes.load(offset, width);
         SlotReply::Loaded { value }
     }
 
-    /// Stores bytes, as the asker's right allows it.
+    /// Stores bytes, as the asker's right allows it. When out of memory, nothing is changed.
     #[inline(always)]
-    pub fn store(&mut self, offset: u32, width: u8, value: u32, live: Option<Live>) -> SlotReply
+    pub fn store(
+        &mut self,
+        offset: u32,
+        width: u8,
+        value: u32,
+        live: Option<Live>,
+    ) -> Result<SlotReply, NoMemory>
         requires { slots.IsAligned offset width }
-        ensures is { result ≡ slots.live_reply self.old (SlotAsk.Store offset width value live) }
+        ensures is { let q = SlotAsk.Store offset width value live
+            in IfOk result (λ r. r ≡ slots.live_reply self.old q) }
         ensures after { let q = SlotAsk.Store offset width value live
-            in Some self.new ≡ slots.slot_next (Some self.old) q }
+            in OnOk result (Some self.new ≡ slots.slot_next (Some self.old) q) }
+        ensures err { OnErr result (self.new ≡ self.old) }
     {
-        let place = offset as usize;
-        if place >= self.bytes.as_slice().len() {
-            return SlotReply::Unmapped;
+        if offset as usize >= self.bytes.len() {
+            return Ok(SlotReply::Unmapped);
         }
         if !at_least(right_in(live), Right::ReadWrite) {
-            return SlotReply::Denied {
+            return Ok(SlotReply::Denied {
                 tag: self.tag,
                 wants: Right::ReadWrite,
-            };
+            });
         }
-        self.bytes.write_number(place, width, value);
-        SlotReply::Stored
+        self.bytes.store(offset, width, value)?;
+        Ok(SlotReply::Stored)
     }
 
     /// Places a block of at least so many bytes, if the tag is this one.
@@ -169,14 +180,14 @@ impl Segment {
         }
     }
 
-    /// Copies the bytes as pages, if the tag is this one.
+    /// Its pages, which both then hold, if the tag is this one.
     pub fn snap(&self, alloc: Global, tag: TagNo) -> Result<SlotReply, NoMemory>
         ensures { IfOk result (λ r. r ≡ slots.live_reply self.now (SlotAsk.Snap tag)) }
     {
         if self.tag != tag {
             return Ok(SlotReply::Gone);
         }
-        let pages = pages_of(alloc, self.bytes.as_slice())?;
+        let pages = self.bytes.list(alloc)?;
         Ok(SlotReply::Snapped { pages })
     }
 }

@@ -11,7 +11,7 @@ use crate::segment::Segment;
 use smalloc_heap::Block;
 use std::alloc::Global;
 use std::marker::Model;
-use wedge_base::{Live, NoMemory, Object, SlotAsk, SlotReply, TagNo};
+use wedge_base::{Bytes, Live, NoMemory, Object, SlotAsk, SlotReply, TagNo};
 
 /// The cell of a slot: the tag that lives there, if one does, with its bytes and its blocks.
 #[derive(Debug, Drop)]
@@ -68,14 +68,24 @@ impl SlotState {
         Some(segment.tag())
     }
 
-    /// Returns the bytes of the tag that lives there: whole pages of 4,096 bytes, 16 at most.
-    pub fn bytes(&self) -> Option<&[u8]>
-        ensures is { option_map (λ b. b.now) result ≡ option_map (λ g. g.bytes) self.now }
+    /// How many bytes the tag that lives there has: whole pages of 4,096 bytes, 16 at most.
+    pub fn size(&self) -> Option<u32>
+        ensures is { result ≡ option_map (λ g. length g.bytes) self.now }
         ensures pages { IfSome self.now (λ g. length g.bytes % page ≡ 0) }
         ensures few { IfSome self.now (λ g. length g.bytes ≤ window) }
     {
         let segment = self.segment.as_ref()?;
-        Some(segment.bytes())
+        Some(segment.size())
+    }
+
+    /// A copy of the bytes of the tag that lives there.
+    pub fn copy_bytes(&self, alloc: Global) -> Result<Option<Bytes>, NoMemory>
+        ensures { IfOk result (λ o. o ≡ option_map (λ g. g.bytes) self.now) }
+    {
+        match &self.segment {
+            None => Ok(None),
+            Some(segment) => Ok(Some(segment.copy_bytes(alloc)?)),
+        }
     }
 
     /// Returns the blocks of the tag that lives there, by offset. They lie in its bytes, apart.
@@ -144,7 +154,7 @@ impl Object for SlotState {
                 width,
                 value,
                 live,
-            } => Ok(self.store(*offset, *width, *value, *live)),
+            } => self.store(*offset, *width, *value, *live),
             _ => self.act_other(ask),
         }
     }
@@ -178,7 +188,7 @@ impl SlotState {
                 width,
                 value,
                 live,
-            } => Ok(self.store(*offset, *width, *value, *live)),
+            } => self.store(*offset, *width, *value, *live),
             SlotAsk::Smalloc { tag, size } => self.smalloc(*tag, *size),
             SlotAsk::Sfree { offset, live } => Ok(self.sfree(*offset, *live)),
             SlotAsk::Snap { tag } => self.snap(*tag),
@@ -224,16 +234,24 @@ impl SlotState {
         }
     }
 
-    /// Stores bytes.
+    /// Stores bytes. When out of memory, nothing is changed.
     #[inline(always)]
-    fn store(&mut self, offset: u32, width: u8, value: u32, live: Option<Live>) -> SlotReply
+    fn store(
+        &mut self,
+        offset: u32,
+        width: u8,
+        value: u32,
+        live: Option<Live>,
+    ) -> Result<SlotReply, NoMemory>
         requires { slots.IsAligned offset width }
-        ensures is { result ≡ slots.slot_reply self.old (SlotAsk.Store offset width value live) }
+        ensures is { let q = SlotAsk.Store offset width value live
+            in IfOk result (λ r. r ≡ slots.slot_reply self.old q) }
         ensures after { let q = SlotAsk.Store offset width value live
-            in self.new ≡ slots.slot_next self.old q }
+            in OnOk result (self.new ≡ slots.slot_next self.old q) }
+        ensures err { OnErr result (self.new ≡ self.old) }
     {
         match &mut self.segment {
-            None => SlotReply::Unmapped,
+            None => Ok(SlotReply::Unmapped),
             Some(segment) => segment.store(offset, width, value, live),
         }
     }
@@ -262,7 +280,7 @@ impl SlotState {
         }
     }
 
-    /// Copies the pages of a tag.
+    /// The pages of a tag, if it is the one that lives there. Both then hold them.
     fn snap(&self, tag: TagNo) -> Result<SlotReply, NoMemory>
         ensures { IfOk result (λ r. r ≡ slots.slot_reply self.now (SlotAsk.Snap tag)) }
     {

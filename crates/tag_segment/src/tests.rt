@@ -1,14 +1,18 @@
 //! Slots at work.
 
-ghost use Rattle.std.specs.Prelude.{IsTrue};
+ghost use Rattle.std.specs.Prelude.{◌≤◌, IsTrue, length};
+ghost use Rattle.wedge_base.specs.Images.{page};
 ghost use Rattle.wedge_base.specs.Slots as slots;
 
 use super::*;
 use smalloc_heap::Block;
+use std::alloc::Global;
 use std::process::Abort;
+use std::sync::Arc;
 use std::test::Fail;
 use wedge_base::{
-    Live, MOST_PAGES, NoMemory, Object, Right, SlotAsk, SlotReply, TagNo, WINDOW, pages_of,
+    Live, MOST_PAGES, NoMemory, Object, Page, PageAt, PageList, Right, SlotAsk, SlotReply, TagNo,
+    WINDOW,
 };
 
 /// What a slot is asked, for whatever tag lives there.
@@ -42,7 +46,7 @@ const OTHER: TagNo = TagNo(8);
 fn an_empty_slot(rt: HostRuntime) -> Result<(), Fail> {
     let mut slot = SlotState::empty(rt.alloc());
     assert_eq!(rt; slot.live(), None);
-    assert!(rt; slot.bytes().is_none());
+    assert!(rt; slot.size().is_none() && slot.copy_bytes(rt.alloc())?.is_none());
     let steps = [
         (Step::Load(0, 4, WRITE), "Unmapped"),
         (Step::Store(0, 4, 1, WRITE), "Unmapped"),
@@ -153,16 +157,38 @@ fn a_snap_copies_the_pages(rt: HostRuntime) -> Result<(), Fail> {
     let mut slot = SlotState::declared(rt.alloc(), TAG, b"abcd", 2)?;
     let ask = SlotAsk::Snap { tag: TAG };
     let (first, second) = slot.act(&ask)?;
-    let bytes = slot.bytes().ok_or("a tag lives there")?;
-    assert_eq!(rt; bytes.len(), 8192);
-    assert!(rt; bytes.starts_with(b"abcd\0"));
     let wanted = SlotReply::Snapped {
-        pages: pages_of(rt.alloc(), bytes)?,
+        pages: two_pages(rt.alloc(), b"abcd")?,
     };
     assert!(rt; first == wanted && second == wanted);
+    let steps = [(Step::Store(4, 1, 101, WRITE), "Stored")];
+    run(&rt, &mut slot, &steps)?;
+    assert!(rt; first == wanted && second == wanted);
     let once = slot.act_once(&ask)?;
+    let wanted = SlotReply::Snapped {
+        pages: two_pages(rt.alloc(), b"abcde")?,
+    };
     assert!(rt; once == wanted);
+    assert_eq!(rt; slot.size(), Some(8192));
+    let bytes = slot.copy_bytes(rt.alloc())?.ok_or("a tag lives there")?;
+    assert_eq!(rt; bytes.as_slice().len(), 8192);
+    assert!(rt; bytes.as_slice().starts_with(b"abcde\0"));
     Ok(())
+}
+
+/// Two pages, the first of which begins with this content.
+fn two_pages(alloc: Global, content: &[u8]) -> Result<PageList, NoMemory>
+    requires { length content.now ≤ page }
+{
+    let first = PageAt {
+        place: 0,
+        page: Arc::new(alloc, Page::beginning(content))?,
+    };
+    let second = PageAt {
+        place: 1,
+        page: Arc::new(alloc, Page::zero())?,
+    };
+    Ok(PageList::new(vec![in alloc; first, second]?))
 }
 
 /// Asks a slot one thing after another, and compares each reply with what is wanted.
