@@ -1,4 +1,4 @@
-//! The text of an image, ready to be run: each word is decoded once.
+//! An image, ready to be run: each word of its text is decoded once, and its data ranges are in pages.
 #![tactic(auto)]
 
 mod program;

@@ -1,16 +1,21 @@
-//! An image with its text decoded.
+//! An image with its text decoded and its data in pages.
 
 ghost use Rattle.std.specs.Prelude.{◌≡◌, ◌+◌, ◌*◌, ◌≤◌, false, map, length, IfOk, IfSome, option_map};
 ghost use Rattle.wedge_base.specs.Images as images;
+ghost use Rattle.std.specs.List.{AllByRecursion};
+ghost use Rattle.cow_pages.specs.Below.{AreBelow};
+ghost use Rattle.image_form.specs.Rules.{IsRange};
 ghost use Rattle.rv_isa.specs.Table.{decode, HasRegisters};
 
+use cow_pages::PagedRange;
 use image_form::Image;
 use rv_isa::{Instr, decode, instructions_are_those_in_range};
 use std::alloc::Global;
 use std::marker::Model;
-use wedge_base::NoMemory;
+use wedge_base::{MemoryRange, NoMemory};
 
-/// An image, with each word of its text decoded once. Contracts see it as the image.
+/// An image, with each word of its text decoded once, and its data ranges in pages, which the actors of a run share until they
+/// store to them. Contracts see it as the image.
 #[derive(Drop)]
 pub struct Program<'a> {
     image: &'a Image,
@@ -19,6 +24,7 @@ pub struct Program<'a> {
     /// How far behind it the last word begins, in bytes.
     last: u32,
     code: Vec<Option<Instr>>,
+    pristine: Vec<PagedRange>,
 }
 
 impl<'a> Model for Program<'a> {
@@ -36,11 +42,12 @@ impl<'a> Model for Program<'a> {
       base : p.base ≡ p.image.now.base;
       last : p.last + 4 ≡ 4 * length p.image.now.words;
       code : p.code.items ≡ map decode p.image.now.words;
+      pristine : p.pristine.items ≡ p.image.now.ranges;
     } };
 }
 
 impl<'a> Program<'a> {
-    /// An image with its text decoded.
+    /// An image with its text decoded and its data in pages.
     pub fn new(alloc: Global, image: &'a Image) -> Result<Program<'a>, NoMemory>
         ensures { IfOk result (λ p. p ≡ image.now) }
     {
@@ -50,6 +57,7 @@ impl<'a> Program<'a> {
             base: image.base(),
             last: 4 * (words.len() as u32 - 1),
             code: decoded(alloc, words)?,
+            pristine: paged(alloc, image.ranges())?,
         })
     }
 
@@ -58,6 +66,14 @@ impl<'a> Program<'a> {
         ensures { result.now ≡ self.now }
     {
         self.image
+    }
+
+    /// Returns the data ranges as the image has them, by ascending address. They lie below the windows of tags.
+    pub fn pristine(&self) -> &[PagedRange]
+        ensures is { result.now ≡ self.now.ranges }
+        ensures below { AreBelow self.now.ranges }
+    {
+        self.pristine.as_slice()
     }
 
     /// The text lies below the windows of tags.
@@ -84,6 +100,18 @@ impl<'a> Program<'a> {
         }
         Some(&self.code[(offset / 4) as usize])
     }
+}
+
+/// Data ranges in pages.
+fn paged(alloc: Global, ranges: &[MemoryRange]) -> Result<Vec<PagedRange>, NoMemory>
+    requires { AllByRecursion IsRange ranges.now }
+    ensures { IfOk result (λ v. v.items ≡ ranges.now) }
+{
+    let mut pages = Vec::with_capacity(alloc, ranges.len())?;
+    for range in ranges {
+        pages.push(PagedRange::new(alloc, range.base, range.bytes.as_slice())?)?;
+    }
+    Ok(pages)
 }
 
 /// Each word decoded.

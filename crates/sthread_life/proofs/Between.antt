@@ -25,7 +25,9 @@ use Rattle.sthread_life.specs.Actors.{ActorState, answers_more}
 use Rattle.sthread_life.specs.Between.{IsBetween}
 use Rattle.sthread_life.specs.Children.{without_child, child_name}
 use Rattle.sthread_life.specs.Local.{rest, end_reached}
-use Rattle.sthread_life.specs.Taking.{wanted, pair, runs, loads_by, loads_at, end_value, end_number, answered_end, takes}
+use Rattle.sthread_life.specs.Taking.{wanted, pair, runs, loads_by, loads_at, has_snapped, end_value, end_number, answered_end, takes}
+use Rattle.sthread_life.specs.Copying.{Preparation}
+use Rattle.cow_pages.specs.Listed.{bytes_listed}
 use Rattle.wedge_base.specs.Directories.{directory_reply}
 use Rattle.wedge_base.specs.Gates.{gate_reply}
 use Rattle.wedge_base.specs.Lives.{lives_reply}
@@ -53,24 +55,55 @@ loaded_runs a (Some ins) value e = loaded_by ins (local ins a.hart).need a value
 pub joined_is : (Q : ActorState → Type 0) (a : ActorState) (p : Phase) (e : End) → Q a → Q (answers_more a (end_value e) (end_number e)) → Q (answered_end a p e)
 joined_is Q a phase.Running e own other = other
 joined_is Q a (phase.Within q) e own other = other
-joined_is Q a phase.Starting e own other = other
+joined_is Q a (phase.Starting pre) e own other = other
 joined_is Q a (phase.Opening slot tag) e own other = other
 joined_is Q a (phase.Releasing slot) e own other = other
 joined_is Q a (phase.Ending x) e own other = own
 joined_is Q a (phase.Ended x) e own other = other
 
--- An event leaves the actor that did it between instructions; one that claimed a life is about to start a child, one that
--- claimed a slot to open a tag there, and one that closed a tag to release its slot.
+-- what the copy of a tag leaves of an actor: one that prepares a child goes on with that, and any other runs
+pub snapped_is : (Q : ActorState → Type 0) (a : ActorState) (p : Phase) (slot : ℕ) (bytes : Option (List ℕ)) → Q (runs a) → ((x : Preparation) → Q (record a { phase = phase.Starting x })) → Q (has_snapped a p slot bytes)
+snapped_is Q a phase.Running slot bytes other on = other
+snapped_is Q a (phase.Within q) slot bytes other on = other
+snapped_is Q a (phase.Starting pre) slot bytes other on = on _
+snapped_is Q a (phase.Opening s tag) slot bytes other on = other
+snapped_is Q a (phase.Releasing s) slot bytes other on = other
+snapped_is Q a (phase.Ending x) slot bytes other on = other
+snapped_is Q a (phase.Ended x) slot bytes other on = other
+
+-- an actor that prepares a child; and one that does so or is between instructions
+abbrev pub IsPreparing : Phase → Type 0
+IsPreparing phase.Running = ⊥
+IsPreparing (phase.Within q) = ⊥
+IsPreparing (phase.Starting pre) = Unit {0}
+IsPreparing (phase.Opening slot tag) = ⊥
+IsPreparing (phase.Releasing slot) = ⊥
+IsPreparing (phase.Ending e) = ⊥
+IsPreparing (phase.Ended e) = ⊥
+
+abbrev pub MayPrepare : Phase → Type 0
+MayPrepare phase.Running = Unit {0}
+MayPrepare (phase.Within q) = ⊥
+MayPrepare (phase.Starting pre) = Unit {0}
+MayPrepare (phase.Opening slot tag) = ⊥
+MayPrepare (phase.Releasing slot) = ⊥
+MayPrepare (phase.Ending e) = Unit {0}
+MayPrepare (phase.Ended e) = Unit {0}
+
+-- An event leaves the actor that did it between instructions; one that claimed a life prepares a child, which goes on with the copies of
+-- tags, one that claimed a slot is about to open a tag there, and one that closed a tag to release its slot.
 abbrev pub Leaves : Event → Phase → Type 0
 Leaves (event.Slots directory_ask.Claim (directory_reply.Claimed place number)) p = p ≡ phase.Opening place number
 Leaves (event.Slot slot q slot_reply.Closed) p = p ≡ phase.Releasing slot
-Leaves (event.Lives lives_ask.Claim lives_reply.Claimed) p = p ≡ phase.Starting
+Leaves (event.Slot slot q (slot_reply.Snapped pages)) p = MayPrepare p
+Leaves (event.Slot slot q slot_reply.Gone) p = MayPrepare p
+Leaves (event.Lives lives_ask.Claim lives_reply.Claimed) p = IsPreparing p
 Leaves e p = IsBetween p
 
 joined_between : (a : ActorState) (p : Phase) (e : End) → a.phase ≡ p → IsBetween (answered_end a p e).phase
 joined_between a phase.Running e is = tt
 joined_between a (phase.Within q) e is = tt
-joined_between a phase.Starting e is = tt
+joined_between a (phase.Starting pre) e is = tt
 joined_between a (phase.Opening slot tag) e is = tt
 joined_between a (phase.Releasing slot) e is = tt
 joined_between a (phase.Ending x) e is = subst IsBetween (sym is) tt
@@ -84,6 +117,8 @@ takes_between i a (event.Slots directory_ask.Claim (directory_reply.Claimed plac
 takes_between i a (event.Slots directory_ask.Claim directory_reply.Full) = tt
 takes_between i a (event.Slots directory_ask.Claim directory_reply.Released) = tt
 takes_between i a (event.Slot slot q slot_reply.Closed) = refl
+takes_between i a (event.Slot slot q (slot_reply.Snapped pages)) = snapped_is (λ x. MayPrepare x.phase) a a.phase slot (Some (bytes_listed pages)) tt (λ x. tt)
+takes_between i a (event.Slot slot q slot_reply.Gone) = snapped_is (λ x. MayPrepare x.phase) a a.phase slot None tt (λ x. tt)
 takes_between i a (event.Slot slot (slot_ask.Sfree offset live) (slot_reply.Denied tag wants)) = tt
 takes_between i a (event.Slot slot (slot_ask.Open tag pages) slot_reply.Opened) = tt
 takes_between i a (event.Slot slot q r) = tt
@@ -94,7 +129,7 @@ takes_between i a (event.Fd fd q stream_reply.Closed) = tt
 takes_between i a (event.Fd fd q stream_reply.NoSuch) = tt
 takes_between i a (event.Fd fd q (stream_reply.Denied wants)) = tt
 takes_between i a (event.Fd fd q stream_reply.Bad) = tt
-takes_between i a (event.Lives lives_ask.Claim lives_reply.Claimed) = refl
+takes_between i a (event.Lives lives_ask.Claim lives_reply.Claimed) = tt
 takes_between i a (event.Lives lives_ask.Claim lives_reply.Full) = tt
 takes_between i a (event.Lives lives_ask.Claim lives_reply.Released) = tt
 takes_between i a (event.Lives (lives_ask.Release e) r) = tt
@@ -121,6 +156,8 @@ takes_name i b (event.Slots (directory_ask.Release place) r) = refl
 takes_name i b (event.Slots directory_ask.Claim (directory_reply.Claimed place number)) = refl
 takes_name i b (event.Slots directory_ask.Claim directory_reply.Full) = refl
 takes_name i b (event.Slots directory_ask.Claim directory_reply.Released) = refl
+takes_name i b (event.Slot slot q (slot_reply.Snapped pages)) = snapped_is (λ x. x.name ≡ b.name) b b.phase slot (Some (bytes_listed pages)) refl (λ x. refl)
+takes_name i b (event.Slot slot q slot_reply.Gone) = snapped_is (λ x. x.name ≡ b.name) b b.phase slot None refl (λ x. refl)
 takes_name i b (event.Slot slot (slot_ask.Sfree offset live) (slot_reply.Denied tag wants)) = refl
 takes_name i b (event.Slot slot (slot_ask.Open tag pages) slot_reply.Opened) = refl
 takes_name i b (event.Slot slot q r) = refl

@@ -93,7 +93,7 @@ with_other m k v n apart = find-put nat_cmp nat_cmp_total n k v m ∙ by_key (eq
     by_key false e = refl
 
 -- a child has at most what its starter has
-child_bounded : (i : Image) (b c : ActorState) → IsChild i b c → IsBounded i b → IsBounded i c
+child_bounded : (i : Image) (b c : ActorState) → IsChild b c → IsBounded i b → IsBounded i c
 child_bounded i b c child bounded = record {
   tags = λ tag r inside e. by_grant tag r inside (at c.sheet.tags tag) refl (ap (λ m. at_least (right_on c.sheet m tag) r) (sym child.fresh.0) ∙ e);
   fds = λ fd. within_bits (bits_of c fd) (bits_of b fd) (bits_of (root i) fd) (ap (λ x. bits_within x (bits_of b fd)) (ap (λ m. bits_on c.sheet m fd) child.fresh.0 ∙ given_alone (bits_in c.sheet.fds fd)) ∙ child.within.fds fd) (bounded.fds fd);
@@ -192,7 +192,7 @@ turn_bounded w name e new all bounded t =
         let child = child_of w.image b (child_name b.name (next_start b)) in
         let both : Some child ≡ Some c = sym (ap (begun w.image b) s.is) ∙ is in
         let same_child : child ≡ c = cc in
-        subst (IsBounded w.image) same_child (child_bounded w.image b child (child_begins w.image b s.ready) bounded)
+        subst (IsBounded w.image) same_child (child_bounded w.image b child (child_begins w.image b s.preparation s.at s.complete s.ready) bounded)
     begins_bounded w b e (Joins k listed j) bounded c is = let f : None ≡ Some c = sym (ap (begun w.image b) j.is) ∙ is in absurd cc
 
 opening_bounded : (i : Image) → AllBounded (opening i)

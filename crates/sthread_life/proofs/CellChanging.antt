@@ -29,7 +29,7 @@ use Rattle.sthread_life.specs.Cells.{Cells, slot_in, stream_in, kept_in, cells_a
 use Rattle.sthread_life.specs.Worlds.{WorldState, turn_of, Runs}
 use Rattle.sthread_life.specs.CellHistories.{after_turns, Occupant, occupant, occupant_in, occupant_by, occupant_after_event, Mode, mode, mode_in, mode_after_event, places_after_event, numbers_after_event, lives_after_event, kept_after_event, CellsFollow}
 use Rattle.sthread_life.proofs.Between.{event_for, turn_parts}
-use Rattle.sthread_life.proofs.Happening.{Happens, Requested, Joined, Started, Opens, Releases, LastJoined, Ended}
+use Rattle.sthread_life.proofs.Happening.{Happens, Requested, Joined, Snaps, Started, Opens, Releases, LastJoined, Ended}
 use Rattle.sthread_life.proofs.Settling.{AreCells, AllReady, turn_happens, turn_ready}
 use Rattle.sthread_life.proofs.Meeting.{IsRequest}
 use Rattle.sthread_life.proofs.OneCell.{follows, follows_in}
@@ -126,6 +126,9 @@ slot_changes c s q stays shows = record {
 load_shows : (offset width : ℕ) (live : Option Live) (g : Option Segment) (r : SlotReply) → occupant_of (slot_after g (slot_ask.Load offset width live) r) ≡ occupant_by (occupant_of g) (slot_ask.Load offset width live) r
 load_shows offset width live g r = refl
 
+snap_shows : (tag : ℕ) (g : Option Segment) (r : SlotReply) → occupant_of (slot_after g (slot_ask.Snap tag) r) ≡ occupant_by (occupant_of g) (slot_ask.Snap tag) r
+snap_shows tag g r = refl
+
 store_shows_by : (offset width value : ℕ) (live : Option Live) (g : Option Segment) (r : SlotReply) → occupant_of (slot_after g (slot_ask.Store offset width value live) r) ≡ occupant_by (occupant_of g) (slot_ask.Store offset width value live) r
 store_shows_by offset width value live g r = store_shows offset width value live g r
 
@@ -170,6 +173,11 @@ pub event_changes : (w : WorldState) (b : ActorState) (e : Event) → AreCells w
 event_changes w b e cells (Requested r) = subst (λ y. IsChanged w.cells y (cells_after w.cells y)) (sym r.is) (want_changes _ w.cells b r.want r.own)
 event_changes w b e cells (Joined j) =
     subst (λ y. IsChanged w.cells y (cells_after w.cells y)) (sym j.join.is) (record { occupants = λ slot. refl; modes = λ fd. refl; places = refl; numbers = refl; lives = refl; gates = λ id. refl })
+event_changes w b e cells (Snaps s) =
+    let ask = slot_ask.Snap s.grant.tag in
+    let g = slot_in w.cells s.grant.slot in
+    subst (λ y. IsChanged w.cells y (cells_after w.cells y)) (sym s.is)
+    (slot_changes w.cells s.grant.slot ask (λ none. none) (snap_shows s.grant.tag g (slot_reply_of g ask)))
 event_changes w b e cells (Started s) =
     subst (λ y. IsChanged w.cells y (cells_after w.cells y)) (sym s.is) (record { occupants = λ slot. refl; modes = λ fd. refl; places = refl; numbers = refl; lives = refl; gates = λ id. refl })
 event_changes w b e cells (Opens o) =

@@ -34,9 +34,11 @@ use Rattle.rv_hart.specs.declared.Need.{Need}
 use Rattle.rv_hart.specs.declared.Need.TheVariants as need
 use Rattle.rv_hart.specs.Local.{local}
 use Rattle.sthread_life.specs.Actors.{ActorState, right_of, denies, answers, refuses, ends, spends}
-use Rattle.sthread_life.specs.Private.{loads, stores, load_window, load_range, store_window, store_range, has_loaded, fits_read}
+use Rattle.cow_pages.specs.Listed.{bytes_listed}
+use Rattle.cow_pages.specs.Copies.{copy_at, holds_copy, read_copy}
+use Rattle.sthread_life.specs.Private.{loads, stores, load_bytes, load_copy, load_window, load_range, store_copy, store_window, store_range, has_loaded, fits_read}
 use Rattle.sthread_life.specs.Children.{is_child, without_child}
-use Rattle.sthread_life.proofs.Between.{joined_is}
+use Rattle.sthread_life.proofs.Between.{joined_is, snapped_is}
 use Rattle.sthread_life.specs.Calls.{serves, exit, is_procedure, create, create_with, create_checked, join, are_pages, tag_new, tag_delete, smalloc, free_at, sfree, fd_append, draft_call, sc_new, sc_mem_add, sc_fd_add, with_draft, add_right, add_right_to, add_bits, add_bits_to, bits, a0, a1, a2, a3, a7}
 use Rattle.sthread_life.specs.Drafting.{right_of_number, bits_of_number, edited, with_new, drafts_by_call, drafts_by_need, drafts_by_instr, drafts_by_fuel, drafts_by_word, drafts_after}
 use Rattle.sthread_life.specs.Local.{needed, executed, fuelled, fetched, step}
@@ -52,22 +54,34 @@ stays_if : (a x y : ActorState) (t : Bool) → Stays a x → Stays a y → Stays
 stays_if a x y true h k = h
 stays_if a x y false h k = k
 
-load_window_stays : (a : ActorState) (width : ℕ) (p : Option Place) → Stays a (load_window a width p)
-load_window_stays a width None = refl
-load_window_stays a width (Some p) = refl
+load_bytes_stays : (ins : Instr) (s : Bool) (a : ActorState) (width : ℕ) (o : Option (List ℕ)) → Stays a (load_bytes ins s a width o)
+load_bytes_stays ins s a width None = refl
+load_bytes_stays ins s a width (Some bytes) = refl
+
+load_copy_stays : (ins : Instr) (s : Bool) (a : ActorState) (width : ℕ) (p : Place) (o : Option (List ℕ)) → Stays a (load_copy ins s a width p o)
+load_copy_stays ins s a width p None = refl
+load_copy_stays ins s a width p (Some bytes) = load_bytes_stays ins s a width (read_copy p.offset width bytes)
+
+load_window_stays : (ins : Instr) (s : Bool) (a : ActorState) (width : ℕ) (p : Option Place) → Stays a (load_window ins s a width p)
+load_window_stays ins s a width None = refl
+load_window_stays ins s a width (Some p) = load_copy_stays ins s a width p (copy_at a.memory.copies p.slot)
 
 load_range_stays : (ins : Instr) (s : Bool) (a : ActorState) (address width : ℕ) (r : Option MemoryRange) → Stays a (load_range ins s a address width r)
 load_range_stays ins s a address width (Some r) = refl
-load_range_stays ins s a address width None = load_window_stays a width (slot_of address)
+load_range_stays ins s a address width None = load_window_stays ins s a width (slot_of address)
 
 load_stays : (i : Image) (ins : Instr) (s : Bool) (a : ActorState) (address width : ℕ) → Stays a (loads i ins s a address width)
 load_stays i ins s a address width =
     stays_if a (ends a end_.Misaligned) _ _ refl
-    (stays_if a (has_loaded ins s a width (number_of (read_text i address width))) _ (in_text i address width) refl (load_range_stays ins s a address width (range_at a.memory address width)))
+    (stays_if a (has_loaded ins s a width (number_of (read_text i address width))) _ (in_text i address width) refl (load_range_stays ins s a address width (range_at a.memory.ranges address width)))
+
+store_copy_stays : (a : ActorState) (width value : ℕ) (p : Place) (o : Option (List ℕ)) → Stays a (store_copy a width value p o)
+store_copy_stays a width value p None = refl
+store_copy_stays a width value p (Some bytes) = stays_if a _ (ends a end_.Unmapped) (holds_copy p.offset width bytes) refl refl
 
 store_window_stays : (a : ActorState) (width value : ℕ) (p : Option Place) → Stays a (store_window a width value p)
 store_window_stays a width value None = refl
-store_window_stays a width value (Some p) = refl
+store_window_stays a width value (Some p) = store_copy_stays a width value p (copy_at a.memory.copies p.slot)
 
 store_range_stays : (a : ActorState) (address width value : ℕ) (r : Option MemoryRange) → Stays a (store_range a address width value r)
 store_range_stays a address width value (Some r) = refl
@@ -76,7 +90,7 @@ store_range_stays a address width value None = store_window_stays a width value 
 store_stays : (i : Image) (a : ActorState) (address width value : ℕ) → Stays a (stores i a address width value)
 store_stays i a address width value =
     stays_if a (ends a end_.Misaligned) _ _ refl
-    (stays_if a (ends a end_.TextStore) _ (in_text i address width) refl (store_range_stays a address width value (range_at a.memory address width)))
+    (stays_if a (ends a end_.TextStore) _ (in_text i address width) refl (store_range_stays a address width value (range_at a.memory.ranges address width)))
 
 append_stays : (i : Image) (a : ActorState) → Stays a (fd_append i a)
 append_stays i a =
@@ -119,16 +133,17 @@ put_edits : (a : ActorState) (d new : Draft) (edit : Draft → Draft) (w : Bool)
 put_edits a d new edit true is = ap (λ x. (with_draft a (a0 a) x).drafts) (sym is)
 put_edits a d new edit false is = refl
 
-right_edits : (a : ActorState) (d : Draft) (t u : Bool)
-    → (add_right a d (if t then Some right.Read else if u then Some right.ReadWrite else None)).drafts
-    ≡ edited a.drafts (a0 a) (if not (t || u) then Some bad else if takes_tag d (a1 a) then None else Some full) (λ x. with_tag x (a1 a) (if t then right.Read else right.ReadWrite)) (Some d)
-right_edits a d true u = put_edits a d (with_tag d (a1 a) right.Read) (λ x. with_tag x (a1 a) right.Read) (takes_tag d (a1 a)) refl
-right_edits a d false true = put_edits a d (with_tag d (a1 a) right.ReadWrite) (λ x. with_tag x (a1 a) right.ReadWrite) (takes_tag d (a1 a)) refl
-right_edits a d false false = refl
+right_edits : (a : ActorState) (d : Draft) (t u v : Bool)
+    → (add_right a d (if t then Some right.Cow else if u then Some right.Read else if v then Some right.ReadWrite else None)).drafts
+    ≡ edited a.drafts (a0 a) (if not (t || (u || v)) then Some bad else if takes_tag d (a1 a) then None else Some full) (λ x. with_tag x (a1 a) (if t then right.Cow else if u then right.Read else right.ReadWrite)) (Some d)
+right_edits a d true u v = put_edits a d (with_tag d (a1 a) right.Cow) (λ x. with_tag x (a1 a) right.Cow) (takes_tag d (a1 a)) refl
+right_edits a d false true v = put_edits a d (with_tag d (a1 a) right.Read) (λ x. with_tag x (a1 a) right.Read) (takes_tag d (a1 a)) refl
+right_edits a d false false true = put_edits a d (with_tag d (a1 a) right.ReadWrite) (λ x. with_tag x (a1 a) right.ReadWrite) (takes_tag d (a1 a)) refl
+right_edits a d false false false = refl
 
 right_to_edits : (a : ActorState) (d : Option Draft) → (add_right_to a d).drafts ≡ edited a.drafts (a0 a) (right_refusal (a1 a) (a2 a) d) (λ x. with_tag x (a1 a) (right_of_number (a2 a))) d
 right_to_edits a None = refl
-right_to_edits a (Some d) = right_edits a d (a2 a == 2) (a2 a == 3)
+right_to_edits a (Some d) = right_edits a d (a2 a == 1) (a2 a == 2) (a2 a == 3)
 
 bits_edits : (a : ActorState) (d : Draft) (t u v : Bool) → (t ≡ true → u ≡ false)
     → (add_bits a d (if t then Some (bits true false) else if u then Some (bits false true) else if v then Some (bits true true) else None)).drafts
@@ -230,6 +245,8 @@ event_edits i a (event.Slots (directory_ask.Release place) r) = refl
 event_edits i a (event.Slots directory_ask.Claim (directory_reply.Claimed place number)) = refl
 event_edits i a (event.Slots directory_ask.Claim directory_reply.Full) = refl
 event_edits i a (event.Slots directory_ask.Claim directory_reply.Released) = refl
+event_edits i a (event.Slot slot q (slot_reply.Snapped pages)) = snapped_is (λ x. x.drafts ≡ a.drafts) a a.phase slot (Some (bytes_listed pages)) refl (λ x. refl)
+event_edits i a (event.Slot slot q slot_reply.Gone) = snapped_is (λ x. x.drafts ≡ a.drafts) a a.phase slot None refl (λ x. refl)
 event_edits i a (event.Slot slot (slot_ask.Sfree offset live) (slot_reply.Denied tag wants)) = refl
 event_edits i a (event.Slot slot (slot_ask.Open tag pages) slot_reply.Opened) = refl
 event_edits i a (event.Slot slot q r) = refl

@@ -38,10 +38,13 @@ use Rattle.sthread_life.specs.Ends.{is_end_event}
 use Rattle.sthread_life.specs.Families.{IsChild, IsStart, IsFirst, ActsAlone, made_in, made_by, joined, KeepsFamily}
 use Rattle.sthread_life.specs.Local.{end_reached, step}
 use Rattle.sthread_life.specs.Moments.{with_actor}
-use Rattle.sthread_life.specs.Taking.{runs, loads_by, loads_at, next_start, draft_at, takes, child_of}
+use Rattle.cow_pages.specs.Listed.{bytes_listed}
+use Rattle.sthread_life.specs.Copying.{Preparation}
+use Rattle.sthread_life.specs.declared.copy_grant.CopyGrant.{CopyGrant}
+use Rattle.sthread_life.specs.Taking.{runs, loads_by, loads_at, next_start, draft_at, takes, child_of, memory_made}
 use Rattle.sthread_life.specs.Worlds.{WorldState, actor_named, put_actor, happened}
-use Rattle.sthread_life.proofs.Between.{event_for, IsJoin, joined_is, takes_name}
-use Rattle.sthread_life.proofs.Happening.{AtOpen, Happens, Requested, Joined, Started, Opens, Releases, LastJoined, Ended, joined_at}
+use Rattle.sthread_life.proofs.Between.{event_for, IsJoin, joined_is, snapped_is, takes_name}
+use Rattle.sthread_life.proofs.Happening.{AtOpen, Happens, Requested, Joined, Snaps, Started, Opens, Releases, LastJoined, Ended, joined_at}
 use Rattle.sthread_life.proofs.Meeting.{IsRequest, IsStartable}
 use Rattle.sthread_life.proofs.Named.{put_put, named_put_other}
 use Rattle.sthread_life.proofs.Resting.{steps_step}
@@ -82,6 +85,10 @@ takes_same i a (event.Slots (directory_ask.Release place) r) h = record { compar
 takes_same i a (event.Slots directory_ask.Claim (directory_reply.Claimed place number)) h = record { compartment = refl; sheet = refl; made = refl; starts = refl; unjoined = refl }
 takes_same i a (event.Slots directory_ask.Claim directory_reply.Full) h = record { compartment = refl; sheet = refl; made = refl; starts = refl; unjoined = refl }
 takes_same i a (event.Slots directory_ask.Claim directory_reply.Released) h = record { compartment = refl; sheet = refl; made = refl; starts = refl; unjoined = refl }
+takes_same i a (event.Slot slot q (slot_reply.Snapped pages)) h =
+    snapped_is (IsSame (Some (event.Slot slot q (slot_reply.Snapped pages))) a) a a.phase slot (Some (bytes_listed pages)) (record { compartment = refl; sheet = refl; made = refl; starts = refl; unjoined = refl }) (λ x. record { compartment = refl; sheet = refl; made = refl; starts = refl; unjoined = refl })
+takes_same i a (event.Slot slot q slot_reply.Gone) h =
+    snapped_is (IsSame (Some (event.Slot slot q slot_reply.Gone)) a) a a.phase slot None (record { compartment = refl; sheet = refl; made = refl; starts = refl; unjoined = refl }) (λ x. record { compartment = refl; sheet = refl; made = refl; starts = refl; unjoined = refl })
 takes_same i a (event.Slot slot (slot_ask.Sfree offset live) (slot_reply.Denied tag wants)) h = record { compartment = refl; sheet = refl; made = refl; starts = refl; unjoined = refl }
 takes_same i a (event.Slot slot (slot_ask.Open tag pages) slot_reply.Opened) h = record { compartment = refl; sheet = refl; made = refl; starts = refl; unjoined = refl }
 takes_same i a (event.Slot slot q r) h = record { compartment = refl; sheet = refl; made = refl; starts = refl; unjoined = refl }
@@ -114,8 +121,7 @@ step_family w b run =
       made = s.made;
       starts = s.starts;
       unjoined = s.unjoined;
-      claimed = λ e. absurd cc;
-      starting = λ e. let f : phase.Running ≡ phase.Starting = sym run ∙ e in absurd cc;
+      starting = λ p e complete. let f : phase.Running ≡ phase.Starting p = sym run ∙ e in absurd cc;
       childless = λ e. absurd cc;
     }
 
@@ -123,11 +129,11 @@ step_family w b run =
 abbrev after : WorldState → ActorState → Event → WorldState
 after w b e = (happened w b e).world
 
-claimed_is : (i : Image) (b : ActorState) (e : Event) → Some e ≡ Some (event.Lives lives_ask.Claim lives_reply.Claimed) → takes i b e ≡ record b { phase = phase.Starting }
-unfolding takes
-claimed_is i b e is = let same : e ≡ event.Lives lives_ask.Claim lives_reply.Claimed = cc in ap (takes i b) same
+-- no child is prepared that has all its copies
+abbrev IsIncomplete : Phase → Type 0
+IsIncomplete p = (x : Preparation) → p ≡ phase.Starting x → x.left ≡ [] → ⊥
 
-alone : (w : WorldState) (b : ActorState) (e : Event) → IsOfOne e → (after w b e).actors ≡ put_actor w.actors (takes w.image b e) → (b.phase ≡ phase.Starting → ⊥) → (is_end_event (Some e) ≡ true → b.unjoined ≡ [])
+alone : (w : WorldState) (b : ActorState) (e : Event) → IsOfOne e → (after w b e).actors ≡ put_actor w.actors (takes w.image b e) → IsIncomplete b.phase → (is_end_event (Some e) ≡ true → b.unjoined ≡ [])
     → ActsAlone (with_actor w b) b (Some e) (after w b e)
 alone w b e one actors starting childless =
     let s = takes_same w.image b e one in
@@ -140,14 +146,19 @@ alone w b e one actors starting childless =
       made = s.made;
       starts = s.starts;
       unjoined = s.unjoined;
-      claimed = claimed_is w.image b e;
       starting = starting;
       childless = childless;
     }
 
 -- the event of a request
-not_starting : (b : ActorState) (q : Want) → b.phase ≡ phase.Within q → b.phase ≡ phase.Starting → ⊥
-not_starting b q at e = let f : phase.Within q ≡ phase.Starting = sym at ∙ e in cc
+not_starting : (b : ActorState) (q : Want) → b.phase ≡ phase.Within q → IsIncomplete b.phase
+not_starting b q at p e complete = let f : phase.Within q ≡ phase.Starting p = sym at ∙ e in cc
+
+still_left : (p x : Preparation) (g : CopyGrant) (gs : List CopyGrant) → p.left ≡ g ∷ gs → phase.Starting p ≡ phase.Starting x → x.left ≡ [] → ⊥
+still_left p x g gs left same complete =
+    let one : p ≡ x = cc in
+    let none : g ∷ gs ≡ [] = sym left ∙ ap (λ (y : Preparation). y.left) one ∙ complete in
+    cc
 
 want_family : (w : WorldState) (b : ActorState) (N : ℕ → Type 0) (q : Want) → IsRequest N b q → b.phase ≡ phase.Within q → KeepsFamily (with_actor w b) b (Some (event_for w.cells b q)) (after w b (event_for w.cells b q))
 want_family w b N (want.Slots directory_ask.Claim) own at = alone w b _ tt refl (not_starting b _ at) (λ e. absurd cc)
@@ -192,7 +203,7 @@ abbrev IsNoOpening : SlotAsk → Type 0
 IsNoOpening (slot_ask.Open tag pages) = ⊥
 IsNoOpening q = Unit {0}
 
-made_same : (m : Made) (slot : ℕ) (r : SlotReply) (q : SlotAsk) → IsNoOpening q → made_in m slot r q ≡ m
+pub made_same : (m : Made) (slot : ℕ) (r : SlotReply) (q : SlotAsk) → IsNoOpening q → made_in m slot r q ≡ m
 made_same m slot slot_reply.Opened (slot_ask.Open tag pages) k = absurd k
 made_same m slot slot_reply.Opened (slot_ask.Close tag) k = refl
 made_same m slot slot_reply.Opened (slot_ask.Load offset width live) k = refl
@@ -216,6 +227,7 @@ want_made N c b q own = absurd own
 pub happens_made : (w : WorldState) (b : ActorState) (e : Event) → Happens w b e → (made_by b.made (Some e) ≡ b.made) ⊎ AtOpen w b e
 happens_made w b e (Requested r) = inl (ap (λ y. made_by b.made (Some y)) r.is ∙ want_made _ w.cells b r.want r.own)
 happens_made w b e (Joined j) = inl (ap (λ y. made_by b.made (Some y)) j.join.is)
+happens_made w b e (Snaps s) = inl (ap (λ y. made_by b.made (Some y)) s.is ∙ made_same b.made s.grant.slot _ _ tt)
 happens_made w b e (Started s) = inl (ap (λ y. made_by b.made (Some y)) s.is)
 happens_made w b e (Opens o) = inr o
 happens_made w b e (Releases r) = inl (ap (λ y. made_by b.made (Some y)) r.is)
@@ -224,10 +236,10 @@ happens_made w b e (Ended f) = inl (ap (λ y. made_by b.made (Some y)) f.is)
 
 -- ---- a start
 
-pub child_begins : (i : Image) (b : ActorState) → IsStartable b → IsChild i b (child_of i b (child_name b.name (next_start b)))
-child_begins i b ready =
-    let at : draft_at b.drafts (a0 b) ≡ ready.draft = ap (λ o. unwrap_or o empty_draft) ready.drafted in
-    let sheet : granted b.sheet b.made (draft_at b.drafts (a0 b)) ≡ granted b.sheet b.made ready.draft = ap (granted b.sheet b.made) at in
+pub child_begins : (i : Image) (b : ActorState) (p : Preparation) → b.phase ≡ phase.Starting p → p.left ≡ [] → IsStartable b → IsChild b (child_of i b (child_name b.name (next_start b)))
+child_begins i b p at complete ready =
+    let found : draft_at b.drafts (a0 b) ≡ ready.draft = ap (λ o. unwrap_or o empty_draft) ready.drafted in
+    let sheet : granted b.sheet b.made (draft_at b.drafts (a0 b)) ≡ granted b.sheet b.made ready.draft = ap (granted b.sheet b.made) found in
     record {
       draft = ready.draft;
       drafted = ready.drafted;
@@ -237,17 +249,21 @@ child_begins i b ready =
       name = refl;
       compartment = refl;
       hart = refl;
-      memory = refl;
+      prepared = p;
+      preparing = at;
+      complete = complete;
+      memory = ap (memory_made i) at;
       fuel = refl;
       fresh = (refl, refl, refl, refl, refl, refl);
     }
 
-start_family : (w : WorldState) (b : ActorState) → IsStartable b → IsStart (with_actor w b) b (child_name b.name (next_start b)) (after w b (event.Start (child_name b.name (next_start b))))
+start_family : (w : WorldState) (b : ActorState) (p : Preparation) → b.phase ≡ phase.Starting p → p.left ≡ [] → IsStartable b
+    → IsStart (with_actor w b) b (child_name b.name (next_start b)) (after w b (event.Start (child_name b.name (next_start b))))
 unfolding takes
-start_family w b ready = record {
+start_family w b p at complete ready = record {
   child = child_of w.image b (child_name b.name (next_start b));
-  begins = child_begins w.image b ready;
-  named = sym (child_begins w.image b ready).name;
+  begins = child_begins w.image b p at complete ready;
+  named = sym (child_begins w.image b p at complete ready).name;
   actors = ap (λ (as_ : List ActorState). as_ ++ child_of w.image b (child_name b.name (next_start b)) ∷ []) (sym (put_put w.actors b (takes w.image b (event.Start (child_name b.name (next_start b)))) refl));
 }
 
@@ -260,7 +276,7 @@ longer (x ∷ xs) k = ap (λ t. t && same xs (child_name xs k)) (eq-eqb x x refl
 ended_so : (p : Phase) (x : End) → end_reached p ≡ Some x → p ≡ phase.Ended x
 ended_so phase.Running x e = absurd cc
 ended_so (phase.Within q) x e = absurd cc
-ended_so phase.Starting x e = absurd cc
+ended_so (phase.Starting pre) x e = absurd cc
 ended_so (phase.Opening slot tag) x e = absurd cc
 ended_so (phase.Releasing slot) x e = absurd cc
 ended_so (phase.Ending y) x e = absurd cc
@@ -275,7 +291,7 @@ joins_as : (i : Image) (b : ActorState) (p : Phase) (k : ℕ) (x : End) (fuel : 
 unfolding takes
 joins_as i b phase.Running k x fuel at = joined_at b phase.Running x k fuel at
 joins_as i b (phase.Within q) k x fuel at = joined_at b (phase.Within q) x k fuel at
-joins_as i b phase.Starting k x fuel at = joined_at b phase.Starting x k fuel at
+joins_as i b (phase.Starting pre) k x fuel at = joined_at b (phase.Starting pre) x k fuel at
 joins_as i b (phase.Opening slot tag) k x fuel at = joined_at b (phase.Opening slot tag) x k fuel at
 joins_as i b (phase.Releasing slot) k x fuel at = joined_at b (phase.Releasing slot) x k fuel at
 joins_as i b (phase.Ending y) k x fuel at = joined_at b (phase.Ending y) x k fuel at
@@ -308,16 +324,19 @@ first_child c cs = by_same (is_number c.0 c.0) (number_itself c.0)
 pub event_family : (w : WorldState) (b : ActorState) (e : Event) → Happens w b e → KeepsFamily (with_actor w b) b (Some e) (after w b e)
 event_family w b e (Requested r) = subst (λ y. KeepsFamily (with_actor w b) b (Some y) (after w b y)) (sym r.is) (want_family w b _ r.want r.own r.at)
 event_family w b e (Joined j) = join_family w b j.number e j.join (subst (λ p. IsFirst p b.unjoined j.number) (sym j.at) tt) j.listed
-event_family w b e (Started s) = subst (λ y. KeepsFamily (with_actor w b) b (Some y) (after w b y)) (sym s.is) (start_family w b s.ready)
+event_family w b e (Started s) = subst (λ y. KeepsFamily (with_actor w b) b (Some y) (after w b y)) (sym s.is) (start_family w b s.preparation s.at s.complete s.ready)
+event_family w b e (Snaps s) =
+    subst (λ y. KeepsFamily (with_actor w b) b (Some y) (after w b y)) (sym s.is)
+    (alone w b (event.Slot s.grant.slot (slot_ask.Snap s.grant.tag) _) tt refl (λ p h complete. still_left s.preparation p s.grant s.others s.left (sym s.at ∙ h) complete) (λ h. absurd cc))
 event_family w b e (LastJoined j) =
     join_family w b j.first.0 e j.join (subst (λ p. IsFirst p b.unjoined j.first.0) (sym j.at) (subst (λ cs. IsFirst (phase.Ending j.end_) cs j.first.0) (sym j.left) refl))
     (subst (λ cs. is_child cs j.first.0 ≡ true) (sym j.left) (first_child j.first j.others))
 event_family w b e (Opens o) =
     subst (λ y. KeepsFamily (with_actor w b) b (Some y) (after w b y)) (sym o.is)
-    (alone w b (event.Slot o.slot (slot_ask.Open o.tag (a0 b)) slot_reply.Opened) tt refl (λ h. let g : phase.Opening o.slot o.tag ≡ phase.Starting = sym o.at ∙ h in absurd cc) (λ h. absurd cc))
+    (alone w b (event.Slot o.slot (slot_ask.Open o.tag (a0 b)) slot_reply.Opened) tt refl (λ p h complete. let g : phase.Opening o.slot o.tag ≡ phase.Starting p = sym o.at ∙ h in absurd cc) (λ h. absurd cc))
 event_family w b e (Releases r) =
     subst (λ y. KeepsFamily (with_actor w b) b (Some y) (after w b y)) (sym r.is)
-    (alone w b (event.Slots (directory_ask.Release r.slot) directory_reply.Released) tt refl (λ h. let g : phase.Releasing r.slot ≡ phase.Starting = sym r.at ∙ h in absurd cc) (λ h. absurd cc))
+    (alone w b (event.Slots (directory_ask.Release r.slot) directory_reply.Released) tt refl (λ p h complete. let g : phase.Releasing r.slot ≡ phase.Starting p = sym r.at ∙ h in absurd cc) (λ h. absurd cc))
 event_family w b e (Ended f) =
     subst (λ y. KeepsFamily (with_actor w b) b (Some y) (after w b y)) (sym f.is)
-    (alone w b (event.Lives (lives_ask.Release f.end_) lives_reply.Released) tt refl (λ h. let g : phase.Ending f.end_ ≡ phase.Starting = sym f.at ∙ h in absurd cc) (λ h. f.left))
+    (alone w b (event.Lives (lives_ask.Release f.end_) lives_reply.Released) tt refl (λ p h complete. let g : phase.Ending f.end_ ≡ phase.Starting p = sym f.at ∙ h in absurd cc) (λ h. f.left))

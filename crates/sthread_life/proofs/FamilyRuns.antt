@@ -32,7 +32,7 @@ use Rattle.sthread_life.proofs.Families.{IsOfOne, takes_same, first_child}
 use Rattle.sthread_life.specs.FamilyTrees.{IsOfTree, Family}
 use Rattle.sthread_life.proofs.FamilyKept.{family_alone, JoinsChild, family_joined, StartsChild, family_started}
 use Rattle.sthread_life.proofs.FuelSums.{sum_alone, sum_joined, sum_started}
-use Rattle.sthread_life.proofs.Happening.{Happens, Requested, Joined, Started, Opens, Releases, LastJoined, Ended, AtStart}
+use Rattle.sthread_life.proofs.Happening.{Happens, Requested, Joined, Snaps, Started, Opens, Releases, LastJoined, Ended, AtStart}
 use Rattle.sthread_life.proofs.Meeting.{IsRequest}
 use Rattle.sthread_life.proofs.Named.{found_name, same_equal}
 use Rattle.sthread_life.proofs.Paying.{step_pays, event_pays}
@@ -119,6 +119,7 @@ first_is_child first others = first_child first others
 pub acts : (w : WorldState) (b : ActorState) (e : Event) → Happens w b e → Acts w b e
 acts w b e (Requested r) = ActsAlone (subst IsOfOne (sym r.is) (request_of_one _ w.cells b r.want r.own))
 acts w b e (Joined j) = Joins j.number j.listed j.join
+acts w b e (Snaps s) = ActsAlone (subst IsOfOne (sym s.is) tt)
 acts w b e (Started s) = Starts s
 acts w b e (LastJoined j) = Joins j.first.0 (subst (λ cs. is_child cs j.first.0 ≡ true) (sym j.left) (first_is_child j.first j.others)) j.join
 acts w b e (Opens o) = ActsAlone (subst IsOfOne (sym o.is) tt)
@@ -128,6 +129,7 @@ acts w b e (Ended f) = ActsAlone (subst IsOfOne (sym f.is) tt)
 pub lives : (w : WorldState) (b : ActorState) (e : Event) → Happens w b e → has_ended b.phase ≡ false
 lives w b e (Requested r) = ap has_ended r.at
 lives w b e (Joined j) = ap has_ended j.at
+lives w b e (Snaps s) = ap has_ended s.at
 lives w b e (Started s) = ap has_ended s.at
 lives w b e (LastJoined j) = ap has_ended j.at
 lives w b e (Opens o) = ap has_ended o.at
@@ -145,7 +147,7 @@ join_keeps_starts i b k x fuel =
 ended_reached : (p : Phase) (x : End) → end_reached p ≡ Some x → has_ended p ≡ true
 ended_reached phase.Running x e = absurd cc
 ended_reached (phase.Within q) x e = absurd cc
-ended_reached phase.Starting x e = absurd cc
+ended_reached (phase.Starting pre) x e = absurd cc
 ended_reached (phase.Opening slot tag) x e = absurd cc
 ended_reached (phase.Releasing slot) x e = absurd cc
 ended_reached (phase.Ending y) x e = absurd cc

@@ -9,6 +9,7 @@ use Rattle.std.specs.Ordering.{nat_cmp, is_eq, match_ordering}
 use Rattle.std.specs.declared.cmp.Ordering.{Ordering}
 use Rattle.std.specs.declared.cmp.Ordering.TheVariants.{Less, Equal, Greater}
 use Rattle.sthread_life.specs.Children.{Children, is_number, fuel_given, with_child, without_child, all_given}
+use Rattle.sthread_life.proofs.ByNumber.{same_number, number_itself, found_with, found_elsewhere, found_gone}
 
 -- ---- one more
 
@@ -69,48 +70,16 @@ removed_is k (c ∷ cs) h = by_order (nat_cmp k c.0) refl (removed_is k cs h.1)
 -- ---- who is among them
 
 pub number_is : (j k : ℕ) → is_number j k ≡ true → j ≡ k
-number_is j k e = grind (arith, e)
+number_is j k e = same_number j k e
 
 pub number_self : (k : ℕ) → is_number k k ≡ true
-number_self k = grind arith
+number_self k = number_itself k
 
 pub given_there : (cs : Children) (k g j : ℕ) → fuel_given (with_child cs k g) j ≡ (if is_number j k then Some g else fuel_given cs j)
-given_there [] k g j = refl
-given_there (c ∷ cs) k g j = by_order (nat_cmp k c.0) refl (given_there cs k g j)
-  where
-    equal_case : k ≡ c.0 → (t : Bool) → is_number j k ≡ t → (if is_number j c.0 then Some g else fuel_given cs j) ≡ (if t then Some g else if is_number j c.0 then Some c.1 else fuel_given cs j)
-    equal_case is true e = ap (λ u. if u then Some g else fuel_given cs j) (ap (is_number j) (sym is) ∙ e)
-    equal_case is false e =
-        let no : is_number j c.0 ≡ false = ap (is_number j) (sym is) ∙ e in
-        ap (λ u. if u then Some g else fuel_given cs j) no ∙ sym (ap (λ u. if u then Some c.1 else fuel_given cs j) no)
-
-    greater_case : (k ≡ c.0 → ⊥) → (t u : Bool) → is_number j k ≡ t → is_number j c.0 ≡ u → (if u then Some c.1 else if t then Some g else fuel_given cs j) ≡ (if t then Some g else if u then Some c.1 else fuel_given cs j)
-    greater_case apart true true e f = absurd (apart (sym (number_is j k e) ∙ number_is j c.0 f))
-    greater_case apart true false e f = refl
-    greater_case apart false true e f = refl
-    greater_case apart false false e f = refl
-
-    by_order : (o : Ordering) → nat_cmp k c.0 ≡ o → fuel_given (with_child cs k g) j ≡ (if is_number j k then Some g else fuel_given cs j)
-        → fuel_given (match_ordering o ((k, g) ∷ c ∷ cs) ((c.0, g) ∷ cs) (c ∷ with_child cs k g)) j ≡ (if is_number j k then Some g else if is_number j c.0 then Some c.1 else fuel_given cs j)
-    by_order Less e others = refl
-    by_order Equal e others = equal_case (grind (arith, e)) (is_number j k) refl
-    by_order Greater e others = ap (λ o. if is_number j c.0 then Some c.1 else o) others ∙ greater_case (λ is. grind (arith, e, is)) (is_number j k) (is_number j c.0) refl refl
+given_there cs k g j = found_with cs k g j
 
 pub given_elsewhere : (cs : Children) (k j : ℕ) → (j ≡ k → ⊥) → fuel_given (without_child cs k) j ≡ fuel_given cs j
-given_elsewhere [] k j apart = refl
-given_elsewhere (c ∷ cs) k j apart = by_test (is_number k c.0) (is_number j c.0) refl refl (given_elsewhere cs k j apart)
-  where
-    by_test : (t u : Bool) → is_number k c.0 ≡ t → is_number j c.0 ≡ u → fuel_given (without_child cs k) j ≡ fuel_given cs j
-        → fuel_given (if not t then c ∷ without_child cs k else without_child cs k) j ≡ (if u then Some c.1 else fuel_given cs j)
-    by_test true true e f others = absurd (apart (number_is j c.0 f ∙ sym (number_is k c.0 e)))
-    by_test true false e f others = others
-    by_test false true e f others = ap (λ x. if x then Some c.1 else fuel_given (without_child cs k) j) f
-    by_test false false e f others = ap (λ x. if x then Some c.1 else fuel_given (without_child cs k) j) f ∙ others
+given_elsewhere cs k j apart = found_elsewhere cs k j apart
 
 pub given_gone : (cs : Children) (k : ℕ) → fuel_given (without_child cs k) k ≡ None
-given_gone [] k = refl
-given_gone (c ∷ cs) k = by_test (is_number k c.0) refl (given_gone cs k)
-  where
-    by_test : (t : Bool) → is_number k c.0 ≡ t → fuel_given (without_child cs k) k ≡ None → fuel_given (if not t then c ∷ without_child cs k else without_child cs k) k ≡ None
-    by_test true e others = others
-    by_test false e others = ap (λ x. if x then Some c.1 else fuel_given (without_child cs k) k) e ∙ others
+given_gone cs k = found_gone cs k

@@ -19,7 +19,8 @@ use Rattle.rv_hart.specs.Local.{local, next_pc}
 use Rattle.sthread_life.specs.declared.phase.Phase.{Phase}
 use Rattle.sthread_life.specs.declared.phase.Phase.TheVariants as phase
 use Rattle.sthread_life.specs.Actors.{ActorState, right_of, denies, ends, refuses}
-use Rattle.sthread_life.specs.Private.{loads, stores, load_window, load_range, store_window, store_range, has_loaded, fits_read}
+use Rattle.cow_pages.specs.Copies.{copy_at, holds_copy, read_copy}
+use Rattle.sthread_life.specs.Private.{loads, stores, load_bytes, load_copy, load_window, load_range, store_copy, store_window, store_range, has_loaded, fits_read}
 use Rattle.wedge_base.specs.Names.{most_parts}
 use Rattle.wedge_base.specs.Sheets.{Draft, takes_tag, takes_fd, first_excess}
 use Rattle.wedge_base.specs.Maps.{has}
@@ -46,34 +47,47 @@ next_if : (h0 : Hart) (x y : ActorState) (t : Bool) → IsNext h0 x → IsNext h
 next_if h0 x y true h k = h
 next_if h0 x y false h k = k
 
-next_load_window : (a : ActorState) (width : ℕ) (p : Option Place) → IsNext a.hart (load_window a width p)
-next_load_window a width None = (λ e. absurd cc, λ e. refl)
-next_load_window a width (Some p) = (λ e. absurd cc, λ e. refl)
-
 runs_not : {X : Type 0} (p : Phase) → p ≡ phase.Running → is_running p ≡ false → X
 runs_not p run e = let both : true ≡ false = sym (ap is_running run) ∙ e in absurd cc
 
+next_load_bytes : (ins : Instr) (s : Bool) (a : ActorState) (width : ℕ) (o : Option (List ℕ)) → a.phase ≡ phase.Running → IsNext a.hart (load_bytes ins s a width o)
+next_load_bytes ins s a width None run = (λ e. absurd cc, λ e. refl)
+next_load_bytes ins s a width (Some bytes) run = (λ e. refl, runs_not a.phase run)
+
+next_load_copy : (ins : Instr) (s : Bool) (a : ActorState) (width : ℕ) (p : Place) (o : Option (List ℕ)) → a.phase ≡ phase.Running → IsNext a.hart (load_copy ins s a width p o)
+next_load_copy ins s a width p None run = (λ e. absurd cc, λ e. refl)
+next_load_copy ins s a width p (Some bytes) run = next_load_bytes ins s a width (read_copy p.offset width bytes) run
+
+next_load_window : (ins : Instr) (s : Bool) (a : ActorState) (width : ℕ) (p : Option Place) → a.phase ≡ phase.Running → IsNext a.hart (load_window ins s a width p)
+next_load_window ins s a width None run = (λ e. absurd cc, λ e. refl)
+next_load_window ins s a width (Some p) run = next_load_copy ins s a width p (copy_at a.memory.copies p.slot) run
+
 next_load_range : (ins : Instr) (s : Bool) (a : ActorState) (address width : ℕ) (r : Option MemoryRange) → a.phase ≡ phase.Running → IsNext a.hart (load_range ins s a address width r)
 next_load_range ins s a address width (Some r) run = (λ e. refl, runs_not a.phase run)
-next_load_range ins s a address width None run = next_load_window a width (slot_of address)
+next_load_range ins s a address width None run = next_load_window ins s a width (slot_of address) run
 
 next_load : (i : Image) (ins : Instr) (s : Bool) (a : ActorState) (address width : ℕ) → a.phase ≡ phase.Running → IsNext a.hart (loads i ins s a address width)
 next_load i ins s a address width run =
     next_if a.hart (ends a end_.Misaligned) _ _ (λ e. absurd cc, λ e. refl)
-    (next_if a.hart (has_loaded ins s a width (number_of (read_text i address width))) _ (in_text i address width) (λ e. refl, runs_not a.phase run) (next_load_range ins s a address width (range_at a.memory address width) run))
+    (next_if a.hart (has_loaded ins s a width (number_of (read_text i address width))) _ (in_text i address width) (λ e. refl, runs_not a.phase run) (next_load_range ins s a address width (range_at a.memory.ranges address width) run))
 
-next_store_window : (a : ActorState) (width value : ℕ) (p : Option Place) → IsNext a.hart (store_window a width value p)
-next_store_window a width value None = (λ e. absurd cc, λ e. refl)
-next_store_window a width value (Some p) = (λ e. absurd cc, λ e. refl)
+next_store_copy : (a : ActorState) (width value : ℕ) (p : Place) (o : Option (List ℕ)) → a.phase ≡ phase.Running → IsNext a.hart (store_copy a width value p o)
+next_store_copy a width value p None run = (λ e. absurd cc, λ e. refl)
+next_store_copy a width value p (Some bytes) run =
+    next_if a.hart _ (ends a end_.Unmapped) (holds_copy p.offset width bytes) (λ e. refl, runs_not a.phase run) (λ e. absurd cc, λ e. refl)
+
+next_store_window : (a : ActorState) (width value : ℕ) (p : Option Place) → a.phase ≡ phase.Running → IsNext a.hart (store_window a width value p)
+next_store_window a width value None run = (λ e. absurd cc, λ e. refl)
+next_store_window a width value (Some p) run = next_store_copy a width value p (copy_at a.memory.copies p.slot) run
 
 next_store_range : (a : ActorState) (address width value : ℕ) (r : Option MemoryRange) → a.phase ≡ phase.Running → IsNext a.hart (store_range a address width value r)
 next_store_range a address width value (Some r) run = (λ e. refl, runs_not a.phase run)
-next_store_range a address width value None run = next_store_window a width value (slot_of address)
+next_store_range a address width value None run = next_store_window a width value (slot_of address) run
 
 next_store : (i : Image) (a : ActorState) (address width value : ℕ) → a.phase ≡ phase.Running → IsNext a.hart (stores i a address width value)
 next_store i a address width value run =
     next_if a.hart (ends a end_.Misaligned) _ _ (λ e. absurd cc, λ e. refl)
-    (next_if a.hart (ends a end_.TextStore) _ (in_text i address width) (λ e. absurd cc, λ e. refl) (next_store_range a address width value (range_at a.memory address width) run))
+    (next_if a.hart (ends a end_.TextStore) _ (in_text i address width) (λ e. absurd cc, λ e. refl) (next_store_range a address width value (range_at a.memory.ranges address width) run))
 
 next_append : (i : Image) (a : ActorState) → IsNext a.hart (fd_append i a)
 next_append i a =

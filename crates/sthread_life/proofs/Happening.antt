@@ -1,13 +1,15 @@
 -- What an actor at rest comes to: the event of its request, the join of a child, the start of one, or its end.
-use Rattle.std.proofs.Common.{◌≡◌, ℕ, ◌+◌, ◌<◌, Bool, true, [], ◌∷◌, refl, sym, ap, subst, ◌∙◌}
-use Rattle.std.specs.Prelude.{Option, Some, None}
+use Rattle.std.proofs.Common.{◌≡◌, ℕ, ◌+◌, ◌<◌, Bool, true, List, [], ◌∷◌, refl, sym, ap, subst, ◌∙◌}
+use Rattle.std.specs.Prelude.{Option, Some, None, false, ◌==◌, if◌then◌else◌}
 use Rattle.wedge_base.specs.Directories.{directory_reply as directory_reply_of}
 use Rattle.wedge_base.specs.Images.{Image}
 use Rattle.wedge_base.specs.Slots.{Segment, slot_reply as slot_reply_of}
 use Rattle.wedge_base.specs.declared.cells.DirectoryAsk.TheVariants as directory_ask
 use Rattle.wedge_base.specs.declared.cells.DirectoryReply.TheVariants as directory_reply
 use Rattle.wedge_base.specs.declared.cells.SlotAsk.TheVariants as slot_ask
+use Rattle.wedge_base.specs.declared.cells.SlotReply.{SlotReply}
 use Rattle.wedge_base.specs.declared.cells.SlotReply.TheVariants as slot_reply
+use Rattle.wedge_base.specs.Pages.{PageAt, pages_of}
 use Rattle.wedge_base.specs.declared.events.SlotWant.TheVariants as slot_want
 use Rattle.wedge_base.specs.declared.rights.End.{End}
 use Rattle.wedge_base.specs.declared.events.Want.{Want}
@@ -25,9 +27,12 @@ use Rattle.sthread_life.specs.Cells.{Cells, slot_in}
 use Rattle.sthread_life.specs.Children.{Children, is_child, without_child, child_name}
 use Rattle.sthread_life.specs.Refusals.{refusal_after}
 use Rattle.sthread_life.specs.Requests.{request_at}
-use Rattle.sthread_life.specs.Taking.{next_start, ending_want, wanted, wanted_at, answered_end, takes}
+use Rattle.sthread_life.specs.Copying.{Preparation}
+use Rattle.sthread_life.specs.declared.copy_grant.CopyGrant.{CopyGrant}
+use Rattle.cow_pages.specs.Listed.{bytes_listed}
+use Rattle.sthread_life.specs.Taking.{next_start, starting_want, ending_want, wanted, wanted_at, has_snapped, answered_end, takes}
 use Rattle.sthread_life.specs.Worlds.{WorldState, event_at}
-use Rattle.sthread_life.proofs.Between.{event_for, IsJoin, ComesOf, comes_of, Leaves, takes_between}
+use Rattle.sthread_life.proofs.Between.{event_for, IsJoin, ComesOf, comes_of, Leaves, IsPreparing, MayPrepare, takes_between}
 use Rattle.sthread_life.proofs.Directing.{claimed_inside}
 use Rattle.sthread_life.proofs.Meeting.{request_for, refusal_for, slots_in, AsksForPages, IsRequest, IsWanted, IsStartable, startable_at, ReadsAs, LoadsAt}
 
@@ -51,9 +56,21 @@ pub record AtJoin (w : WorldState) (b : ActorState) (e : Event) : Type 0 where
   pub listed : is_child b.unjoined number ≡ true
   pub join : IsJoin w b number e
 
--- the start of a child
+-- the copy of a tag for a child that is prepared
+pub record AtSnap (w : WorldState) (b : ActorState) (e : Event) : Type 0 where
+  pub preparation : Preparation
+  pub grant : CopyGrant
+  pub others : List CopyGrant
+  pub at : b.phase ≡ phase.Starting preparation
+  pub left : preparation.left ≡ grant ∷ others
+  pub ready : IsStartable b
+  pub is : e ≡ event.Slot grant.slot (slot_ask.Snap grant.tag) (slot_reply_of (slot_in w.cells grant.slot) (slot_ask.Snap grant.tag))
+
+-- the start of a child that is prepared
 pub record AtStart (b : ActorState) (e : Event) : Type 0 where
-  pub at : b.phase ≡ phase.Starting
+  pub preparation : Preparation
+  pub at : b.phase ≡ phase.Starting preparation
+  pub complete : preparation.left ≡ []
   pub ready : IsStartable b
   pub is : e ≡ event.Start (child_name b.name (next_start b))
 
@@ -91,6 +108,7 @@ pub record AtEnd (b : ActorState) (e : Event) : Type 0 where
 pub data Happens (w : WorldState) (b : ActorState) (e : Event) : Type 0 where
   Requested : AtRequest w b e → Happens w b e
   Joined : AtJoin w b e → Happens w b e
+  Snaps : AtSnap w b e → Happens w b e
   Started : AtStart b e → Happens w b e
   Opens : AtOpen w b e → Happens w b e
   Releases : AtRelease b e → Happens w b e
@@ -101,6 +119,15 @@ pub data Happens (w : WorldState) (b : ActorState) (e : Event) : Type 0 where
 pub opens_so : (g : Option Segment) (tag pages : ℕ) → slot_reply_of g (slot_ask.Open tag pages) ≡ slot_reply.Opened
 opens_so None tag pages = refl
 opens_so (Some g) tag pages = refl
+
+-- the copy of a tag, or that it lives no more
+pub snap_cases : (P : SlotReply → Type 0) (g : Option Segment) (tag : ℕ) → ((pages : List PageAt) → P (slot_reply.Snapped pages)) → P slot_reply.Gone → P (slot_reply_of g (slot_ask.Snap tag))
+snap_cases P None tag snapped gone = gone
+snap_cases P (Some g) tag snapped gone = by_test (g.tag == tag)
+  where
+    by_test : (t : Bool) → P (if t then slot_reply.Snapped (pages_of g.bytes) else slot_reply.Gone)
+    by_test true = snapped (pages_of g.bytes)
+    by_test false = gone
 
 module _ (w : WorldState) (b : ActorState) (e : Event) where
   requested : (x : Want) (rd : ℕ) (s : Bool) → b.phase ≡ phase.Within x → ((c : Cells) → request_at w.image c b ≡ request_for c b rd s x) → IsRequest (LoadsAt w.image b.hart rd s) b x
@@ -124,14 +151,17 @@ module _ (w : WorldState) (b : ActorState) (e : Event) where
   ending [] x q at left is comes = Ended (record { end_ = x; at = at; left = left; is = subst (λ y. ComesOf w b y e) (sym is) comes })
   ending (c ∷ cs) x q at left is comes = LastJoined (record { end_ = x; first = c; others = cs; at = at; left = left; join = subst (λ y. ComesOf w b y e) (sym is) comes })
 
+  preparing : (pre : Preparation) (gs : List CopyGrant) (q : Want) → b.phase ≡ phase.Starting pre → pre.left ≡ gs → starting_want b gs ≡ q → IsStartable b → ComesOf w b q e → Happens w b e
+  preparing pre [] q at left is ready comes = Started (record { preparation = pre; at = at; complete = left; ready = ready; is = subst (λ y. ComesOf w b y e) (sym is) comes })
+  preparing pre (g ∷ gs) q at left is ready comes =
+      Snaps (record { preparation = pre; grant = g; others = gs; at = at; left = left; ready = ready; is = subst (λ y. ComesOf w b y e) (sym is) comes })
+
   by_phase : (p : Phase) (q : Want) → b.phase ≡ p → ReadsAs w.image b p → wanted_at b p ≡ Some q → ComesOf w b q e → Happens w b e
   by_phase phase.Running q at reads wants comes = absurd cc
   by_phase (phase.Within x) q at reads wants comes =
       let is : x ≡ q = cc in
       within x reads.0 reads.1 at reads.2 reads.3 reads.4 (subst (λ y. ComesOf w b y e) (sym is) comes)
-  by_phase phase.Starting q at reads wants comes =
-      let is : want.Start (child_name b.name (next_start b)) ≡ q = cc in
-      Started (record { at = at; ready = reads; is = subst (λ y. ComesOf w b y e) (sym is) comes })
+  by_phase (phase.Starting pre) q at reads wants comes = let is : starting_want b pre.left ≡ q = cc in preparing pre pre.left q at refl is reads comes
   by_phase (phase.Opening slot tag) q at reads wants comes =
       let is : want.Slot slot (slot_want.Open tag (a0 b)) ≡ q = cc in
       let same : e ≡ event_for w.cells b (want.Slot slot (slot_want.Open tag (a0 b))) = subst (λ y. ComesOf w b y e) (sym is) comes in
@@ -150,17 +180,35 @@ happens w b q e reads wants at = by_phase w b e b.phase q refl reads wants (come
 between_reads : (i : Image) (x : ActorState) (p : Phase) → IsBetween p → ReadsAs i x p
 between_reads i x phase.Running h = tt
 between_reads i x (phase.Within q) h = absurd h
-between_reads i x phase.Starting h = absurd h
+between_reads i x (phase.Starting pre) h = absurd h
 between_reads i x (phase.Opening slot tag) h = absurd h
 between_reads i x (phase.Releasing slot) h = absurd h
 between_reads i x (phase.Ending e) h = tt
 between_reads i x (phase.Ended e) h = tt
 
--- one that leaves its phase between instructions is in nothing more; one that claimed a life may start a child, and one that
+preparing_reads : (i : Image) (x : ActorState) (p : Phase) → MayPrepare p → (IsPreparing p → IsStartable x) → ReadsAs i x p
+preparing_reads i x phase.Running h ready = tt
+preparing_reads i x (phase.Within q) h ready = absurd h
+preparing_reads i x (phase.Starting pre) h ready = ready tt
+preparing_reads i x (phase.Opening slot tag) h ready = absurd h
+preparing_reads i x (phase.Releasing slot) h ready = absurd h
+preparing_reads i x (phase.Ending e) h ready = tt
+preparing_reads i x (phase.Ended e) h ready = tt
+
+pub may_prepare : (p : Phase) → IsPreparing p → MayPrepare p
+may_prepare phase.Running h = absurd h
+may_prepare (phase.Within q) h = absurd h
+may_prepare (phase.Starting pre) h = tt
+may_prepare (phase.Opening slot tag) h = absurd h
+may_prepare (phase.Releasing slot) h = absurd h
+may_prepare (phase.Ending e) h = absurd h
+may_prepare (phase.Ended e) h = absurd h
+
+-- one that leaves its phase between instructions is in nothing more; one that prepares a child may start it, and one that
 -- claimed a slot may open a tag there
-leaves_reads : (i : Image) (x : ActorState) (e : Event) (p : Phase) → Leaves e p → (e ≡ event.Lives lives_ask.Claim lives_reply.Claimed → IsStartable x)
+leaves_reads : (i : Image) (x : ActorState) (e : Event) (p : Phase) → Leaves e p → (IsPreparing p → IsStartable x)
     → ((slot tag : ℕ) → e ≡ event.Slots directory_ask.Claim (directory_reply.Claimed slot tag) → (slot < slots_in i) × AsksForPages x) → ReadsAs i x p
-leaves_reads i x (event.Lives lives_ask.Claim lives_reply.Claimed) p h ready opens = subst (ReadsAs i x) (sym h) (ready refl)
+leaves_reads i x (event.Lives lives_ask.Claim lives_reply.Claimed) p h ready opens = preparing_reads i x p (may_prepare p h) ready
 leaves_reads i x (event.Lives lives_ask.Claim lives_reply.Full) p h ready opens = between_reads i x p h
 leaves_reads i x (event.Lives lives_ask.Claim lives_reply.Released) p h ready opens = between_reads i x p h
 leaves_reads i x (event.Lives (lives_ask.Release end) r) p h ready opens = between_reads i x p h
@@ -169,12 +217,14 @@ leaves_reads i x (event.Slots directory_ask.Claim directory_reply.Full) p h read
 leaves_reads i x (event.Slots directory_ask.Claim directory_reply.Released) p h ready opens = between_reads i x p h
 leaves_reads i x (event.Slots (directory_ask.Release slot) r) p h ready opens = between_reads i x p h
 leaves_reads i x (event.Slot slot q slot_reply.Closed) p h ready opens = subst (ReadsAs i x) (sym h) tt
+leaves_reads i x (event.Slot slot q (slot_reply.Snapped pages)) p h ready opens = preparing_reads i x p h ready
+leaves_reads i x (event.Slot slot q slot_reply.Gone) p h ready opens = preparing_reads i x p h ready
 leaves_reads i x (event.Slot slot q r) p h ready opens = between_reads i x p h
 leaves_reads i x e p h ready opens = between_reads i x p h
 
 -- an actor is about to open a tag only once it claimed the slot for it
 pub opens_by_claim : (e : Event) (p : Phase) (slot tag : ℕ) → Leaves e p → p ≡ phase.Opening slot tag → e ≡ event.Slots directory_ask.Claim (directory_reply.Claimed slot tag)
-opens_by_claim (event.Lives lives_ask.Claim lives_reply.Claimed) p slot tag h is = let f : phase.Starting ≡ phase.Opening slot tag = sym h ∙ is in absurd cc
+opens_by_claim (event.Lives lives_ask.Claim lives_reply.Claimed) p slot tag h is = absurd (subst IsPreparing is h)
 opens_by_claim (event.Lives lives_ask.Claim lives_reply.Full) p slot tag h is = absurd (subst IsBetween is h)
 opens_by_claim (event.Lives lives_ask.Claim lives_reply.Released) p slot tag h is = absurd (subst IsBetween is h)
 opens_by_claim (event.Lives (lives_ask.Release end) r) p slot tag h is = absurd (subst IsBetween is h)
@@ -187,6 +237,8 @@ opens_by_claim (event.Slots directory_ask.Claim directory_reply.Full) p slot tag
 opens_by_claim (event.Slots directory_ask.Claim directory_reply.Released) p slot tag h is = absurd (subst IsBetween is h)
 opens_by_claim (event.Slots (directory_ask.Release s) r) p slot tag h is = absurd (subst IsBetween is h)
 opens_by_claim (event.Slot s q slot_reply.Closed) p slot tag h is = let f : phase.Releasing s ≡ phase.Opening slot tag = sym h ∙ is in absurd cc
+opens_by_claim (event.Slot s q (slot_reply.Snapped pages)) p slot tag h is = absurd (subst MayPrepare is h)
+opens_by_claim (event.Slot s q slot_reply.Gone) p slot tag h is = absurd (subst MayPrepare is h)
 opens_by_claim (event.Slot s q r) p slot tag h is = absurd (subst IsBetween is h)
 opens_by_claim e p slot tag h is = absurd (subst IsBetween is h)
 
@@ -201,15 +253,57 @@ claims_ready i b q c N own is = absurd own
 happens_ready : (w : WorldState) (b : ActorState) (e : Event) → Happens w b e → e ≡ event.Lives lives_ask.Claim lives_reply.Claimed → IsStartable b
 happens_ready w b e (Requested r) is = claims_ready w.image b r.want w.cells _ r.own (sym r.is ∙ is)
 happens_ready w b e (Joined j) is = let f = sym j.join.is ∙ is in absurd cc
+happens_ready w b e (Snaps s) is = s.ready
 happens_ready w b e (Started s) is = s.ready
 happens_ready w b e (Opens o) is = let f = sym o.is ∙ is in absurd cc
 happens_ready w b e (Releases r) is = let f = sym r.is ∙ is in absurd cc
 happens_ready w b e (LastJoined j) is = let f = sym j.join.is ∙ is in absurd cc
 happens_ready w b e (Ended f) is = let g = sym f.is ∙ is in absurd cc
 
-claimed_startable : (i : Image) (b : ActorState) (e : Event) → e ≡ event.Lives lives_ask.Claim lives_reply.Claimed → IsStartable b → IsStartable (takes i b e)
+-- so it is by whoever prepares a child
+happens_preparing : (w : WorldState) (b : ActorState) (e : Event) → Happens w b e → IsPreparing b.phase → IsStartable b
+happens_preparing w b e (Requested r) h = absurd (subst IsPreparing r.at h)
+happens_preparing w b e (Joined j) h = absurd (subst IsPreparing j.at h)
+happens_preparing w b e (Snaps s) h = s.ready
+happens_preparing w b e (Started s) h = s.ready
+happens_preparing w b e (Opens o) h = absurd (subst IsPreparing o.at h)
+happens_preparing w b e (Releases r) h = absurd (subst IsPreparing r.at h)
+happens_preparing w b e (LastJoined j) h = absurd (subst IsPreparing j.at h)
+happens_preparing w b e (Ended f) h = absurd (subst IsPreparing f.at h)
+
+pub no_preparing : {X : Type 0} (p : Phase) → IsBetween p → IsPreparing p → X
+no_preparing phase.Running h k = absurd k
+no_preparing (phase.Within q) h k = absurd h
+no_preparing (phase.Starting pre) h k = absurd h
+no_preparing (phase.Opening slot tag) h k = absurd h
+no_preparing (phase.Releasing slot) h k = absurd h
+no_preparing (phase.Ending e) h k = absurd k
+no_preparing (phase.Ended e) h k = absurd k
+
+snapped_startable : (b : ActorState) (p : Phase) (slot : ℕ) (bytes : Option (List ℕ)) → b.phase ≡ p → (IsPreparing b.phase → IsStartable b) → IsPreparing (has_snapped b p slot bytes).phase → IsStartable (has_snapped b p slot bytes)
+snapped_startable b phase.Running slot bytes at ready k = absurd k
+snapped_startable b (phase.Within q) slot bytes at ready k = absurd k
+snapped_startable b (phase.Starting pre) slot bytes at ready k = startable_at b _ (ready (subst IsPreparing (sym at) tt))
+snapped_startable b (phase.Opening s tag) slot bytes at ready k = absurd k
+snapped_startable b (phase.Releasing s) slot bytes at ready k = absurd k
+snapped_startable b (phase.Ending e) slot bytes at ready k = absurd k
+snapped_startable b (phase.Ended e) slot bytes at ready k = absurd k
+
+takes_startable : (i : Image) (b : ActorState) (e : Event) → (e ≡ event.Lives lives_ask.Claim lives_reply.Claimed → IsStartable b) → (IsPreparing b.phase → IsStartable b) → IsPreparing (takes i b e).phase → IsStartable (takes i b e)
 unfolding takes
-claimed_startable i b e is ready = subst (λ y. IsStartable (takes i b y)) (sym is) (startable_at b phase.Starting ready)
+takes_startable i b (event.Lives lives_ask.Claim lives_reply.Claimed) first ready k = startable_at b _ (first refl)
+takes_startable i b (event.Lives lives_ask.Claim lives_reply.Full) first ready k = absurd k
+takes_startable i b (event.Lives lives_ask.Claim lives_reply.Released) first ready k = absurd k
+takes_startable i b (event.Lives (lives_ask.Release x) r) first ready k = absurd k
+takes_startable i b (event.Slot slot q (slot_reply.Snapped pages)) first ready k = snapped_startable b b.phase slot (Some (bytes_listed pages)) refl ready k
+takes_startable i b (event.Slot slot q slot_reply.Gone) first ready k = snapped_startable b b.phase slot None refl ready k
+takes_startable i b (event.Slot slot q slot_reply.Closed) first ready k = absurd k
+takes_startable i b (event.Slots directory_ask.Claim (directory_reply.Claimed place number)) first ready k = absurd k
+takes_startable i b (event.Slots directory_ask.Claim directory_reply.Full) first ready k = absurd k
+takes_startable i b (event.Slots directory_ask.Claim directory_reply.Released) first ready k = absurd k
+takes_startable i b (event.Slots (directory_ask.Release place) r) first ready k = absurd k
+takes_startable i b (event.Slot slot q r) first ready k = no_preparing (takes i b (event.Slot slot q r)).phase (takes_between i b (event.Slot slot q r)) k
+takes_startable i b e first ready k = no_preparing (takes i b e).phase (takes_between i b e) k
 
 -- a slot is claimed by an actor that asks for pages that a tag may have, and is one of the directory's
 claims_slot : (b : ActorState) (x : Want) (c : Cells) (N : ℕ → Type 0) (slot tag : ℕ) → IsRequest N b x → event_for c b x ≡ event.Slots directory_ask.Claim (directory_reply.Claimed slot tag)
@@ -225,6 +319,7 @@ pub happens_claim : (w : WorldState) (b : ActorState) (e : Event) (slot tag : �
     → AsksForPages b × (directory_reply_of w.cells.places directory_ask.Claim ≡ directory_reply.Claimed slot tag)
 happens_claim w b e slot tag (Requested r) is = claims_slot b r.want w.cells _ slot tag r.own (sym r.is ∙ is)
 happens_claim w b e slot tag (Joined j) is = let f = sym j.join.is ∙ is in absurd cc
+happens_claim w b e slot tag (Snaps s) is = let f = sym s.is ∙ is in absurd cc
 happens_claim w b e slot tag (Started s) is = let f = sym s.is ∙ is in absurd cc
 happens_claim w b e slot tag (Opens o) is = let f = sym o.is ∙ is in absurd cc
 happens_claim w b e slot tag (Releases r) is = let f = sym r.is ∙ is in absurd cc
@@ -237,7 +332,7 @@ claimed_pages i b e slot tag is pages = subst (λ y. AsksForPages (takes i b y))
 
 pub takes_reads : (w : WorldState) (b : ActorState) (e : Event) → GivesBelow (slots_in w.image) w.cells.places → Happens w b e → ReadsAs w.image (takes w.image b e) (takes w.image b e).phase
 takes_reads w b e sound h =
-    leaves_reads w.image (takes w.image b e) e (takes w.image b e).phase (takes_between w.image b e) (λ is. claimed_startable w.image b e is (happens_ready w b e h is))
+    leaves_reads w.image (takes w.image b e) e (takes w.image b e).phase (takes_between w.image b e) (takes_startable w.image b e (happens_ready w b e h) (happens_preparing w b e h))
     (λ slot tag is. let c = happens_claim w b e slot tag h is in (claimed_inside (slots_in w.image) w.cells.places slot tag sound c.1, claimed_pages w.image b e slot tag is c.0))
 
 -- what a join makes of the actor, by what it was at

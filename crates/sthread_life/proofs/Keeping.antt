@@ -1,7 +1,7 @@
 -- Private memory over an instruction and over an event.
-use Rattle.std.proofs.Common.{◌≡◌, ℕ, zero, suc, ◌+◌, ◌-◌, Bool, true, false, refl, sym, ap, subst, ◌∙◌, arith}
-use Rattle.std.specs.Prelude.{Option, Some, None, option_map, option_and_then, not, ◌&&◌, ◌==◌, nat_lt, nat_le, if◌then◌else◌, length, slice_get}
-use Rattle.wedge_base.specs.Bytes.{number_of, bytes_of}
+use Rattle.std.proofs.Common.{◌≡◌, ℕ, zero, suc, ◌+◌, ◌-◌, Bool, true, false, List, refl, sym, ap, subst, ◌∙◌, arith}
+use Rattle.std.specs.Prelude.{Option, Some, None, option_map, option_and_then, not, ◌&&◌, ◌==◌, nat_lt, nat_le, if◌then◌else◌, length, slice_get, slice_range}
+use Rattle.wedge_base.specs.Bytes.{number_of, bytes_of, written}
 use Rattle.wedge_base.specs.Images.{Image, fetch, read_text, slot_of}
 use Rattle.wedge_base.specs.Memory.{range_at, read_range}
 use Rattle.wedge_base.specs.Streams.{most_fds}
@@ -24,7 +24,10 @@ use Rattle.rv_hart.specs.declared.Need.{Need}
 use Rattle.rv_hart.specs.declared.Need.TheVariants as need
 use Rattle.rv_hart.specs.Local.{local}
 use Rattle.sthread_life.specs.Actors.{ActorState, right_of, denies, ends, refuses}
-use Rattle.sthread_life.specs.Private.{load_window, load_range, store_window, store_range, has_loaded, fits_read}
+use Rattle.cow_pages.specs.Copies.{copy_at, holds_copy, read_copy}
+use Rattle.cow_pages.specs.Listed.{bytes_listed}
+use Rattle.std.specs.Option.{option_or}
+use Rattle.sthread_life.specs.Private.{load_bytes, load_copy, load_window, load_range, store_copy, store_window, store_range, has_loaded, has_stored, with_bytes, fits_read}
 use Rattle.wedge_base.specs.Names.{most_parts}
 use Rattle.wedge_base.specs.Sheets.{Draft, takes_tag, takes_fd, first_excess}
 use Rattle.wedge_base.specs.Maps.{has}
@@ -36,11 +39,12 @@ use Rattle.wedge_base.specs.declared.rights.FdBits.{FdBits}
 use Rattle.wedge_base.specs.declared.rights.Right.{Right}
 use Rattle.wedge_base.specs.declared.rights.Right.TheVariants as right
 use Rattle.sthread_life.specs.Children.{is_child, without_child}
-use Rattle.sthread_life.proofs.Between.{joined_is}
+use Rattle.sthread_life.proofs.Between.{joined_is, snapped_is}
+use Rattle.sthread_life.proofs.WritingCopies.{copied_there}
 use Rattle.sthread_life.specs.Calls.{serves, exit, is_procedure, create, create_with, create_checked, join, are_pages, tag_new, tag_delete, smalloc, free_at, sfree, fd_append, most_drafts, sc_new, right_asked, bits_asked, add_right, add_right_to, sc_mem_add, add_bits, add_bits_to, sc_fd_add, draft_call, a0, a1, a2, a3, a7}
 use Rattle.sthread_life.specs.Local.{needed, executed, fuelled, fetched, step}
 use Rattle.sthread_life.specs.Taking.{runs, loads_by, loads_at, takes}
-use Rattle.sthread_life.specs.Remembering.{LoadGives, StoreWrites, NeedRemembers, InstrRemembers, WordRemembers, EventRemembers}
+use Rattle.sthread_life.specs.Remembering.{copied_bytes, copy_target, target_among, Elsewhere, LoadGives, StoreWrites, NeedRemembers, InstrRemembers, WordRemembers, EventRemembers}
 use Rattle.sthread_life.proofs.WritingRanges.{length-bytes_of, written_at}
 
 -- what keeps private memory
@@ -52,31 +56,53 @@ keeps_if a x y true h k = h
 keeps_if a x y false h k = k
 
 -- loads
-load_window_keeps : (a : ActorState) (width : ℕ) (p : Option Place) → Keeps a (load_window a width p)
-load_window_keeps a width None = refl
-load_window_keeps a width (Some p) = refl
+bytes_given : (ins : Instr) (s : Bool) (a : ActorState) (width : ℕ) (o : Option (List ℕ)) → LoadGives a ins.rd s width o (load_bytes ins s a width o)
+bytes_given ins s a width None = refl
+bytes_given ins s a width (Some bytes) = refl
+
+copy_given : (ins : Instr) (s : Bool) (a : ActorState) (width : ℕ) (p : Place) (o : Option (List ℕ)) → LoadGives a ins.rd s width (option_and_then (read_copy p.offset width) o) (load_copy ins s a width p o)
+copy_given ins s a width p None = refl
+copy_given ins s a width p (Some bytes) = bytes_given ins s a width (read_copy p.offset width bytes)
+
+window_given : (ins : Instr) (s : Bool) (a : ActorState) (width : ℕ) (p : Option Place) → LoadGives a ins.rd s width (copied_bytes a.memory.copies width p) (load_window ins s a width p)
+window_given ins s a width None = refl
+window_given ins s a width (Some p) = copy_given ins s a width p (copy_at a.memory.copies p.slot)
 
 load_gives : (i : Image) (ins : Instr) (s : Bool) (a : ActorState) (address width : ℕ) (t u : Bool) (r : Option MemoryRange)
-    → LoadGives a ins.rd s width (if not t then None else if u then Some (read_text i address width) else option_map (λ x. read_range x address width) r)
+    → LoadGives a ins.rd s width
+    (if not t then None else if u then Some (read_text i address width) else option_or (option_map (λ x. read_range x address width) r) (copied_bytes a.memory.copies width (slot_of address)))
     (if not t then ends a end_.Misaligned else if u then has_loaded ins s a width (number_of (read_text i address width)) else load_range ins s a address width r)
 load_gives i ins s a address width false u r = refl
 load_gives i ins s a address width true true r = refl
 load_gives i ins s a address width true false (Some r) = refl
-load_gives i ins s a address width true false None = load_window_keeps a width (slot_of address)
+load_gives i ins s a address width true false None = window_given ins s a width (slot_of address)
 
 -- stores
-store_window_keeps : (a : ActorState) (width value : ℕ) (p : Option Place) → Keeps a (store_window a width value p)
-store_window_keeps a width value None = refl
-store_window_keeps a width value (Some p) = refl
+copy_stored : (a : ActorState) (address width value : ℕ) (p : Place) (bytes : List ℕ) (t : Bool) → copy_at a.memory.copies p.slot ≡ Some bytes → holds_copy p.offset width bytes ≡ t
+    → StoreWrites a address (bytes_of width value) (copy_target (Some p) (if t then Some (slice_range bytes p.offset (p.offset + width)) else None))
+    (if t then has_stored (with_bytes a p.slot (written bytes p.offset (bytes_of width value))) else ends a end_.Unmapped)
+copy_stored a address width value p bytes true there holds =
+    let count = length-bytes_of width value in
+    (copied_there a.memory.copies p bytes (bytes_of width value) there (ap (λ n. nat_le (p.offset + n) (length bytes)) count ∙ holds), refl, refl)
+copy_stored a address width value p bytes false there holds = refl
 
-store_writes : (a : ActorState) (address width value : ℕ) (t u : Bool) (r : Option MemoryRange) → range_at a.memory address width ≡ r
-    → StoreWrites a address (bytes_of width value) (if t && not u then r else None)
+copy_writes : (a : ActorState) (address width value : ℕ) (p : Place) (o : Option (List ℕ)) → copy_at a.memory.copies p.slot ≡ o
+    → StoreWrites a address (bytes_of width value) (copy_target (Some p) (option_and_then (read_copy p.offset width) o)) (store_copy a width value p o)
+copy_writes a address width value p None there = refl
+copy_writes a address width value p (Some bytes) there = copy_stored a address width value p bytes (holds_copy p.offset width bytes) there refl
+
+window_writes : (a : ActorState) (address width value : ℕ) (p : Option Place) → StoreWrites a address (bytes_of width value) (copy_target p (copied_bytes a.memory.copies width p)) (store_window a width value p)
+window_writes a address width value None = refl
+window_writes a address width value (Some p) = copy_writes a address width value p (copy_at a.memory.copies p.slot) refl
+
+store_writes : (a : ActorState) (address width value : ℕ) (t u : Bool) (r : Option MemoryRange) → range_at a.memory.ranges address width ≡ r
+    → StoreWrites a address (bytes_of width value) (if t && not u then target_among a address width r else Elsewhere)
     (if not t then ends a end_.Misaligned else if u then ends a end_.TextStore else store_range a address width value r)
 store_writes a address width value false u r there = refl
 store_writes a address width value true true r there = refl
 store_writes a address width value true false (Some r) there =
-    (written_at a.memory address (bytes_of width value) r (ap (range_at a.memory address) (length-bytes_of width value) ∙ there), refl)
-store_writes a address width value true false None there = store_window_keeps a width value (slot_of address)
+    (written_at a.memory.ranges address (bytes_of width value) r (ap (range_at a.memory.ranges address) (length-bytes_of width value) ∙ there), refl, refl)
+store_writes a address width value true false None there = window_writes a address width value (slot_of address)
 
 -- calls
 append_keeps : (i : Image) (a : ActorState) → Keeps a (fd_append i a)
@@ -140,8 +166,8 @@ call_keeps i a n =
 -- an instruction
 need_remembers : (i : Image) (ins : Instr) (a : ActorState) (h : Hart) (n : Need) → NeedRemembers i ins.rd a n (needed i ins a h n)
 need_remembers i ins a h need.Done = refl
-need_remembers i ins a h (need.Load address width s) = load_gives i ins s a address width _ _ (range_at a.memory address width)
-need_remembers i ins a h (need.Store address width value) = store_writes a address width value _ _ (range_at a.memory address width) refl
+need_remembers i ins a h (need.Load address width s) = load_gives i ins s a address width _ _ (range_at a.memory.ranges address width)
+need_remembers i ins a h (need.Store address width value) = store_writes a address width value _ _ (range_at a.memory.ranges address width) refl
 need_remembers i ins a h need.Call = call_keeps i a (a7 a)
 need_remembers i ins a h need.Break = refl
 need_remembers i ins a h need.JumpMisaligned = refl
@@ -179,6 +205,8 @@ event_remembers i a (event.Slots (directory_ask.Release place) r) = refl
 event_remembers i a (event.Slots directory_ask.Claim (directory_reply.Claimed place number)) = refl
 event_remembers i a (event.Slots directory_ask.Claim directory_reply.Full) = refl
 event_remembers i a (event.Slots directory_ask.Claim directory_reply.Released) = refl
+event_remembers i a (event.Slot slot q (slot_reply.Snapped pages)) = snapped_is (λ x. x.memory ≡ a.memory) a a.phase slot (Some (bytes_listed pages)) refl (λ x. refl)
+event_remembers i a (event.Slot slot q slot_reply.Gone) = snapped_is (λ x. x.memory ≡ a.memory) a a.phase slot None refl (λ x. refl)
 event_remembers i a (event.Slot slot (slot_ask.Sfree offset live) (slot_reply.Denied tag wants)) = refl
 event_remembers i a (event.Slot slot (slot_ask.Open tag pages) slot_reply.Opened) = refl
 event_remembers i a (event.Slot slot q r) = refl

@@ -1,4 +1,6 @@
 pub mod WritingRanges
+pub mod WritingCopies
+pub mod ByNumber
 pub mod FuelGiven
 pub mod SlotsHeld
 pub mod Resting
@@ -13,7 +15,11 @@ pub mod Walking
 pub mod Going
 pub mod Paying
 pub mod DraftEdits
+pub mod DraftsFit
+pub mod Dropping
 pub mod PutBack
+pub mod Preparing
+pub mod GrantedCopies
 pub mod Creating
 pub mod Keeping
 pub mod Checking
@@ -33,4 +39,3 @@ pub mod Occupying
 pub mod OccupiedRuns
 pub mod WorkLeft
 pub mod Canonical
-pub mod LyingBelow

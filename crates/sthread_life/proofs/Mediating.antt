@@ -49,12 +49,16 @@ use Rattle.sthread_life.specs.Calls.{a0, a2}
 use Rattle.sthread_life.specs.Private.{has_stored}
 use Rattle.sthread_life.specs.Local.{step, rest, has_ended, is_running, run_local}
 use Rattle.sthread_life.specs.Children.{without_child}
-use Rattle.sthread_life.specs.Taking.{pair, runs, loads_by, loads_at, answered_end, has_started, takes_lives, takes, child_of, begun}
+use Rattle.cow_pages.specs.Listed.{bytes_listed}
+use Rattle.sthread_life.specs.ChildCopies.{NotPreparing, PreparesBy}
+use Rattle.sthread_life.specs.Copying.{Preparation}
+use Rattle.sthread_life.proofs.Preparing.{step_unprepared, event_prepares}
+use Rattle.sthread_life.specs.Taking.{pair, runs, loads_by, loads_at, has_snapped, answered_end, has_started, takes_lives, takes, child_of, begun}
 use Rattle.sthread_life.specs.Cells.{Cells, held, slot_in, stream_in, cells_after}
 use Rattle.sthread_life.specs.Worlds.{WorldState, opening, actor_named, put_actor, with_begun, turn_of, Runs}
 use Rattle.sthread_life.specs.Requests.{Access, Request, Loads, Stores, Appends, Creates, Deletes, Allots, Frees, request_at, in_tag, to_stream}
 use Rattle.sthread_life.specs.Allowed.{may_use, lacks, is_refused, is_source, next_word, IsDone, denied}
-use Rattle.sthread_life.specs.Moments.{EachMoment, TurnHas, with_actor, is_use, NothingDenied, IsChecked, ComesToEvent, IsMet, IsAnswered, MeetsWith, AnswersAt}
+use Rattle.sthread_life.specs.Moments.{EachMoment, TurnHas, with_actor, is_use, slot_used, NothingDenied, IsChecked, ComesToEvent, IsMet, IsAnswered, MeetsWith, AnswersAt}
 use Rattle.sthread_life.specs.Ends.{GoesTo, is_end_event, end_of, end_at, end_by, reply_end}
 use Rattle.sthread_life.specs.Refusals.{full, no_such, bad, RefusesIn, RefusesAfter, slot_refuses, stream_refuses, is_refusal, stream_refusal, refused}
 use Rattle.sthread_life.specs.Remembering.{WordRemembers, EventRemembers}
@@ -71,8 +75,8 @@ use Rattle.sthread_life.specs.Drafting.{drafts_after}
 use Rattle.sthread_life.proofs.DraftEdits.{step_edits, event_edits}
 use Rattle.sthread_life.proofs.Going.{IsNext, step_goes}
 use Rattle.sthread_life.proofs.Resting.{steps_step, stays, goes_on, running_is, rest-stops}
-use Rattle.sthread_life.proofs.Between.{event_for, IsJoin, joined_is, takes_name, turn_parts, loaded_runs}
-use Rattle.sthread_life.proofs.Happening.{Happens, Requested, Joined, Started, Opens, Releases, LastJoined, Ended, joined_at}
+use Rattle.sthread_life.proofs.Between.{event_for, IsJoin, joined_is, snapped_is, takes_name, turn_parts, loaded_runs}
+use Rattle.sthread_life.proofs.Happening.{Happens, snap_cases, Requested, Joined, Snaps, Started, Opens, Releases, LastJoined, Ended, joined_at}
 use Rattle.sthread_life.proofs.Families.{step_family, event_family}
 
 -- ---- an instruction
@@ -281,7 +285,7 @@ abbrev IsAnsweredFor : WorldState → ActorState → Want → Option Request →
 IsAnsweredFor w b q o = IsAnswered (with_actor w b) b (event_for w.cells b q) o (after w b (event_for w.cells b q))
 
 -- a life that is claimed, or none that is left: nothing is denied
-claim_answered : (w : WorldState) (b : ActorState) (cells : Cells) (t : Bool) → NothingDenied (with_actor w b) (record w { cells = cells; actors = put_actor w.actors (takes_lives b lives_ask.Claim (if t then lives_reply.Claimed else lives_reply.Full)) })
+claim_answered : (w : WorldState) (b : ActorState) (cells : Cells) (t : Bool) → NothingDenied (with_actor w b) (record w { cells = cells; actors = put_actor w.actors (takes_lives w.image b lives_ask.Claim (if t then lives_reply.Claimed else lives_reply.Full)) })
 claim_answered w b cells true = kept w cells b _ refl refl
 claim_answered w b cells false = kept w cells b _ refl refl
 
@@ -321,6 +325,19 @@ start_unasked : (w : WorldState) (b : ActorState) (child : List ℕ) → Nothing
 unfolding takes
 start_unasked w b child name = begun_noted (put_actor w.actors (has_started b)) (Some (child_of w.image b child)) name refl ∙ kept w w.cells b (has_started b) refl refl name
 
+snap_denials : (i : Image) (b : ActorState) (slot tag : ℕ) (g : Option Segment) → (takes i b (event.Slot slot (slot_ask.Snap tag) (slot_reply_of g (slot_ask.Snap tag)))).denials ≡ b.denials
+unfolding takes
+snap_denials i b slot tag g =
+    snap_cases (λ r. (takes i b (event.Slot slot (slot_ask.Snap tag) r)).denials ≡ b.denials) g tag
+    (λ pages. snapped_is (λ x. x.denials ≡ b.denials) b b.phase slot (Some (bytes_listed pages)) refl (λ x. refl)) (snapped_is (λ x. x.denials ≡ b.denials) b b.phase slot None refl (λ x. refl))
+
+snap_unasked : (w : WorldState) (b : ActorState) (slot tag : ℕ) (g : Option Segment)
+    → NothingDenied (with_actor w b) (after w b (event.Slot slot (slot_ask.Snap tag) (slot_reply_of g (slot_ask.Snap tag)))) × (is_use (event.Slot slot (slot_ask.Snap tag) (slot_reply_of g (slot_ask.Snap tag))) ≡ false)
+snap_unasked w b slot tag g = (
+  unasked w b (event.Slot slot (slot_ask.Snap tag) (slot_reply_of g (slot_ask.Snap tag))) refl (snap_denials w.image b slot tag g),
+  snap_cases (λ r. slot_used r ≡ false) g tag (λ pages. refl) refl,
+)
+
 answered_at : (w : WorldState) (b a : ActorState) (e : Event) → actor_named w.actors b.name ≡ Some a → Happens w b e → AnswersAt (with_actor w b) b b.phase e (after w b e)
 answered_at w b a e named (Requested r) =
     subst (λ ph. AnswersAt (with_actor w b) b ph e (after w b e)) (sym r.at)
@@ -329,6 +346,9 @@ answered_at w b a e named (Requested r) =
 answered_at w b a e named (Joined j) =
     subst (λ ph. AnswersAt (with_actor w b) b ph e (after w b e)) (sym j.at)
     (subst (λ o. IsAnswered (with_actor w b) b e o (after w b e)) (sym (j.asked w.cells)) (join_unasked w b j.number e j.join))
+answered_at w b a e named (Snaps s) =
+    subst (λ ph. AnswersAt (with_actor w b) b ph e (after w b e)) (sym s.at)
+    (subst (λ y. NothingDenied (with_actor w b) (after w b y) × (is_use y ≡ false)) (sym s.is) (snap_unasked w b s.grant.slot s.grant.tag (slot_in w.cells s.grant.slot)))
 answered_at w b a e named (Started s) =
     subst (λ ph. AnswersAt (with_actor w b) b ph e (after w b e)) (sym s.at)
     (subst (λ y. NothingDenied (with_actor w b) (after w b y) × (is_use y ≡ false)) (sym s.is) (start_unasked w b _, refl))
@@ -353,6 +373,8 @@ unfolding takes
 slot_end i b slot q (slot_reply.Loaded value) =
     let ins = option_and_then decode (fetch i b.hart.pc) in
     (ap end_of (loaded_runs (runs b) ins value refl), (loads_keep (runs b) ins value).0)
+slot_end i b slot q (slot_reply.Snapped pages) = snapped_is (λ x. (end_of x.phase ≡ None) × (x.name ≡ b.name)) b b.phase slot (Some (bytes_listed pages)) (refl, refl) (λ x. (refl, refl))
+slot_end i b slot q slot_reply.Gone = snapped_is (λ x. (end_of x.phase ≡ None) × (x.name ≡ b.name)) b b.phase slot None (refl, refl) (λ x. (refl, refl))
 slot_end i b slot (slot_ask.Sfree offset live) (slot_reply.Denied tag wants) = (refl, refl)
 slot_end i b slot (slot_ask.Open tag pages) slot_reply.Opened = (refl, refl)
 slot_end i b slot q r = (refl, refl)
@@ -396,14 +418,17 @@ join_end : (i : Image) (b : ActorState) (p : Phase) (k : ℕ) (x : End) (fuel : 
 unfolding takes
 join_end i b phase.Running k x fuel at live = ap (λ (y : ActorState). end_of y.phase) (joined_at b phase.Running x k fuel at)
 join_end i b (phase.Within q) k x fuel at live = ap (λ (y : ActorState). end_of y.phase) (joined_at b (phase.Within q) x k fuel at)
-join_end i b phase.Starting k x fuel at live = ap (λ (y : ActorState). end_of y.phase) (joined_at b phase.Starting x k fuel at)
+join_end i b (phase.Starting pre) k x fuel at live = ap (λ (y : ActorState). end_of y.phase) (joined_at b (phase.Starting pre) x k fuel at)
 join_end i b (phase.Opening slot tag) k x fuel at live = ap (λ (y : ActorState). end_of y.phase) (joined_at b (phase.Opening slot tag) x k fuel at)
 join_end i b (phase.Releasing slot) k x fuel at live = ap (λ (y : ActorState). end_of y.phase) (joined_at b (phase.Releasing slot) x k fuel at)
 join_end i b (phase.Ending y) k x fuel at live = ap (λ (z : ActorState). end_of z.phase) (joined_at b (phase.Ending y) x k fuel at) ∙ ap end_of at
 join_end i b (phase.Ended y) k x fuel at live = absurd cc
 
-start_end : (i : Image) (b : ActorState) (child : List ℕ) → EndsBy i b phase.Starting (event.Start child)
-start_end i b child = unfold takes in refl
+start_end : (i : Image) (b : ActorState) (pre : Preparation) (child : List ℕ) → EndsBy i b (phase.Starting pre) (event.Start child)
+start_end i b pre child = unfold takes in refl
+
+snap_end : (i : Image) (b : ActorState) (pre : Preparation) (slot tag : ℕ) (r : SlotReply) → EndsBy i b (phase.Starting pre) (event.Slot slot (slot_ask.Snap tag) r)
+snap_end i b pre slot tag r = (slot_end i b slot (slot_ask.Snap tag) r).0
 
 released_end : (i : Image) (b : ActorState) (slot : ℕ) → EndsBy i b (phase.Releasing slot) (event.Slots (directory_ask.Release slot) directory_reply.Released)
 released_end i b slot = unfold takes in refl
@@ -414,7 +439,8 @@ last_end i b x = unfold takes in refl
 ends_by : (w : WorldState) (b : ActorState) (e : Event) → Happens w b e → EndsBy w.image b b.phase e
 ends_by w b e (Requested r) = subst (λ p. EndsBy w.image b p e) (sym r.at) (subst (EndsBy w.image b (phase.Within r.want)) (sym r.is) (want_end w b _ r.want r.own))
 ends_by w b e (Joined j) = subst (λ p. EndsBy w.image b p e) (sym j.at) (subst (EndsBy w.image b (phase.Within (want.Join j.number))) (sym j.join.is) (join_end w.image b _ j.number j.join.how j.join.child.fuel j.at refl))
-ends_by w b e (Started s) = subst (λ p. EndsBy w.image b p e) (sym s.at) (subst (EndsBy w.image b phase.Starting) (sym s.is) (start_end w.image b _))
+ends_by w b e (Snaps s) = subst (λ p. EndsBy w.image b p e) (sym s.at) (subst (EndsBy w.image b (phase.Starting s.preparation)) (sym s.is) (snap_end w.image b s.preparation s.grant.slot s.grant.tag _))
+ends_by w b e (Started s) = subst (λ p. EndsBy w.image b p e) (sym s.at) (subst (EndsBy w.image b (phase.Starting s.preparation)) (sym s.is) (start_end w.image b s.preparation _))
 ends_by w b e (Opens o) = subst (λ p. EndsBy w.image b p e) (sym o.at) (subst (EndsBy w.image b (phase.Opening o.slot o.tag)) (sym o.is) (slot_end w.image b o.slot (slot_ask.Open o.tag (a0 b)) slot_reply.Opened).0)
 ends_by w b e (Releases r) = subst (λ p. EndsBy w.image b p e) (sym r.at) (subst (EndsBy w.image b (phase.Releasing r.slot)) (sym r.is) (released_end w.image b r.slot))
 ends_by w b e (LastJoined j) = subst (λ p. EndsBy w.image b p e) (sym j.at) (subst (EndsBy w.image b (phase.Ending j.end_)) (sym j.join.is) (join_end w.image b _ j.first.0 j.join.how j.join.child.fuel j.at refl))
@@ -472,12 +498,19 @@ join_next : (i : Image) (b : ActorState) (p : Phase) (k : ℕ) (x : End) (fuel :
 unfolding takes
 join_next i b phase.Running k x fuel at = subst (IsNext b.hart) (sym (joined_at b phase.Running x k fuel at)) (λ e. refl, λ e. absurd cc)
 join_next i b (phase.Within q) k x fuel at = subst (IsNext b.hart) (sym (joined_at b (phase.Within q) x k fuel at)) (λ e. refl, λ e. absurd cc)
-join_next i b phase.Starting k x fuel at = subst (IsNext b.hart) (sym (joined_at b phase.Starting x k fuel at)) (λ e. refl, λ e. absurd cc)
+join_next i b (phase.Starting pre) k x fuel at = subst (IsNext b.hart) (sym (joined_at b (phase.Starting pre) x k fuel at)) (λ e. refl, λ e. absurd cc)
 join_next i b (phase.Opening slot tag) k x fuel at = subst (IsNext b.hart) (sym (joined_at b (phase.Opening slot tag) x k fuel at)) (λ e. refl, λ e. absurd cc)
 join_next i b (phase.Releasing slot) k x fuel at = subst (IsNext b.hart) (sym (joined_at b (phase.Releasing slot) x k fuel at)) (λ e. refl, λ e. absurd cc)
 join_next i b (phase.Ending y) k x fuel at =
     subst (IsNext b.hart) (sym (joined_at b (phase.Ending y) x k fuel at)) (λ e. let f : false ≡ true = sym (ap is_running at) ∙ e in absurd cc, λ e. refl)
 join_next i b (phase.Ended y) k x fuel at = subst (IsNext b.hart) (sym (joined_at b (phase.Ended y) x k fuel at)) (λ e. refl, λ e. absurd cc)
+
+snap_next : (i : Image) (b : ActorState) (pre : Preparation) (slot tag : ℕ) (g : Option Segment) → b.phase ≡ phase.Starting pre → IsNext b.hart (takes i b (event.Slot slot (slot_ask.Snap tag) (slot_reply_of g (slot_ask.Snap tag))))
+unfolding takes
+snap_next i b pre slot tag g at = snap_cases (λ r. IsNext b.hart (takes i b (event.Slot slot (slot_ask.Snap tag) r))) g tag (λ pages. goes_on (Some (bytes_listed pages))) (goes_on None)
+  where
+    goes_on : (o : Option (List ℕ)) → IsNext b.hart (has_snapped b b.phase slot o)
+    goes_on o = subst (λ p. IsNext b.hart (has_snapped b p slot o)) (sym at) (λ e. absurd cc, λ e. refl)
 
 start_next : (i : Image) (b : ActorState) (child : List ℕ) → IsNext b.hart (takes i b (event.Start child))
 start_next i b child = unfold takes in (λ e. refl, λ e. absurd cc)
@@ -488,6 +521,7 @@ last_next i b x = unfold takes in (λ e. absurd cc, λ e. refl)
 next_by : (w : WorldState) (b : ActorState) (e : Event) → Happens w b e → IsNext b.hart (takes w.image b e)
 next_by w b e (Requested r) = subst (λ y. IsNext b.hart (takes w.image b y)) (sym r.is) (want_next w b r.rd r.is_signed r.want r.own)
 next_by w b e (Joined j) = subst (λ y. IsNext b.hart (takes w.image b y)) (sym j.join.is) (join_next w.image b _ j.number j.join.how j.join.child.fuel j.at)
+next_by w b e (Snaps s) = subst (λ y. IsNext b.hart (takes w.image b y)) (sym s.is) (snap_next w.image b s.preparation s.grant.slot s.grant.tag (slot_in w.cells s.grant.slot) s.at)
 next_by w b e (Started s) = subst (λ y. IsNext b.hart (takes w.image b y)) (sym s.is) (start_next w.image b _)
 next_by w b e (Opens o) = subst (λ y. IsNext b.hart (takes w.image b y)) (sym o.is) (opened_next w.image b o.slot o.tag (a0 b))
 next_by w b e (Releases r) = subst (λ y. IsNext b.hart (takes w.image b y)) (sym r.is) (released_next w.image b r.slot)
@@ -498,7 +532,7 @@ next_by w b e (Ended f) = subst (λ y. IsNext b.hart (takes w.image b y)) (sym f
 joined_live : (a : ActorState) (p : Phase) (x : End) → a.phase ≡ p → has_ended (answered_end a p x).phase ≡ false
 joined_live a phase.Running x at = refl
 joined_live a (phase.Within q) x at = refl
-joined_live a phase.Starting x at = refl
+joined_live a (phase.Starting pre) x at = refl
 joined_live a (phase.Opening slot tag) x at = refl
 joined_live a (phase.Releasing slot) x at = refl
 joined_live a (phase.Ending y) x at = ap has_ended at
@@ -511,6 +545,8 @@ reached i b (event.Slots (directory_ask.Release place) r) = refl
 reached i b (event.Slots directory_ask.Claim (directory_reply.Claimed place number)) = refl
 reached i b (event.Slots directory_ask.Claim directory_reply.Full) = refl
 reached i b (event.Slots directory_ask.Claim directory_reply.Released) = refl
+reached i b (event.Slot slot q (slot_reply.Snapped pages)) = snapped_is (λ x. has_ended x.phase ≡ false) b b.phase slot (Some (bytes_listed pages)) refl (λ x. refl)
+reached i b (event.Slot slot q slot_reply.Gone) = snapped_is (λ x. has_ended x.phase ≡ false) b b.phase slot None refl (λ x. refl)
 reached i b (event.Slot slot (slot_ask.Sfree offset live) (slot_reply.Denied tag wants)) = refl
 reached i b (event.Slot slot (slot_ask.Open tag pages) slot_reply.Opened) = refl
 reached i b (event.Slot slot q r) = refl
@@ -556,7 +592,7 @@ append_refused w b fd code bytes (Some s) there told = by_tests s.live (bits_of 
 
 -- a life that is not left
 claim_refused : (w : WorldState) (b : ActorState) (n : ℕ) (t : Bool) → (if t then None else Some 2) ≡ Some n
-    → record w { cells = record w.cells { lives = (if t then w.cells.lives + 1 else w.cells.lives) }; actors = put_actor w.actors (takes_lives b lives_ask.Claim (if t then lives_reply.Claimed else lives_reply.Full)) } ≡ with_actor (with_actor w b) (refused b n)
+    → record w { cells = record w.cells { lives = (if t then w.cells.lives + 1 else w.cells.lives) }; actors = put_actor w.actors (takes_lives w.image b lives_ask.Claim (if t then lives_reply.Claimed else lives_reply.Full)) } ≡ with_actor (with_actor w b) (refused b n)
 claim_refused w b n true told = absurd cc
 claim_refused w b n false told =
     let same : 2 ≡ n = cc in
@@ -631,6 +667,8 @@ refuses_after w b e (Requested r) =
 refuses_after w b e (Joined j) =
     subst (λ ph. RefusesAfter (with_actor w b) b ph e (after w b e)) (sym j.at)
     (record { refused = λ code told. let f : None ≡ Some code = sym (j.later w.cells) ∙ told in absurd cc; passed = λ told. ap is_refusal j.join.is })
+refuses_after w b e (Snaps s) =
+    subst (λ ph. RefusesAfter (with_actor w b) b ph e (after w b e)) (sym s.at) (ap is_refusal s.is ∙ snap_cases (λ r. slot_refuses r ≡ false) (slot_in w.cells s.grant.slot) s.grant.tag (λ pages. refl) refl)
 refuses_after w b e (Started s) = subst (λ ph. RefusesAfter (with_actor w b) b ph e (after w b e)) (sym s.at) (ap is_refusal s.is)
 refuses_after w b e (Opens o) = subst (λ ph. RefusesAfter (with_actor w b) b ph e (after w b e)) (sym o.at) (ap is_refusal o.is)
 refuses_after w b e (Releases r) = subst (λ ph. RefusesAfter (with_actor w b) b ph e (after w b e)) (sym r.at) (ap is_refusal r.is)
@@ -688,6 +726,7 @@ turn_lawful w t new all e =
       remembers = put_such (WordRemembers w.image b (option_and_then decode (fetch w.image b.hart.pc)) b.fuel) w b x a named name (step_remembers w.image b);
       family = step_family w b run;
       makes = step_makes w b _ refl run;
+      copies = put_such (λ y. NotPreparing y.phase) w b x a named name (step_unprepared w.image b run);
     })
     (λ a b e named h. record {
       mediated = answered_at w b a e named h;
@@ -699,6 +738,7 @@ turn_lawful w t new all e =
       remembers = done_such (EventRemembers b e) w b a e named (event_remembers w.image b e);
       family = event_family w b e h;
       makes = event_makes w b e h;
+      copies = done_such (PreparesBy (with_actor w b) b b.phase e) w b a e named (event_prepares w b e h);
     })
 
 each_lawful : (old : WorldState) (turns : List Turn) (new : WorldState) → AllReady old → Runs old turns new → EachMoment IsLawful old turns

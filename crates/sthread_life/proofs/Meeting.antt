@@ -2,7 +2,7 @@
 use Rattle.std.proofs.Common.{◌≡◌, ℕ, zero, suc, ◌+◌, ◌-◌, ◌≤◌, ◌<◌, Bool, true, false, true≢false, List, [], refl, sym, ap, subst, ◌∙◌, arith}
 use Rattle.std.proofs.lemmas.Bool.{eqb-true}
 use Rattle.std.proofs.lemmas.Bool.Decides.{nat_tests}
-use Rattle.std.specs.Prelude.{Option, Some, None, is_some, option_map, option_and_then, not, ◌&&◌, ◌||◌, ◌==◌, nat_lt, nat_le, if◌then◌else◌, ◌∷◌, ◌++◌, length, slice_get}
+use Rattle.std.specs.Prelude.{Option, Some, None, is_some, option_map, option_and_then, not, ◌&&◌, ◌||◌, ◌==◌, nat_lt, nat_le, if◌then◌else◌, ◌∷◌, ◌++◌, length, slice_get, slice_range}
 use Rattle.wedge_base.specs.Images.{Image, fetch, in_text, read_text, slot_of, slots as most_slots}
 use Rattle.wedge_base.specs.Maps.{has}
 use Rattle.wedge_base.specs.Bytes.{number_of}
@@ -28,7 +28,8 @@ use Rattle.rv_hart.specs.Local.{local}
 use Rattle.sthread_life.specs.declared.phase.Phase.{Phase}
 use Rattle.sthread_life.specs.declared.phase.Phase.TheVariants as phase
 use Rattle.sthread_life.specs.Actors.{ActorState, answers, bits_of, slot_held, code_number, denies, ends, refuses, wants}
-use Rattle.sthread_life.specs.Private.{load_window, load_range, store_window, store_range, has_loaded, fits_read, buffer, buffer_in}
+use Rattle.cow_pages.specs.Copies.{copy_at, holds_copy}
+use Rattle.sthread_life.specs.Private.{load_bytes, load_copy, load_window, load_range, store_copy, store_window, store_range, has_loaded, fits_read, buffer, buffer_in}
 use Rattle.wedge_base.specs.Sheets.{Draft, empty_draft, takes_tag, takes_fd, first_excess}
 use Rattle.wedge_base.specs.Slots.{Segment}
 use Rattle.wedge_base.specs.Streams.{Stream}
@@ -44,7 +45,7 @@ use Rattle.sthread_life.specs.Refusals.{fuel_short, full, deep, no_such, bad, st
 use Rattle.sthread_life.specs.Requests.{Access, Request, Loads, Stores, Appends, Creates, Deletes, Allots, Frees, create_of, in_tag, in_window, bytes_in_range, bytes_at, to_stream, append_of, free_of, call_request, needed_request, instr_request, word_request, request_at}
 use Rattle.sthread_life.specs.Allowed.{may_use, lacks, is_refused, is_checked_at_event, denied as denied_of}
 use Rattle.sthread_life.specs.Children.{is_child}
-use Rattle.sthread_life.specs.Ends.{end_of, needed_end, instr_end, fuel_end, word_end, end_at}
+use Rattle.sthread_life.specs.Ends.{end_of, copy_end, window_end, needed_end, instr_end, fuel_end, word_end, end_at}
 
 -- the request that is in question in what an actor wants
 abbrev pub request_for : Cells → ActorState → ℕ → Bool → Want → Option Request
@@ -112,7 +113,7 @@ IsWanted N a q = IsRequest N a q
 abbrev pub WantsAs : (ℕ → Bool → ℕ → Type 0) → ActorState → (Cells → Option Request) → (Cells → Option ℕ) → ActorState → Phase → Type 0
 WantsAs N a asked later x (phase.Within q) = (rd : ℕ) × (s : Bool) × (x ≡ record a { phase = phase.Within q }) × ((c : Cells) → asked c ≡ request_for c a rd s q) × IsWanted (N rd s) a q × ((c : Cells) → later c ≡ refusal_for c a q)
 WantsAs N a asked later x phase.Running = Unit {0}
-WantsAs N a asked later x phase.Starting = ⊥
+WantsAs N a asked later x (phase.Starting pre) = ⊥
 WantsAs N a asked later x (phase.Opening slot tag) = ⊥
 WantsAs N a asked later x (phase.Releasing slot) = ⊥
 WantsAs N a asked later x (phase.Ending e) = Unit {0}
@@ -179,7 +180,7 @@ comes_refused N a asked later k none = record {
 wants_as : (N : ℕ → Bool → ℕ → Type 0) (a : ActorState) (asked told : Cells → Option Request) (later : Cells → Option ℕ) (x : ActorState) (p : Phase) → ((c : Cells) → told c ≡ asked c) → WantsAs N a asked later x p → WantsAs N a told later x p
 wants_as N a asked told later x (phase.Within q) same w = (w.0, w.1, w.2, λ c. same c ∙ w.3 c, w.4, w.5)
 wants_as N a asked told later x phase.Running same w = tt
-wants_as N a asked told later x phase.Starting same w = w
+wants_as N a asked told later x (phase.Starting pre) same w = w
 wants_as N a asked told later x (phase.Opening slot tag) same w = w
 wants_as N a asked told later x (phase.Releasing slot) same w = w
 wants_as N a asked told later x (phase.Ending e) same w = tt
@@ -222,31 +223,46 @@ stream_event fd bytes (Some s) r e = by_test s.live e
     by_test false f = absurd cc
 
 -- loads
-load_window_comes : (N : ℕ → Bool → ℕ → Type 0) (a : ActorState) (rd : ℕ) (s : Bool) (width : ℕ) (p : Option Place) → N rd s width → Comes N a (λ c. in_window (λ x. Loads x rd s) c width p) (λ c. None) (if is_some p then None else Some end_.Unmapped) None (load_window a width p)
-load_window_comes N a rd s width None k = comes_end N a _ _ end_.Unmapped (λ c. refl)
-load_window_comes N a rd s width (Some p) k = record {
+load_bytes_comes : (N : ℕ → Bool → ℕ → Type 0) (ins : Instr) (s : Bool) (a : ActorState) (width : ℕ) (bytes : List ℕ) (t : Bool) → a.phase ≡ phase.Running
+    → Comes N a (λ c. None) (λ c. None) (if t then None else Some end_.Unmapped) None (load_bytes ins s a width (if t then Some bytes else None))
+load_bytes_comes N ins s a width bytes true run = comes_on N a (has_loaded ins s a width (number_of bytes)) _ _ refl refl run (λ c. refl)
+load_bytes_comes N ins s a width bytes false run = comes_end N a _ _ end_.Unmapped (λ c. refl)
+
+load_copy_comes : (N : ℕ → Bool → ℕ → Type 0) (ins : Instr) (s : Bool) (a : ActorState) (width : ℕ) (p : Place) (o : Option (List ℕ)) → N ins.rd s width → a.phase ≡ phase.Running
+    → Comes N a (λ c. if is_some o then None else in_tag (λ x. Loads x ins.rd s) p width (slot_in c p.slot)) (λ c. None) (copy_end p.offset width o) None (load_copy ins s a width p o)
+load_copy_comes N ins s a width p None k run = record {
   name = refl;
   quiet = λ c h. refl;
-  met = λ c r h. met_at_event a _ (want.Slot p.slot (slot_want.Load p.offset width)) r refl (tag_event (λ x. Loads x rd s) p width (slot_in c p.slot) r (λ x. refl) h);
+  met = λ c r h. met_at_event a _ (want.Slot p.slot (slot_want.Load p.offset width)) r refl (tag_event (λ x. Loads x ins.rd s) p width (slot_in c p.slot) r (λ x. refl) h);
   ends = refl;
-  wants = (rd, s, refl, λ c. refl, k, λ c. refl);
+  wants = (ins.rd, s, refl, λ c. refl, k, λ c. refl);
   codes = λ n h. absurd cc;
 }
+load_copy_comes N ins s a width p (Some bytes) k run = load_bytes_comes N ins s a width (slice_range bytes p.offset (p.offset + width)) (holds_copy p.offset width bytes) run
+
+load_window_comes : (N : ℕ → Bool → ℕ → Type 0) (ins : Instr) (s : Bool) (a : ActorState) (width : ℕ) (p : Option Place) → N ins.rd s width → a.phase ≡ phase.Running
+    → Comes N a (λ c. in_window (λ x. Loads x ins.rd s) c a width p) (λ c. None) (window_end a width p) None (load_window ins s a width p)
+load_window_comes N ins s a width None k run = comes_end N a _ _ end_.Unmapped (λ c. refl)
+load_window_comes N ins s a width (Some p) k run = load_copy_comes N ins s a width p (copy_at a.memory.copies p.slot) k run
 
 load_comes : (N : ℕ → Bool → ℕ → Type 0) (i : Image) (ins : Instr) (s : Bool) (a : ActorState) (address width : ℕ) (t u : Bool) (r : Option MemoryRange) → N ins.rd s width → a.phase ≡ phase.Running
-    → Comes N a (λ c. if t && not u && not (is_some r) then in_window (λ x. Loads x ins.rd s) c width (slot_of address) else None) (λ c. None)
-    (if not t then Some end_.Misaligned else if u then None else if is_some r || is_some (slot_of address) then None else Some end_.Unmapped) None
+    → Comes N a (λ c. if t && not u && not (is_some r) then in_window (λ x. Loads x ins.rd s) c a width (slot_of address) else None) (λ c. None)
+    (if not t then Some end_.Misaligned else if u then None else if is_some r then None else window_end a width (slot_of address)) None
     (if not t then ends a end_.Misaligned else if u then has_loaded ins s a width (number_of (read_text i address width)) else load_range ins s a address width r)
 load_comes N i ins s a address width false u r k run = comes_end N a _ _ end_.Misaligned (λ c. refl)
 load_comes N i ins s a address width true true r k run = comes_on N a (has_loaded ins s a width (number_of (read_text i address width))) _ _ refl refl run (λ c. refl)
 load_comes N i ins s a address width true false (Some r) k run = comes_on N a (has_loaded ins s a width (number_of (read_range r address width))) _ _ refl refl run (λ c. refl)
-load_comes N i ins s a address width true false None k run = load_window_comes N a ins.rd s width (slot_of address) k
+load_comes N i ins s a address width true false None k run = load_window_comes N ins s a width (slot_of address) k run
 
 -- stores
-store_window_comes : (N : ℕ → Bool → ℕ → Type 0) (a : ActorState) (width value : ℕ) (p : Option Place)
-    → Comes N a (λ c. in_window (λ x. Stores x value) c width p) (λ c. None) (if is_some p then None else Some end_.Unmapped) None (store_window a width value p)
-store_window_comes N a width value None = comes_end N a _ _ end_.Unmapped (λ c. refl)
-store_window_comes N a width value (Some p) = record {
+stored_comes : (N : ℕ → Bool → ℕ → Type 0) (a x : ActorState) (t : Bool) → x.name ≡ a.name → x.denials ≡ a.denials → x.phase ≡ phase.Running
+    → Comes N a (λ c. None) (λ c. None) (if t then None else Some end_.Unmapped) None (if t then x else ends a end_.Unmapped)
+stored_comes N a x true name denials run = comes_on N a x _ _ name denials run (λ c. refl)
+stored_comes N a x false name denials run = comes_end N a _ _ end_.Unmapped (λ c. refl)
+
+store_copy_comes : (N : ℕ → Bool → ℕ → Type 0) (a : ActorState) (width value : ℕ) (p : Place) (o : Option (List ℕ)) → a.phase ≡ phase.Running
+    → Comes N a (λ c. if is_some o then None else in_tag (λ x. Stores x value) p width (slot_in c p.slot)) (λ c. None) (copy_end p.offset width o) None (store_copy a width value p o)
+store_copy_comes N a width value p None run = record {
   name = refl;
   quiet = λ c h. refl;
   met = λ c r h. met_at_event a _ (want.Slot p.slot (slot_want.Store p.offset width value)) r refl (tag_event (λ x. Stores x value) p width (slot_in c p.slot) r (λ x. refl) h);
@@ -254,15 +270,21 @@ store_window_comes N a width value (Some p) = record {
   wants = (0, false, refl, λ c. refl, tt, λ c. refl);
   codes = λ n h. absurd cc;
 }
+store_copy_comes N a width value p (Some bytes) run = stored_comes N a _ (holds_copy p.offset width bytes) refl refl run
+
+store_window_comes : (N : ℕ → Bool → ℕ → Type 0) (a : ActorState) (width value : ℕ) (p : Option Place) → a.phase ≡ phase.Running
+    → Comes N a (λ c. in_window (λ x. Stores x value) c a width p) (λ c. None) (window_end a width p) None (store_window a width value p)
+store_window_comes N a width value None run = comes_end N a _ _ end_.Unmapped (λ c. refl)
+store_window_comes N a width value (Some p) run = store_copy_comes N a width value p (copy_at a.memory.copies p.slot) run
 
 store_comes : (N : ℕ → Bool → ℕ → Type 0) (a : ActorState) (address width value : ℕ) (t u : Bool) (r : Option MemoryRange) → a.phase ≡ phase.Running
-    → Comes N a (λ c. if t && not u && not (is_some r) then in_window (λ x. Stores x value) c width (slot_of address) else None) (λ c. None)
-    (if not t then Some end_.Misaligned else if u then Some end_.TextStore else if is_some r || is_some (slot_of address) then None else Some end_.Unmapped) None
+    → Comes N a (λ c. if t && not u && not (is_some r) then in_window (λ x. Stores x value) c a width (slot_of address) else None) (λ c. None)
+    (if not t then Some end_.Misaligned else if u then Some end_.TextStore else if is_some r then None else window_end a width (slot_of address)) None
     (if not t then ends a end_.Misaligned else if u then ends a end_.TextStore else store_range a address width value r)
 store_comes N a address width value false u r run = comes_end N a _ _ end_.Misaligned (λ c. refl)
 store_comes N a address width value true true r run = comes_end N a _ _ end_.TextStore (λ c. refl)
 store_comes N a address width value true false (Some r) run = comes_on N a (store_range a address width value (Some r)) _ _ refl refl run (λ c. refl)
-store_comes N a address width value true false None run = store_window_comes N a width value (slot_of address)
+store_comes N a address width value true false None run = store_window_comes N a width value (slot_of address) run
 
 -- appends: the buffer that fits, in the two words for it
 buffers : (i : Image) (pointer n : ℕ) (t u : Bool) (r : Option MemoryRange)
@@ -308,7 +330,7 @@ append_comes : (N : ℕ → Bool → ℕ → Type 0) (i : Image) (a : ActorState
 append_comes N i a =
     let t = fits_read i a (a1 a) (a2 a) in
     let bytes = buffer i a (a1 a) (a2 a) in
-    let buffer_is = buffers i (a1 a) (a2 a) (nat_le (a2 a) 256) (a2 a == 0) (range_at a.memory (a1 a) (a2 a)) in
+    let buffer_is = buffers i (a1 a) (a2 a) (nat_le (a2 a) 256) (a2 a == 0) (range_at a.memory.ranges (a1 a) (a2 a)) in
     comes_as N a _ _ _ None _ _ (fd_append i a)
     (λ c. ap (append_of c a (a0 a) (a2 a)) buffer_is
     ∙ append_told c a (a0 a) (a2 a) bytes t _ _ (not_below a.fuel (a2 a)) (not_above (a0 a)))
@@ -338,15 +360,17 @@ new_comes : (N : ℕ → Bool → ℕ → Type 0) (a : ActorState) (n : ℕ) (t 
 new_comes N a n true e = rw e (comes_refused N a _ _ code.Full (λ c. refl))
 new_comes N a n false e = rw e (drafted_comes N a (a.drafts ++ empty_draft ∷ []) n)
 
-right_comes : (N : ℕ → Bool → ℕ → Type 0) (a : ActorState) (d : Draft) (t u : Bool)
-    → AsDraft N a (if not (t || u) then Some bad else if takes_tag d (a1 a) then None else Some full) (add_right a d (if t then Some right.Read else if u then Some right.ReadWrite else None))
-right_comes N a d true u = as_if N a None (Some full) _ (refuses a code.Full) (takes_tag d (a1 a)) (drafted_comes N a _ 0) (comes_refused N a _ _ code.Full (λ c. refl))
-right_comes N a d false true = as_if N a None (Some full) _ (refuses a code.Full) (takes_tag d (a1 a)) (drafted_comes N a _ 0) (comes_refused N a _ _ code.Full (λ c. refl))
-right_comes N a d false false = comes_refused N a _ _ code.Bad (λ c. refl)
+right_comes : (N : ℕ → Bool → ℕ → Type 0) (a : ActorState) (d : Draft) (t u v : Bool)
+    → AsDraft N a (if not (t || (u || v)) then Some bad else if takes_tag d (a1 a) then None else Some full)
+    (add_right a d (if t then Some right.Cow else if u then Some right.Read else if v then Some right.ReadWrite else None))
+right_comes N a d true u v = as_if N a None (Some full) _ (refuses a code.Full) (takes_tag d (a1 a)) (drafted_comes N a _ 0) (comes_refused N a _ _ code.Full (λ c. refl))
+right_comes N a d false true v = as_if N a None (Some full) _ (refuses a code.Full) (takes_tag d (a1 a)) (drafted_comes N a _ 0) (comes_refused N a _ _ code.Full (λ c. refl))
+right_comes N a d false false true = as_if N a None (Some full) _ (refuses a code.Full) (takes_tag d (a1 a)) (drafted_comes N a _ 0) (comes_refused N a _ _ code.Full (λ c. refl))
+right_comes N a d false false false = comes_refused N a _ _ code.Bad (λ c. refl)
 
 right_to_comes : (N : ℕ → Bool → ℕ → Type 0) (a : ActorState) (d : Option Draft) → AsDraft N a (right_refusal (a1 a) (a2 a) d) (add_right_to a d)
 right_to_comes N a None = comes_refused N a _ _ code.NoSuch (λ c. refl)
-right_to_comes N a (Some d) = right_comes N a d (a2 a == 2) (a2 a == 3)
+right_to_comes N a (Some d) = right_comes N a d (a2 a == 1) (a2 a == 2) (a2 a == 3)
 
 bits_comes : (N : ℕ → Bool → ℕ → Type 0) (a : ActorState) (d : Draft) (t u v : Bool)
     → AsDraft N a (if not (t || (u || v)) then Some bad else if takes_fd d (a1 a) then None else Some full)
@@ -628,8 +652,8 @@ LoadsAt i h = InstrLoads h (option_and_then decode (fetch i h.pc))
 needed_comes : (i : Image) (ins : Instr) (a : ActorState) (h : Hart) (n : Need) → a.phase ≡ phase.Running → Comes (NeedLoads ins.rd n) a (λ c. needed_request i c a ins.rd n) (λ c. need_refusal_after c a n) (needed_end i a n) (need_refusal i a n) (needed i ins a h n)
 unfolding serves
 needed_comes i ins a h need.Done run = comes_on (NeedLoads ins.rd need.Done) a (record a { hart = h }) _ _ refl refl run (λ c. refl)
-needed_comes i ins a h (need.Load address width s) run = load_comes (NeedLoads ins.rd (need.Load address width s)) i ins s a address width _ _ (range_at a.memory address width) (refl, refl, refl) run
-needed_comes i ins a h (need.Store address width value) run = store_comes (NeedLoads ins.rd (need.Store address width value)) a address width value _ _ (range_at a.memory address width) run
+needed_comes i ins a h (need.Load address width s) run = load_comes (NeedLoads ins.rd (need.Load address width s)) i ins s a address width _ _ (range_at a.memory.ranges address width) (refl, refl, refl) run
+needed_comes i ins a h (need.Store address width value) run = store_comes (NeedLoads ins.rd (need.Store address width value)) a address width value _ _ (range_at a.memory.ranges address width) run
 needed_comes i ins a h need.Call run = call_comes (NeedLoads ins.rd need.Call) i a (a7 a)
 needed_comes i ins a h need.Break run = comes_end (NeedLoads ins.rd need.Break) a _ _ end_.Break (λ c. refl)
 needed_comes i ins a h need.JumpMisaligned run = comes_end (NeedLoads ins.rd need.JumpMisaligned) a _ _ end_.JumpMisaligned (λ c. refl)
@@ -673,7 +697,7 @@ slots_in i = length i.tags + (most_slots - length i.tags)
 abbrev pub ReadsAs : Image → ActorState → Phase → Type 0
 ReadsAs i a (phase.Within q) = (rd : ℕ) × (s : Bool) × ((c : Cells) → request_at i c a ≡ request_for c a rd s q) × IsWanted (LoadsAt i a.hart rd s) a q × ((c : Cells) → refusal_after i c a ≡ refusal_for c a q)
 ReadsAs i a phase.Running = Unit {0}
-ReadsAs i a phase.Starting = IsStartable a
+ReadsAs i a (phase.Starting pre) = IsStartable a
 ReadsAs i a (phase.Opening slot tag) = (slot < slots_in i) × AsksForPages a
 ReadsAs i a (phase.Releasing slot) = Unit {0}
 ReadsAs i a (phase.Ending e) = Unit {0}
@@ -713,7 +737,7 @@ reads_within i p q rd s asked own later =
 reads_of : (i : Image) (p x : ActorState) (ph : Phase) → WantsAs (LoadsAt i p.hart) p (λ c. request_at i c p) (λ c. refusal_after i c p) x ph → ReadsAs i x ph
 reads_of i p x (phase.Within q) w = subst (λ y. ReadsAs i y (phase.Within q)) (sym w.2) (reads_within i p q w.0 w.1 w.3 w.4 w.5)
 reads_of i p x phase.Running w = tt
-reads_of i p x phase.Starting w = absurd w
+reads_of i p x (phase.Starting pre) w = absurd w
 reads_of i p x (phase.Opening slot tag) w = absurd w
 reads_of i p x (phase.Releasing slot) w = absurd w
 reads_of i p x (phase.Ending e) w = tt

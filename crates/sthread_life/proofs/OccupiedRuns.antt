@@ -48,13 +48,13 @@ use Rattle.sthread_life.specs.Moments.{EachStep}
 use Rattle.sthread_life.specs.Occupancy.{slot_of_call, tag_of_call, slot_known, AreOccupied, AskSuits, SlotsSuit}
 use Rattle.sthread_life.specs.Taking.{next_start, takes, begun, child_of}
 use Rattle.sthread_life.specs.Worlds.{WorldState, opening, actor_named, turn_of, Runs}
-use Rattle.sthread_life.proofs.Between.{Leaves, event_for, takes_name, takes_between, turn_parts}
+use Rattle.sthread_life.proofs.Between.{IsPreparing, MayPrepare, Leaves, event_for, takes_name, takes_between, turn_parts}
 use Rattle.sthread_life.proofs.Bounding.{equal_keys, with_same, with_other}
 use Rattle.sthread_life.proofs.CellChanging.{IsChanged, event_changes}
 use Rattle.sthread_life.proofs.Directing.{claimed_rises}
-use Rattle.sthread_life.proofs.Families.{takes_made, takes_sheet, want_made, child_begins}
+use Rattle.sthread_life.proofs.Families.{takes_made, takes_sheet, made_same, want_made, child_begins}
 use Rattle.sthread_life.proofs.FamilyRuns.{Acts, ActsAlone, Starts, Joins, acts, one_begins, kept_at_rest}
-use Rattle.sthread_life.proofs.Happening.{Happens, Requested, Joined, Started, Opens, Releases, LastJoined, Ended}
+use Rattle.sthread_life.proofs.Happening.{Happens, snap_cases, Requested, Joined, Snaps, Started, Opens, Releases, LastJoined, Ended}
 use Rattle.sthread_life.proofs.Meeting.{IsRequest}
 use Rattle.sthread_life.proofs.Named.{found_name}
 use Rattle.sthread_life.proofs.Occupying.{Turns, IsPlain, occupied_after, stays_so, claims_so, opens_so, closes_so, releases_so}
@@ -121,14 +121,29 @@ quiet_places d e k = refl
 between_calls : (p : Phase) → IsBetween p → (slot_of_call p ≡ None) × (tag_of_call p ≡ None)
 between_calls phase.Running h = (refl, refl)
 between_calls (phase.Within q) h = absurd h
-between_calls phase.Starting h = absurd h
+between_calls (phase.Starting pre) h = absurd h
 between_calls (phase.Opening slot tag) h = absurd h
 between_calls (phase.Releasing slot) h = absurd h
 between_calls (phase.Ending e) h = (refl, refl)
 between_calls (phase.Ended e) h = (refl, refl)
 
+preparing_calls : (p : Phase) → IsPreparing p → (slot_of_call p ≡ None) × (tag_of_call p ≡ None)
+preparing_calls (phase.Starting pre) h = (refl, refl)
+preparing_calls p h = absurd h
+
+prepared_calls : (p : Phase) → MayPrepare p → (slot_of_call p ≡ None) × (tag_of_call p ≡ None)
+prepared_calls phase.Running h = (refl, refl)
+prepared_calls (phase.Within q) h = absurd h
+prepared_calls (phase.Starting pre) h = (refl, refl)
+prepared_calls (phase.Opening slot tag) h = absurd h
+prepared_calls (phase.Releasing slot) h = absurd h
+prepared_calls (phase.Ending e) h = (refl, refl)
+prepared_calls (phase.Ended e) h = (refl, refl)
+
 quiet_calls : (e : Event) (p : Phase) → IsQuiet e → Leaves e p → (slot_of_call p ≡ None) × (tag_of_call p ≡ None)
-quiet_calls (event.Lives lives_ask.Claim lives_reply.Claimed) p k h = (ap slot_of_call h, ap tag_of_call h)
+quiet_calls (event.Lives lives_ask.Claim lives_reply.Claimed) p k h = preparing_calls p h
+quiet_calls (event.Slot slot q (slot_reply.Snapped pages)) p k h = prepared_calls p h
+quiet_calls (event.Slot slot q slot_reply.Gone) p k h = prepared_calls p h
 quiet_calls (event.Lives lives_ask.Claim lives_reply.Full) p k h = between_calls p h
 quiet_calls (event.Lives lives_ask.Claim lives_reply.Released) p k h = between_calls p h
 quiet_calls (event.Lives (lives_ask.Release x) r) p k h = between_calls p h
@@ -174,6 +189,9 @@ free_quiet (Some g) offset live = by_tests _ _
     by_tests false u = tt
     by_tests true true = tt
     by_tests true false = tt
+
+snap_quiet : (g : Option Segment) (tag : ℕ) → IsQuietSlot (slot_reply_of g (slot_ask.Snap tag)) (slot_ask.Snap tag)
+snap_quiet g tag = snap_cases (λ r. IsQuietSlot r (slot_ask.Snap tag)) g tag (λ pages. tt) tt
 
 -- ---- what an actor holds
 
@@ -299,6 +317,9 @@ by_happening w a e all occ there (Requested r) =
 by_happening w a e all occ there (Joined j) =
     let changed = subst (λ y. IsChanged w.cells y (cells_after w.cells y)) j.join.is (event_changes w (rest w.image a) e all.cells (Joined j)) in
     subst (TurnsBy w a) (sym j.join.is) (quiet_turn w a _ occ there tt refl changed)
+by_happening w a e all occ there (Snaps s) =
+    let changed = subst (λ y. IsChanged w.cells y (cells_after w.cells y)) s.is (event_changes w (rest w.image a) e all.cells (Snaps s)) in
+    subst (TurnsBy w a) (sym s.is) (quiet_turn w a _ occ there (snap_quiet (slot_in w.cells s.grant.slot) s.grant.tag) (made_same (rest w.image a).made s.grant.slot _ _ tt) changed)
 by_happening w a e all occ there (Started s) =
     let changed = subst (λ y. IsChanged w.cells y (cells_after w.cells y)) s.is (event_changes w (rest w.image a) e all.cells (Started s)) in
     subst (TurnsBy w a) (sym s.is) (quiet_turn w a _ occ there tt refl changed)
@@ -315,7 +336,7 @@ by_happening w a e all occ there (Ended f) =
     subst (TurnsBy w a) (sym f.is) (quiet_turn w a _ occ there tt refl changed)
 
 -- a child holds what its starter does, in the slots in which its starter has it
-child_plain : (i : Image) (b k : ActorState) → IsChild i b k → (tag slot : ℕ) → slot_known k tag ≡ Some slot → slot_known b tag ≡ Some slot
+child_plain : (i : Image) (b k : ActorState) → IsChild b k → (tag slot : ℕ) → slot_known k tag ≡ Some slot → slot_known b tag ≡ Some slot
 child_plain i b k child tag slot e = by_grant (at k.sheet.tags tag) refl (ap (λ (m : Made). slot_on k.sheet m tag) (sym child.fresh.0) ∙ e)
   where
     by_grant : (o : Option Grant) → at k.sheet.tags tag ≡ o → option_map (λ g. g.slot) (at k.sheet.tags tag) ≡ Some slot → slot_known b tag ≡ Some slot
@@ -330,7 +351,7 @@ begins_plain w a e (Starts s) k is =
     let child = child_of w.image b (child_name b.name (next_start b)) in
     let both : Some child ≡ Some k = sym (ap (begun w.image b) s.is) ∙ is in
     let same_child : child ≡ k = cc in
-    let begins = child_begins w.image b s.ready in
+    let begins = child_begins w.image b s.preparation s.at s.complete s.ready in
     let known : (tag : ℕ) → slot_known (takes w.image b e) tag ≡ slot_known b tag = λ tag. ap (λ (s : Sheet). slot_on s (takes w.image b e).made tag) (takes_sheet w.image b e) ∙ ap (λ (m : Made). slot_on b.sheet m tag) (takes_made w.image b e ∙ ap (λ y. made_by b.made (Some y)) s.is) in
     subst (IsPlain (takes w.image b e)) same_child (record { calls = refl; opens = refl; holds = λ tag slot f. known tag ∙ child_plain w.image b child begins tag slot f })
 
@@ -393,6 +414,7 @@ few_pages n e = (some n e, few n e)
 suits : (w : WorldState) (a : ActorState) (e : Event) → AllReady w → Occupied w → actor_named w.actors a.name ≡ Some a → Happens w (rest w.image a) e → AskSuits w.cells e
 suits w a e all occ there (Requested r) = subst (AskSuits w.cells) (sym r.is) (suits_want w (rest w.image a) _ r.want occ r.own)
 suits w a e all occ there (Joined j) = subst (AskSuits w.cells) (sym j.join.is) tt
+suits w a e all occ there (Snaps s) = subst (AskSuits w.cells) (sym s.is) tt
 suits w a e all occ there (Started s) = subst (AskSuits w.cells) (sym s.is) tt
 suits w a e all occ there (Opens o) =
     let at_ = rest-uncalm w.image a (phase.Opening o.slot o.tag) (λ h. h) o.at in

@@ -22,7 +22,8 @@ use Rattle.rv_hart.specs.Local.{local}
 use Rattle.sthread_life.specs.declared.phase.Phase.{Phase}
 use Rattle.sthread_life.specs.declared.phase.Phase.TheVariants as phase
 use Rattle.sthread_life.specs.Actors.{ActorState, right_of, answers, denies, ends, refuses, spends, wants}
-use Rattle.sthread_life.specs.Private.{loads, stores, load_window, load_range, store_window, store_range, has_loaded, fits_read}
+use Rattle.cow_pages.specs.Copies.{copy_at, holds_copy, read_copy}
+use Rattle.sthread_life.specs.Private.{loads, stores, load_bytes, load_copy, load_window, load_range, store_copy, store_window, store_range, has_loaded, fits_read}
 use Rattle.wedge_base.specs.Names.{most_parts}
 use Rattle.wedge_base.specs.Sheets.{Draft, takes_tag, takes_fd, first_excess}
 use Rattle.wedge_base.specs.Maps.{has}
@@ -41,7 +42,7 @@ use Rattle.sthread_life.specs.Local.{needed, executed, fuelled, fetched, step, i
 abbrev pub IsCalm : Phase → Type 0
 IsCalm phase.Running = Unit {0}
 IsCalm (phase.Within q) = Unit {0}
-IsCalm phase.Starting = ⊥
+IsCalm (phase.Starting pre) = ⊥
 IsCalm (phase.Opening slot tag) = ⊥
 IsCalm (phase.Releasing slot) = ⊥
 IsCalm (phase.Ending e) = Unit {0}
@@ -72,23 +73,36 @@ goes_refused a c = record { name = refl; compartment = refl; sheet = refl; fuel 
 goes_loaded : (ins : Instr) (s : Bool) (a : ActorState) (width value : ℕ) → Goes a (has_loaded ins s a width value)
 goes_loaded ins s a width value = record { name = refl; compartment = refl; sheet = refl; fuel = refl; made = refl; starts = refl; unjoined = refl; live = λ h. h; calm = λ h. h }
 
-goes_load_window : (a : ActorState) (width : ℕ) (p : Option Place) → Goes a (load_window a width p)
-goes_load_window a width None = goes_end a end_.Unmapped
-goes_load_window a width (Some p) = record { name = refl; compartment = refl; sheet = refl; fuel = refl; made = refl; starts = refl; unjoined = refl; live = λ h. refl; calm = λ h. tt }
+goes_load_bytes : (ins : Instr) (s : Bool) (a : ActorState) (width : ℕ) (o : Option (List ℕ)) → Goes a (load_bytes ins s a width o)
+goes_load_bytes ins s a width None = goes_end a end_.Unmapped
+goes_load_bytes ins s a width (Some bytes) = goes_loaded ins s a width (number_of bytes)
+
+goes_load_copy : (ins : Instr) (s : Bool) (a : ActorState) (width : ℕ) (p : Place) (o : Option (List ℕ)) → Goes a (load_copy ins s a width p o)
+goes_load_copy ins s a width p None = record { name = refl; compartment = refl; sheet = refl; fuel = refl; made = refl; starts = refl; unjoined = refl; live = λ h. refl; calm = λ h. tt }
+goes_load_copy ins s a width p (Some bytes) = goes_load_bytes ins s a width (read_copy p.offset width bytes)
+
+goes_load_window : (ins : Instr) (s : Bool) (a : ActorState) (width : ℕ) (p : Option Place) → Goes a (load_window ins s a width p)
+goes_load_window ins s a width None = goes_end a end_.Unmapped
+goes_load_window ins s a width (Some p) = goes_load_copy ins s a width p (copy_at a.memory.copies p.slot)
 
 goes_load_range : (ins : Instr) (s : Bool) (a : ActorState) (address width : ℕ) (r : Option MemoryRange) → Goes a (load_range ins s a address width r)
 goes_load_range ins s a address width (Some r) = goes_loaded ins s a width (number_of (read_range r address width))
-goes_load_range ins s a address width None = goes_load_window a width (slot_of address)
+goes_load_range ins s a address width None = goes_load_window ins s a width (slot_of address)
 
 goes_load : (i : Image) (ins : Instr) (s : Bool) (a : ActorState) (address width : ℕ) → Goes a (loads i ins s a address width)
 goes_load i ins s a address width =
     goes_if a (ends a end_.Misaligned) _ _ (goes_end a end_.Misaligned)
     (goes_if a (has_loaded ins s a width (number_of (read_text i address width))) _ (in_text i address width) (goes_loaded ins s a width (number_of (read_text i address width)))
-    (goes_load_range ins s a address width (range_at a.memory address width)))
+    (goes_load_range ins s a address width (range_at a.memory.ranges address width)))
+
+goes_store_copy : (a : ActorState) (width value : ℕ) (p : Place) (o : Option (List ℕ)) → Goes a (store_copy a width value p o)
+goes_store_copy a width value p None = record { name = refl; compartment = refl; sheet = refl; fuel = refl; made = refl; starts = refl; unjoined = refl; live = λ h. refl; calm = λ h. tt }
+goes_store_copy a width value p (Some bytes) =
+    goes_if a _ (ends a end_.Unmapped) (holds_copy p.offset width bytes) (record { name = refl; compartment = refl; sheet = refl; fuel = refl; made = refl; starts = refl; unjoined = refl; live = λ h. h; calm = λ h. h }) (goes_end a end_.Unmapped)
 
 goes_store_window : (a : ActorState) (width value : ℕ) (p : Option Place) → Goes a (store_window a width value p)
 goes_store_window a width value None = goes_end a end_.Unmapped
-goes_store_window a width value (Some p) = record { name = refl; compartment = refl; sheet = refl; fuel = refl; made = refl; starts = refl; unjoined = refl; live = λ h. refl; calm = λ h. tt }
+goes_store_window a width value (Some p) = goes_store_copy a width value p (copy_at a.memory.copies p.slot)
 
 goes_store_range : (a : ActorState) (address width value : ℕ) (r : Option MemoryRange) → Goes a (store_range a address width value r)
 goes_store_range a address width value (Some r) = record { name = refl; compartment = refl; sheet = refl; fuel = refl; made = refl; starts = refl; unjoined = refl; live = λ h. h; calm = λ h. h }
@@ -98,7 +112,7 @@ goes_store : (i : Image) (a : ActorState) (address width value : ℕ) → Goes a
 goes_store i a address width value =
     goes_if a (ends a end_.Misaligned) _ _ (goes_end a end_.Misaligned)
     (goes_if a (ends a end_.TextStore) _ (in_text i address width) (goes_end a end_.TextStore)
-    (goes_store_range a address width value (range_at a.memory address width)))
+    (goes_store_range a address width value (range_at a.memory.ranges address width)))
 
 goes_append : (i : Image) (a : ActorState) → Goes a (fd_append i a)
 goes_append i a =
@@ -202,7 +216,7 @@ goes_executed i a (Some ins) = let b = local ins a.hart in goes_needed i ins a b
 abbrev pub IsEnding : Phase → Type 0
 IsEnding phase.Running = ⊥
 IsEnding (phase.Within q) = ⊥
-IsEnding phase.Starting = ⊥
+IsEnding (phase.Starting pre) = ⊥
 IsEnding (phase.Opening slot tag) = ⊥
 IsEnding (phase.Releasing slot) = ⊥
 IsEnding (phase.Ending e) = Unit {0}
@@ -238,7 +252,7 @@ steps_step i a = steps_fetched i a (fetch i a.hart.pc)
 abbrev pub HasPaid : ℕ → ℕ → Phase → Type 0
 HasPaid before after phase.Running = after ≤ before
 HasPaid before after (phase.Within q) = after < before
-HasPaid before after phase.Starting = after < before
+HasPaid before after (phase.Starting pre) = after < before
 HasPaid before after (phase.Opening slot tag) = after < before
 HasPaid before after (phase.Releasing slot) = after < before
 HasPaid before after (phase.Ending e) = after ≤ before
@@ -259,7 +273,7 @@ pub record Rests (a b : ActorState) : Type 0 where
 paid_less : (before mid after : ℕ) (p : Phase) → mid ≤ before → HasPaid mid after p → HasPaid before after p
 paid_less before mid after phase.Running le h = omega arith
 paid_less before mid after (phase.Within q) le h = omega arith
-paid_less before mid after phase.Starting le h = omega arith
+paid_less before mid after (phase.Starting pre) le h = omega arith
 paid_less before mid after (phase.Opening slot tag) le h = omega arith
 paid_less before mid after (phase.Releasing slot) le h = omega arith
 paid_less before mid after (phase.Ending e) le h = omega arith
@@ -270,8 +284,8 @@ paid_step before after phase.Running (inl lt) = omega arith
 paid_step before after phase.Running (inr h) = absurd h.1
 paid_step before after (phase.Within q) (inl lt) = lt
 paid_step before after (phase.Within q) (inr h) = absurd h.1
-paid_step before after phase.Starting (inl lt) = lt
-paid_step before after phase.Starting (inr h) = absurd h.1
+paid_step before after (phase.Starting pre) (inl lt) = lt
+paid_step before after (phase.Starting pre) (inr h) = absurd h.1
 paid_step before after (phase.Opening slot tag) (inl lt) = lt
 paid_step before after (phase.Opening slot tag) (inr h) = absurd h.1
 paid_step before after (phase.Releasing slot) (inl lt) = lt
@@ -298,7 +312,7 @@ goes_on i n a e = ap (λ b. elim b [ true ↦ run_local i n (step i a) | false �
 pub running_is : (p : Phase) → is_running p ≡ true → p ≡ phase.Running
 running_is phase.Running e = refl
 running_is (phase.Within q) e = cc
-running_is phase.Starting e = cc
+running_is (phase.Starting pre) e = cc
 running_is (phase.Opening slot tag) e = cc
 running_is (phase.Releasing slot) e = cc
 running_is (phase.Ending x) e = cc
@@ -307,7 +321,7 @@ running_is (phase.Ended x) e = cc
 running_live : (p : Phase) → is_running p ≡ true → has_ended p ≡ false
 running_live phase.Running e = refl
 running_live (phase.Within q) e = refl
-running_live phase.Starting e = refl
+running_live (phase.Starting pre) e = refl
 running_live (phase.Opening slot tag) e = refl
 running_live (phase.Releasing slot) e = refl
 running_live (phase.Ending x) e = refl
@@ -316,7 +330,7 @@ running_live (phase.Ended x) e = cc
 running_calm : (p : Phase) → is_running p ≡ true → IsCalm p
 running_calm phase.Running e = tt
 running_calm (phase.Within q) e = tt
-running_calm phase.Starting e = absurd cc
+running_calm (phase.Starting pre) e = absurd cc
 running_calm (phase.Opening slot tag) e = absurd cc
 running_calm (phase.Releasing slot) e = absurd cc
 running_calm (phase.Ending x) e = tt
@@ -339,7 +353,7 @@ rests_from i (suc n) a true e =
 paid_running : (f : ℕ) (p : Phase) → is_running p ≡ true → HasPaid f f p
 paid_running f phase.Running e = omega arith
 paid_running f (phase.Within q) e = cc
-paid_running f phase.Starting e = cc
+paid_running f (phase.Starting pre) e = cc
 paid_running f (phase.Opening slot tag) e = cc
 paid_running f (phase.Releasing slot) e = cc
 paid_running f (phase.Ending x) e = omega arith
@@ -369,7 +383,7 @@ rest-uncalm i a p uncalm is = by_running (is_running a.phase) refl
 ending_stops : (p : Phase) → IsEnding p → is_running p ≡ false
 ending_stops phase.Running h = absurd h
 ending_stops (phase.Within q) h = refl
-ending_stops phase.Starting h = refl
+ending_stops (phase.Starting pre) h = refl
 ending_stops (phase.Opening slot tag) h = refl
 ending_stops (phase.Releasing slot) h = refl
 ending_stops (phase.Ending e) h = refl
@@ -403,7 +417,7 @@ rest-ended i a = (kept_by i a _ refl).1
 ended_stops : (p : Phase) → has_ended p ≡ true → is_running p ≡ false
 ended_stops phase.Running e = cc
 ended_stops (phase.Within q) e = refl
-ended_stops phase.Starting e = refl
+ended_stops (phase.Starting pre) e = refl
 ended_stops (phase.Opening slot tag) e = refl
 ended_stops (phase.Releasing slot) e = refl
 ended_stops (phase.Ending x) e = refl
@@ -442,7 +456,7 @@ rest-step i a e =
 abbrev pub left : Phase → ℕ → ℕ
 left phase.Running n = n + 1
 left (phase.Within q) n = 0
-left phase.Starting n = 0
+left (phase.Starting pre) n = 0
 left (phase.Opening slot tag) n = 0
 left (phase.Releasing slot) n = 0
 left (phase.Ending e) n = 0
@@ -451,7 +465,7 @@ left (phase.Ended e) n = 0
 left_ending : (p : Phase) (n : ℕ) → IsEnding p → left p n ≡ 0
 left_ending phase.Running n h = absurd h
 left_ending (phase.Within q) n h = refl
-left_ending phase.Starting n h = refl
+left_ending (phase.Starting pre) n h = refl
 left_ending (phase.Opening slot tag) n h = refl
 left_ending (phase.Releasing slot) n h = refl
 left_ending (phase.Ending e) n h = refl
@@ -460,7 +474,7 @@ left_ending (phase.Ended e) n h = refl
 left_le : (p : Phase) (n : ℕ) → left p n ≤ n + 1
 left_le phase.Running n = omega arith
 left_le (phase.Within q) n = omega arith
-left_le phase.Starting n = omega arith
+left_le (phase.Starting pre) n = omega arith
 left_le (phase.Opening slot tag) n = omega arith
 left_le (phase.Releasing slot) n = omega arith
 left_le (phase.Ending e) n = omega arith

@@ -25,6 +25,7 @@ use Rattle.sthread_life.specs.Worlds.{WorldState, opening, actor_named, put_acto
 use Rattle.sthread_life.specs.Outcomes.{with_actor, lines_of, streams_of, outcome_of}
 use Rattle.sthread_life.proofs.Resting.{rest-name, rest-ended, ended-stays}
 use Rattle.sthread_life.proofs.Between.{TurnParts, turn_parts}
+use Rattle.sthread_life.proofs.DraftsFit.{AreFew, rest_few, takes_few}
 use Rattle.sthread_life.proofs.Happening.{Happens, happens, takes_reads}
 use Rattle.sthread_life.proofs.Directing.{next_sound}
 use Rattle.sthread_life.proofs.Meeting.{slots_in, ReadsAs, rest_reads}
@@ -94,7 +95,7 @@ join_at_rest i k (Some c) = by_end (has_ended c.phase) refl
     not_reached : (p : Phase) → has_ended p ≡ false → end_reached p ≡ None
     not_reached phase.Running e = refl
     not_reached (phase.Within q) e = refl
-    not_reached phase.Starting e = refl
+    not_reached (phase.Starting pre) e = refl
     not_reached (phase.Opening slot tag) e = refl
     not_reached (phase.Releasing slot) e = refl
     not_reached (phase.Ending x) e = refl
@@ -151,7 +152,7 @@ whole_alike v w alike = sym (at_rest v) ∙ ap (λ (x : WorldState). is_whole x)
 no_line : (i : Image) (a : ActorState) (p : Phase) (ls : List ActorLine) → has_ended p ≡ false → with_actor i a p ls ≡ ls
 no_line i a phase.Running ls e = refl
 no_line i a (phase.Within q) ls e = refl
-no_line i a phase.Starting ls e = refl
+no_line i a (phase.Starting pre) ls e = refl
 no_line i a (phase.Opening slot tag) ls e = refl
 no_line i a (phase.Releasing slot) ls e = refl
 no_line i a (phase.Ending x) ls e = refl
@@ -182,14 +183,21 @@ pub record AreCells (i : Image) (c : Cells) : Type 0 where
   pub places : GivesBelow (slots_in i) c.places
   pub slots : length c.slots ≡ slots_in i
 
+-- no draft of an actor has more grants than a draft may have
+abbrev pub AllFew : List ActorState → Type 0
+AllFew [] = Unit {0}
+AllFew (b ∷ bs) = AreFew b.drafts × AllFew bs
+
 -- every actor rests at its request, at its end, or at none
 pub record AllReady (w : WorldState) : Type 0 where
   pub actors : AllRead w.image (settled w).actors
+  pub drafts : AllFew (settled w).actors
   pub cells : AreCells w.image w.cells
 
 pub ready_alike : (v w : WorldState) → settled v ≡ settled w → AllReady w → AllReady v
 ready_alike v w alike all = record {
   actors = subst (λ (x : WorldState). AllRead x.image x.actors) (sym alike) all.actors;
+  drafts = subst (λ (x : WorldState). AllFew x.actors) (sym alike) all.drafts;
   cells = subst (λ (x : WorldState). AreCells x.image x.cells) (sym alike) all.cells;
 }
 
@@ -204,6 +212,31 @@ named_reads i (x ∷ xs) name b all e = first_reads i x b (actor_named xs name) 
 pub named_ready : (w : WorldState) (name : List ℕ) (a : ActorState) → AllReady w → actor_named w.actors name ≡ Some a → ReadsAs w.image (rest w.image a) (rest w.image a).phase
 named_ready w name a all named =
     named_reads w.image (settled w).actors name (rest w.image a) all.actors (map_named w.image w.actors name ∙ ap (option_map (rest w.image)) named)
+
+named_few : (bs : List ActorState) (name : List ℕ) (b : ActorState) → AllFew bs → actor_named bs name ≡ Some b → AreFew b.drafts
+named_few [] name b all e = absurd cc
+named_few (x ∷ xs) name b all e = by_name (same x.name name) e (named_few xs name b all.1)
+  where
+    by_name : (t : Bool) → (if t then Some x else actor_named xs name) ≡ Some b → (actor_named xs name ≡ Some b → AreFew b.drafts) → AreFew b.drafts
+    by_name true h others = let is : x ≡ b = cc in subst (λ (y : ActorState). AreFew y.drafts) is all.0
+    by_name false h others = others h
+
+pub actor_few : (w : WorldState) (name : List ℕ) (a : ActorState) → AllReady w → actor_named w.actors name ≡ Some a → AreFew (rest w.image a).drafts
+actor_few w name a all named =
+    named_few (settled w).actors name (rest w.image a) all.drafts (map_named w.image w.actors name ∙ ap (option_map (rest w.image)) named)
+
+put_few : (bs : List ActorState) (x : ActorState) → AllFew bs → AreFew x.drafts → AllFew (put_actor bs x)
+put_few [] x all h = (h, tt)
+put_few (b ∷ bs) x all h = by_name (same b.name x.name) (put_few bs x all.1 h)
+  where
+    by_name : (t : Bool) → AllFew (put_actor bs x) → AllFew (if t then x ∷ bs else b ∷ put_actor bs x)
+    by_name true others = (h, all.1)
+    by_name false others = (all.0, others)
+
+begun_few : (bs : List ActorState) (o : Option ActorState) → AllFew bs → ((c : ActorState) → o ≡ Some c → AreFew c.drafts) → AllFew (with_begun bs o)
+begun_few bs None all h = all
+begun_few [] (Some c) all h = (h c refl, tt)
+begun_few (b ∷ bs) (Some c) all h = (all.0, begun_few bs (Some c) all.1 h)
 
 put_or_reads : (i : Image) (x b : ActorState) (bs others : List ActorState) (t : Bool) → ReadsAs i x x.phase → ReadsAs i b b.phase → AllRead i bs → AllRead i others → AllRead i (if t then x ∷ bs else b ∷ others)
 put_or_reads i x b bs others true h k all rest_ = (h, all)
@@ -224,6 +257,12 @@ begins_ready i b (event.Start child) c is =
     let same : rest i (child_of i b child) ≡ c = cc in
     subst (λ (x : ActorState). ReadsAs i x x.phase) same (rest_reads i (child_of i b child) tt)
 begins_ready i b e c is = absurd cc
+
+begins_few : (i : Image) (b : ActorState) (e : Event) (c : ActorState) → option_map (rest i) (begun i b e) ≡ Some c → AreFew c.drafts
+begins_few i b (event.Start child) c is =
+    let same_child : rest i (child_of i b child) ≡ c = cc in
+    subst (λ (x : ActorState). AreFew x.drafts) same_child (rest_few i (child_of i b child) tt)
+begins_few i b e c is = absurd cc
 
 -- what a turn's actor comes to
 pub turn_happens : (w : WorldState) (name : List ℕ) (e : Event) (new : WorldState) → AllReady w → (p : TurnParts w name e new) → Happens w (rest w.image p.actor) e
@@ -254,9 +293,12 @@ turn_ready w name e new all t =
     let x = takes w.image b e in
     let reads = takes_reads w b e all.cells.places (turn_happens w name e new all p) in
     let put = put_reads w.image (settled w).actors (rest w.image x) all.actors (rest_reads w.image x reads) in
+    let few = put_few (settled w).actors (rest w.image x) all.drafts (rest_few w.image x (takes_few w.image b e (actor_few w name p.actor all p.named))) in
     subst AllReady (sym p.new_is) (record {
       actors = subst (AllRead w.image) (sym (map_begun w.image (put_actor w.actors x) (begun w.image b e)))
           (begun_reads w.image (map (rest w.image) (put_actor w.actors x)) (option_map (rest w.image) (begun w.image b e)) (subst (AllRead w.image) (sym (map_put w.image w.actors x)) put) (begins_ready w.image b e));
+      drafts = subst AllFew (sym (map_begun w.image (put_actor w.actors x) (begun w.image b e)))
+          (begun_few (map (rest w.image) (put_actor w.actors x)) (option_map (rest w.image) (begun w.image b e)) (subst AllFew (sym (map_put w.image w.actors x)) few) (begins_few w.image b e));
       cells = cells_kept w.image w.cells e all.cells;
     })
 
@@ -277,6 +319,7 @@ pub opening_ready : (i : Image) → AllReady (opening i)
 unfolding root
 opening_ready i = record {
   actors = (rest_reads i (root i) tt, tt);
+  drafts = (rest_few i (root i) tt, tt);
   cells = record { places = (enough most_slots (length i.tags), some (length i.tags) (most_slots - length i.tags), tt); slots = all };
 }
   where

@@ -9,12 +9,14 @@ use Rattle.std.specs.FinMap.Entries.{by_order}
 use Rattle.std.specs.Prelude.{Option, Some, None, map, unwrap_or, option_map, if◌then◌else◌}
 use Rattle.wedge_base.specs.Images.{slots}
 use Rattle.wedge_base.specs.Maps.{Map, at, with}
-use Rattle.wedge_base.specs.Sheets.{Sheet, Made, Draft, nothing_made, with_grant, root_tags, root_sheet, slot_on, tag_granted, granted, made_tag}
+use Rattle.wedge_base.specs.Sheets.{Sheet, Made, Draft, is_copy, nothing_made, with_grant, root_tags, root_sheet, slot_on, tag_granted, granted, made_tag}
 use Rattle.wedge_base.specs.declared.image.TagEntry.{TagEntry}
 use Rattle.wedge_base.specs.declared.image.FdEntry.{FdEntry}
 use Rattle.wedge_base.specs.declared.rights.Grant.{Grant}
 use Rattle.wedge_base.specs.declared.rights.Right.{Right}
-use Rattle.sthread_life.specs.Between.{HoldsInSlots}
+use Rattle.sthread_life.specs.declared.copy_grant.CopyGrant.{CopyGrant}
+use Rattle.sthread_life.specs.Between.{AreInSlots, HoldsInSlots}
+use Rattle.sthread_life.specs.Copying.{copy_grants, behind_first}
 
 -- what is found among such entries is such
 found : {X : Type 0} (f : X → ℕ) (es : Map X) (k : ℕ) (x : X) → AllByRecursion (λ e. f e.1 < slots) es → at es k ≡ Some x → f x < slots
@@ -55,6 +57,22 @@ granted_entries s m (e ∷ es) h = (held_inside s m e.0 h, granted_entries s m e
 
 pub granted_inside : (s : Sheet) (m : Made) (d : Draft) → HoldsInSlots s m → HoldsInSlots (granted s m d) nothing_made
 granted_inside s m d h = (granted_entries s m d.tags h, tt)
+
+-- so are the copies that a child is to have
+copy_inside : (t : Bool) (g : CopyGrant) (gs : List CopyGrant) → g.slot < slots → AreInSlots gs → AreInSlots (if t then g ∷ gs else gs)
+copy_inside true g gs inside all = (inside, all)
+copy_inside false g gs inside all = all
+
+pub copies_inside : (s : Sheet) (m : Made) (es : Map Right) (gs : List CopyGrant) → gs ≡ copy_grants (map (tag_granted s m) es) → HoldsInSlots s m → AreInSlots gs
+copies_inside s m es gs is h = subst AreInSlots (sym is) (all es)
+  where
+    all : (rs : Map Right) → AreInSlots (copy_grants (map (tag_granted s m) rs))
+    all [] = tt
+    all (r ∷ rs) = copy_inside (is_copy r.1) (record { tag = r.0; slot = unwrap_or (slot_on s m r.0) 0 }) (copy_grants (map (tag_granted s m) rs)) (held_inside s m r.0 h) (all rs)
+
+pub behind_inside : (gs : List CopyGrant) → AreInSlots gs → AreInSlots (behind_first gs)
+behind_inside [] all = tt
+behind_inside (g ∷ gs) all = all.1
 
 -- and one that is made is where it is opened
 with_entry : (es : Map ℕ) (k slot : ℕ) → slot < slots → AllByRecursion (λ e. e.1 < slots) es → AllByRecursion (λ e. e.1 < slots) (with es k slot)

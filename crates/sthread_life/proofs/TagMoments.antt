@@ -2,6 +2,7 @@
 use Rattle.std.proofs.Common.{◌≡◌, ℕ, zero, suc, ◌+◌, ◌-◌, Bool, true, false, true≢false, List, [], ◌∷◌, length, refl, sym, ap, subst, ◌∙◌, arith}
 use Rattle.std.proofs.lemmas.Bool.{eqb-true, eq-eqb}
 use Rattle.std.specs.Prelude.{Option, Some, None, is_some, is_none, option_map, not, ◌&&◌, ◌==◌, nat_lt, if◌then◌else◌}
+use Rattle.cow_pages.specs.Copies.{without_copy}
 use Rattle.wedge_base.specs.Blocks.{Block, rounded, first_fit, block_at}
 use Rattle.wedge_base.specs.Directories.{Directory, Claim, no_number, claim_from, claim, claim_reply, claim_next as left_by}
 use Rattle.wedge_base.specs.Images.{Image, fetch, address_of}
@@ -48,7 +49,7 @@ use Rattle.sthread_life.proofs.Between.{event_for}
 use Rattle.sthread_life.proofs.Bounding.{with_same}
 use Rattle.sthread_life.proofs.Checking.{slot_cells, kept, put_there, checked_denied, checked_allowed, after, stayed, same_slots, pair_on, slot_world}
 use Rattle.sthread_life.proofs.Going.{IsNext}
-use Rattle.sthread_life.proofs.Happening.{Happens, Requested, Joined, Started, Opens, Releases, LastJoined, Ended}
+use Rattle.sthread_life.proofs.Happening.{Happens, Requested, Joined, Snaps, Started, Opens, Releases, LastJoined, Ended}
 use Rattle.sthread_life.proofs.Meeting.{IsRequest, pages_tests}
 use Rattle.sthread_life.proofs.Named.{put_put}
 
@@ -401,7 +402,7 @@ unfolding takes
 open_makes w b slot tag = (
   refl,
   ap (λ (as_ : List ActorState). record w { cells = slot_cells w slot (slot_in w.cells slot) (slot_ask.Open tag (a0 b)) slot_reply.Opened; actors = as_ })
-      (sym (put_put w.actors b (record b { made = made_tag b.made tag slot; hart = answered_twice b tag (address_of slot 0); phase = phase.Running }) refl)),
+      (sym (put_put w.actors b (record b { made = made_tag b.made tag slot; hart = answered_twice b tag (address_of slot 0); memory = record b.memory { copies = without_copy b.memory.copies slot }; phase = phase.Running }) refl)),
   made_is_held b slot tag,
 )
 
@@ -417,7 +418,9 @@ event_makes w b e (Joined j) =
     subst (λ ph. MakesAt (with_actor w b) b ph e (after w b e)) (sym j.at)
     (subst (λ y. MakesAt (with_actor w b) b (phase.Within (want.Join j.number)) y (after w b y)) (sym j.join.is) refl)
 event_makes w b e (Started s) =
-    subst (λ ph. MakesAt (with_actor w b) b ph e (after w b e)) (sym s.at) (subst (λ y. MakesAt (with_actor w b) b phase.Starting y (after w b y)) (sym s.is) refl)
+    subst (λ ph. MakesAt (with_actor w b) b ph e (after w b e)) (sym s.at) (subst (λ y. MakesAt (with_actor w b) b (phase.Starting s.preparation) y (after w b y)) (sym s.is) refl)
+event_makes w b e (Snaps s) =
+    subst (λ ph. MakesAt (with_actor w b) b ph e (after w b e)) (sym s.at) (subst (λ y. MakesAt (with_actor w b) b (phase.Starting s.preparation) y (after w b y)) (sym s.is) refl)
 event_makes w b e (Opens o) =
     subst (λ ph. MakesAt (with_actor w b) b ph e (after w b e)) (sym o.at) (subst (λ y. MakesAt (with_actor w b) b (phase.Opening o.slot o.tag) y (after w b y)) (sym o.is) (open_makes w b o.slot o.tag))
 event_makes w b e (Releases r) =

@@ -1,10 +1,16 @@
 -- Each turn takes work away, so every run ends.
-use Rattle.std.proofs.Common.{◌≡◌, ℕ, suc, ◌+◌, ◌*◌, ◌≤◌, ◌<◌, Bool, true, false, not, List, [], ◌∷◌, ◌++◌, length, refl, sym, ap, subst, ◌∙◌, arith}
+use Rattle.std.proofs.Common.{◌≡◌, ◌⊎◌, inl, inr, ℕ, suc, ◌+◌, ◌*◌, ◌≤◌, ◌<◌, Bool, true, false, not, List, [], ◌∷◌, ◌++◌, length, refl, sym, ap, subst, ◌∙◌, arith}
 use Rattle.std.specs.Prelude.{Option, Some, None, is_some, if◌then◌else◌}
 use Rattle.std.specs.Ordering.{nat_cmp, match_ordering}
 use Rattle.std.specs.declared.cmp.Ordering.{Ordering}
 use Rattle.std.specs.declared.cmp.Ordering.TheVariants.{Less, Equal, Greater}
+use Rattle.cow_pages.specs.Copies.{Copies, copy_at}
+use Rattle.cow_pages.specs.Listed.{bytes_listed}
+use Rattle.cow_pages.specs.PrivateMemory.{PrivateMemory}
 use Rattle.wedge_base.specs.Images.{Image}
+use Rattle.wedge_base.specs.Sheets.{Sheet, Made, right_on, most_grants}
+use Rattle.wedge_base.specs.Slots.{Segment, slot_reply as slot_reply_of}
+use Rattle.wedge_base.specs.declared.cells.SlotAsk.TheVariants as slot_ask
 use Rattle.wedge_base.specs.declared.events.Want.{Want}
 use Rattle.rv_hart.specs.Local.{reg}
 use Rattle.wedge_base.specs.declared.events.Want.TheVariants as want
@@ -19,23 +25,28 @@ use Rattle.wedge_base.specs.declared.cells.LivesReply.TheVariants as lives_reply
 use Rattle.wedge_base.specs.declared.rights.End.{End}
 use Rattle.sthread_life.specs.declared.phase.Phase.{Phase}
 use Rattle.sthread_life.specs.declared.phase.Phase.TheVariants as phase
-use Rattle.sthread_life.specs.Actors.{ActorState, root}
+use Rattle.sthread_life.specs.declared.copy_grant.CopyGrant.{CopyGrant}
+use Rattle.sthread_life.specs.Actors.{ActorState, pristine, root}
 use Rattle.sthread_life.specs.Between.{IsBetween}
 use Rattle.sthread_life.specs.Children.{Children, child_name, is_number, fuel_given, is_child, with_child, without_child}
 use Rattle.sthread_life.specs.FamilyTrees.{Family}
-use Rattle.sthread_life.specs.Fuel.{units_of, phase_work, tasks_of, tasks_in, work_left, most_turns}
+use Rattle.sthread_life.specs.Copying.{Preparation, copied_from, is_copy_alone, prepared, behind_first}
+use Rattle.sthread_life.specs.Cells.{slot_in}
+use Rattle.sthread_life.specs.Fuel.{unit_work, units_of, phase_work, tasks_of, tasks_in, work_left, most_turns}
 use Rattle.sthread_life.specs.Laws.{RunsEnd}
 use Rattle.sthread_life.specs.Local.{is_running, rest}
-use Rattle.sthread_life.specs.Taking.{next_start, answered_end, takes, begun}
+use Rattle.sthread_life.specs.Taking.{next_start, answered_end, copies_asked, has_snapped, takes, begun}
 use Rattle.sthread_life.specs.Worlds.{WorldState, opening, actor_named, put_actor, with_begun, turn_of, Runs}
 use Rattle.wedge_base.specs.Names.{same}
-use Rattle.sthread_life.proofs.Between.{Leaves, takes_between, takes_name, turn_parts}
+use Rattle.sthread_life.proofs.Between.{IsPreparing, MayPrepare, Leaves, takes_between, takes_name, turn_parts}
+use Rattle.sthread_life.proofs.DraftsFit.{AreFew, few_copies}
+use Rattle.sthread_life.proofs.Preparing.{was_preparing}
 use Rattle.sthread_life.proofs.Families.{IsOfOne, takes_same, first_child}
 use Rattle.sthread_life.proofs.FamilyRuns.{kept_at_rest, rest_units, turn_keeps, turn_family, opening_family, one_begins, request_of_one, join_keeps_starts}
-use Rattle.sthread_life.proofs.Happening.{Happens, Requested, Joined, Started, Opens, Releases, LastJoined, Ended}
+use Rattle.sthread_life.proofs.Happening.{Happens, snap_cases, Requested, Joined, Snaps, Started, Opens, Releases, LastJoined, Ended}
 use Rattle.sthread_life.proofs.Named.{found_name}
-use Rattle.sthread_life.proofs.Resting.{HasPaid, rests, rest-stays, rest-name, running_is}
-use Rattle.sthread_life.proofs.Settling.{AllReady, turn_happens, turn_ready, opening_ready}
+use Rattle.sthread_life.proofs.Resting.{IsCalm, HasPaid, rests, rest-stays, rest-name, running_is}
+use Rattle.sthread_life.proofs.Settling.{AllReady, actor_few, turn_happens, turn_ready, opening_ready}
 
 -- ---- children by their count
 
@@ -98,17 +109,14 @@ tasks_begun actors (Some c) = tasks_behind actors c
 
 -- an actor that comes to rest has paid, or has little left to do
 record IsPaid (a b : ActorState) (units : ℕ) : Type 0 where
-  within : (q : Want) → b.phase ≡ phase.Within q → 7 ≤ 5 * units + phase_work a.phase
-  starting : b.phase ≡ phase.Starting → 6 ≤ 5 * units + phase_work a.phase
-  opening : (slot tag : ℕ) → b.phase ≡ phase.Opening slot tag → 6 ≤ 5 * units + phase_work a.phase
-  releasing : (slot : ℕ) → b.phase ≡ phase.Releasing slot → 6 ≤ 5 * units + phase_work a.phase
-  ending : (e : End) → b.phase ≡ phase.Ending e → 1 ≤ 5 * units + phase_work a.phase
+  within : (q : Want) → b.phase ≡ phase.Within q → 7 + most_grants ≤ unit_work * units + phase_work a.phase
+  starting : (p : Preparation) → b.phase ≡ phase.Starting p → 6 + length p.left ≤ unit_work * units + phase_work a.phase
+  opening : (slot tag : ℕ) → b.phase ≡ phase.Opening slot tag → 6 ≤ unit_work * units + phase_work a.phase
+  releasing : (slot : ℕ) → b.phase ≡ phase.Releasing slot → 6 ≤ unit_work * units + phase_work a.phase
+  ending : (e : End) → b.phase ≡ phase.Ending e → 1 ≤ unit_work * units + phase_work a.phase
 
 paid_within : (f g : ℕ) (p : Phase) (q : Want) → p ≡ phase.Within q → HasPaid f g p → g < f
 paid_within f g p q e h = subst (HasPaid f g) e h
-
-paid_starting : (f g : ℕ) (p : Phase) → p ≡ phase.Starting → HasPaid f g p → g < f
-paid_starting f g p e h = subst (HasPaid f g) e h
 
 paid_opening : (f g slot tag : ℕ) (p : Phase) → p ≡ phase.Opening slot tag → HasPaid f g p → g < f
 paid_opening f g slot tag p e h = subst (HasPaid f g) e h
@@ -123,7 +131,7 @@ rest_paid i a true e =
     let work : phase_work a.phase ≡ 2 = ap phase_work (running_is a.phase e) in
     record {
       within = λ q is. let less = paid_within a.fuel (rest i a).fuel (rest i a).phase q is r.paid in omega (arith, less, units, work);
-      starting = λ is. let less = paid_starting a.fuel (rest i a).fuel (rest i a).phase is r.paid in omega (arith, less, units, work);
+      starting = λ p is. absurd (subst IsCalm is r.calm);
       opening = λ slot tag is. let less = paid_opening a.fuel (rest i a).fuel slot tag (rest i a).phase is r.paid in omega (arith, less, units, work);
       releasing = λ slot is. let less = paid_releasing a.fuel (rest i a).fuel slot (rest i a).phase is r.paid in omega (arith, less, units, work);
       ending = λ x is. omega (arith, work);
@@ -132,8 +140,8 @@ rest_paid i a false e =
     let stays = rest-stays i a e in
     let same : (rest i a).phase ≡ a.phase = ap (λ (x : ActorState). x.phase) stays in
     record {
-      within = λ q is. let work : phase_work a.phase ≡ 7 = ap phase_work (sym same ∙ is) in omega (arith, work);
-      starting = λ is. let work : phase_work a.phase ≡ 6 = ap phase_work (sym same ∙ is) in omega (arith, work);
+      within = λ q is. let work : phase_work a.phase ≡ 7 + most_grants = ap phase_work (sym same ∙ is) in omega (arith, work);
+      starting = λ p is. let work : phase_work a.phase ≡ 6 + length p.left = ap phase_work (sym same ∙ is) in omega (arith, work);
       opening = λ slot tag is. let work : phase_work a.phase ≡ 6 = ap phase_work (sym same ∙ is) in omega (arith, work);
       releasing = λ slot is. let work : phase_work a.phase ≡ 6 = ap phase_work (sym same ∙ is) in omega (arith, work);
       ending = λ x is. let work : phase_work a.phase ≡ 1 = ap phase_work (sym same ∙ is) in omega (arith, work);
@@ -143,27 +151,97 @@ rest_paid i a false e =
 between_work : (p : Phase) → IsBetween p → phase_work p ≤ 2
 between_work phase.Running h = omega arith
 between_work (phase.Within q) h = absurd h
-between_work phase.Starting h = absurd h
+between_work (phase.Starting pre) h = absurd h
 between_work (phase.Opening slot tag) h = absurd h
 between_work (phase.Releasing slot) h = absurd h
 between_work (phase.Ending e) h = omega arith
 between_work (phase.Ended e) h = omega arith
 
-work_between : (p : Phase) → IsBetween p → phase_work p ≤ 6
-work_between p h = let few = between_work p h in omega (arith, few)
+-- an event leaves no actor that wants one
+abbrev NotWithin : Phase → Type 0
+NotWithin (phase.Within q) = ⊥
+NotWithin p = Unit {0}
 
-leaves_work : (e : Event) (p : Phase) → Leaves e p → phase_work p ≤ 6
-leaves_work (event.Lives lives_ask.Claim lives_reply.Claimed) p h = let work : phase_work p ≡ 6 = ap phase_work h in omega (arith, work)
-leaves_work (event.Lives lives_ask.Claim lives_reply.Full) p h = work_between p h
-leaves_work (event.Lives lives_ask.Claim lives_reply.Released) p h = work_between p h
-leaves_work (event.Lives (lives_ask.Release x) r) p h = work_between p h
-leaves_work (event.Slots directory_ask.Claim (directory_reply.Claimed slot tag)) p h = let work : phase_work p ≡ 6 = ap phase_work h in omega (arith, work)
-leaves_work (event.Slots directory_ask.Claim directory_reply.Full) p h = work_between p h
-leaves_work (event.Slots directory_ask.Claim directory_reply.Released) p h = work_between p h
-leaves_work (event.Slots (directory_ask.Release slot) r) p h = work_between p h
-leaves_work (event.Slot slot q slot_reply.Closed) p h = let work : phase_work p ≡ 6 = ap phase_work h in omega (arith, work)
-leaves_work (event.Slot slot q r) p h = work_between p h
-leaves_work e p h = work_between p h
+not_within : (p : Phase) → ((q : Want) → p ≡ phase.Within q → ⊥) → NotWithin p
+not_within phase.Running h = tt
+not_within (phase.Within q) h = h q refl
+not_within (phase.Starting pre) h = tt
+not_within (phase.Opening slot tag) h = tt
+not_within (phase.Releasing slot) h = tt
+not_within (phase.Ending e) h = tt
+not_within (phase.Ended e) h = tt
+
+between_one : (p : Phase) → IsBetween p → NotWithin p
+between_one p h = not_within p (λ q is. subst IsBetween is h)
+
+leaves_none : (e : Event) (p : Phase) → Leaves e p → NotWithin p
+leaves_none (event.Lives lives_ask.Claim lives_reply.Claimed) p h = not_within p (λ q is. subst IsPreparing is h)
+leaves_none (event.Lives lives_ask.Claim lives_reply.Full) p h = between_one p h
+leaves_none (event.Lives lives_ask.Claim lives_reply.Released) p h = between_one p h
+leaves_none (event.Lives (lives_ask.Release x) r) p h = between_one p h
+leaves_none (event.Slots directory_ask.Claim (directory_reply.Claimed slot tag)) p h = subst NotWithin (sym h) tt
+leaves_none (event.Slots directory_ask.Claim directory_reply.Full) p h = between_one p h
+leaves_none (event.Slots directory_ask.Claim directory_reply.Released) p h = between_one p h
+leaves_none (event.Slots (directory_ask.Release slot) r) p h = between_one p h
+leaves_none (event.Slot slot q slot_reply.Closed) p h = subst NotWithin (sym h) tt
+leaves_none (event.Slot slot q (slot_reply.Snapped pages)) p h = not_within p (λ q is. subst MayPrepare is h)
+leaves_none (event.Slot slot q slot_reply.Gone) p h = not_within p (λ q is. subst MayPrepare is h)
+leaves_none (event.Slot slot q r) p h = between_one p h
+leaves_none e p h = between_one p h
+
+work_without : (p : Phase) → NotWithin p → ((pre : Preparation) → p ≡ phase.Starting pre → length pre.left ≤ most_grants) → phase_work p ≤ 6 + most_grants
+work_without phase.Running h few = omega arith
+work_without (phase.Within q) h few = absurd h
+work_without (phase.Starting pre) h few = let left = few pre refl in omega (arith, left)
+work_without (phase.Opening slot tag) h few = omega arith
+work_without (phase.Releasing slot) h few = omega arith
+work_without (phase.Ending e) h few = omega arith
+work_without (phase.Ended e) h few = omega arith
+
+-- the copies that are left once those of the starter's own are made
+prepared_left : (s : Sheet) (made : Made) (own : Copies) (m : PrivateMemory) (gs : List CopyGrant) → length (prepared s made own m gs).left ≤ length gs
+prepared_left s made own m [] = omega arith
+prepared_left s made own m (g ∷ gs) = by_right (is_copy_alone (right_on s made g.tag)) (prepared_left s made own (copied_from (copy_at own g.slot) g.slot m) gs)
+  where
+    by_right : (t : Bool) → length (prepared s made own (copied_from (copy_at own g.slot) g.slot m) gs).left ≤ length gs
+        → length (if t then prepared s made own (copied_from (copy_at own g.slot) g.slot m) gs else record { memory = m; left = g ∷ gs }).left ≤ suc (length gs)
+    by_right true fewer = omega (arith, fewer)
+    by_right false fewer = omega arith
+
+claimed_left : (i : Image) (b : ActorState) (pre : Preparation) → AreFew b.drafts → (takes i b (event.Lives lives_ask.Claim lives_reply.Claimed)).phase ≡ phase.Starting pre → length pre.left ≤ most_grants
+unfolding takes
+claimed_left i b pre few is =
+    let begins = prepared b.sheet b.made b.memory.copies (pristine i) (copies_asked b) in
+    let same : begins ≡ pre = cc in
+    let left : length begins.left ≡ length pre.left = ap (λ (x : Preparation). length x.left) same in
+    let fewer = prepared_left b.sheet b.made b.memory.copies (pristine i) (copies_asked b) in
+    let most = few_copies b few in
+    omega (arith, left, fewer, most)
+
+-- whoever wanted an event prepares a child after the claim of a life alone, with as many copies as a draft has grants
+request_work : (w : WorldState) (b : ActorState) (e : Event) (q : Want) → b.phase ≡ phase.Within q → AreFew b.drafts → phase_work (takes w.image b e).phase ≤ 6 + most_grants
+request_work w b e q at few =
+    work_without (takes w.image b e).phase (leaves_none e (takes w.image b e).phase (takes_between w.image b e))
+    (λ pre is. by_cause pre is (was_preparing w.image b e (subst IsPreparing (sym is) tt)))
+  where
+    by_cause : (pre : Preparation) → (takes w.image b e).phase ≡ phase.Starting pre → (e ≡ event.Lives lives_ask.Claim lives_reply.Claimed) ⊎ IsPreparing b.phase → length pre.left ≤ most_grants
+    by_cause pre is (inl claimed) = claimed_left w.image b pre few (ap (λ y. (takes w.image b y).phase) (sym claimed) ∙ is)
+    by_cause pre is (inr before) = absurd (subst IsPreparing at before)
+
+snapped_work : (b : ActorState) (p : Preparation) (slot : ℕ) (gs : List CopyGrant) (o : Option (List ℕ)) → b.phase ≡ phase.Starting p → p.left ≡ gs
+    → phase_work (has_snapped b b.phase slot o).phase ≤ 6 + length (behind_first gs)
+snapped_work b p slot gs o at left =
+    let fewer = prepared_left b.sheet b.made b.memory.copies (copied_from o slot p.memory) (behind_first p.left) in
+    let work : phase_work (has_snapped b b.phase slot o).phase ≡ 6 + length (prepared b.sheet b.made b.memory.copies (copied_from o slot p.memory) (behind_first p.left)).left = ap (λ ph. phase_work (has_snapped b ph slot o).phase) at in
+    let same : length (behind_first p.left) ≡ length (behind_first gs) = ap (λ l. length (behind_first l)) left in
+    omega (arith, fewer, work, same)
+
+snap_work : (i : Image) (b : ActorState) (p : Preparation) (slot tag : ℕ) (grant : CopyGrant) (others : List CopyGrant) (g : Option Segment) → b.phase ≡ phase.Starting p → p.left ≡ grant ∷ others
+    → phase_work (takes i b (event.Slot slot (slot_ask.Snap tag) (slot_reply_of g (slot_ask.Snap tag)))).phase ≤ 6 + length others
+unfolding takes
+snap_work i b p slot tag grant others g at left =
+    snap_cases (λ r. phase_work (takes i b (event.Slot slot (slot_ask.Snap tag) r)).phase ≤ 6 + length others) g tag
+    (λ pages. snapped_work b p slot (grant ∷ others) (Some (bytes_listed pages)) at left) (snapped_work b p slot (grant ∷ others) None at left)
 
 -- the tasks of the doer and of a child after the event, against those before and the units
 record IsLess (i : Image) (b : ActorState) (e : Event) (n : ℕ) : Type 0 where
@@ -180,7 +258,7 @@ ended_tasks i b x = omega arith
 joined_work : (a : ActorState) (p : Phase) (x : End) → a.phase ≡ p → phase_work (answered_end a p x).phase ≤ 2
 joined_work a phase.Running x at = omega arith
 joined_work a (phase.Within q) x at = omega arith
-joined_work a phase.Starting x at = omega arith
+joined_work a (phase.Starting pre) x at = omega arith
 joined_work a (phase.Opening slot tag) x at = omega arith
 joined_work a (phase.Releasing slot) x at = omega arith
 joined_work a (phase.Ending y) x at = let work : phase_work a.phase ≡ 1 = ap phase_work at in omega (arith, work)
@@ -197,30 +275,30 @@ last_phase : (i : Image) (b : ActorState) (k : ℕ) (x y : End) (fuel : ℕ) →
 unfolding takes
 last_phase i b k x y fuel at = last_work (record b { fuel = b.fuel + fuel; unjoined = without_child b.unjoined k }) x y at
 
-event_less : (w : WorldState) (a : ActorState) (e : Event) → Happens w (rest w.image a) e
-    → tasks_of (takes w.image (rest w.image a) e) + begun_tasks (begun w.image (rest w.image a) e) < 5 * units_of w.image (a.fuel + 1) a + tasks_of a
-event_less w a e (Requested r) =
+event_less : (w : WorldState) (a : ActorState) (e : Event) → AreFew (rest w.image a).drafts → Happens w (rest w.image a) e
+    → tasks_of (takes w.image (rest w.image a) e) + begun_tasks (begun w.image (rest w.image a) e) < unit_work * units_of w.image (a.fuel + 1) a + tasks_of a
+event_less w a e drafts (Requested r) =
     let b = rest w.image a in
     let one = subst IsOfOne (sym r.is) (request_of_one _ w.cells b r.want r.own) in
     let s = takes_same w.image b e one in
     let k = kept_at_rest w.image a _ refl in
     let paid = (rest_paid w.image a _ refl).within r.want r.at in
-    let few = leaves_work e (takes w.image b e).phase (takes_between w.image b e) in
+    let few = request_work w b e r.want r.at drafts in
     let none : begun_tasks (begun w.image b e) ≡ 0 = ap begun_tasks (one_begins w.image b e one) in
     let count : length (takes w.image b e).unjoined ≡ length a.unjoined = ap length (s.unjoined ∙ k.unjoined) in
     omega (arith, paid, few, none, count)
-event_less w a e (Joined j) =
+event_less w a e drafts (Joined j) =
     let b = rest w.image a in
     let k = kept_at_rest w.image a _ refl in
     let paid = (rest_paid w.image a _ refl).within (want.Join j.number) j.at in
-    let less : tasks_of (takes w.image b (event.Join j.number j.join.how j.join.child.fuel)) + 0 < 5 * units_of w.image (a.fuel + 1) a + tasks_of a =
+    let less : tasks_of (takes w.image b (event.Join j.number j.join.how j.join.child.fuel)) + 0 < unit_work * units_of w.image (a.fuel + 1) a + tasks_of a =
     let few = join_phase w.image b j.number j.join.how j.join.child.fuel in
     let left : length (takes w.image b (event.Join j.number j.join.how j.join.child.fuel)).unjoined ≡ length (without_child b.unjoined j.number) = ap length (join_keeps_starts w.image b j.number j.join.how j.join.child.fuel).1 in
     let fewer = count_less b.unjoined j.number j.listed in
     let count : length b.unjoined ≡ length a.unjoined = ap length k.unjoined in
     omega (arith, paid, few, left, fewer, count) in
-    subst (λ y. tasks_of (takes w.image b y) + begun_tasks (begun w.image b y) < 5 * units_of w.image (a.fuel + 1) a + tasks_of a) (sym j.join.is) less
-event_less w a e (Opens o) =
+    subst (λ y. tasks_of (takes w.image b y) + begun_tasks (begun w.image b y) < unit_work * units_of w.image (a.fuel + 1) a + tasks_of a) (sym j.join.is) less
+event_less w a e drafts (Opens o) =
     let b = rest w.image a in
     let one = subst IsOfOne (sym o.is) tt in
     let s = takes_same w.image b e one in
@@ -230,7 +308,7 @@ event_less w a e (Opens o) =
     let none : begun_tasks (begun w.image b e) ≡ 0 = ap begun_tasks (one_begins w.image b e one) in
     let count : length (takes w.image b e).unjoined ≡ length a.unjoined = ap length (s.unjoined ∙ k.unjoined) in
     omega (arith, paid, few, none, count)
-event_less w a e (Releases r) =
+event_less w a e drafts (Releases r) =
     let b = rest w.image a in
     let one = subst IsOfOne (sym r.is) tt in
     let s = takes_same w.image b e one in
@@ -240,30 +318,40 @@ event_less w a e (Releases r) =
     let none : begun_tasks (begun w.image b e) ≡ 0 = ap begun_tasks (one_begins w.image b e one) in
     let count : length (takes w.image b e).unjoined ≡ length a.unjoined = ap length (s.unjoined ∙ k.unjoined) in
     omega (arith, paid, few, none, count)
-event_less w a e (Started s) =
+event_less w a e drafts (Snaps s) =
     let b = rest w.image a in
     let k = kept_at_rest w.image a _ refl in
-    let paid = (rest_paid w.image a _ refl).starting s.at in
+    let paid = (rest_paid w.image a _ refl).starting s.preparation s.at in
+    let asked = event.Slot s.grant.slot (slot_ask.Snap s.grant.tag) (slot_reply_of (slot_in w.cells s.grant.slot) (slot_ask.Snap s.grant.tag)) in
+    let few = snap_work w.image b s.preparation s.grant.slot s.grant.tag s.grant s.others (slot_in w.cells s.grant.slot) s.at s.left in
+    let left : length s.preparation.left ≡ suc (length s.others) = ap length s.left in
+    let count : length (takes w.image b asked).unjoined ≡ length a.unjoined = ap length ((takes_same w.image b asked tt).unjoined ∙ k.unjoined) in
+    let less : tasks_of (takes w.image b asked) + 0 < unit_work * units_of w.image (a.fuel + 1) a + tasks_of a = omega (arith, paid, few, left, count) in
+    subst (λ y. tasks_of (takes w.image b y) + begun_tasks (begun w.image b y) < unit_work * units_of w.image (a.fuel + 1) a + tasks_of a) (sym s.is) less
+event_less w a e drafts (Started s) =
+    let b = rest w.image a in
+    let k = kept_at_rest w.image a _ refl in
+    let paid = (rest_paid w.image a _ refl).starting s.preparation s.at in
     let few = started_tasks w.image b (child_name b.name (next_start b)) in
     let count : length b.unjoined ≡ length a.unjoined = ap length k.unjoined in
-    subst (λ y. tasks_of (takes w.image b y) + begun_tasks (begun w.image b y) < 5 * units_of w.image (a.fuel + 1) a + tasks_of a) (sym s.is) (omega (arith, paid, few, count))
-event_less w a e (LastJoined j) =
+    subst (λ y. tasks_of (takes w.image b y) + begun_tasks (begun w.image b y) < unit_work * units_of w.image (a.fuel + 1) a + tasks_of a) (sym s.is) (omega (arith, paid, few, count))
+event_less w a e drafts (LastJoined j) =
     let b = rest w.image a in
     let k = kept_at_rest w.image a _ refl in
     let paid = (rest_paid w.image a _ refl).ending j.end_ j.at in
-    let less : tasks_of (takes w.image b (event.Join j.first.0 j.join.how j.join.child.fuel)) + 0 < 5 * units_of w.image (a.fuel + 1) a + tasks_of a =
+    let less : tasks_of (takes w.image b (event.Join j.first.0 j.join.how j.join.child.fuel)) + 0 < unit_work * units_of w.image (a.fuel + 1) a + tasks_of a =
     let few = last_phase w.image b j.first.0 j.join.how j.end_ j.join.child.fuel j.at in
     let left : length (takes w.image b (event.Join j.first.0 j.join.how j.join.child.fuel)).unjoined ≡ length (without_child b.unjoined j.first.0) = ap length (join_keeps_starts w.image b j.first.0 j.join.how j.join.child.fuel).1 in
     let fewer = count_less b.unjoined j.first.0 (subst (λ cs. is_child cs j.first.0 ≡ true) (sym j.left) (first_child j.first j.others)) in
     let count : length b.unjoined ≡ length a.unjoined = ap length k.unjoined in
     omega (arith, paid, few, left, fewer, count) in
-    subst (λ y. tasks_of (takes w.image b y) + begun_tasks (begun w.image b y) < 5 * units_of w.image (a.fuel + 1) a + tasks_of a) (sym j.join.is) less
-event_less w a e (Ended f) =
+    subst (λ y. tasks_of (takes w.image b y) + begun_tasks (begun w.image b y) < unit_work * units_of w.image (a.fuel + 1) a + tasks_of a) (sym j.join.is) less
+event_less w a e drafts (Ended f) =
     let b = rest w.image a in
     let paid = (rest_paid w.image a _ refl).ending f.end_ f.at in
     let few = ended_tasks w.image b f.end_ in
     let none : length b.unjoined ≡ 0 = ap length f.left in
-    subst (λ y. tasks_of (takes w.image b y) + begun_tasks (begun w.image b y) < 5 * units_of w.image (a.fuel + 1) a + tasks_of a) (sym f.is) (omega (arith, paid, few, none))
+    subst (λ y. tasks_of (takes w.image b y) + begun_tasks (begun w.image b y) < unit_work * units_of w.image (a.fuel + 1) a + tasks_of a) (sym f.is) (omega (arith, paid, few, none))
 
 pub turn_works : (w : WorldState) (name : List ℕ) (e : Event) (new : WorldState) → AllReady w → Family w.actors → turn_of w name ≡ Some (record { event = e; world = new }) → work_left new < work_left w
 turn_works w name e new all f t =
@@ -275,7 +363,7 @@ turn_works w name e new all f t =
     let put = tasks_put w.actors a x (takes_name w.image b e ∙ rest-name w.image a) there in
     let more = tasks_begun (put_actor w.actors x) (begun w.image b e) in
     let is : tasks_in new.actors ≡ tasks_in (with_begun (put_actor w.actors x) (begun w.image b e)) = ap (λ (v : WorldState). tasks_in v.actors) p.new_is in
-    let less = event_less w a e (turn_happens w name e new all p) in
+    let less = event_less w a e (actor_few w name a all p.named) (turn_happens w name e new all p) in
     let fuel = (turn_keeps w name e new a all f p.named t).fuel in
     omega (arith, put, more, is, less, fuel)
 

@@ -4,12 +4,9 @@ use Rattle.std.proofs.Common.{◌≡◌, ℕ, zero, suc, ◌+◌, ◌-◌, ◌/�
 use Rattle.std.specs.Prelude.{Some, None, ◌⊎◌, ◌&&◌, option_map, slice_get, slice_range, nat_le, if◌then◌else◌}
 use Rattle.std.proofs.lemmas.Bool.Decides.{nat_tests}
 use Rattle.std.proofs.lemmas.List.{append_assoc, length-append, length-take, length-drop, take_at, drop_at}
-use Rattle.wedge_base.specs.Images.{windows_base}
-use Rattle.std.proofs.Math.ListN.{set}
 use Rattle.wedge_base.specs.declared.image.MemoryRange.{MemoryRange}
 use Rattle.wedge_base.specs.Bytes.{written, bytes_of}
 use Rattle.wedge_base.specs.Memory.{lies_in, range_at, read_range, write_range, write_at}
-use Rattle.sthread_life.specs.Below.{AreBelow}
 use Rattle.sthread_life.specs.Remembering.{byte_at, byte_in, bytes_in, AreWritten}
 
 -- so many bytes of a number are so many
@@ -17,22 +14,13 @@ pub length-bytes_of : (k n : ℕ) → length (bytes_of k n) ≡ k
 length-bytes_of zero n = refl
 length-bytes_of (suc k) n = ap suc (length-bytes_of k (n / 256))
 
-first_write : (x : MemoryRange) (rs : List MemoryRange) (address : ℕ) (bytes : List ℕ) → lies_in address (length bytes) x ≡ true → write_at (x ∷ rs) address bytes ≡ write_range address bytes x ∷ rs
-first_write x rs address bytes lies = rw lies refl
-
-pub take-write_at : (rs : List MemoryRange) (i : ℕ) (address : ℕ) (bytes : List ℕ) (r : MemoryRange) → i < length rs → r ≡ get_or rs i r → lies_in address (length bytes) r ≡ true
-    → take i rs ++ write_at (drop i rs) address bytes ≡ set rs i (write_range address bytes r)
-take-write_at [] i address bytes r lt is lies = absurd (omega arith)
-take-write_at (x ∷ rs) zero address bytes r lt is lies = subst (λ y. write_at (x ∷ rs) address bytes ≡ write_range address bytes y ∷ rs) (sym is) (first_write x rs address bytes (subst (λ y. lies_in address (length bytes) y ≡ true) is lies))
-take-write_at (x ∷ rs) (suc i) address bytes r lt is lies = ap (λ ys. x ∷ ys) (take-write_at rs i address bytes r (omega arith) is lies)
-
 -- ---- bytes written over others
 
-length-written : (b : List ℕ) (o : ℕ) (new : List ℕ) → o + length new ≤ length b → length (written b o new) ≡ length b
+pub length-written : (b : List ℕ) (o : ℕ) (new : List ℕ) → o + length new ≤ length b → length (written b o new) ≡ length b
 length-written b o new h =
     omega (arith, length-append (take o b ++ new) (drop (o + length new) b), length-append (take o b) new, length-take o b, length-drop (o + length new) b)
 
-read-written : (b : List ℕ) (o n : ℕ) (new : List ℕ) → length new ≡ n → o + n ≤ length b → slice_range (written b o new) o (o + n) ≡ new
+pub read-written : (b : List ℕ) (o n : ℕ) (new : List ℕ) → length new ≡ n → o + n ≤ length b → slice_range (written b o new) o (o + n) ≡ new
 read-written b o n new len h =
     let front : length (take o b) ≡ o = omega (arith, length-take o b) in
     let rest = drop (o + length new) b in
@@ -53,7 +41,7 @@ written-zero b new = let e : zero + length new ≡ length new = omega arith in a
 written-suc : (x : ℕ) (b : List ℕ) (o : ℕ) (new : List ℕ) → written (x ∷ b) (suc o) new ≡ x ∷ written b o new
 written-suc x b o new = let e : suc o + length new ≡ suc (o + length new) = omega arith in ap (λ n. (x ∷ (take o b ++ new)) ++ drop n (x ∷ b)) e
 
-get-written : (b : List ℕ) (o : ℕ) (new : List ℕ) (j : ℕ) → o + length new ≤ length b → (j < o) ⊎ (o + length new ≤ j) → slice_get (written b o new) j ≡ slice_get b j
+pub get-written : (b : List ℕ) (o : ℕ) (new : List ℕ) (j : ℕ) → o + length new ≤ length b → (j < o) ⊎ (o + length new ≤ j) → slice_get (written b o new) j ≡ slice_get b j
 get-written b zero new j h (inl lt) = absurd (omega arith)
 get-written b zero new j h (inr le) = ap (λ z. slice_get z j) (written-zero b new) ∙ get_behind new b j (omega arith) (omega arith)
 get-written [] (suc o) new j h k = absurd (omega arith)
@@ -125,24 +113,3 @@ others_stay (y ∷ ys) address new k x off = stay_or address x k new y ys (lies_
 -- bytes that are written where they lie in a range are read there, and each other byte stays
 pub written_at : (rs : List MemoryRange) (address : ℕ) (new : List ℕ) (r : MemoryRange) → range_at rs address (length new) ≡ Some r → AreWritten rs (write_at rs address new) address new
 written_at rs address new r there = record { read = read_at rs address new r there; others = others_stay rs address new }
-
--- ---- memory below the windows
-
-below_or : (address : ℕ) (new : List ℕ) (y : MemoryRange) (ys : List MemoryRange) (t : Bool) → lies_in address (length new) y ≡ t → AreBelow (y ∷ ys) → AreBelow (write_at ys address new) → AreBelow (if t then write_range address new y ∷ ys else y ∷ write_at ys address new)
-below_or address new y ys true lies h rest =
-    let l = lies_is address (length new) y lies in
-    (omega (arith, h.0, length-written y.bytes (address - y.base) new (inside address new y l)), h.1)
-below_or address new y ys false lies h rest = (h.0, rest)
-
-pub write_below : (rs : List MemoryRange) (address : ℕ) (new : List ℕ) → AreBelow rs → AreBelow (write_at rs address new)
-write_below [] address new h = tt
-write_below (y ∷ ys) address new h = below_or address new y ys (lies_in address (length new) y) refl h (write_below ys address new h.1)
-
-lies_nowhere : (address n : ℕ) (y : MemoryRange) (t : Bool) → lies_in address n y ≡ t → y.base + length y.bytes ≤ windows_base → windows_base ≤ address → 1 ≤ n → t ≡ false
-lies_nowhere address n y false e h w s = refl
-lies_nowhere address n y true e h w s = let l = lies_is address n y e in absurd (omega (arith, l.below))
-
-pub none_above : (rs : List MemoryRange) (address n : ℕ) → AreBelow rs → windows_base ≤ address → 1 ≤ n → range_at rs address n ≡ None
-none_above [] address n h w s = refl
-none_above (y ∷ ys) address n h w s =
-    ap (λ t. if t then Some y else range_at ys address n) (lies_nowhere address n y _ refl h.0 w s) ∙ none_above ys address n h.1 w s

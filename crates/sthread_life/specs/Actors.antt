@@ -1,10 +1,9 @@
 -- Actors: their records, what the root begins as, and how an answer, a refusal or an end changes one.
 use Rattle.std.specs.Prelude.{ℕ, ◌+◌, ◌-◌, Bool, List, [], ◌∷◌, ◌++◌, replicate, Option, Some, unwrap_or}
-use Rattle.wedge_base.specs.Bytes.{zeros}
+use Rattle.cow_pages.specs.PrivateMemory.{PrivateMemory, opening_memory}
 use Rattle.wedge_base.specs.Names.{root_name}
 use Rattle.wedge_base.specs.Images.{Image, private_base, private_size}
 use Rattle.wedge_base.specs.Sheets.{Sheet, Made, Draft, nothing_made, root_sheet, right_on, bits_on, slot_on}
-use Rattle.wedge_base.specs.declared.image.MemoryRange.{MemoryRange}
 use Rattle.wedge_base.specs.declared.outcome.DenialAt.{DenialAt}
 use Rattle.wedge_base.specs.declared.rights.FdBits.{FdBits}
 use Rattle.wedge_base.specs.declared.rights.Right.{Right}
@@ -16,6 +15,7 @@ use Rattle.wedge_base.specs.declared.events.Want.{Want}
 use Rattle.rv_hart.specs.declared.Hart.{Hart}
 use Rattle.rv_hart.specs.Local.{put, answered, answered_with}
 use Rattle.sthread_life.specs.Children.{Children}
+use Rattle.sthread_life.specs.Copying.{with_declared}
 use Rattle.sthread_life.specs.declared.phase.Phase.{Phase}
 use Rattle.sthread_life.specs.declared.phase.Phase.TheVariants as phase
 
@@ -28,7 +28,7 @@ pub record ActorState : Type 0 where
   pub made : Made
   pub drafts : List Draft
   pub hart : Hart
-  pub memory : List MemoryRange
+  pub memory : PrivateMemory
   pub fuel : ℕ
   pub denials : List DenialAt
   pub starts : ℕ
@@ -36,8 +36,12 @@ pub record ActorState : Type 0 where
   pub phase : Phase
 
 -- private memory as an actor begins: stack and heap, all zero, and the image's data as written in it
-abbrev pub pristine : Image → List MemoryRange
-pristine i = record { base = private_base; bytes = zeros private_size } ∷ i.ranges
+abbrev pub pristine : Image → PrivateMemory
+pristine i = opening_memory i.ranges
+
+-- that of the root: it has a copy of each declared tag on which it has the right to a copy
+abbrev pub root_memory : Image → PrivateMemory
+root_memory i = record (pristine i) { copies = with_declared [] 0 i.tags }
 
 -- registers as an actor begins: sp is at the end of the private range
 abbrev pub opening_hart : ℕ → Hart
@@ -52,7 +56,7 @@ root i = record {
   made = nothing_made;
   drafts = [];
   hart = opening_hart i.entry;
-  memory = pristine i;
+  memory = root_memory i;
   fuel = i.fuel;
   denials = [];
   starts = 0;
@@ -131,7 +135,7 @@ pub record ActorRecord : Type 0 where
   pub stopped : Bool
 
 -- an actor with its private memory
-abbrev pub whole : ActorRecord → List MemoryRange → ActorState
+abbrev pub whole : ActorRecord → PrivateMemory → ActorState
 whole r memory = record {
   name = r.name;
   compartment = r.compartment;

@@ -23,6 +23,7 @@ use Rattle.rv_hart.specs.Local.{reg}
 use Rattle.sthread_life.specs.Actors.{ActorState}
 use Rattle.sthread_life.specs.Children.{Children, fuel_given, is_child, all_given, child_name}
 use Rattle.sthread_life.specs.Taking.{draft_at}
+use Rattle.sthread_life.specs.declared.copy_grant.CopyGrant.{CopyGrant}
 use Rattle.sthread_life.specs.declared.phase.Phase.{Phase}
 use Rattle.sthread_life.specs.declared.phase.Phase.TheVariants as phase
 
@@ -30,7 +31,7 @@ use Rattle.sthread_life.specs.declared.phase.Phase.TheVariants as phase
 abbrev pub IsBetween : Phase → Type 0
 IsBetween phase.Running = Unit {0}
 IsBetween (phase.Within q) = ⊥
-IsBetween phase.Starting = ⊥
+IsBetween (phase.Starting p) = ⊥
 IsBetween (phase.Opening slot tag) = ⊥
 IsBetween (phase.Releasing slot) = ⊥
 IsBetween (phase.Ending e) = Unit {0}
@@ -70,7 +71,7 @@ abbrev pub GivesBelow : ℕ → Directory → Type 0
 GivesBelow limit d = (d.places ≤ limit) × (d.unused ≤ limit) × AllByRecursion (λ p. p < limit) d.released
 
 -- What an actor may want: the claim of a slot for a tag of so many pages, the opening of a tag there, its close and the release
--- of its slot; an aligned access inside the window of a slot, a block in a tag, and one to be freed; an append to a descriptor,
+-- of its slot; an aligned access inside the window of a slot, a block in a tag, one to be freed, and a copy of a tag; an append to a descriptor,
 -- a life for a child and the start of its next child where it is ready for that, the join of a child, and its end. Each further
 -- call is one more case.
 abbrev pub WantFitsWhere : Type 0 → Type 0 → (List ℕ → Type 0) → (ℕ → Type 0) → Want → Type 0
@@ -82,6 +83,7 @@ WantFitsWhere P R S J (want.Slot slot (slot_want.Load offset width)) = (slot < s
 WantFitsWhere P R S J (want.Slot slot (slot_want.Store offset width value)) = (slot < slots) × IsAligned offset width
 WantFitsWhere P R S J (want.Slot slot (slot_want.Smalloc tag size)) = (slot < slots) × (1 ≤ size)
 WantFitsWhere P R S J (want.Slot slot (slot_want.Sfree offset)) = (slot < slots) × (offset < window)
+WantFitsWhere P R S J (want.Slot slot (slot_want.Snap tag)) = slot < slots
 WantFitsWhere P R S J (want.Fd fd (stream_ask.Append bits bytes)) = fd < most_fds
 WantFitsWhere P R S J (want.Lives lives_ask.Claim) = R
 WantFitsWhere P R S J (want.Lives (lives_ask.Release e)) = Unit {0}
@@ -92,19 +94,24 @@ WantFitsWhere P R S J q = ⊥
 abbrev pub WantFits : ActorState → Want → Type 0
 WantFits a q = WantFitsWhere (AsksPages a.hart) (MayStart a) (IsNextName a.name a.starts) (λ k. is_child a.unjoined k ≡ true) q
 
+-- the slots of grants of copies are there
+abbrev pub AreInSlots : List CopyGrant → Type 0
+AreInSlots gs = AllByRecursion (λ g. g.slot < slots) gs
+
 abbrev pub PhaseFitsWhere : Type 0 → Type 0 → (List ℕ → Type 0) → (ℕ → Type 0) → Phase → Type 0
 PhaseFitsWhere P R S J phase.Running = Unit {0}
 PhaseFitsWhere P R S J (phase.Within w) = WantFitsWhere P R S J w
-PhaseFitsWhere P R S J phase.Starting = R
+PhaseFitsWhere P R S J (phase.Starting p) = R × AreInSlots p.left
 PhaseFitsWhere P R S J (phase.Opening slot tag) = (slot < slots) × P
 PhaseFitsWhere P R S J (phase.Releasing slot) = slot < slots
 PhaseFitsWhere P R S J (phase.Ending e) = Unit {0}
 PhaseFitsWhere P R S J (phase.Ended e) = Unit {0}
 
--- An event is in bounds: its slot is there, and a block begins inside the slot's window. This is a property of the event alone.
+-- An event is in bounds: its slot is there, a block begins inside the slot's window, and a copy has as many pages as a tag may have. This is a property of the event alone.
 abbrev pub IsInBounds : Event → Type 0
 IsInBounds (event.Slots q (directory_reply.Claimed slot tag)) = slot < slots
 IsInBounds (event.Slot slot q (slot_reply.Placed offset)) = (slot < slots) × (offset < window)
+IsInBounds (event.Slot slot q (slot_reply.Snapped pages)) = (slot < slots) × (length pages ≤ most_pages)
 IsInBounds (event.Slot slot q r) = slot < slots
 IsInBounds e = Unit {0}
 

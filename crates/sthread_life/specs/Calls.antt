@@ -130,9 +130,13 @@ with_draft a n d = record a { drafts = slice_set a.drafts n d }
 abbrev pub sc_new : ActorState → ActorState
 sc_new a = if nat_le most_drafts (length a.drafts) then refuses a code.Full else answers (with_new_draft a) (length a.drafts)
 
--- the right that an argument asks for; 1, a copy, is not built
+-- the right that an argument asks for: 1 for a private copy, 2 to read, 3 to read and to write
 abbrev pub right_asked : ℕ → Option Right
-right_asked n = if n == 2 then Some right.Read else if n == 3 then Some right.ReadWrite else None
+right_asked n =
+    if n == 1 then Some right.Cow
+    else if n == 2 then Some right.Read
+    else if n == 3 then Some right.ReadWrite
+    else None
 
 -- the bits: 1 to read, 2 to append, and 3 for both
 abbrev pub bits : Bool → Bool → FdBits

@@ -16,9 +16,9 @@ use Rattle.sthread_life.specs.Actors.{ActorState}
 use Rattle.sthread_life.specs.Refusals.{new_refusal, right_refusal, bits_refusal}
 use Rattle.sthread_life.specs.Worlds.{WorldState, actor_named}
 
--- the right of an argument that is 2 or 3, and the bits of one from 1 to 3
+-- the right and the bits of an argument from 1 to 3
 abbrev pub right_of_number : ℕ → Right
-right_of_number n = if n == 2 then right.Read else right.ReadWrite
+right_of_number n = if n == 1 then right.Cow else if n == 2 then right.Read else right.ReadWrite
 
 abbrev pub bits_of_number : ℕ → FdBits
 bits_of_number n = record { read = (if n == 2 then false else true); append = (if n == 1 then false else true) }

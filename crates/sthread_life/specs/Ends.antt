@@ -1,7 +1,9 @@
 -- The cause of each end, and how an actor goes on, read off the fetch, the fuel, the decoder, the hart's
 -- need, the address and the reply: a second statement, beside the step.
-use Rattle.std.specs.Prelude.{◌≡◌, ℕ, zero, suc, ◌%◌, ◌==◌, Bool, true, false, not, ◌||◌, Option, Some, None, is_some, IsSomeAnd, option_and_then, if◌then◌else◌}
+use Rattle.std.specs.Prelude.{◌≡◌, ℕ, zero, suc, ◌%◌, ◌==◌, Bool, true, false, not, List, Option, Some, None, is_some, IsSomeAnd, option_and_then, if◌then◌else◌}
+use Rattle.cow_pages.specs.Copies.{copy_at, holds_copy}
 use Rattle.wedge_base.specs.Memory.{range_at}
+use Rattle.wedge_base.specs.declared.address.Place.{Place}
 use Rattle.wedge_base.specs.Images.{Image, fetch, in_text, slot_of}
 use Rattle.wedge_base.specs.declared.rights.End.{End}
 use Rattle.wedge_base.specs.declared.rights.End.TheVariants as end_
@@ -30,19 +32,28 @@ use Rattle.sthread_life.specs.Moments.{with_actor}
 abbrev pub end_of : Phase → Option End
 end_of phase.Running = None
 end_of (phase.Within q) = None
-end_of phase.Starting = None
+end_of (phase.Starting p) = None
 end_of (phase.Opening slot tag) = None
 end_of (phase.Releasing slot) = None
 end_of (phase.Ending e) = Some e
 end_of (phase.Ended e) = Some e
+
+-- in a window: past the pages of the actor's private copy at that slot; where it has none, the event decides
+abbrev pub copy_end : ℕ → ℕ → Option (List ℕ) → Option End
+copy_end offset width None = None
+copy_end offset width (Some bytes) = if holds_copy offset width bytes then None else Some end_.Unmapped
+
+abbrev pub window_end : ActorState → ℕ → Option Place → Option End
+window_end a width None = Some end_.Unmapped
+window_end a width (Some p) = copy_end p.offset width (copy_at a.memory.copies p.slot)
 
 -- an access: no multiple of its width; in the text, which only a load may; where there is no memory
 abbrev pub access_end : Image → ActorState → ℕ → ℕ → Option End → Option End
 access_end i a address width text =
     if not (address % width == 0) then Some end_.Misaligned
     else if in_text i address width then text
-    else if is_some (range_at a.memory address width) || is_some (slot_of address) then None
-    else Some end_.Unmapped
+    else if is_some (range_at a.memory.ranges address width) then None
+    else window_end a width (slot_of address)
 
 abbrev pub needed_end : Image → ActorState → Need → Option End
 needed_end i a need.Done = None

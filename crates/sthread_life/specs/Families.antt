@@ -1,6 +1,5 @@
 -- Starts, joins and ends among actors, read off the registers, the drafts and the child: a second statement, beside the step.
 use Rattle.std.specs.Prelude.{◌≡◌, ℕ, ◌+◌, ◌-◌, true, List, [], ◌∷◌, ◌++◌, replicate, slice_get, slice_set, Option, Some, None, IsSomeAnd}
-use Rattle.wedge_base.specs.Images.{Image}
 use Rattle.wedge_base.specs.Sheets.{Made, Draft, nothing_made, made_tag, first_excess, granted}
 use Rattle.wedge_base.specs.declared.rights.End.{End}
 use Rattle.wedge_base.specs.declared.events.Event.{Event}
@@ -9,16 +8,15 @@ use Rattle.wedge_base.specs.declared.cells.SlotAsk.{SlotAsk}
 use Rattle.wedge_base.specs.declared.cells.SlotAsk.TheVariants as slot_ask
 use Rattle.wedge_base.specs.declared.cells.SlotReply.{SlotReply}
 use Rattle.wedge_base.specs.declared.cells.SlotReply.TheVariants as slot_reply
-use Rattle.wedge_base.specs.declared.cells.LivesAsk.TheVariants as lives_ask
-use Rattle.wedge_base.specs.declared.cells.LivesReply.TheVariants as lives_reply
 use Rattle.grant_sheet.specs.Granting.{IsWithin}
 use Rattle.rv_hart.specs.declared.Hart.{Hart}
 use Rattle.rv_hart.specs.Local.{reg}
 use Rattle.sthread_life.specs.declared.phase.Phase.{Phase}
 use Rattle.sthread_life.specs.declared.phase.Phase.TheVariants as phase
-use Rattle.sthread_life.specs.Actors.{ActorState, pristine}
+use Rattle.sthread_life.specs.Actors.{ActorState}
 use Rattle.sthread_life.specs.Allowed.{answered}
 use Rattle.sthread_life.specs.Children.{Children, is_child, with_child, without_child}
+use Rattle.sthread_life.specs.Copying.{Preparation}
 use Rattle.sthread_life.specs.Ends.{is_end_event}
 use Rattle.sthread_life.specs.Taking.{end_value, end_number}
 use Rattle.sthread_life.specs.Worlds.{WorldState, actor_named, put_actor}
@@ -30,8 +28,8 @@ abbrev pub IsFresh : ActorState → Type 0
 IsFresh c = (c.made ≡ nothing_made) × (c.drafts ≡ []) × (c.denials ≡ []) × (c.starts ≡ 0) × (c.unjoined ≡ []) × (c.phase ≡ phase.Running)
 
 -- A child as it begins, by the call of the actor that starts it: the number of a draft, the entry, the argument and the fuel. Its
--- sheet is what the draft gives, and is within what its starter holds.
-pub record IsChild (i : Image) (a c : ActorState) : Type 0 where
+-- sheet is what the draft gives, and is within what its starter holds; its memory is the one that was prepared, with every copy.
+pub record IsChild (a c : ActorState) : Type 0 where
   pub draft : Draft
   pub drafted : slice_get a.drafts (reg a.hart.regs 10) ≡ Some draft
   pub allowed : first_excess a.sheet a.made draft ≡ None
@@ -40,7 +38,10 @@ pub record IsChild (i : Image) (a c : ActorState) : Type 0 where
   pub name : c.name ≡ a.name ++ (a.starts + 1) ∷ []
   pub compartment : c.compartment ≡ reg a.hart.regs 11
   pub hart : c.hart ≡ record { pc = reg a.hart.regs 11; regs = slice_set (slice_set (replicate 32 0) 2 0x20020000) 10 (reg a.hart.regs 12) }
-  pub memory : c.memory ≡ pristine i
+  pub prepared : Preparation
+  pub preparing : a.phase ≡ phase.Starting prepared
+  pub complete : prepared.left ≡ []
+  pub memory : c.memory ≡ prepared.memory
   pub fuel : c.fuel ≡ reg a.hart.regs 13
   pub fresh : IsFresh c
 
@@ -56,7 +57,7 @@ started a = record a {
 
 pub record IsStart (old : WorldState) (a : ActorState) (name : List ℕ) (new : WorldState) : Type 0 where
   pub child : ActorState
-  pub begins : IsChild old.image a child
+  pub begins : IsChild a child
   pub named : name ≡ child.name
   pub actors : new.actors ≡ put_actor old.actors (started a) ++ child ∷ []
 
@@ -97,7 +98,7 @@ made_by m (Some (event.Slot slot q r)) = made_in m slot r q
 made_by m e = m
 
 -- Nothing else changes another actor, nor what an actor may do and whom it started, but that it has made a tag that it opened.
--- A life that is claimed is for a child to be started next, and who ends has joined all its children.
+-- A child whose memory is prepared is started next, and who ends has joined all its children.
 pub record ActsAlone (old : WorldState) (a : ActorState) (e : Option Event) (new : WorldState) : Type 0 where
   pub after : ActorState
   pub actors : new.actors ≡ put_actor old.actors after
@@ -107,8 +108,7 @@ pub record ActsAlone (old : WorldState) (a : ActorState) (e : Option Event) (new
   pub made : after.made ≡ made_by a.made e
   pub starts : after.starts ≡ a.starts
   pub unjoined : after.unjoined ≡ a.unjoined
-  pub claimed : e ≡ Some (event.Lives lives_ask.Claim lives_reply.Claimed) → after ≡ record a { phase = phase.Starting }
-  pub starting : a.phase ≡ phase.Starting → ⊥
+  pub starting : (p : Preparation) → a.phase ≡ phase.Starting p → p.left ≡ [] → ⊥
   pub childless : is_end_event e ≡ true → a.unjoined ≡ []
 
 abbrev pub KeepsFamily : WorldState → ActorState → Option Event → WorldState → Type 0

@@ -2,6 +2,7 @@
 use Rattle.std.specs.Prelude.{◌≡◌, ℕ, zero, suc, ◌+◌, ◌*◌, length, Bool, true, false, ◌||◌, List, [], ◌∷◌, Option, Some, None, if◌then◌else◌}
 use Rattle.wedge_base.specs.Images.{Image}
 use Rattle.wedge_base.specs.Names.{same, root_name}
+use Rattle.wedge_base.specs.Sheets.{most_grants}
 use Rattle.wedge_base.specs.declared.events.Event.{Event}
 use Rattle.wedge_base.specs.declared.events.Turn.{Turn}
 use Rattle.sthread_life.specs.declared.phase.Phase.{Phase}
@@ -57,12 +58,15 @@ TakesItsUnits old t new = (a : ActorState) → actor_named old.actors t.actor �
 
 -- ---- the work that is left
 
--- What is left to do, of which each turn takes some away: five for each unit of fuel, what each actor's phase has to do, and one for
--- each child that is to be joined.
+-- What is left to do, of which each turn takes some away: for each unit of fuel, what each actor's phase has to do, and one for each
+-- child that is to be joined. A call may start a child with as many copies of tags as a draft has grants, each by a turn of its own.
+abbrev pub unit_work : ℕ
+unit_work = 5 + most_grants
+
 abbrev pub phase_work : Phase → ℕ
 phase_work phase.Running = 2
-phase_work (phase.Within q) = 7
-phase_work phase.Starting = 6
+phase_work (phase.Within q) = 7 + most_grants
+phase_work (phase.Starting p) = 6 + length p.left
 phase_work (phase.Opening slot tag) = 6
 phase_work (phase.Releasing slot) = 6
 phase_work (phase.Ending e) = 1
@@ -76,8 +80,8 @@ tasks_in [] = 0
 tasks_in (a ∷ as_) = tasks_of a + tasks_in as_
 
 abbrev pub work_left : WorldState → ℕ
-work_left w = 5 * fuel_of w + tasks_in w.actors
+work_left w = unit_work * fuel_of w + tasks_in w.actors
 
 -- the most turns of a run with so much fuel: the work of its root
 abbrev pub most_turns : ℕ → ℕ
-most_turns fuel = 5 * fuel + 2
+most_turns fuel = unit_work * fuel + 2

@@ -22,13 +22,15 @@ use Rattle.sthread_life.specs.Paying.{Pays}
 use Rattle.sthread_life.specs.Drafting.{EditsDrafts}
 use Rattle.sthread_life.specs.Families.{KeepsFamily}
 use Rattle.sthread_life.specs.TagCalls.{MakesTags}
+use Rattle.sthread_life.specs.ChildCopies.{MakesCopies}
+use Rattle.sthread_life.specs.CopiesGranted.{HasItsCopiesGranted}
 use Rattle.sthread_life.specs.Remembering.{Remembers}
 use Rattle.wedge_base.specs.Directories.{slots_opening, fds_opening}
 
 -- what holds of a moment: its request is mediated, a call is refused by its row, an actor ends by its cause, it
 -- goes on as it should, it pays what the moment costs, its drafts are as its calls made them, its private bytes are those that it
--- stored, it starts and joins its own children alone, none of which has more rights than it has, and it makes tags by its own
--- claims alone
+-- stored, it starts and joins its own children alone, none of which has more rights than it has, it makes tags by its own
+-- claims alone, and the copies with which its children begin are made of its own copies and of the tags as they are then
 pub record IsLawful (old : WorldState) (a : ActorState) (e : Option Event) (new : WorldState) : Type 0 where
   pub mediated : IsMediated old a e new
   pub ends : EndsByCause old a e new
@@ -39,6 +41,7 @@ pub record IsLawful (old : WorldState) (a : ActorState) (e : Option Event) (new 
   pub remembers : Remembers old a e new
   pub family : KeepsFamily old a e new
   pub makes : MakesTags old a e new
+  pub copies : MakesCopies old a e new
 
 -- each moment of each run is lawful
 abbrev pub MomentsAreLawful : Type 0
@@ -88,6 +91,10 @@ pub record AreSlotsKept (i : Image) (turns : List Turn) (new : WorldState) : Typ
 
 abbrev pub SlotsAreOccupied : Type 0
 SlotsAreOccupied = (i : Image) (turns : List Turn) (new : WorldState) → Runs (opening i) turns new → AreSlotsKept i turns new
+
+-- in each world of a run, each private copy of an actor is at the slot of a grant of a copy on its sheet
+abbrev pub CopiesAreGranted : Type 0
+CopiesAreGranted = (i : Image) (turns : List Turn) (new : WorldState) → Runs (opening i) turns new → (name : List ℕ) (a : ActorState) → actor_named new.actors name ≡ Some a → HasItsCopiesGranted a
 
 -- so every run ends: it has at most so many turns
 abbrev pub RunsEnd : Type 0

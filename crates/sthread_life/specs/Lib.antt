@@ -1,7 +1,7 @@
 pub mod Children
+pub mod Copying
 pub mod Actors
 pub mod Private
-pub mod Below
 pub mod Calls
 pub mod Local
 pub mod Taking
@@ -15,6 +15,8 @@ pub mod Refusals
 pub mod Paying
 pub mod Families
 pub mod TagCalls
+pub mod ChildCopies
+pub mod CopiesGranted
 pub mod Drafting
 pub mod Remembering
 pub mod Outcomes

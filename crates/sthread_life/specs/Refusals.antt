@@ -94,10 +94,10 @@ address_refusal (Some p) = None
 abbrev pub new_refusal : List Draft → Option ℕ
 new_refusal ds = if nat_lt (length ds) 64 then None else Some full
 
--- sc_mem_add: no such draft; a right that is neither Read nor ReadWrite; a draft without room, to which the tag is new
+-- sc_mem_add: no such draft; a right that is not 1, 2 or 3; a draft without room, to which the tag is new
 abbrev pub right_refusal : ℕ → ℕ → Option Draft → Option ℕ
 right_refusal tag right None = Some no_such
-right_refusal tag right (Some d) = if not ((right == 2) || (right == 3)) then Some bad else if takes_tag d tag then None else Some full
+right_refusal tag right (Some d) = if not ((right == 1) || ((right == 2) || (right == 3))) then Some bad else if takes_tag d tag then None else Some full
 
 -- sc_fd_add: the same, of a descriptor and its bits
 abbrev pub bits_refusal : ℕ → ℕ → Option Draft → Option ℕ

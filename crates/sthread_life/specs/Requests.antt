@@ -3,6 +3,7 @@
 -- makes of a request is a theorem.
 use Rattle.std.specs.Prelude.{ℕ, ◌%◌, ◌==◌, Bool, not, ◌&&◌, List, [], length, slice_get, Option, Some, None, is_some, option_map, nat_le, nat_lt, if◌then◌else◌}
 use Rattle.std.specs.List.{list_any}
+use Rattle.cow_pages.specs.Copies.{copy_at}
 use Rattle.wedge_base.specs.Memory.{range_at, read_range}
 use Rattle.wedge_base.specs.Images.{Image, fetch, in_text, read_text, slot_of}
 use Rattle.wedge_base.specs.Sheets.{Draft}
@@ -40,16 +41,17 @@ pub data Request : Type 0 where
 
 -- an access reaches a window where it is aligned, and neither in the text nor in private memory
 abbrev pub reaches_window : Image → ActorState → ℕ → ℕ → Bool
-reaches_window i a address width = (address % width == 0) && not (in_text i address width) && not (is_some (range_at a.memory address width))
+reaches_window i a address width = (address % width == 0) && not (in_text i address width) && not (is_some (range_at a.memory.ranges address width))
 
 -- inside the bytes of the tag that lives there
 abbrev pub in_tag : (Access → Request) → Place → ℕ → Option Segment → Option Request
 in_tag of p width None = None
 in_tag of p width (Some g) = if nat_lt p.offset (length g.bytes) then Some (of (record { place = p; width = width; living = g })) else None
 
-abbrev pub in_window : (Access → Request) → Cells → ℕ → Option Place → Option Request
-in_window of c width None = None
-in_window of c width (Some p) = in_tag of p width (slot_in c p.slot)
+-- where the actor has no private copy at the slot
+abbrev pub in_window : (Access → Request) → Cells → ActorState → ℕ → Option Place → Option Request
+in_window of c a width None = None
+in_window of c a width (Some p) = if is_some (copy_at a.memory.copies p.slot) then None else in_tag of p width (slot_in c p.slot)
 
 -- the bytes of a buffer that is read, where it fits: 256 at most, in one private range or in the text
 abbrev pub bytes_in_range : Image → ℕ → ℕ → Option MemoryRange → Option (List ℕ)
@@ -60,7 +62,7 @@ abbrev pub bytes_at : Image → ActorState → ℕ → ℕ → Option (List ℕ)
 bytes_at i a pointer n =
     if not (nat_le n 256) then None
     else if n == 0 then Some []
-    else bytes_in_range i pointer n (range_at a.memory pointer n)
+    else bytes_in_range i pointer n (range_at a.memory.ranges pointer n)
 
 -- fd_append: the buffer fits, the fuel is enough, and the descriptor is live
 abbrev pub to_stream : ℕ → List ℕ → Option Stream → Option Request
@@ -96,8 +98,8 @@ call_request i c a regs n =
     else None
 
 abbrev pub needed_request : Image → Cells → ActorState → ℕ → Need → Option Request
-needed_request i c a rd (need.Load address width is_signed) = if reaches_window i a address width then in_window (λ x. Loads x rd is_signed) c width (slot_of address) else None
-needed_request i c a rd (need.Store address width value) = if reaches_window i a address width then in_window (λ x. Stores x value) c width (slot_of address) else None
+needed_request i c a rd (need.Load address width is_signed) = if reaches_window i a address width then in_window (λ x. Loads x rd is_signed) c a width (slot_of address) else None
+needed_request i c a rd (need.Store address width value) = if reaches_window i a address width then in_window (λ x. Stores x value) c a width (slot_of address) else None
 needed_request i c a rd need.Call = call_request i c a a.hart.regs (reg a.hart.regs 17)
 needed_request i c a rd n = None
 

@@ -1,6 +1,7 @@
 -- The calls that no sheet may forbid, and what the calls that make and delete tags leave: read off the registers, the directory
 -- and the slot, a second statement beside the step.
 use Rattle.std.specs.Prelude.{◌≡◌, ℕ, zero, suc, ◌*◌, ◌==◌, Bool, true, false, ◌&&◌, List, [], slice_set, Option, Some, None, nat_lt, if◌then◌else◌}
+use Rattle.cow_pages.specs.Copies.{without_copy}
 use Rattle.wedge_base.specs.Bytes.{zeros}
 use Rattle.wedge_base.specs.Directories.{Claim, claim}
 use Rattle.wedge_base.specs.Images.{Image, fetch, address_of}
@@ -67,14 +68,19 @@ ClaimsSlot old a e new = (c : Claim) → claim old.cells.places ≡ Some c
       actors = put_actor old.actors (record a { phase = phase.Opening c.place old.cells.places.number });
     })
 
--- a tag is opened in its slot with zero bytes and no blocks; its actor has made it, may store to it, and is answered its number and
--- its address
+-- a tag is opened in its slot with zero bytes and no blocks; its actor has made it, may store to it, has no private copy there, and is
+-- answered its number and its address
 abbrev pub OpensTag : WorldState → ActorState → ℕ → ℕ → Event → WorldState → Type 0
 OpensTag old a slot tag e new =
     (e ≡ event.Slot slot (slot_ask.Open tag (reg a.hart.regs 10)) slot_reply.Opened)
     × (new ≡ record old {
       cells = record old.cells { slots = slice_set old.cells.slots slot (Some (record { tag = tag; bytes = zeros (reg a.hart.regs 10 * 4096); blocks = [] })) };
-      actors = put_actor old.actors (record a { made = made_tag a.made tag slot; hart = answered_twice a tag (address_of slot 0); phase = phase.Running });
+      actors = put_actor old.actors (record a {
+        made = made_tag a.made tag slot;
+        hart = answered_twice a tag (address_of slot 0);
+        memory = record a.memory { copies = without_copy a.memory.copies slot };
+        phase = phase.Running;
+      });
     })
     × (right_of (record a { made = made_tag a.made tag slot }) tag ≡ Some right.ReadWrite)
 

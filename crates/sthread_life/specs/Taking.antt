@@ -1,5 +1,8 @@
 -- The actor's part of a shared event: what it wants and asks, and what the reply makes of it.
-use Rattle.std.specs.Prelude.{ℕ, ◌+◌, ◌-◌, List, [], slice_get, Option, Some, None, option_map, option_and_then, unwrap_or}
+use Rattle.std.specs.Prelude.{ℕ, ◌+◌, ◌-◌, List, [], ◌∷◌, slice_get, Option, Some, None, option_map, option_and_then, unwrap_or}
+use Rattle.cow_pages.specs.Copies.{without_copy}
+use Rattle.cow_pages.specs.Listed.{bytes_listed}
+use Rattle.cow_pages.specs.PrivateMemory.{PrivateMemory, no_memory}
 use Rattle.wedge_base.specs.Images.{Image, fetch, address_of}
 use Rattle.wedge_base.specs.Sheets.{Draft, empty_draft, nothing_made, granted, made_tag}
 use Rattle.wedge_base.specs.Wants.{asked_with}
@@ -40,6 +43,8 @@ use Rattle.sthread_life.specs.Actors.{ActorState, pristine, opening_hart, right_
 use Rattle.sthread_life.specs.Private.{has_loaded, has_stored}
 use Rattle.sthread_life.specs.Calls.{a0, a1, a2, a3}
 use Rattle.sthread_life.specs.Children.{Children, least_child, with_child, without_child, child_name}
+use Rattle.sthread_life.specs.Copying.{Preparation, copy_grants, copied_from, prepared, behind_first}
+use Rattle.sthread_life.specs.declared.copy_grant.CopyGrant.{CopyGrant}
 
 -- the number of the next actor that it starts
 abbrev pub next_start : ActorState → ℕ
@@ -53,11 +58,16 @@ ending_by (Some k) e = want.Join k
 abbrev pub ending_want : Children → End → Want
 ending_want cs e = ending_by (least_child cs) e
 
+-- an actor that is about to start a child asks for a copy of the first tag of which one is to be made, and then for the start
+abbrev pub starting_want : ActorState → List CopyGrant → Want
+starting_want a [] = want.Start (child_name a.name (next_start a))
+starting_want a (g ∷ gs) = want.Slot g.slot (slot_want.Snap g.tag)
+
 -- what an actor wants, if it wants an event
 abbrev pub wanted_at : ActorState → Phase → Option Want
 wanted_at a phase.Running = None
 wanted_at a (phase.Within w) = Some w
-wanted_at a phase.Starting = Some (want.Start (child_name a.name (next_start a)))
+wanted_at a (phase.Starting p) = Some (starting_want a p.left)
 wanted_at a (phase.Opening slot tag) = Some (want.Slot slot (slot_want.Open tag (a0 a)))
 wanted_at a (phase.Releasing slot) = Some (want.Slots (directory_ask.Release slot))
 wanted_at a (phase.Ending e) = Some (ending_want a.unjoined e)
@@ -92,13 +102,21 @@ abbrev pub denied_on : ActorState → SlotAsk → ℕ → Right → ActorState
 denied_on a (slot_ask.Sfree offset live) tag wants = denies a (denial.Tag tag wants)
 denied_on a q tag wants = ends (notes a (denial.Tag tag wants)) end_.Denied
 
--- a tag that it opened in a slot is among those that it made; the call answers its number and its address
+-- a tag that it opened in a slot is among those that it made, and it has no private copy there; the call answers the tag's number
+-- and its address
 abbrev pub has_opened : ActorState → ℕ → SlotAsk → ActorState
-has_opened a slot (slot_ask.Open tag pages) = answers_more (record a { made = made_tag a.made tag slot }) tag (address_of slot 0)
+has_opened a slot (slot_ask.Open tag pages) =
+    answers_more (record a { made = made_tag a.made tag slot; memory = record a.memory { copies = without_copy a.memory.copies slot } }) tag (address_of slot 0)
 has_opened a slot q = runs a
 
--- A slot's reply, to what was asked of it. A tag that is closed has its slot released next. Copies are not built, so no
--- actor asks for one; a reply to such an ask makes nothing of it but that it goes on.
+-- the copy of a tag is put into the memory of the child that is to be started, and the next ones are made, up to the first that is to
+-- be made of a tag; one that lives no more gives none
+abbrev pub has_snapped : ActorState → Phase → ℕ → Option (List ℕ) → ActorState
+has_snapped a (phase.Starting p) slot bytes =
+    record a { phase = phase.Starting (prepared a.sheet a.made a.memory.copies (copied_from bytes slot p.memory) (behind_first p.left)) }
+has_snapped a p slot bytes = runs a
+
+-- A slot's reply, to what was asked of it. A tag that is closed has its slot released next.
 abbrev pub takes_slot : Image → ActorState → ℕ → SlotAsk → SlotReply → ActorState
 takes_slot i a slot q (slot_reply.Loaded value) = loads_at (runs a) (option_and_then decode (fetch i a.hart.pc)) value
 takes_slot i a slot q slot_reply.Stored = has_stored (runs a)
@@ -111,7 +129,8 @@ takes_slot i a slot q slot_reply.Freed = answers a 0
 takes_slot i a slot q slot_reply.NoSuch = refuses a code.NoSuch
 takes_slot i a slot q slot_reply.Full = refuses a code.Full
 takes_slot i a slot q slot_reply.Bad = refuses a code.Bad
-takes_slot i a slot q r = runs a
+takes_slot i a slot q (slot_reply.Snapped pages) = has_snapped a a.phase slot (Some (bytes_listed pages))
+takes_slot i a slot q slot_reply.Gone = has_snapped a a.phase slot None
 
 -- a slot that is claimed is for the tag to be opened there, and one that is released ends the call that closed its tag
 abbrev pub takes_place : ActorState → DirectoryAsk → DirectoryReply → ActorState
@@ -128,12 +147,20 @@ takes_stream a fd (stream_reply.Denied wants) = denies a (denial.Fd fd wants)
 takes_stream a fd stream_reply.Bad = refuses a code.Bad
 takes_stream a fd r = runs a
 
--- a life that is claimed is for the child to be started, and an actor that has ended keeps no private memory
-abbrev pub takes_lives : ActorState → LivesAsk → LivesReply → ActorState
-takes_lives a (lives_ask.Release e) r = record a { memory = []; phase = phase.Ended e }
-takes_lives a lives_ask.Claim lives_reply.Claimed = record a { phase = phase.Starting }
-takes_lives a lives_ask.Claim lives_reply.Full = refuses a code.Full
-takes_lives a lives_ask.Claim lives_reply.Released = runs a
+-- the draft of a number, which a start has found before
+abbrev pub draft_at : List Draft → ℕ → Draft
+draft_at ds n = unwrap_or (slice_get ds n) empty_draft
+
+-- the grants of copies of the draft at hand
+abbrev pub copies_asked : ActorState → List CopyGrant
+copies_asked a = copy_grants (granted a.sheet a.made (draft_at a.drafts (a0 a))).tags
+
+-- a life that is claimed is for the child to be started, whose private memory is made first; and an actor that has ended keeps none
+abbrev pub takes_lives : Image → ActorState → LivesAsk → LivesReply → ActorState
+takes_lives i a (lives_ask.Release e) r = record a { memory = no_memory; phase = phase.Ended e }
+takes_lives i a lives_ask.Claim lives_reply.Claimed = record a { phase = phase.Starting (prepared a.sheet a.made a.memory.copies (pristine i) (copies_asked a)) }
+takes_lives i a lives_ask.Claim lives_reply.Full = refuses a code.Full
+takes_lives i a lives_ask.Claim lives_reply.Released = runs a
 
 -- a child has started: there is one start more, and one child more to be joined, to which the fuel went
 abbrev pub has_started : ActorState → ActorState
@@ -169,19 +196,20 @@ unfoldable pub takes : Image → ActorState → Event → ActorState
 takes i a (event.Slots q r) = takes_place a q r
 takes i a (event.Slot slot q r) = takes_slot i a slot q r
 takes i a (event.Fd fd q r) = takes_stream a fd r
-takes i a (event.Lives q r) = takes_lives a q r
+takes i a (event.Lives q r) = takes_lives i a q r
 takes i a (event.Start child) = has_started a
 takes i a (event.Join k e fuel) = has_joined a k e fuel
 takes i a e = runs a
 
 -- ---- the actor that an event begins
 
--- the draft of a number, which a start has found before
-abbrev pub draft_at : List Draft → ℕ → Draft
-draft_at ds n = unwrap_or (slice_get ds n) empty_draft
+-- the private memory that was made for a child
+abbrev pub memory_made : Image → Phase → PrivateMemory
+memory_made i (phase.Starting p) = p.memory
+memory_made i p = pristine i
 
--- a child as it begins: at its entry, with its argument, the sheet of the draft, the fuel that it was given, and private
--- memory of its own
+-- a child as it begins: at its entry, with its argument, the sheet of the draft, the fuel that it was given, and the private
+-- memory that was made for it
 abbrev pub child_of : Image → ActorState → List ℕ → ActorState
 child_of i a name = record {
   name = name;
@@ -190,7 +218,7 @@ child_of i a name = record {
   made = nothing_made;
   drafts = [];
   hart = record (opening_hart (a1 a)) { regs = put (opening_hart (a1 a)).regs 10 (a2 a) };
-  memory = pristine i;
+  memory = memory_made i a.phase;
   fuel = a3 a;
   denials = [];
   starts = 0;

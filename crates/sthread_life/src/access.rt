@@ -1,7 +1,6 @@
 //! Loads and stores.
 
-ghost use Rattle.std.specs.Prelude.{◌≡◌, ◌%◌, List};
-ghost use Rattle.wedge_base.specs.declared.image.MemoryRange.{MemoryRange as ARange};
+ghost use Rattle.std.specs.Prelude.{◌≡◌, ◌%◌, OnOk};
 ghost use Rattle.wedge_base.specs.Images.{slot_of};
 ghost use Rattle.rv_isa.specs.Table.{HasRegisters};
 ghost use Rattle.rv_hart.specs.Local as hart;
@@ -10,12 +9,12 @@ ghost use Rattle.sthread_life.specs.Actors.{whole};
 ghost use Rattle.sthread_life.specs.Private as private;
 
 use crate::actor::Actor;
-use crate::memory::Memory;
 use crate::phase::Phase;
+use cow_pages::PrivateView;
 use ready_text::Program;
 use rv_hart::{Need, Reply};
 use rv_isa::Instr;
-use wedge_base::{End, Place, SlotWant, WINDOWS_BASE, Want, slot_of};
+use wedge_base::{End, NoMemory, Place, SlotWant, WINDOWS_BASE, Want, slot_of};
 
 impl Actor {
     /// A load that the instruction at hand needs.
@@ -23,7 +22,7 @@ impl Actor {
     pub(crate) fn load(
         &mut self,
         program: &Program<'_>,
-        memory: &Memory,
+        memory: &PrivateView,
         instr: Instr,
         signed: bool,
         address: u32,
@@ -44,7 +43,7 @@ impl Actor {
             // Neither text nor private memory lies there.
             program.has_no_text(address, u32::from(width));
             memory.has_no_range(address, u32::from(width));
-            self.load_window(address, width);
+            self.load_window(memory, instr, signed, address, width);
             return;
         }
         if program.image().is_in_text(address, u32::from(width)) {
@@ -53,39 +52,64 @@ impl Actor {
             return;
         }
         match memory.load(address, width) {
-            None => self.load_window(address, width),
+            None => self.load_window(memory, instr, signed, address, width),
             Some(value) => self.hart.finish(instr, Reply::Loaded(value)),
         }
     }
 
-    /// A load in a window.
+    /// A load in a window: of the actor's private copy there, or else of the tag.
     #[inline(always)]
-    fn load_window(&mut self, address: u32, width: u8)
+    fn load_window(
+        &mut self,
+        memory: &PrivateView,
+        instr: Instr,
+        signed: bool,
+        address: u32,
+        width: u8,
+    )
+        requires running { self.old.phase ≡ phase.Running }
+        requires registers { HasRegisters instr }
         requires width { private.IsWidth width }
         requires aligned { address % width ≡ 0 }
-        ensures { (m : List ARange) → whole self.new m
-            ≡ private.load_window (whole self.old m) width (slot_of address) }
+        requires needed { (hart.local instr self.old.hart).need ≡ Need.Load address width signed }
+        ensures { whole self.new memory.now ≡ private.load_window instr signed
+            (whole self.old memory.now) width (slot_of address) }
     {
-        match slot_of(address) {
-            None => self.end(End::Unmapped),
-            Some(Place { slot, offset }) => {
+        let Some(Place { slot, offset }) = slot_of(address) else {
+            self.end(End::Unmapped);
+            return;
+        };
+        match memory.load_copy(Place { slot, offset }, width) {
+            None => {
                 let want = SlotWant::Load { offset, width };
                 self.phase = Phase::Within(Want::Slot { slot, want });
             }
+            Some(None) => self.end(End::Unmapped),
+            Some(Some(value)) => self.hart.finish(instr, Reply::Loaded(value)),
         }
     }
 
-    /// A store in a window.
+    /// A store in a window: into the actor's private copy there, or else into the tag.
     #[inline(always)]
-    fn store_window(&mut self, address: u32, width: u8, value: u32)
+    fn store_window(
+        &mut self,
+        memory: &mut PrivateView,
+        address: u32,
+        width: u8,
+        value: u32,
+    ) -> Result<(), NoMemory>
+        requires running { self.old.phase ≡ phase.Running }
         requires width { private.IsWidth width }
         requires aligned { address % width ≡ 0 }
-        ensures { (m : List ARange) → whole self.new m
-            ≡ private.store_window (whole self.old m) width value (slot_of address) }
+        ensures { OnOk result (whole self.new memory.new ≡ private.store_window
+            (whole self.old memory.old) width value (slot_of address)) }
     {
-        match slot_of(address) {
-            None => self.end(End::Unmapped),
-            Some(Place { slot, offset }) => {
+        let Some(Place { slot, offset }) = slot_of(address) else {
+            self.end(End::Unmapped);
+            return Ok(());
+        };
+        match memory.store_copy(Place { slot, offset }, width, value)? {
+            None => {
                 let want = SlotWant::Store {
                     offset,
                     width,
@@ -93,7 +117,10 @@ impl Actor {
                 };
                 self.phase = Phase::Within(Want::Slot { slot, want });
             }
+            Some(false) => self.end(End::Unmapped),
+            Some(true) => self.hart.advance(),
         }
+        Ok(())
     }
 
     /// A store that the instruction at hand needs.
@@ -101,34 +128,34 @@ impl Actor {
     pub(crate) fn store(
         &mut self,
         program: &Program<'_>,
-        memory: &mut Memory,
+        memory: &mut PrivateView,
         address: u32,
         width: u8,
         value: u32,
-    )
-        requires { private.IsWidth width }
-        ensures { whole self.new memory.new
-            ≡ private.stores program.now (whole self.old memory.old) address width value }
+    ) -> Result<(), NoMemory>
+        requires running { self.old.phase ≡ phase.Running }
+        requires width { private.IsWidth width }
+        ensures { OnOk result (whole self.new memory.new
+            ≡ private.stores program.now (whole self.old memory.old) address width value) }
     {
         if address % u32::from(width) != 0 {
             self.end(End::Misaligned);
-            return;
+            return Ok(());
         }
         if address >= WINDOWS_BASE {
             // Neither text nor private memory lies there.
             program.has_no_text(address, u32::from(width));
             memory.has_no_range(address, u32::from(width));
-            self.store_window(address, width, value);
-            return;
+            return self.store_window(memory, address, width, value);
         }
         if program.image().is_in_text(address, u32::from(width)) {
             self.end(End::TextStore);
-            return;
+            return Ok(());
         }
-        if memory.store(address, width, value) {
-            self.hart.advance();
-        } else {
-            self.store_window(address, width, value);
+        if !memory.store(address, width, value)? {
+            return self.store_window(memory, address, width, value);
         }
+        self.hart.advance();
+        Ok(())
     }
 }

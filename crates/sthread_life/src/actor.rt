@@ -1,7 +1,10 @@
 //! An actor: the root of a run, or a child that another started.
 
-ghost use Rattle.std.specs.Prelude.{◌≡◌, ◌++◌, ◌∷◌, [], List, IfOk, OnOk, OnErr, false};
-ghost use Rattle.wedge_base.specs.declared.image.MemoryRange.{MemoryRange as ARange};
+ghost use Rattle.std.specs.Prelude.{◌≡◌, ◌≤◌, ◌++◌, ◌∷◌, [], length, IfOk, OnOk, OnErr, false};
+ghost use Rattle.std.specs.List.{AllByRecursion};
+ghost use Rattle.image_form.specs.Rules.{IsTag};
+ghost use Rattle.sthread_life.specs.Copying.{with_declared};
+ghost use Rattle.cow_pages.specs.PrivateMemory.{PrivateMemory};
 ghost use Rattle.rv_hart.specs.Local.{answered};
 ghost use Rattle.sthread_life.specs.Between.{HoldsInSlots};
 ghost use Rattle.wedge_base.specs.Sheets.{root_sheet, nothing_made};
@@ -11,17 +14,19 @@ ghost use Rattle.sthread_life.specs.Actors.{whole};
 ghost use Rattle.sthread_life.specs.Local.{has_ended, end_reached};
 ghost use Rattle.sthread_life.specs.Taking.{pair, asks};
 
-use crate::memory::Memory;
+use crate::copy_grant::is_copy_alone;
 use crate::phase::Phase;
 use crate::unjoined::Children;
+use cow_pages::{Pages, PrivateView};
 use grant_sheet::{Draft, Made, Sheet, right_on};
 use image_form::Image;
+use ready_text::Program;
 use rv_hart::Hart;
 use std::alloc::Global;
 use std::marker::Model;
 use wedge_base::{
     ActorName, Ask, Code, Denial, DenialAt, End, Items, Live, NoMemory, PRIVATE_BASE, PRIVATE_SIZE,
-    PathText, TagNo, Want,
+    PathText, Slot, TagEntry, TagNo, Want,
 };
 
 /// The register of the stack pointer.
@@ -81,20 +86,21 @@ impl Model for Actor {
 }
 
 impl Actor {
-    /// The root of an image's run as it begins, and its private memory.
-    pub fn root(alloc: Global, image: &Image) -> Result<(Actor, Memory), NoMemory>
-        ensures is { IfOk result (λ r. whole r.0 r.1 ≡ actors.root image.now) }
+    /// The root of an image's run as it begins, and its private memory, with a copy of each declared tag on which it has
+    /// the right to a copy.
+    pub fn root(alloc: Global, program: &Program<'_>) -> Result<(Actor, PrivateView), NoMemory>
+        ensures is { IfOk result (λ r. whole r.0 r.1 ≡ actors.root program.now) }
         ensures going { IfOk result (λ r. r.0.stopped ≡ false) }
     {
-        let memory = Memory::pristine(alloc, image)?;
-        let actor = Actor::root_record(alloc, image)?;
+        let memory = root_memory(alloc, program)?;
+        let actor = Actor::root_record(alloc, program.image())?;
         Ok((actor, memory))
     }
 
     /// The root but for its private memory.
     #[tactic(auto, unfolding(crate::specs::Actors::root))]
     fn root_record(alloc: Global, image: &Image) -> Result<Actor, NoMemory>
-        ensures is { IfOk result (λ a. whole a (actors.pristine image.now) ≡ actors.root image.now) }
+        ensures is { IfOk result (λ a. whole a (actors.root_memory image.now) ≡ actors.root image.now) }
         ensures going { IfOk result (λ a. a.stopped ≡ false) }
     {
         let mut hart = Hart::new(image.entry());
@@ -179,7 +185,7 @@ impl Actor {
     /// What it asks for what it wants, where this tag lives in the slot.
     #[inline(always)]
     pub fn ask(&self, want: Want, live: Option<TagNo>) -> Ask
-        ensures { (m : List ARange) → result ≡ asks (whole self.now m) live want }
+        ensures { (m : PrivateMemory) → result ≡ asks (whole self.now m) live want }
     {
         want.with(self.pair(live))
     }
@@ -187,7 +193,7 @@ impl Actor {
     /// The tag that lives in a slot, with its right on it.
     #[inline(always)]
     pub(crate) fn pair(&self, live: Option<TagNo>) -> Option<Live>
-        ensures { (m : List ARange) → result ≡ pair (whole self.now m) live }
+        ensures { (m : PrivateMemory) → result ≡ pair (whole self.now m) live }
     {
         let tag = live?;
         let right = right_on(&self.sheet, &self.made, tag);
@@ -231,6 +237,33 @@ impl Actor {
         let pc = self.hart.pc;
         self.denials.push(DenialAt { pc, denial })
     }
+}
+
+/// The private memory with which the root of an image's run begins.
+fn root_memory(alloc: Global, program: &Program<'_>) -> Result<PrivateView, NoMemory>
+    ensures { IfOk result (λ m. m ≡ actors.root_memory program.now) }
+{
+    let mut memory = PrivateView::new(alloc, program.pristine())?;
+    copy_declared(alloc, program.image().tags(), &mut memory)?;
+    Ok(memory)
+}
+
+/// Makes a private copy of each declared tag on which the root has the right to a copy alone.
+fn copy_declared(alloc: Global, tags: &[TagEntry], memory: &mut PrivateView) -> Result<(), NoMemory>
+    requires few { length tags.now ≤ 256 }
+    requires each { AllByRecursion IsTag tags.now }
+    ensures { OnOk result (memory.new ≡ record memory.old
+        { copies = with_declared memory.old.copies 0 tags.now }) }
+{
+    let mut number = 0u32;
+    for tag in tags {
+        if is_copy_alone(tag.right) {
+            let pages = Pages::new(alloc, tag.content.as_slice(), tag.pages)?;
+            memory.put_copy(Slot(number), pages)?;
+        }
+        number += 1;
+    }
+    Ok(())
 }
 
 /// The sheet with which the root of an image's run begins. The tags of its grants are in slots that are there.

@@ -1,6 +1,6 @@
 //! Service calls: what the actor itself decides.
 
-ghost use Rattle.std.specs.Prelude.{◌≡◌, ◌<◌, List, OnOk, IfOk, true};
+ghost use Rattle.std.specs.Prelude.{◌≡◌, ◌<◌, OnOk, IfOk, true};
 ghost use Rattle.sthread_life.specs.declared.phase.Phase.TheVariants as phase;
 ghost use Rattle.sthread_life.specs.Actors.{whole};
 ghost use Rattle.image_form.specs.Rules.{most_fuel};
@@ -9,8 +9,8 @@ ghost use Rattle.sthread_life.specs.Calls as calls;
 ghost use Rattle.sthread_life.specs.Private as private;
 
 use crate::actor::Actor;
-use crate::memory::Memory;
 use crate::phase::Phase;
+use cow_pages::PrivateView;
 use grant_sheet::bits_on;
 use image_form::Image;
 use wedge_base::{
@@ -32,7 +32,7 @@ impl Actor {
     /// The service call at hand, up to the event that it wants.
     #[inline(never)]
     #[tactic(auto, unfolding(crate::specs::Calls::serves))]
-    pub(crate) fn serve(&mut self, image: &Image, memory: &Memory) -> Result<(), NoMemory>
+    pub(crate) fn serve(&mut self, image: &Image, memory: &PrivateView) -> Result<(), NoMemory>
         requires running { self.old.phase ≡ phase.Running }
         requires paid { funds self.old.starts self.old.fuel self.old.unjoined < most_fuel }
         ensures { OnOk result (whole self.new memory.now
@@ -64,7 +64,7 @@ impl Actor {
     }
 
     /// The call that adds the bytes of a buffer to a stream.
-    fn fd_append(&mut self, image: &Image, memory: &Memory) -> Result<(), NoMemory>
+    fn fd_append(&mut self, image: &Image, memory: &PrivateView) -> Result<(), NoMemory>
         ensures { OnOk result (whole self.new memory.now
             ≡ calls.fd_append image.now (whole self.old memory.now)) }
     {
@@ -93,7 +93,7 @@ impl Actor {
     }
 
     /// Whether a buffer that is read fits.
-    fn fits_read(&self, image: &Image, memory: &Memory, pointer: u32, length: u32) -> bool
+    fn fits_read(&self, image: &Image, memory: &PrivateView, pointer: u32, length: u32) -> bool
         ensures { result ≡ private.fits_read image.now (whole self.now memory.now) pointer length }
     {
         length <= MOST_BUFFER
@@ -104,7 +104,7 @@ impl Actor {
     fn buffer(
         &self,
         image: &Image,
-        memory: &Memory,
+        memory: &PrivateView,
         pointer: u32,
         length: u32,
     ) -> Result<Bytes, NoMemory>

@@ -1,7 +1,7 @@
 //! Service calls on drafts: an actor makes and edits what the sheets of those that it starts are made of.
 
-ghost use Rattle.std.specs.Prelude.{◌≡◌, List, OnOk};
-ghost use Rattle.wedge_base.specs.declared.image.MemoryRange.{MemoryRange as ARange};
+ghost use Rattle.std.specs.Prelude.{◌≡◌, OnOk};
+ghost use Rattle.cow_pages.specs.PrivateMemory.{PrivateMemory};
 ghost use Rattle.sthread_life.specs.declared.phase.Phase.TheVariants as phase;
 ghost use Rattle.sthread_life.specs.Actors.{whole};
 ghost use Rattle.sthread_life.specs.Calls as calls;
@@ -18,7 +18,7 @@ impl Actor {
     /// The call on drafts of this number; any other number is refused.
     pub(crate) fn draft_call(&mut self, number: u32) -> Result<(), NoMemory>
         requires { self.old.phase ≡ phase.Running }
-        ensures { OnOk result ((m : List ARange) → whole self.new m
+        ensures { OnOk result ((m : PrivateMemory) → whole self.new m
             ≡ calls.draft_call (whole self.old m) number) }
     {
         if number == Service::ScNew.number() {
@@ -35,7 +35,7 @@ impl Actor {
 
     /// The call that makes a draft without grants.
     fn sc_new(&mut self) -> Result<(), NoMemory>
-        ensures { OnOk result ((m : List ARange) → whole self.new m ≡ calls.sc_new (whole self.old m)) }
+        ensures { OnOk result ((m : PrivateMemory) → whole self.new m ≡ calls.sc_new (whole self.old m)) }
     {
         let number = self.drafts.len();
         if number >= MOST_DRAFTS {
@@ -50,7 +50,7 @@ impl Actor {
     /// The call that puts a right on a tag into a draft.
     fn sc_mem_add(&mut self) -> Result<(), NoMemory>
         requires { self.old.phase ≡ phase.Running }
-        ensures { OnOk result ((m : List ARange) → whole self.new m
+        ensures { OnOk result ((m : PrivateMemory) → whole self.new m
             ≡ calls.sc_mem_add (whole self.old m)) }
     {
         let number = self.hart.reg(A0) as usize;
@@ -75,7 +75,7 @@ impl Actor {
     /// The call that puts bits on a descriptor into a draft.
     fn sc_fd_add(&mut self) -> Result<(), NoMemory>
         requires { self.old.phase ≡ phase.Running }
-        ensures { OnOk result ((m : List ARange) → whole self.new m
+        ensures { OnOk result ((m : PrivateMemory) → whole self.new m
             ≡ calls.sc_fd_add (whole self.old m)) }
     {
         let number = self.hart.reg(A0) as usize;
@@ -98,11 +98,12 @@ impl Actor {
     }
 }
 
-/// The right that an argument asks for: 2 for Read, 3 for ReadWrite; 1, for a copy, is not built.
+/// The right that an argument asks for: 1 for a private copy, 2 to read, 3 to read and to write.
 fn right_asked(number: u32) -> Option<Right>
     ensures { result ≡ calls.right_asked number }
 {
     match number {
+        1 => Some(Right::Cow),
         2 => Some(Right::Read),
         3 => Some(Right::ReadWrite),
         _ => None,

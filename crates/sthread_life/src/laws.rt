@@ -1,7 +1,7 @@
 //! Laws of the definitions: each is the contract of a function that does nothing.
 
 ghost use Rattle.wedge_base.specs.Images.{Image};
-ghost use Rattle.sthread_life.specs.Laws.{CellsOpen, MomentsAreLawful, NamesAreDistinct, RunsWriteTheirOwn, FuelIsKept, RootBounds, SlotsAreOccupied, RunsEnd};
+ghost use Rattle.sthread_life.specs.Laws.{CellsOpen, MomentsAreLawful, NamesAreDistinct, RunsWriteTheirOwn, FuelIsKept, RootBounds, SlotsAreOccupied, CopiesAreGranted, RunsEnd};
 ghost use Rattle.sthread_life.specs.Walks.{RootsWalk};
 
 /// In every run, whatever the image and the order of the turns, each request that an instruction makes
@@ -44,7 +44,7 @@ pub fn actors_walk()
 /// In every run the fuel of the actors that are not joined yet is in sum that of the image, less exactly the units that the
 /// turns took: a unit for each instruction, and one for each byte that was appended. A start gives fuel to a child, and a
 /// join brings back what is left, so neither changes the sum.
-/// So every run ends: five turns for each unit of fuel, and two, are more than it can have.
+/// So every run ends: 1,029 turns for each unit of fuel, and two, are more than it can have.
 pub fn fuel_is_kept()
     ensures sum { FuelIsKept }
     ensures ends { RunsEnd }
@@ -62,4 +62,9 @@ pub fn rights_are_within_the_roots()
 /// closed the tag there.
 pub fn slots_are_occupied()
     ensures { SlotsAreOccupied }
+{}
+
+/// In every world of a run, each private copy of an actor is at the slot of a grant of a copy on its own sheet.
+pub fn copies_are_granted()
+    ensures { CopiesAreGranted }
 {}

@@ -5,23 +5,25 @@
 mod access;
 mod actor;
 mod calls;
+mod copy_grant;
 mod drafting;
 mod laws;
 mod lives;
 mod local;
-mod memory;
 mod phase;
+mod preparation;
 mod starting;
 mod tags;
 mod take;
 mod unjoined;
 
 pub use actor::Actor;
+pub use copy_grant::CopyGrant;
 pub use laws::{
-    actors_walk, cells_open_by_their_rules, fuel_is_kept, moments_are_lawful, names_are_distinct,
-    rights_are_within_the_roots, runs_write_their_own, slots_are_occupied,
+    actors_walk, cells_open_by_their_rules, copies_are_granted, fuel_is_kept, moments_are_lawful,
+    names_are_distinct, rights_are_within_the_roots, runs_write_their_own, slots_are_occupied,
 };
 pub use lives::Lives;
 pub use local::Next;
-pub use memory::Memory;
 pub use phase::Phase;
+pub use preparation::Preparation;

@@ -1,22 +1,22 @@
 //! Local events: an actor alone, up to its next shared event.
 
-ghost use Rattle.std.specs.Prelude.{◌≡◌, ◌<◌, [], List, OnOk, OnErr, IfOk, true, false};
+ghost use Rattle.std.specs.Prelude.{◌≡◌, ◌<◌, OnOk, OnErr, IfOk, true, false};
 ghost use Rattle.rv_isa.specs.Table.{HasRegisters};
 ghost use Rattle.rv_hart.specs.Local as hart;
 ghost use Rattle.sthread_life.specs.declared.phase.Phase.TheVariants as phase;
 ghost use Rattle.sthread_life.specs.Actors.{whole};
 ghost use Rattle.sthread_life.specs.Local as local;
 ghost use Rattle.image_form.specs.Rules.{most_fuel};
-ghost use Rattle.wedge_base.specs.declared.image.MemoryRange.{MemoryRange as ARange};
+ghost use Rattle.cow_pages.specs.PrivateMemory.{PrivateMemory, no_memory};
 ghost use Rattle.sthread_life.specs.Between.{funds};
 ghost use Rattle.sthread_life.specs.Local.{end_reached};
 ghost use Rattle.sthread_life.specs.Taking.{wanted};
 ghost use Rattle.sthread_life.specs.Resting.{want_in, end_in, NextFits};
 
 use crate::actor::Actor;
-use crate::memory::Memory;
 use crate::phase::Phase;
 use crate::tags::releasing_want;
+use cow_pages::PrivateView;
 use ready_text::Program;
 use rv_hart::Need;
 use rv_isa::Instr;
@@ -35,14 +35,18 @@ impl Actor {
     /// Makes the actor's local events up to its next shared event, and returns which it wants, or its end. An
     /// actor that runs out of memory has stopped: from then on each call of it answers `NoMemory`.
     #[inline(always)]
-    pub fn local(&mut self, program: &Program<'_>, memory: &mut Memory) -> Result<Next, NoMemory>
+    pub fn local(
+        &mut self,
+        program: &Program<'_>,
+        memory: &mut PrivateView,
+    ) -> Result<Next, NoMemory>
         ensures rests { OnOk result (whole self.new memory.new
             ≡ local.rest program.now (whole self.old memory.old)) }
         ensures next { IfOk result (λ n. want_in n ≡ wanted (whole self.new memory.new)) }
         ensures ended { IfOk result (λ n. end_in n ≡ end_reached self.new.phase) }
         ensures name { OnOk result (self.new.name ≡ self.old.name) }
         ensures live { OnOk result (local.has_ended self.new.phase ≡ local.has_ended self.old.phase) }
-        ensures fits { IfOk result (NextFits (whole self.new [])) }
+        ensures fits { IfOk result (NextFits (whole self.new no_memory)) }
         ensures going { OnOk result ((self.old.stopped ≡ false) × (self.new.stopped ≡ false)) }
         ensures stops { OnErr result (self.new.stopped ≡ true) }
         ensures stays { local.has_ended self.old.phase ≡ true
@@ -58,14 +62,18 @@ impl Actor {
 
     /// Runs to the next shared event.
     #[inline(always)]
-    fn come_to_rest(&mut self, program: &Program<'_>, memory: &mut Memory) -> Result<Next, NoMemory>
+    fn come_to_rest(
+        &mut self,
+        program: &Program<'_>,
+        memory: &mut PrivateView,
+    ) -> Result<Next, NoMemory>
         ensures rests { OnOk result (whole self.new memory.new
             ≡ local.rest program.now (whole self.old memory.old)) }
         ensures next { IfOk result (λ n. want_in n ≡ wanted (whole self.new memory.new)) }
         ensures ended { IfOk result (λ n. end_in n ≡ end_reached self.new.phase) }
         ensures name { OnOk result (self.new.name ≡ self.old.name) }
         ensures live { OnOk result (local.has_ended self.new.phase ≡ local.has_ended self.old.phase) }
-        ensures fits { IfOk result (NextFits (whole self.new [])) }
+        ensures fits { IfOk result (NextFits (whole self.new no_memory)) }
         ensures stays { local.has_ended self.old.phase ≡ true
             → OnOk result (whole self.new memory.new ≡ whole self.old memory.old) }
     {
@@ -75,7 +83,7 @@ impl Actor {
 
     /// Runs instructions until it no longer runs: each takes a unit of fuel.
     #[inline(never)]
-    fn run(&mut self, program: &Program<'_>, memory: &mut Memory) -> Result<(), NoMemory>
+    fn run(&mut self, program: &Program<'_>, memory: &mut PrivateView) -> Result<(), NoMemory>
         ensures rests { OnOk result (whole self.new memory.new
             ≡ local.rest program.now (whole self.old memory.old)) }
         ensures stops { OnOk result (local.is_running self.new.phase ≡ false) }
@@ -90,13 +98,13 @@ impl Actor {
     #[inline(always)]
     fn next(&self) -> Result<Next, NoMemory>
         requires { local.is_running self.now.phase ≡ false }
-        ensures wants { IfOk result (λ n. (m : List ARange) → want_in n ≡ wanted (whole self.now m)) }
+        ensures wants { IfOk result (λ n. (m : PrivateMemory) → want_in n ≡ wanted (whole self.now m)) }
         ensures ended { IfOk result (λ n. end_in n ≡ end_reached self.now.phase) }
-        ensures fits { IfOk result (NextFits (whole self.now [])) }
+        ensures fits { IfOk result (NextFits (whole self.now no_memory)) }
     {
         match &self.phase {
             Phase::Within(want) => Ok(Next::Shared(want.copy(self.alloc)?)),
-            Phase::Starting => Ok(Next::Shared(self.starting_want()?)),
+            Phase::Starting(preparation) => Ok(Next::Shared(self.starting_want(preparation)?)),
             Phase::Opening { slot, tag } => Ok(Next::Shared(self.opening_want(*slot, *tag))),
             Phase::Releasing { slot } => Ok(Next::Shared(releasing_want(*slot))),
             Phase::Ending(end) => Ok(Next::Shared(self.ending_want(*end))),
@@ -116,7 +124,7 @@ impl Actor {
     /// One instruction.
     #[inline(always)]
     #[tactic(auto, unfolding(crate::specs::Local::step))]
-    fn step(&mut self, program: &Program<'_>, memory: &mut Memory) -> Result<(), NoMemory>
+    fn step(&mut self, program: &Program<'_>, memory: &mut PrivateView) -> Result<(), NoMemory>
         requires { self.old.phase ≡ phase.Running }
         ensures { OnOk result (whole self.new memory.new
             ≡ local.step program.now (whole self.old memory.old)) }
@@ -142,7 +150,7 @@ impl Actor {
     fn execute(
         &mut self,
         program: &Program<'_>,
-        memory: &mut Memory,
+        memory: &mut PrivateView,
         instr: &Instr,
     ) -> Result<(), NoMemory>
         requires registers { HasRegisters instr.now }
@@ -163,7 +171,7 @@ impl Actor {
                 address,
                 width,
                 value,
-            } => self.store(program, memory, address, width, value),
+            } => self.store(program, memory, address, width, value)?,
             Need::Call => self.serve(program.image(), memory)?,
             Need::Break => self.end(End::Break),
             Need::JumpMisaligned => self.end(End::JumpMisaligned),

@@ -1,5 +1,6 @@
 //! What an actor is at.
 
+use crate::preparation::Preparation;
 use wedge_base::{End, Slot, TagNo, Want};
 
 /// What an actor is at.
@@ -9,8 +10,9 @@ pub enum Phase {
     Running,
     /// It is within a load, a store or a service call, and wants this event.
     Within(Want),
-    /// A life is claimed for a child, and it wants the child's start.
-    Starting,
+    /// A life is claimed for a child: it wants the copies of tags with which the child begins, one after another, and then
+    /// the child's start.
+    Starting(Preparation),
     /// A slot is claimed for a new tag, and it wants to open the tag there.
     Opening { slot: Slot, tag: TagNo },
     /// The tag that lived in a slot is closed, and it wants to release the slot.

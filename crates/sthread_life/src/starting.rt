@@ -1,35 +1,41 @@
 //! Starting and joining children.
 
-ghost use Rattle.std.specs.Prelude.{◌≡◌, ◌<◌, ◌≤◌, [], List, Some, None, length, option_map, IfOk, IfSome, OnOk, IsSomeAnd, false};
+ghost use Rattle.std.specs.Prelude.{◌≡◌, ◌<◌, ◌≤◌, Some, None, length, option_map, IfOk, IfSome, OnOk, IsSomeAnd, false};
 ghost use Rattle.wedge_base.specs.Names.{most_parts};
 ghost use Rattle.wedge_base.specs.Sheets as sheets;
 ghost use Rattle.wedge_base.specs.declared.events.Want.{Want as AWant};
-ghost use Rattle.wedge_base.specs.declared.image.MemoryRange.{MemoryRange as ARange};
+ghost use Rattle.cow_pages.specs.PrivateMemory.{PrivateMemory, no_memory};
+ghost use Rattle.wedge_base.specs.Images.{Image as AnImage};
 ghost use Rattle.image_form.specs.Rules.{most_fuel};
-ghost use Rattle.sthread_life.specs.Actors.{whole};
-ghost use Rattle.sthread_life.specs.Between.{MayStart, WantFits, funds};
+ghost use Rattle.sthread_life.specs.Actors.{pristine, whole};
+ghost use Rattle.sthread_life.specs.Between.{AreInSlots, MayStart, WantFits, funds};
+ghost use Rattle.sthread_life.specs.declared.phase.Phase.TheVariants as phase;
 ghost use Rattle.sthread_life.specs.Calls as calls;
 ghost use Rattle.sthread_life.specs.Children.{child_name, fuel_given};
 ghost use Rattle.sthread_life.specs.Taking as taking;
 
 use crate::actor::Actor;
 use crate::calls::{A0, A1, A2, A3};
-use crate::memory::Memory;
+use crate::copy_grant::{CopyGrant, copy_grants};
 use crate::phase::Phase;
+use crate::preparation::Preparation;
 use crate::unjoined::Children;
+use cow_pages::{Pages, PrivateView};
 use grant_sheet::{Made, first_excess, sheet_of};
 use image_form::Image;
+use ready_text::Program;
 use rv_hart::Hart;
+use std::mem;
 use wedge_base::{
-    ActorName, Code, Denial, End, Items, LivesAsk, MOST_PARTS, NameFault, NoMemory, PRIVATE_BASE,
-    PRIVATE_SIZE, Want,
+    ActorName, Code, Denial, End, Items, LivesAsk, LivesReply, MOST_PARTS, NameFault, NoMemory,
+    PRIVATE_BASE, PRIVATE_SIZE, Slot, SlotWant, Want,
 };
 
 impl Actor {
     /// The call that starts a child, up to the claim of a life for it.
     pub(crate) fn create(&mut self, image: &Image) -> Result<(), NoMemory>
         requires { funds self.old.starts self.old.fuel self.old.unjoined < most_fuel }
-        ensures { OnOk result ((m : List ARange) → whole self.new m
+        ensures { OnOk result ((m : PrivateMemory) → whole self.new m
             ≡ calls.create image.now (whole self.old m)) }
     {
         let number = self.hart.reg(A0) as usize;
@@ -48,10 +54,10 @@ impl Actor {
     /// The call that starts a child, with the first part of the draft that it may not give.
     fn create_checked(&mut self, excess: Option<Denial>) -> Result<(), NoMemory>
         requires paid { funds self.old.starts self.old.fuel self.old.unjoined < most_fuel }
-        requires drafted { calls.a0 (whole self.old []) < length self.old.drafts }
+        requires drafted { calls.a0 (whole self.old no_memory) < length self.old.drafts }
         requires excess { excess ≡ sheets.first_excess self.old.sheet self.old.made
-            (taking.draft_at self.old.drafts (calls.a0 (whole self.old []))) }
-        ensures { OnOk result ((m : List ARange) → whole self.new m
+            (taking.draft_at self.old.drafts (calls.a0 (whole self.old no_memory))) }
+        ensures { OnOk result ((m : PrivateMemory) → whole self.new m
             ≡ calls.create_checked (whole self.old m) excess) }
     {
         match excess {
@@ -67,10 +73,10 @@ impl Actor {
     /// The call that starts a child, where it may give every grant of the draft.
     fn create_allowed(&mut self)
         requires room { funds self.old.starts self.old.fuel self.old.unjoined < most_fuel }
-        requires drafted { calls.a0 (whole self.old []) < length self.old.drafts }
+        requires drafted { calls.a0 (whole self.old no_memory) < length self.old.drafts }
         requires allowed { sheets.first_excess self.old.sheet self.old.made
-            (taking.draft_at self.old.drafts (calls.a0 (whole self.old []))) ≡ None }
-        ensures { (m : List ARange) → whole self.new m ≡ calls.create_allowed (whole self.old m) }
+            (taking.draft_at self.old.drafts (calls.a0 (whole self.old no_memory))) ≡ None }
+        ensures { (m : PrivateMemory) → whole self.new m ≡ calls.create_allowed (whole self.old m) }
     {
         if self.name.parts().len() >= MOST_PARTS {
             self.refuse(Code::Deep);
@@ -83,7 +89,7 @@ impl Actor {
 
     /// The call that joins a child.
     pub(crate) fn join(&mut self)
-        ensures { (m : List ARange) → whole self.new m ≡ calls.join (whole self.old m) }
+        ensures { (m : PrivateMemory) → whole self.new m ≡ calls.join (whole self.old m) }
     {
         let child = self.hart.reg(A0);
         if self.unjoined.contains(child) {
@@ -96,7 +102,7 @@ impl Actor {
     /// What it wants once its end is decided: to join its children, the least number first, and then to end.
     pub(crate) fn ending_want(&self, end: End) -> Want
         ensures is { result ≡ taking.ending_want self.now.unjoined end }
-        ensures fits { WantFits (whole self.now []) result }
+        ensures fits { WantFits (whole self.now no_memory) result }
     {
         match self.unjoined.least() {
             Some(child) => Want::Join { child },
@@ -104,11 +110,28 @@ impl Actor {
         }
     }
 
-    /// What it wants once a life is claimed: to start the child of its next number.
-    pub(crate) fn starting_want(&self) -> Result<Want, NoMemory>
-        requires { MayStart (whole self.now []) }
+    /// What it wants once a life is claimed: a copy of the next tag, or else to start the child of its next number.
+    pub(crate) fn starting_want(&self, preparation: &Preparation) -> Result<Want, NoMemory>
+        requires ready { MayStart (whole self.now no_memory) }
+        requires placed { AreInSlots preparation.now.left }
+        ensures is { IfOk result (λ q. (m : PrivateMemory) → q
+            ≡ taking.starting_want (whole self.now m) preparation.now.left) }
+        ensures fits { IfOk result (WantFits (whole self.now no_memory)) }
+    {
+        match preparation.next_grant() {
+            Some(CopyGrant { tag, slot }) => {
+                let want = SlotWant::Snap { tag };
+                Ok(Want::Slot { slot, want })
+            }
+            None => self.child_want(),
+        }
+    }
+
+    /// To start the child of its next number.
+    fn child_want(&self) -> Result<Want, NoMemory>
+        requires { MayStart (whole self.now no_memory) }
         ensures { IfOk result (λ q. q
-            ≡ AWant.Start (child_name self.now.name (taking.next_start (whole self.now [])))) }
+            ≡ AWant.Start (child_name self.now.name (taking.next_start (whole self.now no_memory)))) }
     {
         match self.name.child(self.alloc, self.starts + 1) {
             Ok(child) => Ok(Want::Start { child }),
@@ -117,22 +140,75 @@ impl Actor {
         }
     }
 
-    /// The child of a name that it is ready to start, with its private memory.
+    /// A life is claimed for a child: its private memory is made, up to the first copy that is to be made of a tag.
+    pub(crate) fn begin_child(
+        &mut self,
+        program: &Program<'_>,
+        memory: &PrivateView,
+    ) -> Result<(), NoMemory>
+        requires { MayStart (whole self.old memory.now) }
+        ensures takes { OnOk result (whole self.new memory.now ≡ taking.takes_lives program.now
+            (whole self.old memory.now) LivesAsk.Claim LivesReply.Claimed) }
+        ensures name { self.new.name ≡ self.old.name }
+    {
+        let mut preparation = self.preparation(program)?;
+        preparation.copy_own(&self.sheet, &self.made, memory)?;
+        self.phase = Phase::Starting(preparation);
+        Ok(())
+    }
+
+    /// The pristine memory for a child, and the grants of copies that it is to have.
+    fn preparation(&self, program: &Program<'_>) -> Result<Preparation, NoMemory>
+        requires { MayStart (whole self.now no_memory) }
+        ensures is { IfOk result (λ p. p ≡ record {
+          memory = pristine program.now;
+          left = taking.copies_asked (whole self.now no_memory);
+        }) }
+        ensures placed { IfOk result (λ p. AreInSlots p.left) }
+    {
+        let alloc = self.alloc;
+        let draft = &self.drafts[self.hart.reg(A0) as usize];
+        let grants = copy_grants(alloc, &self.sheet, &self.made, draft)?;
+        let memory = PrivateView::new(alloc, program.pristine())?;
+        Preparation::new(alloc, memory, grants)
+    }
+
+    /// A copy of a tag was made for the child that is to be started, or the tag lives no more: the next copies are made, up
+    /// to the first that is to be made of a tag.
+    pub(crate) fn go_on_copying(
+        &mut self,
+        memory: &PrivateView,
+        slot: Slot,
+        pages: Option<Pages>,
+    ) -> Result<(), NoMemory>
+        ensures takes { OnOk result (whole self.new memory.now ≡ taking.has_snapped
+            (whole self.old memory.now) self.old.phase slot pages) }
+        ensures name { self.new.name ≡ self.old.name }
+    {
+        let Phase::Starting(preparation) = &mut self.phase else {
+            self.phase = Phase::Running;
+            return Ok(());
+        };
+        preparation.go_on(slot, pages, &self.sheet, &self.made, memory)
+    }
+
+    /// The child of a name that it is ready to start, but for its private memory.
     #[tactic(auto, using(crate::proofs::SlotsHeld::granted_inside))]
-    fn build_child(&self, image: &Image, name: &ActorName) -> Result<(Actor, Memory), NoMemory>
-        requires { MayStart (whole self.now []) }
-        ensures is { IfOk result (λ c. whole c.0 c.1 ≡ taking.child_of image.now (whole self.now []) name.now) }
-        ensures going { IfOk result (λ c. c.0.stopped ≡ false) }
+    fn build_child(&self, name: &ActorName) -> Result<Actor, NoMemory>
+        requires { MayStart (whole self.now no_memory) }
+        ensures is { IfOk result (λ c. (i : AnImage) (m : PrivateMemory)
+            → whole c (taking.memory_made i self.now.phase)
+            ≡ taking.child_of i (whole self.now m) name.now) }
+        ensures going { IfOk result (λ c. c.stopped ≡ false) }
     {
         let alloc = self.alloc;
         let entry = self.hart.reg(A1);
         let draft = &self.drafts[self.hart.reg(A0) as usize];
         let sheet = sheet_of(alloc, &self.sheet, &self.made, draft)?;
-        let memory = Memory::pristine(alloc, image)?;
         let mut hart = Hart::new(entry);
         hart.put(2, PRIVATE_BASE + PRIVATE_SIZE);
         hart.put(A0, self.hart.reg(A2));
-        let child = Actor {
+        Ok(Actor {
             alloc,
             name: name.copy()?,
             compartment: entry,
@@ -146,33 +222,44 @@ impl Actor {
             unjoined: Children::new(alloc),
             phase: Phase::Running,
             stopped: false,
-        };
-        Ok((child, memory))
+        })
     }
 
     /// A child of a name starts. Returns the child with its private memory: there always is one.
     pub(crate) fn start(
         &mut self,
-        image: &Image,
+        program: &Program<'_>,
         name: &ActorName,
-    ) -> Result<Option<(Actor, Memory)>, NoMemory>
-        requires { MayStart (whole self.old []) }
-        ensures takes { OnOk result ((m : List ARange) → whole self.new m
+    ) -> Result<Option<(Actor, PrivateView)>, NoMemory>
+        requires { MayStart (whole self.old no_memory) }
+        ensures takes { OnOk result ((m : PrivateMemory) → whole self.new m
             ≡ taking.has_started (whole self.old m)) }
         ensures begun { IfOk result (λ c. option_map (λ p. whole p.0 p.1) c
-            ≡ Some (taking.child_of image.now (whole self.old []) name.now)) }
+            ≡ Some (taking.child_of program.now (whole self.old no_memory) name.now)) }
         ensures going { IfOk result (λ c. IfSome c (λ p. p.0.stopped ≡ false)) }
         ensures name { OnOk result (self.new.name ≡ self.old.name) }
     {
-        let (child, memory) = self.build_child(image, name)?;
+        let child = self.build_child(name)?;
+        let memory = self.take_prepared(program)?;
         self.give_to_child()?;
         Ok(Some((child, memory)))
     }
 
+    /// The private memory that was made for a child.
+    fn take_prepared(&mut self, program: &Program<'_>) -> Result<PrivateView, NoMemory>
+        ensures made { IfOk result (λ m. m ≡ taking.memory_made program.now self.old.phase) }
+        ensures after { self.new ≡ record self.old { phase = phase.Running } }
+    {
+        match mem::replace(&mut self.phase, Phase::Running) {
+            Phase::Starting(preparation) => Ok(preparation.into_memory()),
+            _ => PrivateView::new(self.alloc, program.pristine()),
+        }
+    }
+
     /// What a start makes of its starter: it has one child more, to which the fuel goes.
     fn give_to_child(&mut self) -> Result<(), NoMemory>
-        requires { MayStart (whole self.old []) }
-        ensures takes { OnOk result ((m : List ARange) → whole self.new m
+        requires { MayStart (whole self.old no_memory) }
+        ensures takes { OnOk result ((m : PrivateMemory) → whole self.new m
             ≡ taking.has_started (whole self.old m)) }
         ensures name { OnOk result (self.new.name ≡ self.old.name) }
     {
@@ -189,7 +276,7 @@ impl Actor {
     /// A child that ended so, with so much fuel left, is joined.
     pub(crate) fn take_join(&mut self, child: u32, end: End, fuel: u32)
         requires { IsSomeAnd (fuel_given self.old.unjoined child) (λ given. fuel ≤ given) }
-        ensures takes { (m : List ARange) → whole self.new m
+        ensures takes { (m : PrivateMemory) → whole self.new m
             ≡ taking.has_joined (whole self.old m) child end fuel }
         ensures name { self.new.name ≡ self.old.name }
     {

@@ -1,8 +1,8 @@
 //! Service calls on tags: to make and to delete one, and to place and to free its blocks.
 
-ghost use Rattle.std.specs.Prelude.{◌≡◌, ◌<◌, [], List, Some, OnOk};
+ghost use Rattle.std.specs.Prelude.{◌≡◌, ◌<◌, Some, OnOk};
 ghost use Rattle.wedge_base.specs.Images.{slots};
-ghost use Rattle.wedge_base.specs.declared.image.MemoryRange.{MemoryRange as ARange};
+ghost use Rattle.cow_pages.specs.PrivateMemory.{PrivateMemory, no_memory};
 ghost use Rattle.sthread_life.specs.Actors.{whole, slot_held};
 ghost use Rattle.sthread_life.specs.Between.{WantFits};
 ghost use Rattle.sthread_life.specs.Calls as calls;
@@ -22,7 +22,7 @@ use wedge_base::{
 impl Actor {
     /// The call that makes a tag, up to the claim of a slot for it.
     pub(crate) fn tag_new(&mut self)
-        ensures { (m : List ARange) → whole self.new m ≡ calls.tag_new (whole self.old m) }
+        ensures { (m : PrivateMemory) → whole self.new m ≡ calls.tag_new (whole self.old m) }
     {
         let pages = self.hart.reg(A0);
         if pages != 0 && pages <= MOST_PAGES {
@@ -34,7 +34,7 @@ impl Actor {
 
     /// The call that deletes a tag, up to its close.
     pub(crate) fn tag_delete(&mut self) -> Result<(), NoMemory>
-        ensures { OnOk result ((m : List ARange) → whole self.new m
+        ensures { OnOk result ((m : PrivateMemory) → whole self.new m
             ≡ calls.tag_delete (whole self.old m)) }
     {
         let tag = TagNo(self.hart.reg(A0));
@@ -49,7 +49,7 @@ impl Actor {
 
     /// The call that places a block in a tag, up to its slot.
     pub(crate) fn smalloc(&mut self) -> Result<(), NoMemory>
-        ensures { OnOk result ((m : List ARange) → whole self.new m
+        ensures { OnOk result ((m : PrivateMemory) → whole self.new m
             ≡ calls.smalloc (whole self.old m)) }
     {
         let tag = TagNo(self.hart.reg(A0));
@@ -69,7 +69,7 @@ impl Actor {
 
     /// The call that frees a block, up to its slot.
     pub(crate) fn sfree(&mut self)
-        ensures { (m : List ARange) → whole self.new m ≡ calls.sfree (whole self.old m) }
+        ensures { (m : PrivateMemory) → whole self.new m ≡ calls.sfree (whole self.old m) }
     {
         match slot_of(self.hart.reg(A0)) {
             None => self.refuse(Code::Bad),
@@ -80,7 +80,7 @@ impl Actor {
     /// The slot in which a tag that it holds was opened; slot 0 for a tag that it does not hold.
     #[tactic(auto, using(crate::proofs::SlotsHeld::held_inside))]
     fn slot_held(&self, tag: TagNo) -> Slot
-        ensures is { result ≡ slot_held (whole self.now []) tag }
+        ensures is { result ≡ slot_held (whole self.now no_memory) tag }
         ensures inside { result < slots }
     {
         slot_on(&self.sheet, &self.made, tag).unwrap_or(Slot(0))
@@ -88,7 +88,7 @@ impl Actor {
 
     /// It wants this of a slot.
     fn ask_slot(&mut self, slot: Slot, want: SlotWant)
-        requires { WantFits (whole self.old []) (AWant.Slot slot want) }
+        requires { WantFits (whole self.old no_memory) (AWant.Slot slot want) }
         ensures { self.new ≡ record self.old { phase = phase.Within (AWant.Slot slot want) } }
     {
         self.phase = Phase::Within(Want::Slot { slot, want });
@@ -97,8 +97,8 @@ impl Actor {
     /// What it wants once a slot is claimed for a tag: to open the tag there.
     pub(crate) fn opening_want(&self, slot: Slot, tag: TagNo) -> Want
         requires { self.now.phase ≡ phase.Opening slot tag }
-        ensures is { (m : List ARange) → Some result ≡ wanted (whole self.now m) }
-        ensures fits { WantFits (whole self.now []) result }
+        ensures is { (m : PrivateMemory) → Some result ≡ wanted (whole self.now m) }
+        ensures fits { WantFits (whole self.now no_memory) result }
     {
         let pages = self.hart.reg(A0);
         let want = SlotWant::Open { tag, pages };

@@ -1,7 +1,7 @@
 //! An actor's part of a shared event.
 
-ghost use Rattle.std.specs.Prelude.{◌≡◌, ◌<◌, [], List, IfOk, IfSome, OnOk, OnErr, true, false, option_map, option_and_then};
-ghost use Rattle.wedge_base.specs.declared.image.MemoryRange.{MemoryRange as ARange};
+ghost use Rattle.std.specs.Prelude.{◌≡◌, ◌<◌, IfOk, IfSome, OnOk, OnErr, true, false, option_map, option_and_then};
+ghost use Rattle.cow_pages.specs.PrivateMemory.{PrivateMemory, no_memory};
 ghost use Rattle.wedge_base.specs.Images.{fetch};
 ghost use Rattle.wedge_base.specs.declared.events.Event.{Event as AnEvent};
 ghost use Rattle.rv_isa.specs.Table.{decode};
@@ -13,8 +13,8 @@ ghost use Rattle.sthread_life.specs.Taking as taking;
 
 use crate::actor::Actor;
 use crate::calls::A2;
-use crate::memory::Memory;
 use crate::phase::Phase;
+use cow_pages::{Pages, PrivateView};
 use ready_text::Program;
 use rv_hart::Reply;
 use wedge_base::{
@@ -29,9 +29,9 @@ impl Actor {
     pub fn take(
         &mut self,
         program: &Program<'_>,
-        memory: &mut Memory,
+        memory: &mut PrivateView,
         event: &Event,
-    ) -> Result<Option<(Actor, Memory)>, NoMemory>
+    ) -> Result<Option<(Actor, PrivateView)>, NoMemory>
         requires { TakesFit (whole self.old memory.old) event.now }
         ensures takes { OnOk result (whole self.new memory.new
             ≡ taking.takes program.now (whole self.old memory.old) event.now) }
@@ -56,9 +56,9 @@ impl Actor {
     fn take_event(
         &mut self,
         program: &Program<'_>,
-        memory: &mut Memory,
+        memory: &mut PrivateView,
         event: &Event,
-    ) -> Result<Option<(Actor, Memory)>, NoMemory>
+    ) -> Result<Option<(Actor, PrivateView)>, NoMemory>
         requires { TakesFit (whole self.old memory.old) event.now }
         ensures takes { OnOk result (whole self.new memory.new
             ≡ taking.takes program.now (whole self.old memory.old) event.now) }
@@ -69,7 +69,7 @@ impl Actor {
     {
         match event {
             Event::Slot { slot, ask, reply } => {
-                self.take_slot(program, *slot, ask, reply)?;
+                self.take_slot(program, memory, *slot, ask, reply)?;
                 Ok(None)
             }
             Event::Slots { ask, reply } => {
@@ -81,10 +81,10 @@ impl Actor {
                 Ok(None)
             }
             Event::Lives { ask, reply } => {
-                self.take_lives(memory, *ask, *reply);
+                self.take_lives(program, memory, *ask, *reply)?;
                 Ok(None)
             }
-            Event::Start { child } => self.start(program.image(), child),
+            Event::Start { child } => self.start(program, child),
             Event::Join { child, end, fuel } => {
                 self.take_join(*child, *end, *fuel);
                 Ok(None)
@@ -101,13 +101,14 @@ impl Actor {
     fn take_slot(
         &mut self,
         program: &Program<'_>,
+        memory: &mut PrivateView,
         slot: Slot,
         ask: &SlotAsk,
         reply: &SlotReply,
     ) -> Result<(), NoMemory>
         requires { IsInBounds (AnEvent.Slot slot ask.now reply.now) }
-        ensures takes { OnOk result ((m : List ARange) → whole self.new m
-            ≡ taking.takes_slot program.now (whole self.old m) slot ask.now reply.now) }
+        ensures takes { OnOk result (whole self.new memory.new
+            ≡ taking.takes_slot program.now (whole self.old memory.old) slot ask.now reply.now) }
         ensures name { OnOk result (self.new.name ≡ self.old.name) }
     {
         match reply {
@@ -121,7 +122,7 @@ impl Actor {
                 self.hart.advance();
                 Ok(())
             }
-            _ => self.take_other(program, slot, ask, reply),
+            _ => self.take_other(program, memory, slot, ask, reply),
         }
     }
 
@@ -130,13 +131,14 @@ impl Actor {
     fn take_other(
         &mut self,
         program: &Program<'_>,
+        memory: &mut PrivateView,
         slot: Slot,
         ask: &SlotAsk,
         reply: &SlotReply,
     ) -> Result<(), NoMemory>
         requires { IsInBounds (AnEvent.Slot slot ask.now reply.now) }
-        ensures takes { OnOk result ((m : List ARange) → whole self.new m
-            ≡ taking.takes_slot program.now (whole self.old m) slot ask.now reply.now) }
+        ensures takes { OnOk result (whole self.new memory.new
+            ≡ taking.takes_slot program.now (whole self.old memory.old) slot ask.now reply.now) }
         ensures name { OnOk result (self.new.name ≡ self.old.name) }
     {
         match reply {
@@ -150,21 +152,25 @@ impl Actor {
             }
             SlotReply::Unmapped => self.end(End::Unmapped),
             SlotReply::Denied { tag, wants } => self.take_denial(*ask, *tag, *wants)?,
-            SlotReply::Opened => self.take_opened(slot, *ask)?,
+            SlotReply::Opened => self.take_opened(memory, slot, *ask)?,
             SlotReply::Closed => self.phase = Phase::Releasing { slot },
             SlotReply::Placed { offset } => self.answer(address_of(slot, *offset), 0),
             SlotReply::Freed => self.answer(0, 0),
             SlotReply::NoSuch => self.refuse(Code::NoSuch),
             SlotReply::Full => self.refuse(Code::Full),
             SlotReply::Bad => self.refuse(Code::Bad),
-            SlotReply::Snapped { .. } | SlotReply::Gone => self.phase = Phase::Running,
+            SlotReply::Snapped { pages } => {
+                let pages = Pages::of_list(self.alloc, pages)?;
+                self.go_on_copying(memory, slot, Some(pages))?;
+            }
+            SlotReply::Gone => self.go_on_copying(memory, slot, None)?,
         }
         Ok(())
     }
 
     /// A denial by a slot: a load or a store ends its actor, and a call answers so.
     fn take_denial(&mut self, ask: SlotAsk, tag: TagNo, wants: Right) -> Result<(), NoMemory>
-        ensures takes { OnOk result ((m : List ARange)
+        ensures takes { OnOk result ((m : PrivateMemory)
             → whole self.new m ≡ taking.denied_on (whole self.old m) ask tag wants) }
         ensures name { OnOk result (self.new.name ≡ self.old.name) }
     {
@@ -176,11 +182,17 @@ impl Actor {
         Ok(())
     }
 
-    /// A tag is opened in a slot: the actor has made it, and is answered its number and its address.
-    fn take_opened(&mut self, slot: Slot, ask: SlotAsk) -> Result<(), NoMemory>
+    /// A tag is opened in a slot: the actor has made it, has no private copy there, and is answered its number and its
+    /// address.
+    fn take_opened(
+        &mut self,
+        memory: &mut PrivateView,
+        slot: Slot,
+        ask: SlotAsk,
+    ) -> Result<(), NoMemory>
         requires { slot < slots }
-        ensures takes { OnOk result ((m : List ARange)
-            → whole self.new m ≡ taking.has_opened (whole self.old m) slot ask) }
+        ensures takes { OnOk result (whole self.new memory.new
+            ≡ taking.has_opened (whole self.old memory.old) slot ask) }
         ensures name { OnOk result (self.new.name ≡ self.old.name) }
     {
         let SlotAsk::Open { tag, .. } = ask else {
@@ -188,6 +200,7 @@ impl Actor {
             return Ok(());
         };
         self.made.put_tag(tag, slot)?;
+        memory.drop_copy(slot);
         self.phase = Phase::Running;
         self.hart.answer(tag.0, 0, Some(address_of(slot, 0)));
         Ok(())
@@ -198,8 +211,8 @@ impl Actor {
     #[inline(never)]
     fn take_place(&mut self, ask: DirectoryAsk, reply: DirectoryReply)
         requires bounds { IsInBounds (AnEvent.Slots ask reply) }
-        requires suits { SuitsActor (whole self.old []) (AnEvent.Slots ask reply) }
-        ensures takes { (m : List ARange) → whole self.new m
+        requires suits { SuitsActor (whole self.old no_memory) (AnEvent.Slots ask reply) }
+        ensures takes { (m : PrivateMemory) → whole self.new m
             ≡ taking.takes_place (whole self.old m) ask reply }
         ensures name { self.new.name ≡ self.old.name }
     {
@@ -220,7 +233,7 @@ impl Actor {
     #[inline(always)]
     fn take_load(&mut self, program: &Program<'_>, value: u32)
         requires { self.old.phase ≡ phase.Running }
-        ensures takes { (m : List ARange) → whole self.new m
+        ensures takes { (m : PrivateMemory) → whole self.new m
             ≡ taking.loads_at (whole self.old m)
             (option_and_then decode (fetch program.now self.old.hart.pc)) value }
         ensures name { self.new.name ≡ self.old.name }
@@ -236,7 +249,7 @@ impl Actor {
     /// What a stream's reply makes of it.
     #[inline(never)]
     fn take_stream(&mut self, fd: FdNo, reply: &StreamReply) -> Result<(), NoMemory>
-        ensures takes { OnOk result ((m : List ARange)
+        ensures takes { OnOk result ((m : PrivateMemory)
             → whole self.new m ≡ taking.takes_stream (whole self.old m) fd reply.now) }
         ensures name { OnOk result (self.new.name ≡ self.old.name) }
     {
@@ -260,23 +273,30 @@ impl Actor {
         Ok(())
     }
 
-    /// What the count of live sthreads makes of it: where a life is claimed it starts a child, and at its end it drops
+    /// What the count of live sthreads makes of it: where a life is claimed it prepares a child, and at its end it drops
     /// its private memory.
     #[inline(never)]
-    fn take_lives(&mut self, memory: &mut Memory, ask: LivesAsk, reply: LivesReply)
+    fn take_lives(
+        &mut self,
+        program: &Program<'_>,
+        memory: &mut PrivateView,
+        ask: LivesAsk,
+        reply: LivesReply,
+    ) -> Result<(), NoMemory>
         requires { SuitsActor (whole self.old memory.old) (AnEvent.Lives ask reply) }
-        ensures takes { whole self.new memory.new
-            ≡ taking.takes_lives (whole self.old memory.old) ask reply }
-        ensures name { self.new.name ≡ self.old.name }
+        ensures takes { OnOk result (whole self.new memory.new
+            ≡ taking.takes_lives program.now (whole self.old memory.old) ask reply) }
+        ensures name { OnOk result (self.new.name ≡ self.old.name) }
     {
         match (ask, reply) {
             (LivesAsk::Release { end }, _) => {
                 memory.clear();
                 self.phase = Phase::Ended(end);
             }
-            (LivesAsk::Claim, LivesReply::Claimed) => self.phase = Phase::Starting,
+            (LivesAsk::Claim, LivesReply::Claimed) => self.begin_child(program, memory)?,
             (LivesAsk::Claim, LivesReply::Full) => self.refuse(Code::Full),
             (LivesAsk::Claim, LivesReply::Released) => self.phase = Phase::Running,
         }
+        Ok(())
     }
 }

@@ -9,11 +9,18 @@ use std::process::Abort;
 use std::test::Fail;
 use wedge_core::Why;
 
+/// A complete schedule and its report.
+#[derive(Drop)]
+pub(crate) struct Complete {
+    pub schedule: String,
+    pub report: Vec<u8>,
+}
+
 /// The schedules of some length: those that go on, and those that are complete.
 #[derive(Drop)]
-struct Schedules {
-    open: Vec<String>,
-    complete: Vec<String>,
+pub(crate) struct Schedules {
+    pub open: Vec<String>,
+    pub complete: Vec<Complete>,
 }
 
 /// How many turns beyond three an actor takes in a schedule.
@@ -56,11 +63,13 @@ fn replayed(
     replay_text(alloc, image, schedule)
 }
 
-/// Every schedule of one turn more, of those that go on; the others are refused at their last line, of this number.
-fn longer(
+/// Every schedule of one turn more, by one of these actors, of those that go on; the others are refused at their last line, of
+/// this number.
+pub(crate) fn longer(
     rt: &impl Abort,
     alloc: Global,
     image: &[u8],
+    names: &[&str],
     open: &[String],
     last: usize,
 ) -> Result<Schedules, Fail> {
@@ -69,14 +78,10 @@ fn longer(
         complete: Vec::new(alloc),
     };
     for prefix in open {
-        for name in ["0", "0.1", "0.2"] {
+        for name in names {
             let schedule = format!(in alloc; "{prefix}{name}\n")?;
             match replayed(rt, alloc, image, schedule.as_bytes()) {
-                Ok(report) => {
-                    let wanted = report_of(alloc, schedule.as_str())?;
-                    assert_eq!(rt; report.as_slice(), wanted.as_bytes());
-                    schedules.complete.push(schedule)?;
-                }
+                Ok(report) => schedules.complete.push(Complete { schedule, report })?,
                 Err(Refusal::Schedule(ScheduleRefusal::Replay { at, why })) => {
                     if why == Why::Short {
                         assert_eq!(rt; at, last.saturating_add(1));
@@ -104,6 +109,7 @@ fn every_order_of_a_handshake(rt: HostRuntime) -> Result<(), Fail> {
         report: "",
     };
     let image = image_of(&rt, alloc, row)?;
+    let names = ["0", "0.1", "0.2"];
     let mut open = Vec::new(alloc);
     open.push(String::new(alloc))?;
     // The number of turns, and how many schedules go on and how many are complete: counted by a model of the three programs apart
@@ -126,7 +132,11 @@ fn every_order_of_a_handshake(rt: HostRuntime) -> Result<(), Fail> {
         (15, 1385, 110),
         (16, 1746, 160),
     ] {
-        let schedules = longer(&rt, alloc, image.as_slice(), open.as_slice(), last)?;
+        let schedules = longer(&rt, alloc, image.as_slice(), &names, open.as_slice(), last)?;
+        for complete in &schedules.complete {
+            let wanted = report_of(alloc, complete.schedule.as_str())?;
+            assert_eq!(rt; complete.report.as_slice(), wanted.as_bytes());
+        }
         assert_eq!(rt; schedules.open.len(), going);
         assert_eq!(rt; schedules.complete.len(), complete);
         open = schedules.open;

@@ -4,6 +4,8 @@
 #[cfg(test)]
 mod build_tests;
 mod commands;
+#[cfg(test)]
+mod copy_tests;
 mod headings;
 #[cfg(test)]
 mod interleaving_tests;

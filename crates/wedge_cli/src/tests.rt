@@ -15,7 +15,7 @@ static OK: [u32; 11] = [
 ];
 
 /// What follows the words: the procedure `main`, the entry, no data, the tag `box` of one page with its
-/// right at 35, the descriptor `out` with its bits at 56, no file, user 0 and the root `/`.
+/// right at 35, the descriptor `out` with its bits at 56, no file, the user at 68 and the root `/`.
 static TABLES: [u8; 75] = [
     1, 0, 0, 0, 4, 0, 0x6d, 0x61, 0x69, 0x6e, 0, 0, 1, 0, 0, 0, 1, 0, 0, 0, 0, 0, 1, 0, 0, 0, 3, 0,
     0x62, 0x6f, 0x78, 1, 0, 0, 0, 3, 0, 0, 0, 0, 0, 0, 0, 1, 0, 0, 0, 3, 0, 0x6f, 0x75, 0x74, 1, 0,
@@ -304,8 +304,12 @@ fn what_is_no_run_says_why(rt: HostRuntime) -> Result<(), Fail> {
             },
         )?;
     }
+    // Another user than 0.
+    let mut bytes = image_of(alloc, 100, &OK, 3, 2)?;
+    bytes.truncate(132);
+    bytes.extend_from_slice(&[7, 0, 0, 0, 1, 0, 0x2f])?;
     let run = Run {
-        bytes: image_of(alloc, 100, &OK, 1, 2)?,
+        bytes,
         read_fails: 0,
         out_room: 1000,
         write_fails: 0,

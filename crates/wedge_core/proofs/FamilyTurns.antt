@@ -94,7 +94,7 @@ pub record Joins (k : ℕ) (c : ActorState) (e : Event) : Type 0 where
 joins_at : (k : ℕ) (c : ActorState) (p : Phase) (e : Event) → c.phase ≡ p → option_map (λ x. event.Join k x c.fuel) (end_reached p) ≡ Some e → Joins k c e
 joins_at k c phase.Running e at comes = absurd cc
 joins_at k c (phase.Within q) e at comes = absurd cc
-joins_at k c phase.Starting e at comes = absurd cc
+joins_at k c (phase.Starting pre) e at comes = absurd cc
 joins_at k c (phase.Opening slot tag) e at comes = absurd cc
 joins_at k c (phase.Releasing slot) e at comes = absurd cc
 joins_at k c (phase.Ending x) e at comes = absurd cc

@@ -6,6 +6,7 @@ use Rattle.wedge_base.specs.Names.{same, root_name}
 use Rattle.wedge_base.specs.declared.rights.End.{End}
 use Rattle.wedge_base.specs.declared.events.Turn.{Turn}
 use Rattle.wedge_base.specs.declared.events.Want.TheVariants as want
+use Rattle.sthread_life.specs.declared.copy_grant.CopyGrant.{CopyGrant}
 use Rattle.sthread_life.specs.declared.phase.Phase.{Phase}
 use Rattle.sthread_life.specs.declared.phase.Phase.TheVariants as phase
 use Rattle.sthread_life.specs.Actors.{ActorState, root}
@@ -13,7 +14,7 @@ use Rattle.sthread_life.specs.Children.{Children, fuel_given, is_child, child_na
 use Rattle.sthread_life.specs.FamilyTrees.{Holds, AllBehind}
 use Rattle.sthread_life.specs.Local.{rest, has_ended}
 use Rattle.sthread_life.specs.Names.{IsNew, AreDistinct}
-use Rattle.sthread_life.specs.Taking.{wanted_at, ending_want}
+use Rattle.sthread_life.specs.Taking.{starting_want, wanted_at, ending_want}
 use Rattle.sthread_life.specs.Worlds.{WorldState, opening, actor_named, put_actor, Runs, is_ended}
 use Rattle.sthread_life.proofs.FamilyKept.{found_apart}
 use Rattle.sthread_life.proofs.FamilyRuns.{run_family}
@@ -148,10 +149,14 @@ ending_listed : (cs : Children) (x : End) (k : ℕ) → ending_want cs x ≡ wan
 ending_listed [] x k is = absurd cc
 ending_listed (c ∷ cs) x k is = let one : c.0 ≡ k = cc in subst (λ n. is_child (c ∷ cs) n ≡ true) one (first_listed c cs)
 
+starting_joins : (b : ActorState) (gs : List CopyGrant) (k : ℕ) → Some (starting_want b gs) ≡ Some (want.Join k) → ⊥
+starting_joins b [] k is = cc
+starting_joins b (g ∷ gs) k is = cc
+
 waits_for : (i : Image) (b : ActorState) (p : Phase) (k : ℕ) → ReadsAs i b p → wanted_at b p ≡ Some (want.Join k) → is_child b.unjoined k ≡ true
 waits_for i b phase.Running k reads wants = absurd cc
 waits_for i b (phase.Within q) k reads wants = let is : q ≡ want.Join k = cc in subst (λ x. IsWanted (LoadsAt i b.hart reads.0 reads.1) b x) is reads.3
-waits_for i b phase.Starting k reads wants = absurd cc
+waits_for i b (phase.Starting pre) k reads wants = absurd (starting_joins b pre.left k wants)
 waits_for i b (phase.Opening slot tag) k reads wants = absurd cc
 waits_for i b (phase.Releasing slot) k reads wants = absurd cc
 waits_for i b (phase.Ending x) k reads wants = ending_listed b.unjoined x k cc

@@ -1,11 +1,12 @@
 -- Events of the directory and of slots are in bounds.
-use Rattle.std.proofs.Common.{◌≡◌, ℕ, ◌+◌, ◌<◌, ◌≤◌, ◌==◌, Bool, true, false, List, [], ◌∷◌, length, refl, sym, arith}
+use Rattle.std.proofs.Common.{◌≡◌, ℕ, zero, suc, ◌+◌, ◌/◌, ◌<◌, ◌≤◌, ◌==◌, Bool, true, false, List, [], ◌∷◌, ◌++◌, length, refl, sym, ◌∙◌, arith}
+use Rattle.std.proofs.lemmas.List.{length-append}
 use Rattle.std.proofs.lemmas.Bool.Decides.{nat_tests}
 use Rattle.std.specs.Prelude.{Option, Some, None, IfSome, not, nat_lt, nat_le, is_some, slice_range, if◌then◌else◌}
 use Rattle.wedge_base.specs.Blocks.{Block, AreBlocks, rounded, first_fit, block_at}
 use Rattle.wedge_base.specs.Bytes.{number_of}
 use Rattle.wedge_base.specs.Directories.{Directory, directory_reply}
-use Rattle.wedge_base.specs.Images.{slots, window}
+use Rattle.wedge_base.specs.Images.{page, slots, window, most_pages}
 use Rattle.wedge_base.specs.Rights.{at_least}
 use Rattle.wedge_base.specs.Slots.{Segment, right_in, place_reply, slot_reply}
 use Rattle.wedge_base.specs.declared.cells.DirectoryAsk.{DirectoryAsk}
@@ -18,7 +19,7 @@ use Rattle.wedge_base.specs.declared.cells.SlotReply.{SlotReply}
 use Rattle.wedge_base.specs.declared.cells.SlotReply.TheVariants as reply
 use Rattle.wedge_base.specs.declared.events.Event.TheVariants as event
 use Rattle.wedge_base.specs.declared.rights.Right.TheVariants as right
-use Rattle.wedge_base.specs.Pages.{pages_of}
+use Rattle.wedge_base.specs.Pages.{page_of, pages_before, pages_of}
 use Rattle.sthread_life.specs.Between.{GivesBelow, IsInBounds}
 use Rattle.sthread_life.proofs.Directing.{claimed_inside}
 
@@ -65,13 +66,15 @@ fits_below low size room (b ∷ bs) o h e = by_gap (nat_le (low + size) b.offset
 some_bytes : (size : ℕ) → 1 ≤ size → 0 < rounded size
 some_bytes size h = omega (arith, h)
 
--- an event of a slot that is there, with a reply that places no block
+-- an event of a slot that is there, with a reply that places no block and has no pages
 abbrev PlacesNone : SlotReply → Type 0
 PlacesNone (reply.Placed offset) = ⊥
+PlacesNone (reply.Snapped pages) = ⊥
 PlacesNone r = Unit {0}
 
 none_in_bounds : (slot : ℕ) (q : SlotAsk) (r : SlotReply) → slot < slots → PlacesNone r → IsInBounds (event.Slot slot q r)
 none_in_bounds slot q (reply.Placed offset) inside k = absurd k
+none_in_bounds slot q (reply.Snapped pages) inside k = absurd k
 none_in_bounds slot q r inside k = inside
 
 pub places_inside : (slot tag size : ℕ) (s : Option Segment) → slot < slots → 1 ≤ size → IfSome s (λ g. AreBlocks 0 (length g.bytes) g.blocks) → IfSome s (λ g. length g.bytes ≤ window) → IsInBounds (event.Slot slot (ask.Smalloc tag size) (slot_reply s (ask.Smalloc tag size)))
@@ -86,13 +89,32 @@ places_inside slot tag size (Some g) inside some apart few = by_tests (g.tag == 
         let bytes = some_bytes size some in
         (inside, omega (arith, fits, bytes, few))
 
+-- ---- a copy of a tag
+
+pages_count : (bytes : List ℕ) (n : ℕ) → length (pages_before bytes n) ≡ n
+pages_count bytes zero = refl
+pages_count bytes (suc n) = length-append (pages_before bytes n) (page_of bytes n ∷ []) ∙ (let before = pages_count bytes n in omega (arith, before))
+
+few_pages : (bytes : List ℕ) → length bytes ≤ window → length (pages_of bytes) ≤ most_pages
+unfolding pages_of
+few_pages bytes few = let count = pages_count bytes (length bytes / page) in grind (arith, count, few)
+
+pub snaps_inside : (slot tag : ℕ) (s : Option Segment) → slot < slots → IfSome s (λ g. length g.bytes ≤ window) → IsInBounds (event.Slot slot (ask.Snap tag) (slot_reply s (ask.Snap tag)))
+snaps_inside slot tag None inside few = inside
+snaps_inside slot tag (Some g) inside few = by_tag (g.tag == tag)
+  where
+    by_tag : (t : Bool) → IsInBounds (event.Slot slot (ask.Snap tag) (if t then reply.Snapped (pages_of g.bytes) else reply.Gone))
+    by_tag true = (inside, few_pages g.bytes few)
+    by_tag false = inside
+
 -- ---- what else is asked of a slot
 
-abbrev IsNoBlock : SlotAsk → Type 0
-IsNoBlock (ask.Smalloc tag size) = ⊥
-IsNoBlock q = Unit {0}
+abbrev IsOther : SlotAsk → Type 0
+IsOther (ask.Smalloc tag size) = ⊥
+IsOther (ask.Snap tag) = ⊥
+IsOther q = Unit {0}
 
-pub others_inside : (slot : ℕ) (s : Option Segment) (q : SlotAsk) → slot < slots → IsNoBlock q → IsInBounds (event.Slot slot q (slot_reply s q))
+pub others_inside : (slot : ℕ) (s : Option Segment) (q : SlotAsk) → slot < slots → IsOther q → IsInBounds (event.Slot slot q (slot_reply s q))
 others_inside slot None q inside k = none_in_bounds slot q (slot_reply None q) inside (empty_places q)
   where
     empty_places : (q : SlotAsk) → PlacesNone (slot_reply None q)
@@ -124,15 +146,11 @@ others_inside slot (Some g) q inside k = none_in_bounds slot q (slot_reply (Some
     by_close true = tt
     by_close false = tt
 
-    by_snap : (t : Bool) → PlacesNone (if t then reply.Snapped (pages_of g.bytes) else reply.Gone)
-    by_snap true = tt
-    by_snap false = tt
-
-    live_places : (q : SlotAsk) → IsNoBlock q → PlacesNone (slot_reply (Some g) q)
+    live_places : (q : SlotAsk) → IsOther q → PlacesNone (slot_reply (Some g) q)
     live_places (ask.Open tag pages) k = tt
     live_places (ask.Close tag) k = by_close (g.tag == tag)
     live_places (ask.Load offset width live) k = by_load (nat_lt offset (length g.bytes)) (at_least (right_in live) right.Read) (number_of (slice_range g.bytes offset (offset + width)))
     live_places (ask.Store offset width value live) k = by_store (nat_lt offset (length g.bytes)) (at_least (right_in live) right.ReadWrite)
     live_places (ask.Smalloc tag size) k = absurd k
     live_places (ask.Sfree offset live) k = by_free (at_least (right_in live) right.ReadWrite) (is_some (block_at g.blocks offset))
-    live_places (ask.Snap tag) k = by_snap (g.tag == tag)
+    live_places (ask.Snap tag) k = absurd k

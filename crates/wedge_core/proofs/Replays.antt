@@ -69,7 +69,7 @@ replayed_unknown w at name names going none = replayed_none w at name names goin
 ended_wants : (a : ActorState) (p : Phase) → has_ended p ≡ true → wanted_at a p ≡ None
 ended_wants a phase.Running e = cc
 ended_wants a (phase.Within q) e = cc
-ended_wants a phase.Starting e = cc
+ended_wants a (phase.Starting pre) e = cc
 ended_wants a (phase.Opening slot tag) e = cc
 ended_wants a (phase.Releasing slot) e = cc
 ended_wants a (phase.Ending x) e = cc
@@ -102,7 +102,7 @@ no_event k (Some c) e = by_phase c.phase e
     by_phase : (p : Phase) → has_ended p ≡ false → option_map (λ x. event.Join k x c.fuel) (end_reached p) ≡ None
     by_phase phase.Running e = refl
     by_phase (phase.Within q) e = refl
-    by_phase phase.Starting e = refl
+    by_phase (phase.Starting pre) e = refl
     by_phase (phase.Opening slot tag) e = refl
     by_phase (phase.Releasing slot) e = refl
     by_phase (phase.Ending x) e = refl

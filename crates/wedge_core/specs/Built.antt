@@ -3,17 +3,8 @@ use Rattle.std.specs.Prelude.{ℕ, ◌==◌, Bool, true, false, ◌&&◌, List, 
 use Rattle.std.specs.List.{list_all}
 use Rattle.std.specs.Cmp.Lexicographic.{pointwise}
 use Rattle.wedge_base.specs.Images.{Image}
-use Rattle.wedge_base.specs.declared.rights.Right.{Right}
-use Rattle.wedge_base.specs.declared.rights.Right.TheVariants as right
 use Rattle.wedge_base.specs.declared.rights.StreamKind.{StreamKind}
 use Rattle.wedge_base.specs.declared.rights.StreamKind.TheVariants as kind
-
--- whether a right is no copy
-abbrev pub is_shared : Option Right → Bool
-is_shared None = true
-is_shared (Some right.Cow) = false
-is_shared (Some right.Read) = true
-is_shared (Some right.ReadWrite) = true
 
 abbrev pub is_append : StreamKind → Bool
 is_append kind.Append = true
@@ -23,9 +14,6 @@ is_append kind.Source = false
 abbrev pub is_top : List ℕ → Bool
 is_top path = pointwise ◌==◌ path (47 ∷ [])
 
--- no data, no file, no copy of a tag, no source, and the user and the root directory that may do all
+-- no file, no source, and the user and the root directory that may do all
 abbrev pub is_built : Image → Bool
-is_built i =
-    (length i.ranges == 0) && (length i.files == 0)
-    && list_all (λ t. is_shared t.right) i.tags && list_all (λ f. is_append f.kind) i.fds
-    && (i.user == 0) && is_top i.root
+is_built i = (length i.files == 0) && list_all (λ f. is_append f.kind) i.fds && (i.user == 0) && is_top i.root

@@ -5,33 +5,17 @@ ghost use Rattle.std.specs.List.{list_all};
 ghost use Rattle.wedge_core.specs.Built as built;
 
 use image_form::Image;
-use wedge_base::{FdEntry, Right, StreamKind, TagEntry};
+use wedge_base::{FdEntry, StreamKind};
 
-/// Whether the machine runs the image today: one without data, files, copies of tags and sources, of
-/// user 0 and with the root directory `/`.
+/// Whether the machine runs the image today: one without files and sources, of user 0 and with the root
+/// directory `/`.
 pub fn is_built(image: &Image) -> bool
     ensures { result ≡ built.is_built image.now }
 {
-    image.ranges().is_empty()
-        && image.files().is_empty()
-        && are_shared(image.tags())
+    image.files().is_empty()
         && are_append(image.fds())
         && image.user() == 0
         && image.root().as_slice() == b"/".as_slice()
-}
-
-/// Whether none of the tags is granted as a copy.
-fn are_shared(tags: &[TagEntry]) -> bool
-    ensures { result ≡ list_all (λ t. built.is_shared t.right) tags.now }
-{
-    tags.iter().all(|t| is_shared(t.right))
-}
-
-/// Whether a right is no copy.
-fn is_shared(right: Option<Right>) -> bool
-    ensures { result ≡ built.is_shared right }
-{
-    !matches!(right, Some(Right::Cow))
 }
 
 /// Whether each descriptor is an append stream.

@@ -21,8 +21,8 @@ use sthread_life::Lives;
 use tag_directory::Directory;
 use tag_segment::SlotState;
 use wedge_base::{
-    Ask, DirectoryAsk, DirectoryReply, Event, FdEntry, MOST_FDS, NoMemory, Object, SLOTS, Slot,
-    SlotAsk, SlotReply, StreamAsk, StreamReply, TagEntry, TagNo, Want,
+    Ask, Bytes, DirectoryAsk, DirectoryReply, Event, FdEntry, MOST_FDS, NoMemory, Object, SLOTS,
+    Slot, SlotAsk, SlotReply, StreamAsk, StreamReply, TagEntry, TagNo, Want,
 };
 
 /// The cells of a world: the directory of slots, 4,096 slots with the tag that lives in each, the directory of
@@ -90,11 +90,14 @@ impl Cells {
         self.streams.as_slice()
     }
 
-    /// Returns the bytes of the tag that lives in a slot.
-    pub fn bytes(&self, slot: Slot) -> Option<&[u8]>
-        ensures { option_map (λ b. b.now) result ≡ bytes_in self.now slot }
+    /// A copy of the bytes of the tag that lives in a slot.
+    pub fn copy_bytes(&self, slot: Slot) -> Result<Option<Bytes>, NoMemory>
+        ensures { IfOk result (λ o. o ≡ bytes_in self.now slot) }
     {
-        self.slots.get(slot.0 as usize)?.bytes()
+        match self.slots.get(slot.0 as usize) {
+            None => Ok(None),
+            Some(state) => state.copy_bytes(self.alloc),
+        }
     }
 
     /// The tag that lives in the slot of what is wanted.
@@ -159,8 +162,8 @@ fn tag_in(slots: &[SlotState], slot: Slot) -> Option<TagNo>
     slots.get(slot.0 as usize)?.live()
 }
 
-/// A block that is placed in a slot begins inside its window.
-#[tactic(auto, using(crate::proofs::CellPlaces::held_at, crate::proofs::Placing::places_inside, crate::proofs::Placing::others_inside))]
+/// A block that is placed in a slot begins inside its window, and a copy of a tag has as many pages as a tag may have.
+#[tactic(auto, using(crate::proofs::CellPlaces::held_at, crate::proofs::Placing::places_inside, crate::proofs::Placing::snaps_inside, crate::proofs::Placing::others_inside))]
 #[inline(always)]
 fn is_in_bounds(slots: &[SlotState], slot: Slot, ask: &SlotAsk)
     requires inside { slot < most_slots }
@@ -168,11 +171,18 @@ fn is_in_bounds(slots: &[SlotState], slot: Slot, ask: &SlotAsk)
     requires fits { SlotFits (held (slice_get slots.now slot)) ask.now }
     ensures { IsInBounds (AnEvent.Slot slot ask.now (slot_reply (held (slice_get slots.now slot)) ask.now)) }
 {
-    if let SlotAsk::Smalloc { .. } = ask {
-        let state = &slots[slot.0 as usize];
-        // The tag is opened here, so that what its type keeps is at hand.
-        let _ = state.blocks();
-        let _ = state.bytes();
+    // The tag is opened here, so that what its type keeps is at hand.
+    match ask {
+        SlotAsk::Smalloc { .. } => {
+            let state = &slots[slot.0 as usize];
+            let _ = state.blocks();
+            let _ = state.size();
+        }
+        SlotAsk::Snap { .. } => {
+            let state = &slots[slot.0 as usize];
+            let _ = state.size();
+        }
+        _ => {}
     }
 }
 

@@ -1,6 +1,7 @@
 //! What a run ends with.
 
 ghost use Rattle.std.specs.Prelude.{◌≡◌, ◌≤◌, ◌++◌, [], true, false, length, unwrap_or, option_map, IfOk, OnOk};
+ghost use Rattle.cow_pages.specs.PrivateMemory.{no_memory};
 ghost use Rattle.sthread_life.specs.Worlds.{is_whole};
 ghost use Rattle.wedge_base.specs.Streams.{most_fds};
 ghost use Rattle.std.specs.Ordering.{nat_cmp, is_lt};
@@ -74,7 +75,7 @@ fn add_actor(
 
 /// The line of an actor that ended so.
 fn line_of(alloc: Global, image: &Image, actor: &Actor, end: End) -> Result<ActorLine, NoMemory>
-    ensures { IfOk result (λ l. l ≡ outcomes.line_of image.now (whole actor.now []) end) }
+    ensures { IfOk result (λ l. l ≡ outcomes.line_of image.now (whole actor.now no_memory) end) }
 {
     Ok(ActorLine {
         name: actor.name().copy()?,

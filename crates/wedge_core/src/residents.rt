@@ -6,17 +6,18 @@ ghost use Rattle.sthread_life.specs.Worlds.{actor_named};
 ghost use Rattle.wedge_core.specs.Places.{IsIndexOf};
 ghost use Rattle.wedge_core.specs.Progress.{IsPlaceOf};
 
+use cow_pages::PrivateView;
 use std::alloc::Global;
 use std::collections::HashMap;
 use std::marker::Model;
-use sthread_life::{Actor, Memory};
+use sthread_life::Actor;
 use wedge_base::{ActorName, NoMemory};
 
 /// An actor with its private memory. Contracts see the whole of it.
 #[derive(Drop)]
 pub(crate) struct Resident {
     pub actor: Actor,
-    pub memory: Memory,
+    pub memory: PrivateView,
 }
 
 impl Model for Resident {

@@ -1,6 +1,7 @@
 use super::*;
 use crate::residents::{Resident, Residents};
 use image_form::{Image, ImageParts, finish_image};
+use ready_text::Program;
 use std::alloc::Global;
 use std::process::Abort;
 use std::test::Fail;
@@ -53,8 +54,8 @@ fn first_bytes(alloc: Global, image: &Image) -> Result<(Bytes, usize), Fail> {
             taken = number;
         }
     }
-    let bytes = world.cells().bytes(Slot(0)).ok_or("a tag")?;
-    let first = bytes.get(..6).ok_or("six bytes")?;
+    let bytes = world.cells().copy_bytes(Slot(0))?.ok_or("a tag")?;
+    let first = bytes.as_slice().get(..6).ok_or("six bytes")?;
     Ok((Bytes::from_slice(alloc, first)?, taken))
 }
 
@@ -87,8 +88,8 @@ fn store_without_it_changes_nothing(rt: HostRuntime) -> Result<(), Fail> {
 fn a_slot_without_a_tag_has_no_bytes(rt: HostRuntime) -> Result<(), Fail> {
     let image = image(rt.alloc(), None)?;
     let world = open_world(rt.alloc(), &image).ok().ok_or("a world")?;
-    assert!(rt; world.cells().bytes(Slot(1)).is_none());
-    assert!(rt; world.cells().bytes(Slot(4095)).is_none());
+    assert!(rt; world.cells().copy_bytes(Slot(1))?.is_none());
+    assert!(rt; world.cells().copy_bytes(Slot(4095))?.is_none());
     Ok(())
 }
 
@@ -180,7 +181,8 @@ fn a_schedule_is_rejected_at_its_first_bad_name(rt: HostRuntime) -> Result<(), F
 
 /// No actors, and then the root of an image.
 fn root_added(alloc: Global, image: &Image) -> Result<Residents, Fail> {
-    let (actor, memory) = Actor::root(alloc, image).ok().ok_or("a root")?;
+    let program = Program::new(alloc, image)?;
+    let (actor, memory) = Actor::root(alloc, &program).ok().ok_or("a root")?;
     let mut residents = Residents::none(alloc);
     residents
         .push(Resident { actor, memory })

@@ -22,8 +22,9 @@ use crate::cells::Cells;
 use crate::error::NoTurn;
 use crate::residents::{Resident, Residents, drop_all};
 use crate::world::World;
+use cow_pages::PrivateView;
 use ready_text::Program;
-use sthread_life::{Actor, Memory, Next};
+use sthread_life::{Actor, Next};
 use wedge_base::{ActorName, Event, LogEntry, NoMemory, Slot, SlotWant, Stamp, Want};
 
 /// A turn that was taken: its one shared event.
@@ -284,7 +285,7 @@ fn take_at(
     residents: &mut Residents,
     place: usize,
     event: &Event,
-) -> Result<Option<(Actor, Memory)>, NoMemory>
+) -> Result<Option<(Actor, PrivateView)>, NoMemory>
     requires { IsTaking residents.old place event.now }
     ensures { IfOk result (λ o. HasTaken program.now residents.old place event.now
         (option_map (λ p. whole p.0 p.1) o) residents.new) }

@@ -85,7 +85,7 @@ pub fn open_world(alloc: Global, image: &Image) -> Result<World<'_>, NoMemory>
 {
     let program = Program::new(alloc, image)?;
     let cells = Cells::opening(alloc, image)?;
-    let (actor, memory) = Actor::root(alloc, image)?;
+    let (actor, memory) = Actor::root(alloc, &program)?;
     let residents = Residents::new(alloc, Resident { actor, memory })?;
     Ok(World {
         program,

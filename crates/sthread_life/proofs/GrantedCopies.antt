@@ -1,0 +1,377 @@
+-- In every run the private copies of an actor, and of a child that it prepares, are at the slots of the grants of copies on their sheets.
+use Rattle.std.proofs.Common.{◌≡◌, ◌⊎◌, inl, inr, ⊎_elim, ℕ, zero, suc, ◌+◌, Bool, true, false, List, [], ◌∷◌, refl, sym, ap, subst, ◌∙◌, arith}
+use Rattle.std.specs.List.{AllByRecursion}
+use Rattle.std.specs.Prelude.{Option, Some, None, not, is_some, option_and_then, ◌&&◌, ◌||◌, ◌==◌, ◌%◌, if◌then◌else◌}
+use Rattle.std.proofs.lemmas.Bool.{eqb-true, eq-eqb}
+use Rattle.cow_pages.specs.Copies.{Copies, is_slot, copy_at, with_copy, without_copy, read_copy}
+use Rattle.cow_pages.specs.Listed.{bytes_listed}
+use Rattle.cow_pages.specs.PrivateMemory.{PrivateMemory}
+use Rattle.wedge_base.specs.Bytes.{bytes_of}
+use Rattle.wedge_base.specs.Images.{Image, fetch, in_text, slot_of}
+use Rattle.wedge_base.specs.Maps.{Map}
+use Rattle.wedge_base.specs.Memory.{range_at}
+use Rattle.wedge_base.specs.Names.{same, root_name}
+use Rattle.wedge_base.specs.Sheets.{Sheet, Made, granted, right_on, is_copy, with_grant, root_tags}
+use Rattle.wedge_base.specs.Slots.{Segment, declared_segment, slot_reply as slot_reply_of}
+use Rattle.wedge_base.specs.declared.address.Place.{Place}
+use Rattle.wedge_base.specs.declared.cells.LivesAsk.TheVariants as lives_ask
+use Rattle.wedge_base.specs.declared.cells.LivesReply.TheVariants as lives_reply
+use Rattle.wedge_base.specs.declared.cells.SlotAsk.{SlotAsk}
+use Rattle.wedge_base.specs.declared.cells.SlotAsk.TheVariants as slot_ask
+use Rattle.wedge_base.specs.declared.cells.SlotReply.{SlotReply}
+use Rattle.wedge_base.specs.declared.cells.SlotReply.TheVariants as slot_reply
+use Rattle.wedge_base.specs.declared.events.Event.{Event}
+use Rattle.wedge_base.specs.declared.events.Event.TheVariants as event
+use Rattle.wedge_base.specs.declared.events.Turn.{Turn}
+use Rattle.wedge_base.specs.declared.image.MemoryRange.{MemoryRange}
+use Rattle.wedge_base.specs.declared.image.TagEntry.{TagEntry}
+use Rattle.wedge_base.specs.declared.rights.Grant.{Grant}
+use Rattle.wedge_base.specs.declared.rights.Right.{Right}
+use Rattle.wedge_base.specs.declared.rights.Right.TheVariants as right
+use Rattle.rv_isa.specs.declared.Instr.{Instr}
+use Rattle.rv_isa.specs.Table.{decode}
+use Rattle.rv_hart.specs.declared.Need.{Need}
+use Rattle.rv_hart.specs.declared.Need.TheVariants as need
+use Rattle.rv_hart.specs.Local.{local}
+use Rattle.sthread_life.specs.declared.copy_grant.CopyGrant.{CopyGrant}
+use Rattle.sthread_life.specs.declared.phase.Phase.{Phase}
+use Rattle.sthread_life.specs.declared.phase.Phase.TheVariants as phase
+use Rattle.sthread_life.specs.Actors.{ActorState, pristine, root}
+use Rattle.sthread_life.specs.Calls.{a0}
+use Rattle.sthread_life.specs.Cells.{slot_in}
+use Rattle.sthread_life.specs.Children.{child_name}
+use Rattle.sthread_life.specs.CopiesGranted.{grants_copy, AreGranted, HasItsCopiesGranted}
+use Rattle.sthread_life.specs.Copying.{Preparation, with_declared, copy_grants, copied_from, is_copy_alone, prepared, behind_first}
+use Rattle.sthread_life.specs.Laws.{CopiesAreGranted}
+use Rattle.sthread_life.specs.Local.{is_running, step, run_local, rest}
+use Rattle.sthread_life.specs.Remembering.{copied_bytes, AreCopied, Target, InRange, InCopy, Elsewhere, copy_target, target_among, target_of, LoadGives, StoreWrites, NeedRemembers, InstrRemembers, WordRemembers, memory_in, memory_after}
+use Rattle.sthread_life.specs.Taking.{draft_at, copies_asked, has_snapped, next_start, takes, memory_made, child_of, begun}
+use Rattle.sthread_life.specs.Worlds.{WorldState, opening, actor_named, put_actor, with_begun, turn_of, Runs}
+use Rattle.sthread_life.proofs.Between.{IsPreparing, takes_name, takes_between, snapped_is, turn_parts}
+use Rattle.sthread_life.proofs.ByNumber.{same_number, number_itself, found_with, found_elsewhere, found_gone}
+use Rattle.sthread_life.proofs.Families.{takes_sheet}
+use Rattle.sthread_life.proofs.FamilyRuns.{Acts, ActsAlone, Starts, Joins, acts, one_begins}
+use Rattle.sthread_life.proofs.Happening.{Happens, snap_cases, Requested, Joined, Snaps, Started, Opens, Releases, LastJoined, Ended}
+use Rattle.sthread_life.proofs.Keeping.{step_remembers, event_remembers}
+use Rattle.sthread_life.proofs.Named.{found_name}
+use Rattle.sthread_life.proofs.Preparing.{was_preparing}
+use Rattle.sthread_life.proofs.Resting.{IsCalm, steps_step, rests, stays, goes_on, rest-stays, rest-name}
+use Rattle.sthread_life.proofs.Settling.{AllReady, turn_happens, turn_ready, opening_ready}
+use Rattle.sthread_life.proofs.Trees.{IsPut, IsDoer, IsOther, FoundPut, find_put, found_or_last}
+
+-- ---- copies that are put, and taken out
+
+-- one at the slot of a grant
+copied_granted : (gs : Map Grant) (o : Option (List ℕ)) (slot : ℕ) (m : PrivateMemory) → AreGranted gs m.copies → grants_copy gs slot ≡ true → AreGranted gs (copied_from o slot m).copies
+copied_granted gs None slot m all here s there = all s there
+copied_granted gs (Some bytes) slot m all here s there = by_slot (is_slot s slot) refl (ap is_some (sym (found_with m.copies slot bytes s)) ∙ there)
+  where
+    by_slot : (t : Bool) → is_slot s slot ≡ t → is_some (if t then Some bytes else copy_at m.copies s) ≡ true → grants_copy gs s ≡ true
+    by_slot true e h = ap (grants_copy gs) (same_number s slot e) ∙ here
+    by_slot false e h = all s h
+
+without_granted : (gs : Map Grant) (copies : Copies) (slot : ℕ) → AreGranted gs copies → AreGranted gs (without_copy copies slot)
+without_granted gs copies slot all s there = by_slot (is_slot s slot) refl
+  where
+    by_slot : (t : Bool) → is_slot s slot ≡ t → grants_copy gs s ≡ true
+    by_slot true e =
+        let is : s ≡ slot = same_number s slot e in
+        let gone : is_some (copy_at (without_copy copies slot) s) ≡ false = ap (λ n. is_some (copy_at (without_copy copies slot) n)) is ∙ ap is_some (found_gone copies slot) in
+        let both : true ≡ false = sym there ∙ gone in
+        absurd cc
+    by_slot false e = all s (ap is_some (sym (found_elsewhere copies slot s (λ is. let both : true ≡ false = sym (number_itself slot) ∙ (ap (λ n. is_slot n slot) (sym is) ∙ e) in absurd cc))) ∙ there)
+
+-- ---- the root's copies
+
+or_true : (t u : Bool) → u ≡ true → (t || u) ≡ true
+or_true true u e = refl
+or_true false u e = e
+
+grants_first : (n : ℕ) (gs : Map Grant) → grants_copy ((n, record { right = right.Cow; slot = n }) ∷ gs) n ≡ true
+grants_first n gs = ap (λ t. t || grants_copy gs n) (eq-eqb n n refl)
+
+declared_granted : (gs : Map Grant) (copies : Copies) (n : ℕ) (ts : List TagEntry) → AreGranted gs copies
+    → ((slot : ℕ) → grants_copy (root_tags n ts) slot ≡ true → grants_copy gs slot ≡ true) → AreGranted gs (with_declared copies n ts)
+declared_granted gs copies n [] all more = all
+declared_granted gs copies n (t ∷ ts) all more = by_right t.right more (λ cs. declared_granted gs cs (n + 1) ts)
+  where
+    by_right : (o : Option Right) → ((slot : ℕ) → grants_copy (with_grant n o (root_tags (n + 1) ts)) slot ≡ true → grants_copy gs slot ≡ true)
+        → ((cs : Copies) → AreGranted gs cs → ((slot : ℕ) → grants_copy (root_tags (n + 1) ts) slot ≡ true → grants_copy gs slot ≡ true) → AreGranted gs (with_declared cs (n + 1) ts))
+        → AreGranted gs (with_declared (if is_copy_alone o then with_copy copies n (declared_segment n t).bytes else copies) (n + 1) ts)
+    by_right None h later = later copies all h
+    by_right (Some right.Cow) h later =
+        later (with_copy copies n (declared_segment n t).bytes)
+        (copied_granted gs (Some (declared_segment n t).bytes) n (record { ranges = []; copies = copies }) all (h n (grants_first n (root_tags (n + 1) ts))))
+        (λ slot e. h slot (or_true _ (grants_copy (root_tags (n + 1) ts) slot) e))
+    by_right (Some right.Read) h later = later copies all (λ slot e. h slot e)
+    by_right (Some right.ReadWrite) h later = later copies all (λ slot e. h slot e)
+
+-- ---- a child's copies
+
+abbrev AreAllGranted : Map Grant → List CopyGrant → Type 0
+AreAllGranted gs left = AllByRecursion (λ g. grants_copy gs g.slot ≡ true) left
+
+more_granted : (e : ℕ × Grant) (gs : Map Grant) (left : List CopyGrant) → AreAllGranted gs left → AreAllGranted (e ∷ gs) left
+more_granted e gs [] all = tt
+more_granted e gs (g ∷ left) all = (or_true _ (grants_copy gs g.slot) all.0, more_granted e gs left all.1)
+
+grants_granted : (gs : Map Grant) → AreAllGranted gs (copy_grants gs)
+grants_granted [] = tt
+grants_granted (e ∷ gs) = by_right (is_copy e.1.right) refl (more_granted e gs (copy_grants gs) (grants_granted gs))
+  where
+    by_right : (t : Bool) → is_copy e.1.right ≡ t → AreAllGranted (e ∷ gs) (copy_grants gs)
+        → AreAllGranted (e ∷ gs) (if t then record { tag = e.0; slot = e.1.slot } ∷ copy_grants gs else copy_grants gs)
+    by_right true is later = (ap (λ t. (t && (e.1.slot == e.1.slot)) || grants_copy gs e.1.slot) is ∙ ap (λ t. t || grants_copy gs e.1.slot) (eq-eqb e.1.slot e.1.slot refl), later)
+    by_right false is later = later
+
+-- a child's memory so far, and what is left to do
+record IsGranted (gs : Map Grant) (p : Preparation) : Type 0 where
+  copies : AreGranted gs p.memory.copies
+  left : AreAllGranted gs p.left
+
+prepared_granted : (gs : Map Grant) (s : Sheet) (made : Made) (own : Copies) (m : PrivateMemory) (left : List CopyGrant) → AreGranted gs m.copies → AreAllGranted gs left → IsGranted gs (prepared s made own m left)
+prepared_granted gs s made own m [] all each = record { copies = all; left = tt }
+prepared_granted gs s made own m (g ∷ left) all each =
+    by_right (is_copy_alone (right_on s made g.tag)) (prepared_granted gs s made own (copied_from (copy_at own g.slot) g.slot m) left (copied_granted gs (copy_at own g.slot) g.slot m all each.0) each.1)
+  where
+    by_right : (t : Bool) → IsGranted gs (prepared s made own (copied_from (copy_at own g.slot) g.slot m) left)
+        → IsGranted gs (if t then prepared s made own (copied_from (copy_at own g.slot) g.slot m) left else record { memory = m; left = g ∷ left })
+    by_right true later = later
+    by_right false later = record { copies = all; left = each }
+
+-- ---- an actor
+
+-- the grants of the child that an actor prepares
+abbrev child_grants : ActorState → Map Grant
+child_grants a = (granted a.sheet a.made (draft_at a.drafts (a0 a))).tags
+
+record HasGranted (a : ActorState) : Type 0 where
+  own : HasItsCopiesGranted a
+  child : (p : Preparation) → a.phase ≡ phase.Starting p → IsGranted (child_grants a) p
+
+-- an instruction gives an actor no copy at a slot at which it has none
+abbrev KeepsSlots : ActorState → ActorState → Type 0
+KeepsSlots a b = (slot : ℕ) → is_some (copy_at b.memory.copies slot) ≡ true → is_some (copy_at a.memory.copies slot) ≡ true
+
+same_slots : (a b : ActorState) → b.memory ≡ a.memory → KeepsSlots a b
+same_slots a b is slot there = ap (λ (m : PrivateMemory). is_some (copy_at m.copies slot)) (sym is) ∙ there
+
+copy_slots : (a b : ActorState) (address width : ℕ) (new : List ℕ) (p : Place) (o : Option (List ℕ)) → copied_bytes a.memory.copies width (Some p) ≡ o
+    → StoreWrites a address new (copy_target (Some p) o) b → KeepsSlots a b
+copy_slots a b address width new p None is h = same_slots a b h
+copy_slots a b address width new p (Some bytes) is h = λ slot there. by_slot slot there (is_slot slot p.slot) refl
+  where
+    was_there : (c : Option (List ℕ)) → option_and_then (read_copy p.offset width) c ≡ Some bytes → is_some c ≡ true
+    was_there None e = absurd cc
+    was_there (Some old) e = refl
+
+    by_slot : (slot : ℕ) → is_some (copy_at b.memory.copies slot) ≡ true → (t : Bool) → is_slot slot p.slot ≡ t → is_some (copy_at a.memory.copies slot) ≡ true
+    by_slot slot there true e = ap (λ n. is_some (copy_at a.memory.copies n)) (same_number slot p.slot e) ∙ was_there (copy_at a.memory.copies p.slot) is
+    by_slot slot there false e =
+        ap is_some (sym (h.0.beside slot (λ same. let both : true ≡ false = sym (number_itself p.slot) ∙ (ap (λ n. is_slot n p.slot) (sym same) ∙ e) in absurd cc))) ∙ there
+
+place_slots : (a b : ActorState) (address width : ℕ) (new : List ℕ) (p : Option Place) → StoreWrites a address new (copy_target p (copied_bytes a.memory.copies width p)) b → KeepsSlots a b
+place_slots a b address width new None h = same_slots a b h
+place_slots a b address width new (Some p) h = copy_slots a b address width new p (copied_bytes a.memory.copies width (Some p)) refl h
+
+range_slots : (a b : ActorState) (address width : ℕ) (new : List ℕ) (r : Option MemoryRange) → StoreWrites a address new (target_among a address width r) b → KeepsSlots a b
+range_slots a b address width new (Some r) h = λ slot there. ap (λ cs. is_some (copy_at cs slot)) (sym h.1) ∙ there
+range_slots a b address width new None h = place_slots a b address width new (slot_of address) h
+
+store_slots : (a b : ActorState) (address width : ℕ) (new : List ℕ) (t : Bool) → StoreWrites a address new (if t then target_among a address width (range_at a.memory.ranges address width) else Elsewhere) b → KeepsSlots a b
+store_slots a b address width new true h = range_slots a b address width new (range_at a.memory.ranges address width) h
+store_slots a b address width new false h = same_slots a b h
+
+load_slots : (a b : ActorState) (rd : ℕ) (s : Bool) (width : ℕ) (o : Option (List ℕ)) → LoadGives a rd s width o b → KeepsSlots a b
+load_slots a b rd s width None h = same_slots a b h
+load_slots a b rd s width (Some bytes) h = same_slots a b (ap (λ (x : ActorState). x.memory) h)
+
+need_slots : (i : Image) (rd : ℕ) (a b : ActorState) (n : Need) → NeedRemembers i rd a n b → KeepsSlots a b
+need_slots i rd a b (need.Load address width s) h = load_slots a b rd s width _ h
+need_slots i rd a b (need.Store address width value) h = store_slots a b address width (bytes_of width value) ((address % width == 0) && not (in_text i address width)) h
+need_slots i rd a b need.Done h = same_slots a b h
+need_slots i rd a b need.Call h = same_slots a b h
+need_slots i rd a b need.Break h = same_slots a b h
+need_slots i rd a b need.JumpMisaligned h = same_slots a b h
+
+instr_slots : (i : Image) (a b : ActorState) (o : Option Instr) → InstrRemembers i a o b → KeepsSlots a b
+instr_slots i a b None h = same_slots a b h
+instr_slots i a b (Some ins) h = need_slots i ins.rd a b (local ins a.hart).need h
+
+word_slots : (i : Image) (a b : ActorState) (o : Option Instr) (n : ℕ) → WordRemembers i a o n b → KeepsSlots a b
+word_slots i a b o zero h = same_slots a b h
+word_slots i a b o (suc n) h = instr_slots i (record a { fuel = n }) b o h
+
+step_granted : (i : Image) (a : ActorState) → HasItsCopiesGranted a → HasItsCopiesGranted (step i a)
+step_granted i a own slot there =
+    ap (λ (s : Sheet). grants_copy s.tags slot) (steps_step i a).sheet
+    ∙ own slot (word_slots i a (step i a) (option_and_then decode (fetch i a.hart.pc)) a.fuel (step_remembers i a) slot there)
+
+run_granted : (i : Image) (n : ℕ) (a : ActorState) (t : Bool) → is_running a.phase ≡ t → HasItsCopiesGranted a → HasItsCopiesGranted (run_local i n a)
+run_granted i n a false e own = subst HasItsCopiesGranted (sym (stays i n a e)) own
+run_granted i zero a true e own = unfold run_local in own
+run_granted i (suc n) a true e own = subst HasItsCopiesGranted (sym (goes_on i n a e)) (run_granted i n (step i a) _ refl (step_granted i a own))
+
+own_at_rest : (i : Image) (a : ActorState) → is_running a.phase ≡ true → HasItsCopiesGranted a → HasItsCopiesGranted (rest i a)
+unfolding rest
+own_at_rest i a e own = run_granted i (a.fuel + 1) a true e own
+
+rest_granted : (i : Image) (a : ActorState) (t : Bool) → is_running a.phase ≡ t → HasGranted a → HasGranted (rest i a)
+rest_granted i a false e h = subst HasGranted (sym (rest-stays i a e)) h
+rest_granted i a true e h = record { own = own_at_rest i a e h.own; child = λ p is. absurd (subst IsCalm is (rests i a e).calm) }
+
+-- ---- an event
+
+slot_granted : (gs : Map Grant) (m : PrivateMemory) (slot : ℕ) (r : SlotReply) (q : SlotAsk) → AreGranted gs m.copies → AreGranted gs (memory_in m slot r q).copies
+slot_granted gs m slot slot_reply.Opened (slot_ask.Open tag pages) all = without_granted gs m.copies slot all
+slot_granted gs m slot slot_reply.Opened (slot_ask.Close tag) all = all
+slot_granted gs m slot slot_reply.Opened (slot_ask.Load offset width live) all = all
+slot_granted gs m slot slot_reply.Opened (slot_ask.Store offset width value live) all = all
+slot_granted gs m slot slot_reply.Opened (slot_ask.Smalloc tag size) all = all
+slot_granted gs m slot slot_reply.Opened (slot_ask.Sfree offset live) all = all
+slot_granted gs m slot slot_reply.Opened (slot_ask.Snap tag) all = all
+slot_granted gs m slot r q all = all
+
+memory_granted : (gs : Map Grant) (m : PrivateMemory) (e : Event) → AreGranted gs m.copies → AreGranted gs (memory_after m e).copies
+memory_granted gs m (event.Lives (lives_ask.Release x) r) all = λ slot there. absurd cc
+memory_granted gs m (event.Slot slot q r) all = slot_granted gs m slot r q all
+memory_granted gs m e all = all
+
+own_granted : (i : Image) (b : ActorState) (e : Event) → HasItsCopiesGranted b → HasItsCopiesGranted (takes i b e)
+own_granted i b e own slot there =
+    ap (λ (s : Sheet). grants_copy s.tags slot) (takes_sheet i b e)
+    ∙ memory_granted b.sheet.tags b.memory e own slot (ap (λ (m : PrivateMemory). is_some (copy_at m.copies slot)) (sym (event_remembers i b e)) ∙ there)
+
+-- a life is claimed
+claim_granted : (i : Image) (b : ActorState) (p : Preparation) → (takes i b (event.Lives lives_ask.Claim lives_reply.Claimed)).phase ≡ phase.Starting p
+    → IsGranted (child_grants (takes i b (event.Lives lives_ask.Claim lives_reply.Claimed))) p
+unfolding takes
+claim_granted i b p is =
+    let begins = prepared b.sheet b.made b.memory.copies (pristine i) (copies_asked b) in
+    let same : begins ≡ p = cc in
+    subst (IsGranted (child_grants b)) same (prepared_granted (child_grants b) b.sheet b.made b.memory.copies (pristine i) (copies_asked b) (λ slot there. absurd cc) (grants_granted (child_grants b)))
+
+-- a copy of a tag is made
+snapped_granted : (b : ActorState) (old p : Preparation) (slot : ℕ) (o : Option (List ℕ)) → b.phase ≡ phase.Starting old → IsGranted (child_grants b) old → grants_copy (child_grants b) slot ≡ true
+    → (has_snapped b b.phase slot o).phase ≡ phase.Starting p → IsGranted (child_grants b) p
+snapped_granted b old p slot o at h here is =
+    let goes = prepared b.sheet b.made b.memory.copies (copied_from o slot old.memory) (behind_first old.left) in
+    let goes_on_so : phase.Starting goes ≡ phase.Starting p = sym (ap (λ ph. (has_snapped b ph slot o).phase) at) ∙ is in
+    let same : goes ≡ p = cc in
+    subst (IsGranted (child_grants b)) same
+    (prepared_granted (child_grants b) b.sheet b.made b.memory.copies (copied_from o slot old.memory) (behind_first old.left) (copied_granted (child_grants b) o slot old.memory h.copies here) (behind old.left h.left))
+  where
+    behind : (left : List CopyGrant) → AreAllGranted (child_grants b) left → AreAllGranted (child_grants b) (behind_first left)
+    behind [] all = tt
+    behind (g ∷ left) all = all.1
+
+same_child : (b : ActorState) (slot : ℕ) (o : Option (List ℕ)) → child_grants (has_snapped b b.phase slot o) ≡ child_grants b
+same_child b slot o = snapped_is (λ x. child_grants x ≡ child_grants b) b b.phase slot o refl (λ x. refl)
+
+-- a child is prepared by the claim of a life, where none was before
+by_cause : (w : WorldState) (b : ActorState) (e : Event) (p : Preparation) → (takes w.image b e).phase ≡ phase.Starting p → (e ≡ event.Lives lives_ask.Claim lives_reply.Claimed) ⊎ IsPreparing b.phase
+    → (IsPreparing b.phase → ⊥) → IsGranted (child_grants (takes w.image b e)) p
+by_cause w b e p is (inl claimed) before =
+    subst (λ y. IsGranted (child_grants (takes w.image b y)) p) (sym claimed) (claim_granted w.image b p (ap (λ y. (takes w.image b y).phase) (sym claimed) ∙ is))
+by_cause w b e p is (inr k) before = absurd (before k)
+
+-- the copy of a tag is asked for, at the slot of a grant
+snap_granted : (i : Image) (b : ActorState) (old : Preparation) (slot tag : ℕ) (g : Option Segment) → b.phase ≡ phase.Starting old → IsGranted (child_grants b) old → grants_copy (child_grants b) slot ≡ true
+    → (p : Preparation) → (takes i b (event.Slot slot (slot_ask.Snap tag) (slot_reply_of g (slot_ask.Snap tag)))).phase ≡ phase.Starting p
+    → IsGranted (child_grants (takes i b (event.Slot slot (slot_ask.Snap tag) (slot_reply_of g (slot_ask.Snap tag))))) p
+unfolding takes
+snap_granted i b old slot tag g at h here p =
+    snap_cases (λ r. (takes i b (event.Slot slot (slot_ask.Snap tag) r)).phase ≡ phase.Starting p → IsGranted (child_grants (takes i b (event.Slot slot (slot_ask.Snap tag) r))) p) g tag
+    (λ pages. by_pages (Some (bytes_listed pages))) (by_pages None)
+  where
+    by_pages : (o : Option (List ℕ)) → (has_snapped b b.phase slot o).phase ≡ phase.Starting p → IsGranted (child_grants (has_snapped b b.phase slot o)) p
+    by_pages o is = subst (λ gs. IsGranted gs p) (sym (same_child b slot o)) (snapped_granted b old p slot o at h here is)
+
+-- a child starts: none is prepared then
+started_calm : (i : Image) (b : ActorState) (name : List ℕ) (p : Preparation) → (takes i b (event.Start name)).phase ≡ phase.Starting p → ⊥
+unfolding takes
+started_calm i b name p is = cc
+
+-- whatever happens, a child that is prepared then has its copies granted
+event_granted : (w : WorldState) (b : ActorState) (e : Event) → Happens w b e → HasGranted b → (p : Preparation) → (takes w.image b e).phase ≡ phase.Starting p → IsGranted (child_grants (takes w.image b e)) p
+event_granted w b e (Snaps s) h p is =
+    let child = h.child s.preparation s.at in
+    let here = (subst (AreAllGranted (child_grants b)) s.left child.left).0 in
+    subst (λ y. (takes w.image b y).phase ≡ phase.Starting p → IsGranted (child_grants (takes w.image b y)) p) (sym s.is)
+    (snap_granted w.image b s.preparation s.grant.slot s.grant.tag (slot_in w.cells s.grant.slot) s.at child here p) is
+event_granted w b e (Started s) h p is = absurd (started_calm w.image b (child_name b.name (next_start b)) p (ap (λ y. (takes w.image b y).phase) (sym s.is) ∙ is))
+event_granted w b e (Requested r) h p is = by_cause w b e p is (was_preparing w.image b e (subst IsPreparing (sym is) tt)) (λ k. subst IsPreparing r.at k)
+event_granted w b e (Joined j) h p is = by_cause w b e p is (was_preparing w.image b e (subst IsPreparing (sym is) tt)) (λ k. subst IsPreparing j.at k)
+event_granted w b e (Opens o) h p is = by_cause w b e p is (was_preparing w.image b e (subst IsPreparing (sym is) tt)) (λ k. subst IsPreparing o.at k)
+event_granted w b e (Releases r) h p is = by_cause w b e p is (was_preparing w.image b e (subst IsPreparing (sym is) tt)) (λ k. subst IsPreparing r.at k)
+event_granted w b e (LastJoined j) h p is = by_cause w b e p is (was_preparing w.image b e (subst IsPreparing (sym is) tt)) (λ k. subst IsPreparing j.at k)
+event_granted w b e (Ended f) h p is = by_cause w b e p is (was_preparing w.image b e (subst IsPreparing (sym is) tt)) (λ k. subst IsPreparing f.at k)
+
+doer_granted : (w : WorldState) (b : ActorState) (e : Event) → Happens w b e → HasGranted b → HasGranted (takes w.image b e)
+doer_granted w b e happens h = record { own = own_granted w.image b e h.own; child = event_granted w b e happens h }
+
+-- a child begins with the memory that was made for it
+child_granted : (i : Image) (b : ActorState) (name : List ℕ) (p : Preparation) → b.phase ≡ phase.Starting p → HasGranted b → HasGranted (child_of i b name)
+child_granted i b name p at h = record {
+  own = λ slot there. (h.child p at).copies slot (ap (λ ph. is_some (copy_at (memory_made i ph).copies slot)) (sym at) ∙ there);
+  child = λ q is. absurd cc;
+}
+
+begins_granted : (w : WorldState) (b : ActorState) (e : Event) → Acts w b e → HasGranted b → (c : ActorState) → begun w.image b e ≡ Some c → HasGranted c
+begins_granted w b e (ActsAlone one) h c is = let f : None ≡ Some c = sym (one_begins w.image b e one) ∙ is in absurd cc
+begins_granted w b e (Starts s) h c is =
+    let both : Some (child_of w.image b (child_name b.name (next_start b))) ≡ Some c = sym (ap (begun w.image b) s.is) ∙ is in
+    let same_one : child_of w.image b (child_name b.name (next_start b)) ≡ c = cc in
+    subst HasGranted same_one (child_granted w.image b (child_name b.name (next_start b)) s.preparation s.at h)
+begins_granted w b e (Joins k listed j) h c is = let f : None ≡ Some c = sym (ap (begun w.image b) j.is) ∙ is in absurd cc
+
+-- ---- runs
+
+abbrev AllGranted : WorldState → Type 0
+AllGranted w = (m : List ℕ) (a : ActorState) → actor_named w.actors m ≡ Some a → HasGranted a
+
+put_granted : (w : WorldState) (a x : ActorState) → AllGranted w → IsPut w.actors a x → HasGranted x → (m : List ℕ) (y : ActorState) → FoundPut w.actors a x m y → HasGranted y
+put_granted w a x all put doer m y (IsDoer is f) = subst HasGranted (sym f) doer
+put_granted w a x all put doer m y (IsOther apart f) = all m y f
+
+begun_granted : (w : WorldState) (a x : ActorState) → AllGranted w → IsPut w.actors a x → HasGranted x → (o : Option ActorState) → ((c : ActorState) → o ≡ Some c → HasGranted c) → (m : List ℕ) (y : ActorState)
+    → actor_named (with_begun (put_actor w.actors x) o) m ≡ Some y → HasGranted y
+begun_granted w a x all put doer None child m y found = put_granted w a x all put doer m y (find_put w.actors a x m y put found)
+begun_granted w a x all put doer (Some c) child m y found = elim (found_or_last (put_actor w.actors x) c m y found) [
+  | inl f ↦ put_granted w a x all put doer m y (find_put w.actors a x m y put f)
+  | inr is ↦ subst HasGranted (sym is) (child c refl)
+]
+
+turn_granted : (w : WorldState) (name : List ℕ) (e : Event) (new : WorldState) → AllReady w → AllGranted w → turn_of w name ≡ Some (record { event = e; world = new }) → AllGranted new
+turn_granted w name e new ready all t =
+    let p = turn_parts w name e new t in
+    let a = p.actor in
+    let b = rest w.image a in
+    let h = turn_happens w name e new ready p in
+    let there : actor_named w.actors a.name ≡ Some a = ap (actor_named w.actors) (found_name w.actors name a p.named) ∙ p.named in
+    let put : IsPut w.actors a (takes w.image b e) = record { name = takes_name w.image b e ∙ rest-name w.image a; there = there } in
+    let rested = rest_granted w.image a _ refl (all a.name a there) in
+    subst AllGranted (sym p.new_is) (begun_granted w a (takes w.image b e) all put (doer_granted w b e h rested) (begun w.image b e) (begins_granted w b e (acts w b e h) rested))
+
+opening_granted : (i : Image) → AllGranted (opening i)
+opening_granted i m y found = by_name (same root_name m) (opening_found m y found)
+  where
+    root_granted : HasGranted (root i)
+    root_granted = unfold root in record {
+      own = declared_granted (root_tags 0 i.tags) [] 0 i.tags (λ slot there. absurd cc) (λ slot e. e);
+      child = λ p is. absurd cc;
+    }
+
+    by_name : (t : Bool) {z : ActorState} → (if t then Some (root i) else None) ≡ Some z → HasGranted z
+    by_name true e = let is : root i ≡ _ = cc in subst HasGranted is root_granted
+    by_name false e = absurd cc
+
+    opening_found : (n : List ℕ) (z : ActorState) → actor_named (opening i).actors n ≡ Some z → (if same root_name n then Some (root i) else None) ≡ Some z
+    opening_found n z e = unfold root in e
+
+runs_granted : (old : WorldState) (turns : List Turn) (new : WorldState) → AllReady old → AllGranted old → Runs old turns new → AllGranted new
+runs_granted old [] new ready all run = subst AllGranted (sym run) all
+runs_granted old (t ∷ ts) new ready all run = runs_granted run.0 ts new (turn_ready old t.actor t.event run.0 ready run.1) (turn_granted old t.actor t.event run.0 ready all run.1) run.2
+
+pub copies_granted : CopiesAreGranted
+copies_granted i turns new run name a named = (runs_granted (opening i) turns new (opening_ready i) (opening_granted i) run name a named).own

@@ -1,8 +1,0 @@
--- Private memory lies below the windows of tags.
-use Rattle.std.specs.Prelude.{◌+◌, ◌≤◌, List, [], ◌∷◌, length}
-use Rattle.wedge_base.specs.Images.{windows_base}
-use Rattle.wedge_base.specs.declared.image.MemoryRange.{MemoryRange}
-
-abbrev pub AreBelow : List MemoryRange → Type 0
-AreBelow [] = Unit {0}
-AreBelow (r ∷ rs) = (r.base + length r.bytes ≤ windows_base) × AreBelow rs

@@ -1,0 +1,54 @@
+-- The private copies with which actors begin.
+use Rattle.std.specs.Prelude.{ℕ, ◌+◌, Bool, true, false, List, [], ◌∷◌, Option, Some, None, if◌then◌else◌}
+use Rattle.cow_pages.specs.Copies.{Copies, copy_at, with_copy}
+use Rattle.cow_pages.specs.PrivateMemory.{PrivateMemory}
+use Rattle.wedge_base.specs.Maps.{Map}
+use Rattle.wedge_base.specs.Sheets.{Sheet, Made, right_on, is_copy}
+use Rattle.wedge_base.specs.Slots.{declared_segment}
+use Rattle.wedge_base.specs.declared.image.TagEntry.{TagEntry}
+use Rattle.wedge_base.specs.declared.rights.Grant.{Grant}
+use Rattle.wedge_base.specs.declared.rights.Right.{Right}
+use Rattle.wedge_base.specs.declared.rights.Right.TheVariants as right
+use Rattle.sthread_life.specs.declared.copy_grant.CopyGrant.{CopyGrant}
+
+abbrev pub is_copy_alone : Option Right → Bool
+is_copy_alone (Some right.Cow) = true
+is_copy_alone r = false
+
+-- ---- the root
+
+-- copies of the declared tags on which the root has the right to a copy alone, with the bytes that the image declares; the tags are
+-- numbered by their indices, from a number on
+abbrev pub with_declared : Copies → ℕ → List TagEntry → Copies
+with_declared copies n [] = copies
+with_declared copies n (t ∷ ts) = with_declared (if is_copy_alone t.right then with_copy copies n (declared_segment n t).bytes else copies) (n + 1) ts
+
+-- ---- a child
+
+-- the grants of copies of a sheet, in the order of the tags' numbers
+abbrev pub copy_grants : Map Grant → List CopyGrant
+copy_grants [] = []
+copy_grants (e ∷ es) = if is_copy e.1.right then record { tag = e.0; slot = e.1.slot } ∷ copy_grants es else copy_grants es
+
+-- a child that is to be started: its private memory so far, and the grants of copies of which none is made yet
+pub record Preparation : Type 0 where
+  pub memory : PrivateMemory
+  pub left : List CopyGrant
+
+-- a copy of these bytes, if there are any, is put at a slot, in place of the one that is there
+abbrev pub copied_from : Option (List ℕ) → ℕ → PrivateMemory → PrivateMemory
+copied_from None slot m = m
+copied_from (Some bytes) slot m = record m { copies = with_copy m.copies slot bytes }
+
+-- Where a starter has the right to a copy alone, the child's copy is made of its own one, if it has one; the first grant of which it
+-- has more is to be made of the tag itself.
+abbrev pub prepared : Sheet → Made → Copies → PrivateMemory → List CopyGrant → Preparation
+prepared s made own m [] = record { memory = m; left = [] }
+prepared s made own m (g ∷ gs) =
+    if is_copy_alone (right_on s made g.tag) then prepared s made own (copied_from (copy_at own g.slot) g.slot m) gs
+    else record { memory = m; left = g ∷ gs }
+
+-- the grants behind the first
+abbrev pub behind_first : List CopyGrant → List CopyGrant
+behind_first [] = []
+behind_first (g ∷ gs) = gs
