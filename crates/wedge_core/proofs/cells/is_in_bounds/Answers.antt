@@ -9,7 +9,7 @@ use Rattle.wedge_base.specs.declared.events.Event.TheVariants as event
 use Rattle.sthread_life.specs.Between.{IsInBounds}
 use Rattle.sthread_life.specs.Cells.{held}
 use Rattle.wedge_core.proofs.CellPlaces.{held_at}
-use Rattle.wedge_core.proofs.Placing.{places_inside}
+use Rattle.wedge_core.proofs.Placing.{places_inside, snaps_inside}
 use Rattle.wedge_core.proofs.cells.is_in_bounds.Goals as goal
 
 pub returns-in-Smalloc : goal.returns-in-Smalloc
@@ -21,4 +21,13 @@ returns-in-Smalloc c =
     subst (λ (q : SlotAsk). IsInBounds (event.Slot c.args.slot q (slot_reply s q))) (sym is)
     (places_inside c.args.slot c.in-Smalloc.tag c.in-Smalloc.size s c.requires.inside (subst (λ (q : SlotAsk). SlotFits s q) is c.requires.fits)
     (subst (λ (o : Option Segment). IfSome o (λ g. AreBlocks 0 (length g.bytes) g.blocks)) (sym there) c.blocks-in-Smalloc.ensures.apart)
-    (subst (λ (o : Option Segment). IfSome o (λ g. length g.bytes ≤ window)) (sym there) c.bytes.ensures.few))
+    (subst (λ (o : Option Segment). IfSome o (λ g. length g.bytes ≤ window)) (sym there) c.size.ensures.few))
+
+pub returns-in-Snap : goal.returns-in-Snap
+returns-in-Snap c =
+    let s = held (slice_get c.args.slots.now c.args.slot) in
+    let state = c.index-slots-slot-in-Snap.result in
+    let inside : c.args.slot < length c.args.slots.now = omega (arith, c.requires.inside, c.requires.all) in
+    let there : s ≡ state = held_at c.args.slots.now c.args.slot state inside (c.index-slots-slot-in-Snap.is ∙ ap (λ n. get_or c.args.slots.now n state) c.slot.view_is) in
+    subst (λ (q : SlotAsk). IsInBounds (event.Slot c.args.slot q (slot_reply s q))) (sym c.in-Snap.is)
+    (snaps_inside c.args.slot c.in-Snap.tag s c.requires.inside (subst (λ (o : Option Segment). IfSome o (λ g. length g.bytes ≤ window)) (sym there) c.size-in-Snap.ensures.few))
