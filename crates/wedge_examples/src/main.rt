@@ -26,7 +26,7 @@ struct Example {
     wanted: &'static str,
 }
 
-static EXAMPLES: [Example; 14] = [
+static EXAMPLES: [Example; 17] = [
     Example {
         name: "hello.toml",
         built: true,
@@ -122,6 +122,30 @@ static EXAMPLES: [Example; 14] = [
         words: &["replay", "image", "schedule"],
         schedule: Some("session.schedule"),
         wanted: "session.report",
+    },
+    Example {
+        name: "form.toml",
+        built: true,
+        title: "run",
+        words: &["run", "image"],
+        schedule: None,
+        wanted: "form.report",
+    },
+    Example {
+        name: "form.toml",
+        built: true,
+        title: "run --schedule",
+        words: &["run", "image", "--schedule"],
+        schedule: None,
+        wanted: "form.schedule",
+    },
+    Example {
+        name: "form.toml",
+        built: true,
+        title: "replay",
+        words: &["replay", "image", "schedule"],
+        schedule: Some("form.schedule"),
+        wanted: "form.report",
     },
     Example {
         name: "ok.wedge",
