@@ -1,6 +1,6 @@
 #!/bin/sh
 # Measures the program: local instructions, shared accesses, a schedule printed and replayed, children started and joined,
-# tags made and deleted, reading a large image, assembling a long text.
+# with much data too, tags made and deleted, reading a large image, assembling a long text.
 # It prints the seconds that each takes and, where valgrind is there, the host instructions that an instruction
 # of the program costs, and fails where that is more than its bound. The program is the one that bin/wedge builds, or $WEDGE.
 root=$(cd "$(dirname "$(readlink -f "$0")")/.." && pwd) || exit 1
@@ -56,6 +56,19 @@ measure 'children, one by one' 100000 "$wedge" run "$work/children.wedge" --sche
 mv "$work/out" "$work/schedule"
 measure 'children, replayed' 100000 "$wedge" replay "$work/children.wedge" "$work/schedule"
 cmp "$work/out" "$work/report" || exit 1
+
+# Ten thousand children over 1 MiB of data, of which each writes one page, one started and joined after another.
+{
+    {
+        printf '.proc main\nsvc sc_new\nli s0, 10000\nagain:\nli a0, 0\nla a1, kid\nli a3, 10\nsvc sthread_create\n'
+        printf 'svc sthread_join\naddi s0, s0, -1\nbnez s0, again\nsvc exit\n.proc kid\nli t0, data_big\nsw t0, 0(t0)\nsvc exit\n'
+    } | partition 500000
+    printf '[[data]]\nname = "big"\nbase = 1048576\nhex = "'
+    awk 'BEGIN { for (k = 0; k < 1048576; k++) printf "a5" }'
+    printf '"\n'
+} > "$work/data.toml"
+"$wedge" build "$work/data.toml" > "$work/data.wedge" || exit 1
+measure 'children over 1 MiB of data' 10000 "$wedge" run "$work/data.wedge"
 
 # A hundred thousand tags, one made and deleted after another, with a block placed and freed in each.
 {

@@ -236,7 +236,7 @@ fn calls_on_drafts_answer_their_codes(rt: HostRuntime) -> Result<(), Fail> {
         (
             "fuel = 1000\n",
             RIGHTS,
-            "actor 0 main exited 23936 pc 00010064 fuel 949\nstream 0 out \"\"\n",
+            "actor 0 main exited 20864 pc 00010064 fuel 949\nstream 0 out \"\"\n",
         ),
         (
             "fuel = 1000\n",

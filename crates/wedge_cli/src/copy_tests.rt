@@ -97,8 +97,8 @@ fn each_actor_writes_data_of_its_own(rt: HostRuntime) -> Result<(), Fail> {
     runs(&rt, rt.alloc(), row)?;
     let before = Row {
         text: DATA_WRITTEN_BEFORE,
-        report: "actor 0 main exited 42 pc 0001003c fuel 976\n\
-            actor 0.1 kid exited 42 pc 0001004c fuel 95\n\
+        report: "actor 0 main exited 42 pc 0001003c fuel 979\n\
+            actor 0.1 kid exited 42 pc 00010050 fuel 95\n\
             stream 0 out \"\"\n",
         ..row
     };
@@ -155,25 +155,27 @@ svc exit
 ";
 
 /// The run in which the child has its one turn before the root stores.
-static COPIED_ROW: Row<'static> = Row {
-    fuel: "fuel = 1000\n",
-    right: THREE,
-    text: COPIED,
-    schedule: "0\n0\n0\n0.1\n0\n0\n0\n",
-    report: "actor 0 main exited 53 pc 00010054 fuel 968\n\
-        actor 0.1 kid exited 53 pc 0001007c fuel 90\n\
-        stream 0 out \"\"\n",
-};
+fn copied() -> Row<'static> {
+    Row {
+        fuel: "fuel = 1000\n",
+        right: THREE,
+        text: COPIED,
+        schedule: "0\n0\n0\n0.1\n0\n0\n0\n",
+        report: "actor 0 main exited 53 pc 00010054 fuel 968\n\
+            actor 0.1 kid exited 53 pc 0001007c fuel 90\n\
+            stream 0 out \"\"\n",
+    }
+}
 
 #[test]
 fn a_copy_is_of_the_tag_at_the_start(rt: HostRuntime) -> Result<(), Fail> {
-    runs(&rt, rt.alloc(), COPIED_ROW)
+    runs(&rt, rt.alloc(), copied())
 }
 
 #[test]
 fn a_copy_is_the_same_in_every_interleaving(rt: HostRuntime) -> Result<(), Fail> {
     let alloc = rt.alloc();
-    let image = image_of(&rt, alloc, COPIED_ROW)?;
+    let image = image_of(&rt, alloc, copied())?;
     let mut open = Vec::new(alloc);
     open.push(String::new(alloc))?;
     // The claim of a life, the copy, the start, the root's store and the child's end in either order, the join and the root's end.
@@ -191,7 +193,7 @@ fn a_copy_is_the_same_in_every_interleaving(rt: HostRuntime) -> Result<(), Fail>
         assert_eq!(rt; schedules.open.len(), going);
         assert_eq!(rt; schedules.complete.len(), complete);
         for complete in &schedules.complete {
-            assert_eq!(rt; complete.report.as_slice(), COPIED_ROW.report.as_bytes());
+            assert_eq!(rt; complete.report.as_slice(), copied().report.as_bytes());
         }
         open = schedules.open;
     }
@@ -272,8 +274,8 @@ fn a_copy_of_ones_own_copy_is_no_event(rt: HostRuntime) -> Result<(), Fail> {
         right: COPY_OF_THREE,
         text: OWN_COPY,
         schedule: "0\n0\n0.1\n0\n0\n",
-        report: "actor 0 main exited 12 pc 0001005c fuel 969\n\
-            actor 0.1 kid exited 9 pc 0001006c fuel 95\n\
+        report: "actor 0 main exited 12 pc 00010060 fuel 970\n\
+            actor 0.1 kid exited 9 pc 00010074 fuel 95\n\
             stream 0 out \"\"\n",
     };
     runs(&rt, rt.alloc(), row)
@@ -354,8 +356,8 @@ fn a_copy_stays_until_its_slot_is_opened(rt: HostRuntime) -> Result<(), Fail> {
         right: "none",
         text: COPY_DROPPED,
         schedule: "0\n0\n0\n0\n0\n0\n0\n0\n0.1\n0.1\n0.1\n0.1\n0\n0\n",
-        report: "actor 0 main exited 112 pc 00010060 fuel 973\n\
-            actor 0.1 kid exited 112 pc 00010090 fuel 88\n\
+        report: "actor 0 main exited 112 pc 0001006c fuel 960\n\
+            actor 0.1 kid exited 112 pc 0001009c fuel 88\n\
             stream 0 out \"\"\n",
     };
     replays(&rt, rt.alloc(), row)
@@ -392,8 +394,8 @@ fn a_deleted_tag_gives_no_copy(rt: HostRuntime) -> Result<(), Fail> {
         right: "none",
         text: COPY_OF_NONE,
         schedule: "0\n0\n0\n0\n0\n0\n0\n0.1\n0.1\n0\n0\n",
-        report: "actor 0 main exited 0 pc 00010050 fuel 977\n\
-            actor 0.1 kid unmapped pc 00010054 fuel 99\n\
+        report: "actor 0 main exited 0 pc 00010060 fuel 974\n\
+            actor 0.1 kid unmapped pc 00010064 fuel 99\n\
             stream 0 out \"\"\n",
     };
     runs(&rt, rt.alloc(), row)
