@@ -1,4 +1,4 @@
--- The record or the count of a line, and what is wrong with a line; fields are checked from left to right.
+-- The record or the count of a line, and what is wrong with a line, field by field from the left.
 use Rattle.std.specs.Prelude.{◌≡◌, ℕ, List, [], ◌∷◌, codes, Option, Some, None, if◌then◌else◌}
 use Rattle.std.specs.Str.{bytes_eq}
 use Rattle.trace_form.specs.declared.words.Kind.{Kind}
@@ -50,7 +50,7 @@ count_of _ = None
 unfoldable pub count_at : List ℕ → Option (List ℕ)
 count_at line = count_of (fields line)
 
--- the line that is written for a record of the grammar is read as this record, and no fault is found
+-- the line that is written for a record is read as this record, and no fault is found
 pub record IsReadAgain (r : TraceRecord) : Type 0 where
   pub no_fault : line_fault (record_line r) ≡ None
   pub read : record_at (record_line r) ≡ Some r

@@ -19,7 +19,8 @@ pub struct Record<'a> {
     pub comp: &'a [u8],
     /// The names of the frames, outermost first, with a `;` between each two.
     pub chain: &'a [u8],
-    /// What is accessed: a prefix that goes with the kind, and a name, a path, or a name and an address.
+    /// What is accessed: a prefix that goes with the kind, and a name, a path, or a name and an
+    /// address.
     pub item: &'a [u8],
 }
 
