@@ -15,7 +15,7 @@ use Rattle.trace_form.specs.declared.words.Mode.{Mode}
 use Rattle.trace_form.specs.declared.words.Mode.TheVariants as mode
 use Rattle.trace_form.specs.Words.{kind_word, mode_word}
 use Rattle.trace_form.specs.Forms.{is_file_path, is_hex_digit, is_address}
-use Rattle.trace_form.specs.Grammar.{TraceRecord, at_sign, semicolon, frames, IsName, IsMade, IsPrefixed, IsMemoryItem, IsStreamItem, IsGateItem, IsItem, IsRecord}
+use Rattle.trace_form.specs.Grammar.{TraceRecord, at_sign, semicolon, frames, IsName, IsMade, IsPrefixed, IsMemoryItem, IsStreamItem, IsItem, IsRecord}
 
 -- a byte above the space
 abbrev pub is_above_space : ℕ → Bool

@@ -1,5 +1,5 @@
 -- A record has no fault exactly where the grammar has it.
-use Rattle.std.proofs.Common.{◌≡◌, ℕ, ◌+◌, ◌<◌, ◌≤◌, ◌==◌, ◌&&◌, ◌⊎◌, inl, inr, Bool, true, false, cond, List, [], ◌∷◌, ◌++◌, length, Option, Some, None, ltb, leb, eqb, refl, ap, sym, ◌∙◌, arith}
+use Rattle.std.proofs.Common.{◌≡◌, ℕ, ◌+◌, ◌<◌, ◌≤◌, ◌==◌, ◌&&◌, ◌⊎◌, inl, inr, Bool, true, false, cond, List, [], ◌∷◌, ◌++◌, length, Option, Some, None, ltb, leb, refl, ap, sym, ◌∙◌, arith}
 use Rattle.std.specs.Prelude.{codes}
 use Rattle.std.specs.List.{All, list_all, slice_split, join_with_byte, before_first, after_first, position_or_len}
 use Rattle.std.proofs.Math.ListN.{drop_of_length-le}
@@ -9,7 +9,6 @@ use Rattle.std.proofs.lemmas.List.Splits.{slice_split_first, slice_split_at, joi
 use Rattle.wedge_base.specs.Texts.{starts_name, continues_name, is_name}
 use Rattle.trace_form.specs.declared.words.Kind.{Kind}
 use Rattle.trace_form.specs.declared.words.Kind.TheVariants as kind
-use Rattle.trace_form.specs.declared.words.Mode.{Mode}
 use Rattle.trace_form.specs.declared.fault.Why.{Why}
 use Rattle.trace_form.specs.declared.fault.Why.TheVariants as why
 use Rattle.trace_form.specs.Forms.{is_file_path, is_address}

@@ -6,7 +6,7 @@ use Rattle.trace_form.specs.declared.words.Mode.{Mode}
 use Rattle.trace_form.specs.declared.fault.Why.{Why}
 use Rattle.trace_form.specs.declared.fault.Why.TheVariants as why
 use Rattle.trace_form.specs.Words.{kind_of, mode_of}
-use Rattle.trace_form.specs.Grammar.{TraceRecord, mode_fits, frames, fields, IsRecord, record_line}
+use Rattle.trace_form.specs.Grammar.{TraceRecord, mode_fits, frames, fields, record_line}
 use Rattle.trace_form.specs.Fault.{or_fault}
 use Rattle.trace_form.specs.Items.{name_fault, item_fault}
 use Rattle.trace_form.specs.Chains.{frames_fault}
