@@ -155,25 +155,27 @@ svc exit
 ";
 
 /// The run in which the child has its one turn before the root stores.
-static COPIED_ROW: Row<'static> = Row {
-    fuel: "fuel = 1000\n",
-    right: THREE,
-    text: COPIED,
-    schedule: "0\n0\n0\n0.1\n0\n0\n0\n",
-    report: "actor 0 main exited 53 pc 00010054 fuel 968\n\
-        actor 0.1 kid exited 53 pc 0001007c fuel 90\n\
-        stream 0 out \"\"\n",
-};
+fn copied_row() -> Row<'static> {
+    Row {
+        fuel: "fuel = 1000\n",
+        right: THREE,
+        text: COPIED,
+        schedule: "0\n0\n0\n0.1\n0\n0\n0\n",
+        report: "actor 0 main exited 53 pc 00010054 fuel 968\n\
+            actor 0.1 kid exited 53 pc 0001007c fuel 90\n\
+            stream 0 out \"\"\n",
+    }
+}
 
 #[test]
 fn a_copy_is_of_the_tag_at_the_start(rt: HostRuntime) -> Result<(), Fail> {
-    runs(&rt, rt.alloc(), COPIED_ROW)
+    runs(&rt, rt.alloc(), copied_row())
 }
 
 #[test]
 fn a_copy_is_the_same_in_every_interleaving(rt: HostRuntime) -> Result<(), Fail> {
     let alloc = rt.alloc();
-    let image = image_of(&rt, alloc, COPIED_ROW)?;
+    let image = image_of(&rt, alloc, copied_row())?;
     let mut open = Vec::new(alloc);
     open.push(String::new(alloc))?;
     // The claim of a life, the copy, the start, the root's store and the child's end in either order, the join and the root's end.
@@ -191,7 +193,7 @@ fn a_copy_is_the_same_in_every_interleaving(rt: HostRuntime) -> Result<(), Fail>
         assert_eq!(rt; schedules.open.len(), going);
         assert_eq!(rt; schedules.complete.len(), complete);
         for complete in &schedules.complete {
-            assert_eq!(rt; complete.report.as_slice(), COPIED_ROW.report.as_bytes());
+            assert_eq!(rt; complete.report.as_slice(), copied_row().report.as_bytes());
         }
         open = schedules.open;
     }
