@@ -17,4 +17,5 @@ pub use fault::ScheduleFault;
 pub use numbers::write_address;
 pub use reading::read_schedule;
 pub use text::report;
+pub use words::{bits_word, right_word};
 pub use writing::write_schedule;

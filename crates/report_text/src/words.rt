@@ -30,9 +30,9 @@ pub fn write_end(out: &mut Vec<u8>, end: End) -> Result<(), NoMemory>
     Ok(())
 }
 
-/// The name of a right.
+/// The name of a right: `Cow`, `Read` or `ReadWrite`.
 #[tactic(auto, unfolding(crate::specs::Reports::right_text))]
-fn right_word(right: Right) -> &'static [u8]
+pub fn right_word(right: Right) -> &'static [u8]
     ensures { result.now ≡ right_text right }
 {
     match right {
@@ -42,9 +42,9 @@ fn right_word(right: Right) -> &'static [u8]
     }
 }
 
-/// The names of the bits that are set.
+/// The names of the bits that are set: `read`, `append` or `read+append`, or nothing.
 #[tactic(auto, unfolding(crate::specs::Reports::bits_text))]
-fn bits_word(bits: FdBits) -> &'static [u8]
+pub fn bits_word(bits: FdBits) -> &'static [u8]
     ensures { result.now ≡ bits_text bits }
 {
     match (bits.read, bits.append) {

@@ -4,3 +4,4 @@ pub mod Written
 pub mod Statuses
 pub mod Replays
 pub mod Again
+pub mod TraceFaults

@@ -53,6 +53,8 @@ image_refused m n (refusal.Image fault) h = ap (λ x. replay_of x n) h
 image_refused m n refusal.Unbuilt h = ap (λ x. replay_of x n) h
 image_refused m n (refusal.Partition p) h = ap (λ x. replay_of x n) h
 image_refused m n (refusal.Schedule s) h = absurd h
+image_refused m n (refusal.Trace fault) h = absurd h
+image_refused m n (refusal.NoSuchName item) h = absurd h
 
 pub names_refused : (m : Result Image Refusal) (i : Image) (n : Result (List (List ℕ)) Refusal) (r : Refusal) → m ≡ Ok i → IsRefusalIn n r → IsRefusalIn (replay_of m n) r
 names_refused m i n refusal.NoMemory is h = tt
@@ -61,6 +63,8 @@ names_refused m i n (refusal.Image fault) is h = ap (λ x. replay_of x n) is ∙
 names_refused m i n refusal.Unbuilt is h = ap (λ x. replay_of x n) is ∙ ap (λ x. replay_of (Ok i) x) h
 names_refused m i n (refusal.Partition p) is h = ap (λ x. replay_of x n) is ∙ ap (λ x. replay_of (Ok i) x) h
 names_refused m i n (refusal.Schedule s) is h = ap (λ x. replay_of x n) is ∙ ap (λ x. replay_of (Ok i) x) h
+names_refused m i n (refusal.Trace fault) is h = absurd h
+names_refused m i n (refusal.NoSuchName item) is h = absurd h
 
 -- ---- which refusals come of the image
 
@@ -96,6 +100,8 @@ first_unread image schedule files before after (refusal.Image fault) h = (
 first_unread image schedule files before after refusal.Unbuilt h = absurd h
 first_unread image schedule files before after (refusal.Partition p) h = let e = h.is in absurd cc
 first_unread image schedule files before after (refusal.Schedule s) h = let e = h.is in absurd cc
+first_unread image schedule files before after (refusal.Trace fault) h = let e = h.is in absurd cc
+first_unread image schedule files before after (refusal.NoSuchName item) h = absurd h
 
 -- the schedule's was not, after the image's
 pub second_unread : (image schedule : List ℕ) (files : List ℕ → Option (List ℕ)) (before after : List ℕ → ℕ) (middle : ℕ) (bytes : List ℕ) (r : Refusal)
@@ -110,6 +116,8 @@ second_unread image schedule files before after middle bytes refusal.Unbuilt low
 second_unread image schedule files before after middle bytes (refusal.Partition p) low same within h = let e = h.is in absurd cc
 second_unread image schedule files before after middle bytes (refusal.Schedule s) low same within h = λ a b image_is schedule_is.
     long_second a b (subst (λ x. length x ≤ most_of kind.Image) (same a image_is) within) (h.longer b schedule_is) ∙ ap (λ r. Err r) (sym h.is)
+second_unread image schedule files before after middle bytes (refusal.Trace fault) low same within h = let e = h.is in absurd cc
+second_unread image schedule files before after middle bytes (refusal.NoSuchName item) low same within h = absurd h
 
 -- both were read
 answered : (image schedule : List ℕ) (files : List ℕ → Option (List ℕ)) (bytes names : List ℕ) (answer : Result (List ℕ) Refusal)
@@ -141,3 +149,5 @@ both_read image schedule files before after bytes names (refusal.Partition p) sa
     no_partition_by (reading bytes) p (image_cause (run_image_of bytes) (names_in names) (refusal.Partition p) (λ s e. cc) (sym (text_within bytes names within within_names) ∙ h))
 both_read image schedule files before after bytes names (refusal.Schedule s) same same_names within within_names h =
     answered image schedule files bytes names (Err (refusal.Schedule s)) same same_names h
+both_read image schedule files before after bytes names (refusal.Trace fault) same same_names within within_names h = absurd h
+both_read image schedule files before after bytes names (refusal.NoSuchName item) same same_names within within_names h = absurd h

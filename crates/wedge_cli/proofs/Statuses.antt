@@ -12,13 +12,18 @@ use Rattle.wedge_cli.specs.declared.writing.Text.{Text}
 use Rattle.wedge_cli.specs.Lines.{line, usage_line, refusal_text, status_of}
 use Rattle.wedge_cli.specs.Loading.{run_image_of, image_of, built_of, IsRefusedBy}
 use Rattle.wedge_cli.specs.Replaying.{replay_text}
-use Rattle.wedge_cli.specs.Words.{Asked, Run, Show, Build, Replay}
+use Rattle.wedge_cli.specs.Words.{Asked, Run, Show, Build, Replay, Derive, Analyze}
 use Rattle.image_form.specs.Rules.{Encodes}
 use Rattle.report_text.specs.Reports.{report_of}
 use Rattle.report_text.specs.Schedules.{actors_of, schedule_of}
 use Rattle.wedge_cli.specs.Outside.{Device, Sinks, Outside, Rises, Takes}
-use Rattle.wedge_cli.specs.Ended.{AreTaken, IsReported, IsSaid, IsRunDone, IsScheduleDone, IsCutShort, IsReplayEnd}
-use Rattle.wedge_cli.specs.Causes.{IsReplayRefused, IsRefused, IsUnfit, IsRejected, IsUnreadable, SaysRefusal, IsRefusal, IsDone, IsUsage, IsAnswer}
+use Rattle.trace_form.specs.Records.{records_of}
+use Rattle.cb_analyze.specs.Sheets.{sheets_of}
+use Rattle.cb_analyze.specs.Texts.{sheets_text}
+use Rattle.wedge_cli.specs.Ended.{AreTaken, IsReported, IsTraceAnswer, IsWritten, IsSaid, IsRunDone, IsScheduleDone, IsCutShort, IsAnswerEnd}
+use Rattle.wedge_cli.specs.declared.words.Query.{Query}
+use Rattle.wedge_cli.specs.Traces.{derive_text, analyze_text, query_lines, answer_to, unless_fault, IsUnknownIn, IsTraceRefused, IsQueryRefused}
+use Rattle.wedge_cli.specs.Causes.{IsReplayRefused, IsRefused, IsUnfit, IsRejected, IsTraceRejected, IsUnknown, IsUnreadable, SaysRefusal, IsRefusal, IsDone, IsUsage, IsAnswer}
 use Rattle.wedge_cli.proofs.Written.{Rise, written_status, said_status, took_out, took_err, took_both}
 use Rattle.wedge_cli.proofs.Again.{schedule_replays}
 
@@ -52,6 +57,8 @@ other_than (refusal.Image fault) n h e = absurd (omega arith)
 other_than refusal.Unbuilt n h e = absurd (omega arith)
 other_than (refusal.Partition p) n h e = absurd (omega arith)
 other_than (refusal.Schedule s) n h e = absurd (omega arith)
+other_than (refusal.Trace fault) n h e = absurd (omega arith)
+other_than (refusal.NoSuchName item) n h e = absurd (omega arith)
 
 -- ---- 3
 
@@ -67,6 +74,8 @@ unfit_by meant name content before after (refusal.Image fault) h e = λ bytes ex
 unfit_by meant name content before after refusal.Unbuilt h e = λ bytes exposed. is_err_of (meant bytes) refusal.Unbuilt (h bytes exposed)
 unfit_by meant name content before after (refusal.Partition p) h e = λ bytes exposed. is_err_of (meant bytes) (refusal.Partition p) (h bytes exposed)
 unfit_by meant name content before after (refusal.Schedule s) h e = absurd h
+unfit_by meant name content before after (refusal.Trace fault) h e = absurd h
+unfit_by meant name content before after (refusal.NoSuchName item) h e = absurd h
 
 unfit_replay : (image schedule : List ℕ) (files : List ℕ → Option (List ℕ)) (before after : List ℕ → ℕ) (r : Refusal)
     → IsReplayRefused image schedule files before after r → status_of r ≡ 3 → WhereExposed (files image) (λ bytes. IsErr (run_image_of bytes))
@@ -76,12 +85,38 @@ unfit_replay image schedule files before after (refusal.Image fault) h e = λ by
 unfit_replay image schedule files before after refusal.Unbuilt h e = λ bytes exposed. is_err_of (run_image_of bytes) refusal.Unbuilt (h.1 bytes exposed)
 unfit_replay image schedule files before after (refusal.Partition p) h e = absurd h
 unfit_replay image schedule files before after (refusal.Schedule s) h e = absurd (omega arith)
+unfit_replay image schedule files before after (refusal.Trace fault) h e = absurd h
+unfit_replay image schedule files before after (refusal.NoSuchName item) h e = absurd h
+
+unfit_trace : (trace : List ℕ) (content : Option (List ℕ)) (before after : ℕ) (r : Refusal)
+    → IsTraceRefused trace content before after r → status_of r ≡ 3 → ⊥
+unfit_trace trace content before after refusal.NoMemory h e = absurd (omega arith)
+unfit_trace trace content before after (refusal.Read file) h e = absurd (omega arith)
+unfit_trace trace content before after (refusal.Image fault) h e = absurd h
+unfit_trace trace content before after refusal.Unbuilt h e = absurd h
+unfit_trace trace content before after (refusal.Partition p) h e = absurd h
+unfit_trace trace content before after (refusal.Schedule s) h e = absurd h
+unfit_trace trace content before after (refusal.Trace fault) h e = absurd (omega arith)
+unfit_trace trace content before after (refusal.NoSuchName item) h e = absurd h
+
+unfit_query : (query : Query) (name trace : List ℕ) (content : Option (List ℕ)) (before after : ℕ) (r : Refusal)
+    → IsQueryRefused query name trace content before after r → status_of r ≡ 3 → ⊥
+unfit_query query name trace content before after refusal.NoMemory h e = absurd (omega arith)
+unfit_query query name trace content before after (refusal.Read file) h e = absurd (omega arith)
+unfit_query query name trace content before after (refusal.Image fault) h e = absurd h
+unfit_query query name trace content before after refusal.Unbuilt h e = absurd h
+unfit_query query name trace content before after (refusal.Partition p) h e = absurd h
+unfit_query query name trace content before after (refusal.Schedule s) h e = absurd h
+unfit_query query name trace content before after (refusal.Trace fault) h e = absurd (omega arith)
+unfit_query query name trace content before after (refusal.NoSuchName item) h e = absurd (omega arith)
 
 unfit : (a : Asked) (files : List ℕ → Option (List ℕ)) (before after : List ℕ → ℕ) (r : Refusal) → IsRefused a files before after r → status_of r ≡ 3 → IsUnfit a files
 unfit (Run image flag) files before after r h e = unfit_by run_image_of image (files image) (before image) (after image) r h e
 unfit (Show image) files before after r h e = unfit_by image_of image (files image) (before image) (after image) r h e
 unfit (Build part) files before after r h e = unfit_by built_of part (files part) (before part) (after part) r h e
 unfit (Replay image schedule) files before after r h e = unfit_replay image schedule files before after r h e
+unfit (Derive trace) files before after r h e = unfit_trace trace (files trace) (before trace) (after trace) r h e
+unfit (Analyze trace query name) files before after r h e = unfit_query query name trace (files trace) (before trace) (after trace) r h e
 
 pub image_only : (a : Asked) (ended : Ended) (before after : Outside) → IsEither a ended before after → ended.status ≡ 3 → IsUnfit a before.files
 image_only a ended before after (inl r) is =
@@ -103,6 +138,8 @@ unread_by meant name content before after (refusal.Image fault) h e = absurd (om
 unread_by meant name content before after refusal.Unbuilt h e = absurd (omega arith)
 unread_by meant name content before after (refusal.Partition p) h e = absurd (omega arith)
 unread_by meant name content before after (refusal.Schedule s) h e = absurd h
+unread_by meant name content before after (refusal.Trace fault) h e = absurd h
+unread_by meant name content before after (refusal.NoSuchName item) h e = absurd h
 
 unread_replay : (image schedule : List ℕ) (files : List ℕ → Option (List ℕ)) (before after : List ℕ → ℕ) (r : Refusal)
     → IsReplayRefused image schedule files before after r → status_of r ≡ 4 → IsUnreadable (Replay image schedule) before after
@@ -113,12 +150,38 @@ unread_replay image schedule files before after (refusal.Image fault) h e = absu
 unread_replay image schedule files before after refusal.Unbuilt h e = absurd (omega arith)
 unread_replay image schedule files before after (refusal.Partition p) h e = absurd (omega arith)
 unread_replay image schedule files before after (refusal.Schedule s) h e = absurd (omega arith)
+unread_replay image schedule files before after (refusal.Trace fault) h e = absurd h
+unread_replay image schedule files before after (refusal.NoSuchName item) h e = absurd h
+
+unread_trace : (trace : List ℕ) (content : Option (List ℕ)) (before after : ℕ) (r : Refusal)
+    → IsTraceRefused trace content before after r → status_of r ≡ 4 → before < after
+unread_trace trace content before after refusal.NoMemory h e = absurd (omega arith)
+unread_trace trace content before after (refusal.Read file) h e = h.rose
+unread_trace trace content before after (refusal.Image fault) h e = absurd h
+unread_trace trace content before after refusal.Unbuilt h e = absurd h
+unread_trace trace content before after (refusal.Partition p) h e = absurd h
+unread_trace trace content before after (refusal.Schedule s) h e = absurd h
+unread_trace trace content before after (refusal.Trace fault) h e = absurd (omega arith)
+unread_trace trace content before after (refusal.NoSuchName item) h e = absurd h
+
+unread_query : (query : Query) (name trace : List ℕ) (content : Option (List ℕ)) (before after : ℕ) (r : Refusal)
+    → IsQueryRefused query name trace content before after r → status_of r ≡ 4 → before < after
+unread_query query name trace content before after refusal.NoMemory h e = absurd (omega arith)
+unread_query query name trace content before after (refusal.Read file) h e = h.rose
+unread_query query name trace content before after (refusal.Image fault) h e = absurd h
+unread_query query name trace content before after refusal.Unbuilt h e = absurd h
+unread_query query name trace content before after (refusal.Partition p) h e = absurd h
+unread_query query name trace content before after (refusal.Schedule s) h e = absurd h
+unread_query query name trace content before after (refusal.Trace fault) h e = absurd (omega arith)
+unread_query query name trace content before after (refusal.NoSuchName item) h e = absurd (omega arith)
 
 unread : (a : Asked) (files : List ℕ → Option (List ℕ)) (before after : List ℕ → ℕ) (r : Refusal) → IsRefused a files before after r → status_of r ≡ 4 → IsUnreadable a before after
 unread (Run image flag) files before after r h e = unread_by run_image_of image (files image) (before image) (after image) r h e
 unread (Show image) files before after r h e = unread_by image_of image (files image) (before image) (after image) r h e
 unread (Build part) files before after r h e = unread_by built_of part (files part) (before part) (after part) r h e
 unread (Replay image schedule) files before after r h e = unread_replay image schedule files before after r h e
+unread (Derive trace) files before after r h e = unread_trace trace (files trace) (before trace) (after trace) r h e
+unread (Analyze trace query name) files before after r h e = unread_query query name trace (files trace) (before trace) (after trace) r h e
 
 pub read_only : (a : Asked) (ended : Ended) (before after : Outside) → IsEither a ended before after → ended.status ≡ 4 → IsUnreadable a before.reads after.reads
 read_only a ended before after (inl r) is =
@@ -140,6 +203,8 @@ rejected_by meant name content before after (refusal.Image fault) h e = omega ar
 rejected_by meant name content before after refusal.Unbuilt h e = omega arith
 rejected_by meant name content before after (refusal.Partition p) h e = omega arith
 rejected_by meant name content before after (refusal.Schedule s) h e = h
+rejected_by meant name content before after (refusal.Trace fault) h e = h
+rejected_by meant name content before after (refusal.NoSuchName item) h e = h
 
 rejected_replay : (image schedule : List ℕ) (files : List ℕ → Option (List ℕ)) (before after : List ℕ → ℕ) (r : Refusal)
     → IsReplayRefused image schedule files before after r → status_of r ≡ 8 → IsRejected (Replay image schedule) files
@@ -149,21 +214,112 @@ rejected_replay image schedule files before after (refusal.Image fault) h e = ab
 rejected_replay image schedule files before after refusal.Unbuilt h e = absurd (omega arith)
 rejected_replay image schedule files before after (refusal.Partition p) h e = absurd h
 rejected_replay image schedule files before after (refusal.Schedule s) h e = (s, h)
+rejected_replay image schedule files before after (refusal.Trace fault) h e = absurd h
+rejected_replay image schedule files before after (refusal.NoSuchName item) h e = absurd h
+
+rejected_trace : (trace : List ℕ) (content : Option (List ℕ)) (before after : ℕ) (r : Refusal)
+    → IsTraceRefused trace content before after r → status_of r ≡ 8 → IsTraceRejected content
+rejected_trace trace content before after refusal.NoMemory h e = absurd (omega arith)
+rejected_trace trace content before after (refusal.Read file) h e = absurd (omega arith)
+rejected_trace trace content before after (refusal.Image fault) h e = absurd h
+rejected_trace trace content before after refusal.Unbuilt h e = absurd h
+rejected_trace trace content before after (refusal.Partition p) h e = absurd h
+rejected_trace trace content before after (refusal.Schedule s) h e = absurd h
+rejected_trace trace content before after (refusal.Trace fault) h e = (fault, h)
+rejected_trace trace content before after (refusal.NoSuchName item) h e = absurd h
+
+rejected_query : (query : Query) (name trace : List ℕ) (content : Option (List ℕ)) (before after : ℕ) (r : Refusal)
+    → IsQueryRefused query name trace content before after r → status_of r ≡ 8 → IsTraceRejected content
+rejected_query query name trace content before after refusal.NoMemory h e = absurd (omega arith)
+rejected_query query name trace content before after (refusal.Read file) h e = absurd (omega arith)
+rejected_query query name trace content before after (refusal.Image fault) h e = absurd h
+rejected_query query name trace content before after refusal.Unbuilt h e = absurd h
+rejected_query query name trace content before after (refusal.Partition p) h e = absurd h
+rejected_query query name trace content before after (refusal.Schedule s) h e = absurd h
+rejected_query query name trace content before after (refusal.Trace fault) h e = (fault, h)
+rejected_query query name trace content before after (refusal.NoSuchName item) h e = absurd (omega arith)
 
 rejected : (a : Asked) (files : List ℕ → Option (List ℕ)) (before after : List ℕ → ℕ) (r : Refusal) → IsRefused a files before after r → status_of r ≡ 8 → IsRejected a files
 rejected (Run image flag) files before after r h e = rejected_by run_image_of image (files image) (before image) (after image) r h e
 rejected (Show image) files before after r h e = rejected_by image_of image (files image) (before image) (after image) r h e
 rejected (Build part) files before after r h e = rejected_by built_of part (files part) (before part) (after part) r h e
 rejected (Replay image schedule) files before after r h e = rejected_replay image schedule files before after r h e
+rejected (Derive trace) files before after r h e = rejected_trace trace (files trace) (before trace) (after trace) r h e
+rejected (Analyze trace query name) files before after r h e = rejected_query query name trace (files trace) (before trace) (after trace) r h e
 
-pub schedule_only : (a : Asked) (ended : Ended) (before after : Outside) → IsEither a ended before after → ended.status ≡ 8 → IsRejected a before.files
-schedule_only a ended before after (inl r) is =
+pub rejected_only : (a : Asked) (ended : Ended) (before after : Outside) → IsEither a ended before after → ended.status ≡ 8 → IsRejected a before.files
+rejected_only a ended before after (inl r) is =
     elim (refusal_status r.why ended before.sinks.err after.sinks.err r.err) [
       | inl status ↦ rejected a before.files before.reads after.reads r.why r.cause (sym status ∙ is)
       | inr (inl status) ↦ absurd (omega (arith, status, is))
       | inr (inr fault) ↦ absurd (omega (arith, fault.0, is))
     ]
-schedule_only a ended before after (inr d) is =
+rejected_only a ended before after (inr d) is =
+    elim (done_status a ended before after d) [ inl status ↦ absurd (omega (arith, status, is)) | inr fault ↦ absurd (omega (arith, fault.0, is)) ]
+
+-- ---- 9
+
+-- no image and no partition has it
+known_by : (meant : List ℕ → Result Image Refusal) (name : List ℕ) (content : Option (List ℕ)) (before after : ℕ) (r : Refusal)
+    → IsRefusedBy meant name content before after r → status_of r ≡ 9 → ⊥
+known_by meant name content before after refusal.NoMemory h e = omega arith
+known_by meant name content before after (refusal.Read file) h e = omega arith
+known_by meant name content before after (refusal.Image fault) h e = omega arith
+known_by meant name content before after refusal.Unbuilt h e = omega arith
+known_by meant name content before after (refusal.Partition p) h e = omega arith
+known_by meant name content before after (refusal.Schedule s) h e = h
+known_by meant name content before after (refusal.Trace fault) h e = h
+known_by meant name content before after (refusal.NoSuchName item) h e = h
+
+known_replay : (image schedule : List ℕ) (files : List ℕ → Option (List ℕ)) (before after : List ℕ → ℕ) (r : Refusal)
+    → IsReplayRefused image schedule files before after r → status_of r ≡ 9 → ⊥
+known_replay image schedule files before after refusal.NoMemory h e = omega arith
+known_replay image schedule files before after (refusal.Read file) h e = omega arith
+known_replay image schedule files before after (refusal.Image fault) h e = omega arith
+known_replay image schedule files before after refusal.Unbuilt h e = omega arith
+known_replay image schedule files before after (refusal.Partition p) h e = h
+known_replay image schedule files before after (refusal.Schedule s) h e = omega arith
+known_replay image schedule files before after (refusal.Trace fault) h e = h
+known_replay image schedule files before after (refusal.NoSuchName item) h e = h
+
+known_trace : (trace : List ℕ) (content : Option (List ℕ)) (before after : ℕ) (r : Refusal)
+    → IsTraceRefused trace content before after r → status_of r ≡ 9 → ⊥
+known_trace trace content before after refusal.NoMemory h e = omega arith
+known_trace trace content before after (refusal.Read file) h e = omega arith
+known_trace trace content before after (refusal.Image fault) h e = h
+known_trace trace content before after refusal.Unbuilt h e = h
+known_trace trace content before after (refusal.Partition p) h e = h
+known_trace trace content before after (refusal.Schedule s) h e = h
+known_trace trace content before after (refusal.Trace fault) h e = omega arith
+known_trace trace content before after (refusal.NoSuchName item) h e = h
+
+unknown_query : (query : Query) (name trace : List ℕ) (content : Option (List ℕ)) (before after : ℕ) (r : Refusal)
+    → IsQueryRefused query name trace content before after r → status_of r ≡ 9 → WhereExposed content (IsUnknownIn query name)
+unknown_query query name trace content before after refusal.NoMemory h e = absurd (omega arith)
+unknown_query query name trace content before after (refusal.Read file) h e = absurd (omega arith)
+unknown_query query name trace content before after (refusal.Image fault) h e = absurd h
+unknown_query query name trace content before after refusal.Unbuilt h e = absurd h
+unknown_query query name trace content before after (refusal.Partition p) h e = absurd h
+unknown_query query name trace content before after (refusal.Schedule s) h e = absurd h
+unknown_query query name trace content before after (refusal.Trace fault) h e = absurd (omega arith)
+unknown_query query name trace content before after (refusal.NoSuchName item) h e = h.1
+
+unknown : (a : Asked) (files : List ℕ → Option (List ℕ)) (before after : List ℕ → ℕ) (r : Refusal) → IsRefused a files before after r → status_of r ≡ 9 → IsUnknown a files
+unknown (Run image flag) files before after r h e = known_by run_image_of image (files image) (before image) (after image) r h e
+unknown (Show image) files before after r h e = known_by image_of image (files image) (before image) (after image) r h e
+unknown (Build part) files before after r h e = known_by built_of part (files part) (before part) (after part) r h e
+unknown (Replay image schedule) files before after r h e = known_replay image schedule files before after r h e
+unknown (Derive trace) files before after r h e = known_trace trace (files trace) (before trace) (after trace) r h e
+unknown (Analyze trace query name) files before after r h e = unknown_query query name trace (files trace) (before trace) (after trace) r h e
+
+pub name_only : (a : Asked) (ended : Ended) (before after : Outside) → IsEither a ended before after → ended.status ≡ 9 → IsUnknown a before.files
+name_only a ended before after (inl r) is =
+    elim (refusal_status r.why ended before.sinks.err after.sinks.err r.err) [
+      | inl status ↦ unknown a before.files before.reads after.reads r.why r.cause (sym status ∙ is)
+      | inr (inl status) ↦ absurd (omega (arith, status, is))
+      | inr (inr fault) ↦ absurd (omega (arith, fault.0, is))
+    ]
+name_only a ended before after (inr d) is =
     elim (done_status a ended before after d) [ inl status ↦ absurd (omega (arith, status, is)) | inr fault ↦ absurd (omega (arith, fault.0, is)) ]
 
 -- ---- 2
@@ -296,6 +452,8 @@ replay_refusal image schedule bytes names files before after (refusal.Image faul
 replay_refusal image schedule bytes names files before after refusal.Unbuilt h image_is schedule_is = inr (h.0 bytes names image_is schedule_is)
 replay_refusal image schedule bytes names files before after (refusal.Partition p) h image_is schedule_is = absurd h
 replay_refusal image schedule bytes names files before after (refusal.Schedule s) h image_is schedule_is = inr (h bytes names image_is schedule_is)
+replay_refusal image schedule bytes names files before after (refusal.Trace fault) h image_is schedule_is = absurd h
+replay_refusal image schedule bytes names files before after (refusal.NoSuchName item) h image_is schedule_is = absurd h
 
 -- a line that was said with its status, or the status of a write that failed
 said_line : (status : ℕ) (text : List ℕ) (ended : Ended) (e f : Device) → IsSaid status text ended e f
@@ -310,16 +468,16 @@ said_line status text ended e f said =
 refused_end : (image schedule bytes names : List ℕ) (ended : Ended) (before after : Outside) (r : IsRefusal (Replay image schedule) ended before after)
     → before.files image ≡ Some bytes → before.files schedule ≡ Some names → ended.status ≡ status_of r.why
     → Takes (line (refusal_text r.why)) before.sinks.err after.sinks.err
-    → IsCutShort ended.status ⊎ IsReplayEnd (replay_text bytes names) ended.status before.sinks after.sinks
+    → IsCutShort ended.status ⊎ IsAnswerEnd (replay_text bytes names) ended.status before.sinks after.sinks
 refused_end image schedule bytes names ended before after r image_is schedule_is status took =
     elim (replay_refusal image schedule bytes names before.files before.reads after.reads r.why r.cause image_is schedule_is) [
       | inl short ↦ inl (subst IsCutShort (sym status) short)
-      | inr answer ↦ inr (subst (λ meant. IsReplayEnd meant ended.status before.sinks after.sinks) (sym answer) (status, took, r.out))
+      | inr answer ↦ inr (subst (λ meant. IsAnswerEnd meant ended.status before.sinks after.sinks) (sym answer) (status, took, r.out))
     ]
 
 pub replay_done : (image schedule bytes names : List ℕ) (ended : Ended) (before after : Outside) → IsEither (Replay image schedule) ended before after
     → before.files image ≡ Some bytes → before.files schedule ≡ Some names
-    → IsCutShort ended.status ⊎ IsReplayEnd (replay_text bytes names) ended.status before.sinks after.sinks
+    → IsCutShort ended.status ⊎ IsAnswerEnd (replay_text bytes names) ended.status before.sinks after.sinks
 replay_done image schedule bytes names ended before after (inl r) image_is schedule_is =
     elim r.err [
       | inl said ↦ elim (said_line (status_of r.why) (line (refusal_text r.why)) ended before.sinks.err after.sinks.err said) [
@@ -338,6 +496,85 @@ replay_done image schedule bytes names ended before after (inr d) image_is sched
       | inl done ↦
           let took : Takes d.made.text before.sinks.out after.sinks.out × (after.sinks.err ≡ before.sinks.err) =
           took_out d.made.text before.sinks after.sinks (subst (λ ts. AreTaken ts before.sinks after.sinks) d.made.are done.0) in
-          inr (subst (λ meant. IsReplayEnd meant ended.status before.sinks after.sinks) (sym same) (done.1, took.0, took.1))
+          inr (subst (λ meant. IsAnswerEnd meant ended.status before.sinks after.sinks) (sym same) (done.1, took.0, took.1))
       | inr fault ↦ inl (inr (inl fault.1))
     ]
+
+-- ---- what is asked of a trace
+
+-- a command that is refused ended as its answer says, if the answer is that refusal unless it was cut short
+answer_refused : (meant : Result (List ℕ) Refusal) (a : Asked) (ended : Ended) (before after : Outside) (r : IsRefusal a ended before after)
+    → IsCutShort (status_of r.why) ⊎ (meant ≡ Err r.why) → IsCutShort ended.status ⊎ IsAnswerEnd meant ended.status before.sinks after.sinks
+answer_refused meant a ended before after r because =
+    elim r.err [
+      | inl said ↦ elim (said_line (status_of r.why) (line (refusal_text r.why)) ended before.sinks.err after.sinks.err said) [
+        | inl done ↦ elim because [
+          | inl short ↦ inl (subst IsCutShort (sym done.0) short)
+          | inr answer ↦ inr (subst (λ m. IsAnswerEnd m ended.status before.sinks after.sinks) (sym answer) (done.0, done.1, r.out))
+        ]
+        | inr fault ↦ inl (inr (inl fault))
+      ]
+      | inr said ↦ elim (said_line 6 (line (refusal_text refusal.NoMemory)) ended before.sinks.err after.sinks.err said) [
+        | inl done ↦ inl (inr (inr done.0))
+        | inr fault ↦ inl (inr (inl fault))
+      ]
+    ]
+
+-- and one that is done, if its text is the answer
+answer_done : (meaning : List ℕ → Result (List ℕ) Refusal) (content : Option (List ℕ)) (bytes : List ℕ) (kept : Option Journal) (texts : List Text) (ended : Ended) (s u : Sinks)
+    → IsTraceAnswer meaning content kept texts → content ≡ Some bytes → IsWritten 0 kept texts ended s u
+    → IsCutShort ended.status ⊎ IsAnswerEnd (meaning bytes) ended.status s u
+answer_done meaning content bytes kept texts ended s u made exposed written =
+    let same : meaning bytes ≡ Ok made.text = ap meaning (sym (made.bytes_are bytes exposed)) ∙ made.meant in
+    elim written.cases [
+      | inl done ↦
+          let took : Takes made.text s.out u.out × (u.err ≡ s.err) = took_out made.text s u (subst (λ ts. AreTaken ts s u) made.are done.0) in
+          inr (subst (λ m. IsAnswerEnd m ended.status s u) (sym same) (done.1, took.0, took.1))
+      | inr fault ↦ inl (inr (inl fault.1))
+    ]
+
+derive_refusal : (trace bytes : List ℕ) (content : Option (List ℕ)) (before after : ℕ) (r : Refusal)
+    → IsTraceRefused trace content before after r → content ≡ Some bytes → IsCutShort (status_of r) ⊎ (derive_text bytes ≡ Err r)
+derive_refusal trace bytes content before after refusal.NoMemory h exposed = inl (inr (inr refl))
+derive_refusal trace bytes content before after (refusal.Read file) h exposed = inl (inl refl)
+derive_refusal trace bytes content before after (refusal.Image fault) h exposed = absurd h
+derive_refusal trace bytes content before after refusal.Unbuilt h exposed = absurd h
+derive_refusal trace bytes content before after (refusal.Partition p) h exposed = absurd h
+derive_refusal trace bytes content before after (refusal.Schedule s) h exposed = absurd h
+derive_refusal trace bytes content before after (refusal.Trace fault) h exposed =
+    inr (ap (λ f. unless_fault f (Ok (sheets_text (sheets_of (records_of bytes))))) (h bytes exposed))
+derive_refusal trace bytes content before after (refusal.NoSuchName item) h exposed = absurd h
+
+pub derive_done : (trace bytes : List ℕ) (ended : Ended) (before after : Outside) → IsEither (Derive trace) ended before after
+    → before.files trace ≡ Some bytes → IsCutShort ended.status ⊎ IsAnswerEnd (derive_text bytes) ended.status before.sinks after.sinks
+derive_done trace bytes ended before after (inl r) exposed =
+    answer_refused (derive_text bytes) (Derive trace) ended before after r
+    (derive_refusal trace bytes (before.files trace) (before.reads trace) (after.reads trace) r.why r.cause exposed)
+derive_done trace bytes ended before after (inr d) exposed =
+    answer_done derive_text (before.files trace) bytes d.kept d.texts ended before.sinks after.sinks d.made exposed d.written
+
+query_refusal : (query : Query) (name trace bytes : List ℕ) (content : Option (List ℕ)) (before after : ℕ) (r : Refusal)
+    → IsQueryRefused query name trace content before after r → content ≡ Some bytes → IsCutShort (status_of r) ⊎ (analyze_text query name bytes ≡ Err r)
+query_refusal query name trace bytes content before after refusal.NoMemory h exposed = inl (inr (inr refl))
+query_refusal query name trace bytes content before after (refusal.Read file) h exposed = inl (inl refl)
+query_refusal query name trace bytes content before after (refusal.Image fault) h exposed = absurd h
+query_refusal query name trace bytes content before after refusal.Unbuilt h exposed = absurd h
+query_refusal query name trace bytes content before after (refusal.Partition p) h exposed = absurd h
+query_refusal query name trace bytes content before after (refusal.Schedule s) h exposed = absurd h
+query_refusal query name trace bytes content before after (refusal.Trace fault) h exposed =
+    inr (ap (λ f. unless_fault f (answer_to name (query_lines query name (records_of bytes)))) (h bytes exposed))
+query_refusal query name trace bytes content before after (refusal.NoSuchName item) h exposed =
+    let unknown = h.1 bytes exposed in
+    inr (
+    ap (λ f. unless_fault f (answer_to name (query_lines query name (records_of bytes)))) unknown.accepted
+    ∙ ap (λ lines. answer_to name lines) unknown.no_answer
+    ∙ ap (λ n. Err (refusal.NoSuchName n)) (sym h.0)
+    )
+
+pub analyze_done : (query : Query) (name trace bytes : List ℕ) (ended : Ended) (before after : Outside) → IsEither (Analyze trace query name) ended before after
+    → before.files trace ≡ Some bytes → IsCutShort ended.status ⊎ IsAnswerEnd (analyze_text query name bytes) ended.status before.sinks after.sinks
+analyze_done query name trace bytes ended before after (inl r) exposed =
+    answer_refused (analyze_text query name bytes) (Analyze trace query name) ended before after r
+    (query_refusal query name trace bytes (before.files trace) (before.reads trace) (after.reads trace) r.why r.cause exposed)
+analyze_done query name trace bytes ended before after (inr d) exposed =
+    answer_done (analyze_text query name) (before.files trace) bytes d.kept d.texts ended before.sinks after.sinks d.made exposed d.written

@@ -11,8 +11,10 @@ use Rattle.wedge_cli.specs.Lines.{line, usage_line, refusal_text, status_of}
 use Rattle.wedge_cli.specs.declared.loading.FileKind.TheVariants as kind
 use Rattle.wedge_cli.specs.declared.refusal.ScheduleRefusal.{ScheduleRefusal}
 use Rattle.wedge_cli.specs.Loading.{image_of, run_image_of, built_of, most_of, IsReadFault, IsRefusedBy}
+use Rattle.trace_form.specs.declared.fault.TraceFault.{TraceFault}
 use Rattle.wedge_cli.specs.Replaying.{replay_text}
-use Rattle.wedge_cli.specs.Words.{Asked, Run, Show, Build, Replay}
+use Rattle.wedge_cli.specs.Traces.{trace_fault, IsUnknownIn, IsTraceRefused, IsQueryRefused}
+use Rattle.wedge_cli.specs.Words.{Asked, Run, Show, Build, Replay, Derive, Analyze}
 use Rattle.wedge_cli.specs.Ended.{IsMade, IsWritten, IsSaid}
 
 -- a read of one of the two files failed; where it is the second, the first is not too long
@@ -37,6 +39,8 @@ IsReplayRefused image schedule files before after refusal.Unbuilt =
     IsReplayAnswer image schedule files (Err refusal.Unbuilt) × WhereExposed (files image) (λ bytes. run_image_of bytes ≡ Err refusal.Unbuilt)
 IsReplayRefused image schedule files before after (refusal.Partition p) = ⊥
 IsReplayRefused image schedule files before after (refusal.Schedule s) = IsReplayAnswer image schedule files (Err (refusal.Schedule s))
+IsReplayRefused image schedule files before after (refusal.Trace fault) = ⊥
+IsReplayRefused image schedule files before after (refusal.NoSuchName item) = ⊥
 
 -- why a command is not done, of the files and of their counts of failed reads before and after
 abbrev pub IsRefused : Asked → (List ℕ → Option (List ℕ)) → (List ℕ → ℕ) → (List ℕ → ℕ) → Refusal → Type 0
@@ -44,6 +48,8 @@ IsRefused (Run image flag) files before after why = IsRefusedBy run_image_of ima
 IsRefused (Show image) files before after why = IsRefusedBy image_of image (files image) (before image) (after image) why
 IsRefused (Build part) files before after why = IsRefusedBy built_of part (files part) (before part) (after part) why
 IsRefused (Replay image schedule) files before after why = IsReplayRefused image schedule files before after why
+IsRefused (Derive trace) files before after why = IsTraceRefused trace (files trace) (before trace) (after trace) why
+IsRefused (Analyze trace query name) files before after why = IsQueryRefused query name trace (files trace) (before trace) (after trace) why
 
 -- its image or its partition is refused
 abbrev pub IsUnfit : Asked → (List ℕ → Option (List ℕ)) → Type 0
@@ -51,13 +57,30 @@ IsUnfit (Run image flag) files = WhereExposed (files image) (λ bytes. IsErr (ru
 IsUnfit (Show image) files = WhereExposed (files image) (λ bytes. IsErr (image_of bytes))
 IsUnfit (Build part) files = WhereExposed (files part) (λ bytes. IsErr (built_of bytes))
 IsUnfit (Replay image schedule) files = WhereExposed (files image) (λ bytes. IsErr (run_image_of bytes))
+IsUnfit (Derive trace) files = ⊥
+IsUnfit (Analyze trace query name) files = ⊥
 
--- its schedule is rejected
+-- its trace is too long or malformed
+abbrev pub IsTraceRejected : Option (List ℕ) → Type 0
+IsTraceRejected content = (fault : TraceFault) × WhereExposed content (λ bytes. trace_fault bytes ≡ Some fault)
+
+-- its schedule or its trace is rejected
 abbrev pub IsRejected : Asked → (List ℕ → Option (List ℕ)) → Type 0
 IsRejected (Run image flag) files = ⊥
 IsRejected (Show image) files = ⊥
 IsRejected (Build part) files = ⊥
 IsRejected (Replay image schedule) files = (s : ScheduleRefusal) × IsReplayAnswer image schedule files (Err (refusal.Schedule s))
+IsRejected (Derive trace) files = IsTraceRejected (files trace)
+IsRejected (Analyze trace query name) files = IsTraceRejected (files trace)
+
+-- no record of its trace has the name that it asks for
+abbrev pub IsUnknown : Asked → (List ℕ → Option (List ℕ)) → Type 0
+IsUnknown (Run image flag) files = ⊥
+IsUnknown (Show image) files = ⊥
+IsUnknown (Build part) files = ⊥
+IsUnknown (Replay image schedule) files = ⊥
+IsUnknown (Derive trace) files = ⊥
+IsUnknown (Analyze trace query name) files = WhereExposed (files trace) (IsUnknownIn query name)
 
 -- the count of failed reads of a file of it rose
 abbrev pub IsUnreadable : Asked → (List ℕ → ℕ) → (List ℕ → ℕ) → Type 0
@@ -65,6 +88,8 @@ IsUnreadable (Run image flag) before after = before image < after image
 IsUnreadable (Show image) before after = before image < after image
 IsUnreadable (Build part) before after = before part < after part
 IsUnreadable (Replay image schedule) before after = (before image < after image) ⊎ (before schedule < after schedule)
+IsUnreadable (Derive trace) before after = before trace < after trace
+IsUnreadable (Analyze trace query name) before after = before trace < after trace
 
 -- the line of a refusal is said, or that memory ran out for that line
 abbrev pub SaysRefusal : Refusal → Ended → Device → Device → Type 0

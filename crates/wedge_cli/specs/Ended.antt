@@ -23,7 +23,8 @@ use Rattle.wedge_cli.specs.Lines.{line, write_fault_line, refusal_text, status_o
 use Rattle.wedge_cli.specs.Listing.{listing}
 use Rattle.wedge_cli.specs.Loading.{image_of, run_image_of, built_of, most_of}
 use Rattle.wedge_cli.specs.Replaying.{replay_text}
-use Rattle.wedge_cli.specs.Words.{Asked, Run, Show, Build, Replay}
+use Rattle.wedge_cli.specs.Traces.{derive_text, analyze_text}
+use Rattle.wedge_cli.specs.Words.{Asked, Run, Show, Build, Replay, Derive, Analyze}
 
 -- ---- what a command makes of its files
 
@@ -95,12 +96,23 @@ pub record IsReplayed (image schedule : Option (List ℕ)) (kept : Option Journa
   pub meant : replay_text bytes names ≡ Ok text
   pub are : texts ≡ on_out text
 
+-- a trace's file is answered: what was read of it is its bytes, where they are exposed, and the text is what is meant by them
+pub record IsTraceAnswer (meaning : List ℕ → Result (List ℕ) Refusal) (trace : Option (List ℕ)) (kept : Option Journal) (texts : List Text) : Type 0 where
+  pub bytes : List ℕ
+  pub bytes_are : WhereExposed trace (λ exposed. bytes ≡ exposed)
+  pub kept_is : kept ≡ None
+  pub text : List ℕ
+  pub meant : meaning bytes ≡ Ok text
+  pub are : texts ≡ on_out text
+
 -- the journal that a command keeps, and the texts that it writes
 abbrev pub IsMade : Asked → (List ℕ → Option (List ℕ)) → Option Journal → List Text → Type 0
 IsMade (Run image flag) files kept texts = IsRun flag (files image) kept texts
 IsMade (Show image) files kept texts = IsShown (files image) kept texts
 IsMade (Build part) files kept texts = IsBuilt (files part) kept texts
 IsMade (Replay image schedule) files kept texts = IsReplayed (files image) (files schedule) kept texts
+IsMade (Derive trace) files kept texts = IsTraceAnswer derive_text (files trace) kept texts
+IsMade (Analyze trace query name) files kept texts = IsTraceAnswer (analyze_text query name) (files trace) kept texts
 
 -- ---- how texts are written
 
@@ -152,7 +164,7 @@ abbrev pub IsSaid : ℕ → List ℕ → Ended → Device → Device → Type 0
 IsSaid status text ended before after =
     (out : Device) → IsWritten status None (on_err text) ended (record { out = out; err = before }) (record { out = out; err = after })
 
--- ---- a run, and a replay
+-- ---- a run, and an answer
 
 -- `run IMAGE` was done: the file's bytes encode an image, the journal is that of a complete run of it, out has
 -- grown by the report of its outcome, and err is as it was
@@ -187,8 +199,8 @@ pub record IsScheduleDone (bytes : List ℕ) (kept : Option Journal) (before aft
 abbrev pub IsCutShort : ℕ → Type 0
 IsCutShort status = (status ≡ 4) ⊎ (status ≡ 5) ⊎ (status ≡ 6)
 
--- `replay` ended as the answer of its two files' bytes says: out has grown by the report, or err by the line of the refusal
-abbrev pub IsReplayEnd : Result (List ℕ) Refusal → ℕ → Sinks → Sinks → Type 0
-IsReplayEnd (Ok text) status before after = (status ≡ 0) × Takes text before.out after.out × (after.err ≡ before.err)
-IsReplayEnd (Err why) status before after =
+-- a command ended as the answer of its files' bytes says: out has grown by the text, or err by the line of the refusal
+abbrev pub IsAnswerEnd : Result (List ℕ) Refusal → ℕ → Sinks → Sinks → Type 0
+IsAnswerEnd (Ok text) status before after = (status ≡ 0) × Takes text before.out after.out × (after.err ≡ before.err)
+IsAnswerEnd (Err why) status before after =
     (status ≡ status_of why) × Takes (line (refusal_text why)) before.err after.err × (after.out ≡ before.out)

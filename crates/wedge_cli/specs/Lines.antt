@@ -3,6 +3,8 @@ use Rattle.std.specs.Prelude.{ℕ, List, [], ◌∷◌, ◌++◌, codes}
 use Rattle.std.specs.Fmt.{decimal}
 use Rattle.image_form.specs.Words as image
 use Rattle.rv_asm.specs.Words as asm
+use Rattle.trace_form.specs.declared.fault.TraceFault.{TraceFault}
+use Rattle.trace_form.specs.Fault as trace
 use Rattle.wedge_cli.specs.declared.refusal.PartRefusal.{PartRefusal}
 use Rattle.wedge_cli.specs.declared.refusal.PartRefusal.TheVariants as part
 use Rattle.wedge_core.specs.declared.error.Why.{Why}
@@ -50,6 +52,11 @@ schedule_text schedule.Limit = schedule_at 0 (codes "limit")
 schedule_text (schedule.Form at) = schedule_at at (codes "form")
 schedule_text (schedule.Replay at why) = schedule_at at (why_word why)
 
+-- what is wrong with a trace, at a line
+abbrev pub trace_fault_text : TraceFault → List ℕ
+trace_fault_text fault =
+    codes "trace refused at " ++ decimal fault.at ++ codes ": " ++ trace.why_word fault.why
+
 -- why a command is not done
 abbrev pub refusal_text : Refusal → List ℕ
 refusal_text refusal.NoMemory = codes "out of memory"
@@ -58,6 +65,8 @@ refusal_text (refusal.Image fault) = refused_at fault.at (image.word fault.why)
 refusal_text refusal.Unbuilt = refused_at 0 (codes "unbuilt")
 refusal_text (refusal.Partition p) = codes "partition refused: " ++ part_text p
 refusal_text (refusal.Schedule s) = schedule_text s
+refusal_text (refusal.Trace fault) = trace_fault_text fault
+refusal_text (refusal.NoSuchName name) = codes "no such name: " ++ name
 
 abbrev pub status_of : Refusal → ℕ
 status_of refusal.NoMemory = 6
@@ -66,3 +75,5 @@ status_of (refusal.Image fault) = 3
 status_of refusal.Unbuilt = 3
 status_of (refusal.Partition p) = 3
 status_of (refusal.Schedule s) = 8
+status_of (refusal.Trace fault) = 8
+status_of (refusal.NoSuchName name) = 9

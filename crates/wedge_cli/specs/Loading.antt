@@ -9,6 +9,8 @@ use Rattle.image_form.specs.Encoding.{most_bytes}
 use Rattle.image_form.specs.declared.fault.Why.TheVariants.{Limit}
 use Rattle.part_toml.specs.Faults.{Refusal as Meant}
 use Rattle.part_toml.specs.Partition.{partition}
+use Rattle.trace_form.specs.declared.fault.TraceFault.{TraceFault}
+use Rattle.trace_form.specs.declared.fault.Why.TheVariants as trace_why
 use Rattle.wedge_core.specs.Built.{is_built}
 use Rattle.wedge_cli.specs.declared.loading.FileKind.{FileKind}
 use Rattle.wedge_cli.specs.declared.loading.FileKind.TheVariants as kind
@@ -59,6 +61,8 @@ IsRefusalOf meant (refusal.Image fault) = meant ≡ Err (refusal.Image fault)
 IsRefusalOf meant refusal.Unbuilt = meant ≡ Err refusal.Unbuilt
 IsRefusalOf meant (refusal.Partition p) = meant ≡ Err (refusal.Partition p)
 IsRefusalOf meant (refusal.Schedule s) = ⊥
+IsRefusalOf meant (refusal.Trace fault) = ⊥
+IsRefusalOf meant (refusal.NoSuchName item) = ⊥
 
 -- ---- files
 
@@ -66,16 +70,25 @@ IsRefusalOf meant (refusal.Schedule s) = ⊥
 abbrev pub most_schedule : ℕ
 most_schedule = 67108864
 
+-- the most bytes of a trace's file, and the fault of one that has more
+abbrev pub most_trace : ℕ
+most_trace = 67108864
+
+abbrev pub long_trace : TraceFault
+long_trace = record { at = 0; why = trace_why.Limit }
+
 -- the most bytes of a file of a kind, and the refusal of one that has more
 abbrev pub most_of : FileKind → ℕ
 most_of kind.Image = most_bytes
 most_of kind.Partition = most_partition
 most_of kind.Schedule = most_schedule
+most_of kind.Trace = most_trace
 
 abbrev pub too_long : FileKind → Refusal
 too_long kind.Image = refusal.Image (record { at = most_bytes; why = Limit })
 too_long kind.Partition = refusal.Partition part.Limit
 too_long kind.Schedule = refusal.Schedule schedule.Limit
+too_long kind.Trace = refusal.Trace long_trace
 
 -- this file was not read: its count of failed reads rose
 pub record IsReadFault (name : List ℕ) (before after : ℕ) (file : List ℕ) : Type 0 where
@@ -95,6 +108,8 @@ IsUnread k name content before after (refusal.Image fault) = IsTooLong k content
 IsUnread k name content before after refusal.Unbuilt = ⊥
 IsUnread k name content before after (refusal.Partition p) = IsTooLong k content (refusal.Partition p)
 IsUnread k name content before after (refusal.Schedule s) = IsTooLong k content (refusal.Schedule s)
+IsUnread k name content before after (refusal.Trace fault) = IsTooLong k content (refusal.Trace fault)
+IsUnread k name content before after (refusal.NoSuchName item) = ⊥
 
 -- why the image of a file is not had: memory ran out, a read failed, or its bytes are refused so
 abbrev pub IsRefusedBy : (List ℕ → Result Image Refusal) → List ℕ → Option (List ℕ) → ℕ → ℕ → Refusal → Type 0
@@ -104,3 +119,5 @@ IsRefusedBy meant name content before after (refusal.Image fault) = WhereExposed
 IsRefusedBy meant name content before after refusal.Unbuilt = WhereExposed content (λ bytes. meant bytes ≡ Err refusal.Unbuilt)
 IsRefusedBy meant name content before after (refusal.Partition p) = WhereExposed content (λ bytes. meant bytes ≡ Err (refusal.Partition p))
 IsRefusedBy meant name content before after (refusal.Schedule s) = ⊥
+IsRefusedBy meant name content before after (refusal.Trace fault) = ⊥
+IsRefusedBy meant name content before after (refusal.NoSuchName item) = ⊥

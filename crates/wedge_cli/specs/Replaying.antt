@@ -44,3 +44,5 @@ IsRefusalIn meant (refusal.Image fault) = meant ≡ Err (refusal.Image fault)
 IsRefusalIn meant refusal.Unbuilt = meant ≡ Err refusal.Unbuilt
 IsRefusalIn meant (refusal.Partition p) = meant ≡ Err (refusal.Partition p)
 IsRefusalIn meant (refusal.Schedule s) = meant ≡ Err (refusal.Schedule s)
+IsRefusalIn meant (refusal.Trace fault) = ⊥
+IsRefusalIn meant (refusal.NoSuchName item) = ⊥

@@ -4,6 +4,8 @@ use Rattle.std.specs.Str.{bytes_eq}
 use Rattle.std.specs.String.{string_bytes}
 use Rattle.wedge_cli.specs.declared.words.RunFlag.{RunFlag}
 use Rattle.wedge_cli.specs.declared.words.RunFlag.TheVariants.{Plain, Schedule}
+use Rattle.wedge_cli.specs.declared.words.Query.{Query}
+use Rattle.wedge_cli.specs.declared.words.Query.TheVariants.{Accessed, Users, Written}
 use Rattle.wedge_cli.specs.declared.words.Command.{Command}
 use Rattle.wedge_cli.specs.declared.words.Command.TheVariants as command
 
@@ -13,6 +15,8 @@ pub data Asked : Type 0 where
   Show : List ℕ → Asked
   Build : List ℕ → Asked
   Replay : List ℕ → List ℕ → Asked
+  Derive : List ℕ → Asked
+  Analyze : List ℕ → Query → List ℕ → Asked
 
 -- the same as the program has it
 abbrev pub asked_by : Command → Asked
@@ -20,6 +24,8 @@ asked_by (command.Run image flag) = Run image.now flag
 asked_by (command.Show image) = Show image.now
 asked_by (command.Build part) = Build part.now
 asked_by (command.Replay image schedule) = Replay image.now schedule.now
+asked_by (command.Derive trace) = Derive trace.now
+asked_by (command.Analyze trace query name) = Analyze trace.now query name.now
 
 -- the texts of the arguments
 abbrev pub texts : {A : Type 0} → List (String A) → List (List ℕ)
@@ -61,6 +67,25 @@ abbrev pub replay_of : List (List ℕ) → Option Asked
 replay_of (image ∷ schedule ∷ []) = if is_plain image && is_plain schedule then Some (Replay image schedule) else None
 replay_of arguments = None
 
+abbrev pub derive_of : List (List ℕ) → Option Asked
+derive_of arguments = option_map Derive (file_of arguments)
+
+-- what is asked of a trace
+abbrev pub query_of : List ℕ → Option Query
+query_of argument =
+    if bytes_eq argument (codes "accessed") then Some Accessed
+    else if bytes_eq argument (codes "users") then Some Users
+    else if bytes_eq argument (codes "written") then Some Written
+    else None
+
+abbrev pub analyze_with : List ℕ → List ℕ → Option Query → Option Asked
+analyze_with trace name query =
+    if is_plain trace && is_plain name then option_map (λ q. Analyze trace q name) query else None
+
+abbrev pub analyze_of : List (List ℕ) → Option Asked
+analyze_of (trace ∷ query ∷ name ∷ []) = analyze_with trace name (query_of query)
+analyze_of arguments = None
+
 -- the command that all arguments ask
 abbrev pub command_of : List (List ℕ) → Option Asked
 command_of [] = None
@@ -69,4 +94,6 @@ command_of (command ∷ arguments) =
     else if bytes_eq command (codes "show") then show_of arguments
     else if bytes_eq command (codes "build") then build_of arguments
     else if bytes_eq command (codes "replay") then replay_of arguments
+    else if bytes_eq command (codes "derive") then derive_of arguments
+    else if bytes_eq command (codes "analyze") then analyze_of arguments
     else None

@@ -4,14 +4,17 @@ ghost use Rattle.std.specs.Prelude.{◌≡◌, ◌≤◌, ℕ, List, Some, None,
 ghost use Rattle.wedge_cli.specs.Words as asking;
 ghost use Rattle.wedge_cli.specs.Loading.{IsRefusedBy, image_of, run_image_of, built_of};
 ghost use Rattle.wedge_cli.specs.Causes.{IsReplayRefused, IsRefused};
-ghost use Rattle.wedge_cli.specs.Ended.{on_out, on_both, IsReported, IsRun, IsShown, IsBuilt, IsReplayed, IsMade};
+ghost use Rattle.wedge_cli.specs.Ended.{on_out, on_both, IsReported, IsRun, IsShown, IsBuilt, IsReplayed, IsTraceAnswer, IsMade};
+ghost use Rattle.wedge_cli.specs.Traces.{derive_text, analyze_text, IsTraceRefused, IsQueryRefused};
 
 use crate::loading::{FileKind, load_built, load_image, load_run, read_file};
 use crate::refusal::Refusal;
 use crate::replaying::replay_text;
 use crate::show::listing;
-use crate::words::{Command, RunFlag};
+use crate::traces::{load_trace, query_text, sheets_text};
+use crate::words::{Command, Query, RunFlag};
 use crate::writing::{Ready, SinkName, Text};
+use cb_analyze::QueryFault;
 use host_io::Files;
 use image_form::{Image, write_image};
 use report_text::{report, write_schedule};
@@ -37,6 +40,8 @@ pub(crate) fn prepare<F: Files>(
         Command::Show { image } => show(alloc, files, image),
         Command::Build { part } => build(alloc, files, part),
         Command::Replay { image, schedule } => replay(alloc, files, image, schedule),
+        Command::Derive { trace } => derive(alloc, files, trace),
+        Command::Analyze { trace, query, name } => analyze(alloc, files, trace, query, name),
     }
 }
 
@@ -115,6 +120,50 @@ fn replay<F: Files>(
     let text = replay_text(alloc, bytes.as_slice(), names.as_slice())?;
     let ready = on_out(alloc, None, text)?;
     Ok(ready)
+}
+
+/// Derives the sheets that a trace needs.
+fn derive<F: Files>(alloc: Global, files: &mut F, trace: &str) -> Result<Ready, Refusal>
+    ensures made { IfOk result (λ r. IsTraceAnswer derive_text (F.content files.old trace.now)
+        r.journal r.texts.items) }
+    ensures refused { IfErr result (IsTraceRefused trace.now (F.content files.old trace.now)
+        (F.faults files.old trace.now) (F.faults files.new trace.now)) }
+    ensures content { (other : List ℕ) → F.content files.new other ≡ F.content files.old other }
+    ensures rises { (other : List ℕ) → F.faults files.old other ≤ F.faults files.new other }
+{
+    let bytes = load_trace(alloc, files, trace)?;
+    let text = sheets_text(alloc, bytes.as_slice())?;
+    let ready = on_out(alloc, None, text)?;
+    Ok(ready)
+}
+
+/// Answers a query of a trace.
+fn analyze<F: Files>(
+    alloc: Global,
+    files: &mut F,
+    trace: &str,
+    query: Query,
+    name: &str,
+) -> Result<Ready, Refusal>
+    ensures made { IfOk result (λ r. IsTraceAnswer (analyze_text query name.now)
+        (F.content files.old trace.now) r.journal r.texts.items) }
+    ensures refused { IfErr result (IsQueryRefused query name.now trace.now
+        (F.content files.old trace.now) (F.faults files.old trace.now) (F.faults files.new trace.now)) }
+    ensures content { (other : List ℕ) → F.content files.new other ≡ F.content files.old other }
+    ensures rises { (other : List ℕ) → F.faults files.old other ≤ F.faults files.new other }
+{
+    let bytes = load_trace(alloc, files, trace)?;
+    match query_text(alloc, bytes.as_slice(), query, name.as_bytes()) {
+        Ok(text) => {
+            let ready = on_out(alloc, None, text)?;
+            Ok(ready)
+        }
+        Err(QueryFault::NoMemory) => Err(Refusal::NoMemory),
+        Err(QueryFault::NoSuchName) => {
+            let name = Bytes::from_slice(alloc, name.as_bytes())?;
+            Err(Refusal::NoSuchName { name })
+        }
+    }
 }
 
 /// A text on the output, and one on the error stream.

@@ -24,6 +24,9 @@ mod tag_tests;
 #[cfg(test)]
 mod tests;
 mod top;
+#[cfg(test)]
+mod trace_tests;
+mod traces;
 mod words;
 mod writing;
 
@@ -31,5 +34,5 @@ pub use refusal::{PartRefusal, Refusal, ScheduleRefusal};
 pub use show::listing;
 pub use status::Ended;
 pub use top::{out_of_memory, wedge};
-pub use words::{Command, RunFlag, WordsFault, read_words};
+pub use words::{Command, Query, RunFlag, WordsFault, read_words};
 pub use writing::{SinkName, Text};

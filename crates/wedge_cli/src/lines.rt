@@ -6,6 +6,7 @@ ghost use Rattle.wedge_cli.specs.Lines as lines;
 
 use crate::refusal::{PartRefusal, Refusal, ScheduleRefusal};
 use std::alloc::{AllocError, Global};
+use trace_form::TraceFault;
 use wedge_core::Why;
 
 /// The line of arguments that are no command.
@@ -40,6 +41,8 @@ pub(crate) fn refusal_line(alloc: Global, refusal: &Refusal) -> Result<Vec<u8>, 
         Refusal::Unbuilt => refused_line(alloc, 0, "unbuilt"),
         Refusal::Partition(fault) => partition_line(alloc, fault),
         Refusal::Schedule(fault) => schedule_line(alloc, *fault),
+        Refusal::Trace(fault) => trace_line(alloc, *fault),
+        Refusal::NoSuchName { name } => no_such_name_line(alloc, name.as_slice()),
     }
 }
 
@@ -84,6 +87,26 @@ fn schedule_line(alloc: Global, fault: ScheduleRefusal) -> Result<Vec<u8>, Alloc
     };
     let mut line = Vec::from_slice(alloc, b"wedge: schedule refused at ")?;
     add_place(alloc, &mut line, at, b": ", word)?;
+    line.push(b'\n')?;
+    Ok(line)
+}
+
+/// The line of a trace that is refused.
+fn trace_line(alloc: Global, fault: TraceFault) -> Result<Vec<u8>, AllocError>
+    ensures { IfOk result (λ v. v.items ≡ lines.line (lines.trace_fault_text fault)) }
+{
+    let mut line = Vec::from_slice(alloc, b"wedge: trace refused at ")?;
+    add_place(alloc, &mut line, fault.at, b": ", fault.why.word())?;
+    line.push(b'\n')?;
+    Ok(line)
+}
+
+/// The line of a name that a trace has not.
+fn no_such_name_line(alloc: Global, name: &[u8]) -> Result<Vec<u8>, AllocError>
+    ensures { IfOk result (λ v. v.items ≡ lines.line (codes "no such name: " ++ name.now)) }
+{
+    let mut line = Vec::from_slice(alloc, b"wedge: no such name: ")?;
+    line.extend_from_slice(name)?;
     line.push(b'\n')?;
     Ok(line)
 }

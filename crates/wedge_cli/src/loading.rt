@@ -11,6 +11,7 @@ use host_io::{Files, ReadFault, read_whole};
 use image_form::{Fault, Image, Why, read_image};
 use part_toml::read_partition;
 use std::alloc::Global;
+use trace_form::TraceFault;
 use wedge_base::Bytes;
 use wedge_core::is_built;
 
@@ -23,12 +24,16 @@ const MOST_PARTITION: u64 = 4_194_304;
 /// The most bytes of a schedule's file.
 const MOST_SCHEDULE: u64 = 67_108_864;
 
+/// The most bytes of a trace's file.
+const MOST_TRACE: u64 = 67_108_864;
+
 /// What a file is read as.
 #[derive(Clone, Copy, Debug, PartialEq, Eq)]
 pub enum FileKind {
     Image,
     Partition,
     Schedule,
+    Trace,
 }
 
 /// The bytes of a file of a kind. One that has more than a file of the kind may have is refused as it is
@@ -66,6 +71,7 @@ fn most_of(kind: FileKind) -> u64
         FileKind::Image => MOST_BYTES,
         FileKind::Partition => MOST_PARTITION,
         FileKind::Schedule => MOST_SCHEDULE,
+        FileKind::Trace => MOST_TRACE,
     }
 }
 
@@ -80,6 +86,10 @@ fn too_long(kind: FileKind) -> Refusal
         }),
         FileKind::Partition => Refusal::Partition(PartRefusal::Limit),
         FileKind::Schedule => Refusal::Schedule(ScheduleRefusal::Limit),
+        FileKind::Trace => Refusal::Trace(TraceFault {
+            at: 0,
+            why: trace_form::Why::Limit,
+        }),
     }
 }
 

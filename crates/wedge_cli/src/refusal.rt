@@ -7,6 +7,7 @@ ghost use Rattle.wedge_cli.specs.Refusals.{refusal_of, part_refusal_of, form_ref
 use image_form::{Fault, ImageError};
 use part_toml::PartFault;
 use report_text::ScheduleFault;
+use trace_form::TraceFault;
 use wedge_base::{Bytes, NoMemory};
 use wedge_core::ReplayFault;
 
@@ -25,6 +26,10 @@ pub enum Refusal {
     Partition(PartRefusal),
     /// The bytes of the schedule's file are no schedule of a complete run of the image.
     Schedule(ScheduleRefusal),
+    /// The bytes of the trace's file are no trace: the first fault.
+    Trace(TraceFault),
+    /// The trace has no such procedure or item.
+    NoSuchName { name: Bytes },
 }
 
 /// The first thing that is wrong with a partition's file.

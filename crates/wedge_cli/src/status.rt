@@ -15,8 +15,10 @@ pub(crate) const WRITE_FAULT: u8 = 5;
 /// The status of a call that ran out of memory.
 pub(crate) const NO_MEMORY: u8 = 6;
 
-/// The status of a schedule that is refused.
-pub(crate) const SCHEDULE_REFUSED: u8 = 8;
+/// The status of a schedule or a trace that is refused.
+pub(crate) const REJECTED: u8 = 8;
+/// The status of a query of a trace that has no such name.
+pub(crate) const NO_SUCH_NAME: u8 = 9;
 
 /// What the program ends with.
 #[derive(Debug, Drop)]

@@ -5,15 +5,16 @@ ghost use Rattle.wedge_cli.specs.Words as asking;
 ghost use Rattle.wedge_cli.specs.Words.{Asked, command_of, texts};
 ghost use Rattle.wedge_cli.specs.Outside.{outside, sinks, device};
 ghost use Rattle.wedge_cli.specs.Lines as lines;
-ghost use Rattle.wedge_cli.specs.Ended.{IsSaid, IsRunDone, IsScheduleDone, IsCutShort, IsReplayEnd};
+ghost use Rattle.wedge_cli.specs.Ended.{IsSaid, IsRunDone, IsScheduleDone, IsCutShort, IsAnswerEnd};
 ghost use Rattle.wedge_cli.specs.Replaying.{replay_text};
-ghost use Rattle.wedge_cli.specs.Causes.{IsUnfit, IsRejected, IsUnreadable, SaysRefusal, IsAnswer};
+ghost use Rattle.wedge_cli.specs.Traces.{derive_text, analyze_text};
+ghost use Rattle.wedge_cli.specs.Causes.{IsUnfit, IsRejected, IsUnknown, IsUnreadable, SaysRefusal, IsAnswer};
 
 use crate::commands::prepare;
 use crate::lines::{no_memory_line, refusal_line, usage_line};
 use crate::refusal::Refusal;
-use crate::status::{Ended, NO_MEMORY, READ_FAULT, REFUSED, SCHEDULE_REFUSED, USAGE};
-use crate::words::{RunFlag, WordsFault, read_words};
+use crate::status::{Ended, NO_MEMORY, NO_SUCH_NAME, READ_FAULT, REFUSED, REJECTED, USAGE};
+use crate::words::{Query, RunFlag, WordsFault, read_words};
 use crate::writing::{finish, say};
 use host_io::{Files, Pace, Sink};
 use std::alloc::Global;
@@ -24,11 +25,14 @@ use std::thread::Threads;
 /// writes the listing of its text, and `build PART` makes an image of a partition and writes its bytes.
 /// `run IMAGE --schedule` writes the schedule of the run on `out` and its report on `err`;
 /// `replay IMAGE SCHEDULE` takes the turns of a schedule and writes the report of the run that they make.
+/// `derive TRACE` writes the sheets that a trace needs, and `analyze TRACE accessed PROC`,
+/// `analyze TRACE users ITEM` and `analyze TRACE written PROC` write the lines that answer a query of it.
 ///
 /// The status is 0 where that was written; 2 where the arguments are no command; 3 where a file's bytes
 /// encode no image, or one to be run of a kind that the machine does not run yet, or no partition; 4
 /// where a read failed; 5 where a write failed; 6 where memory ran out; 8 where a file is no schedule of
-/// a complete run of the image. A refusal leaves `out` alone and writes one line on `err`. A write that
+/// a complete run of the image, or no trace; 9 where a trace has no procedure or no item of the name that is
+/// asked for. A refusal leaves `out` alone and writes one line on `err`. A write that
 /// fails leaves a prefix of its text, and is reported once on `err`.
 pub fn wedge<R: Threads + Wait + Sync, F: Files, O: Sink, E: Sink, P: Pace + Sync>(
     _rt: &R,
@@ -62,7 +66,24 @@ pub fn wedge<R: Threads + Wait + Sync, F: Files, O: Sink, E: Sink, P: Pace + Syn
     ensures replay { (image schedule bytes names : List ℕ)
         → command_of (texts words.now) ≡ Some (asking.Replay image schedule)
         → F.content files.old image ≡ Some bytes → F.content files.old schedule ≡ Some names
-        → IsCutShort result.status ⊎ IsReplayEnd (replay_text bytes names) result.status
+        → IsCutShort result.status ⊎ IsAnswerEnd (replay_text bytes names) result.status
+        (sinks (O.written out.old) (O.faults out.old) (E.written err.old) (E.faults err.old))
+        (sinks (O.written out.new) (O.faults out.new) (E.written err.new) (E.faults err.new)) }
+
+    // Of `derive TRACE`, where no read or write failed and memory did not run out: what the bytes of the
+    // file say.
+    ensures derive { (trace bytes : List ℕ)
+        → command_of (texts words.now) ≡ Some (asking.Derive trace)
+        → F.content files.old trace ≡ Some bytes
+        → IsCutShort result.status ⊎ IsAnswerEnd (derive_text bytes) result.status
+        (sinks (O.written out.old) (O.faults out.old) (E.written err.old) (E.faults err.old))
+        (sinks (O.written out.new) (O.faults out.new) (E.written err.new) (E.faults err.new)) }
+
+    // Of `analyze TRACE QUERY NAME`: the same.
+    ensures analyze { (trace name bytes : List ℕ) (query : Query)
+        → command_of (texts words.now) ≡ Some (asking.Analyze trace query name)
+        → F.content files.old trace ≡ Some bytes
+        → IsCutShort result.status ⊎ IsAnswerEnd (analyze_text query name bytes) result.status
         (sinks (O.written out.old) (O.faults out.old) (E.written err.old) (E.faults err.old))
         (sinks (O.written out.new) (O.faults out.new) (E.written err.new) (E.faults err.new)) }
 
@@ -79,8 +100,10 @@ pub fn wedge<R: Threads + Wait + Sync, F: Files, O: Sink, E: Sink, P: Pace + Syn
     ensures usage_only { result.status ≡ 2 → command_of (texts words.now) ≡ None }
     ensures image_only { (a : Asked) → command_of (texts words.now) ≡ Some a → result.status ≡ 3
         → IsUnfit a (F.content files.old) }
-    ensures schedule_only { (a : Asked) → command_of (texts words.now) ≡ Some a → result.status ≡ 8
+    ensures rejected_only { (a : Asked) → command_of (texts words.now) ≡ Some a → result.status ≡ 8
         → IsRejected a (F.content files.old) }
+    ensures name_only { (a : Asked) → command_of (texts words.now) ≡ Some a → result.status ≡ 9
+        → IsUnknown a (F.content files.old) }
     ensures read_only { (a : Asked) → command_of (texts words.now) ≡ Some a → result.status ≡ 4
         → IsUnreadable a (F.faults files.old) (F.faults files.new) }
     ensures write_only { result.status ≡ 5
@@ -142,6 +165,7 @@ fn status_of(refusal: &Refusal) -> u8
         Refusal::NoMemory => NO_MEMORY,
         Refusal::Read { .. } => READ_FAULT,
         Refusal::Image(_) | Refusal::Unbuilt | Refusal::Partition(_) => REFUSED,
-        Refusal::Schedule(_) => SCHEDULE_REFUSED,
+        Refusal::Schedule(_) | Refusal::Trace(_) => REJECTED,
+        Refusal::NoSuchName { .. } => NO_SUCH_NAME,
     }
 }

@@ -13,17 +13,48 @@ pub enum RunFlag {
     Schedule,
 }
 
+/// What is asked of a trace.
+#[derive(Clone, Copy, Debug, PartialEq, Eq)]
+pub enum Query {
+    /// What is accessed under a procedure, and how.
+    Accessed,
+    /// The procedures that access an item.
+    Users,
+    /// The items that are written under a procedure.
+    Written,
+}
+
 /// A command, with the names of its files.
 #[derive(Clone, Copy, Debug)]
 pub enum Command<'a> {
     /// To run an image and write the report.
-    Run { image: &'a str, flag: RunFlag },
+    Run {
+        image: &'a str,
+        flag: RunFlag,
+    },
     /// To list the text of an image.
-    Show { image: &'a str },
+    Show {
+        image: &'a str,
+    },
     /// To make an image of a partition and write it.
-    Build { part: &'a str },
+    Build {
+        part: &'a str,
+    },
     /// To replay a schedule over an image and write the report.
-    Replay { image: &'a str, schedule: &'a str },
+    Replay {
+        image: &'a str,
+        schedule: &'a str,
+    },
+    /// To derive the sheets that a trace needs and write them.
+    Derive {
+        trace: &'a str,
+    },
+    /// To answer a query of a trace, about the procedure or the item of a name.
+    Analyze {
+        trace: &'a str,
+        query: Query,
+        name: &'a str,
+    },
 }
 
 /// Why arguments are no command.
@@ -56,6 +87,8 @@ fn command_in(words: &[String]) -> Option<Command<'_>>
         "show" => show_in(arguments),
         "build" => build_in(arguments),
         "replay" => replay_in(arguments),
+        "derive" => derive_in(arguments),
+        "analyze" => analyze_in(arguments),
         _ => None,
     }
 }
@@ -119,6 +152,43 @@ fn replay_in(arguments: &[String]) -> Option<Command<'_>>
                 schedule: schedule.as_str(),
             })
         }
+        _ => None,
+    }
+}
+
+/// The command of the arguments after `derive`.
+fn derive_in(arguments: &[String]) -> Option<Command<'_>>
+    ensures { option_map asking.asked_by result ≡ asking.derive_of (asking.texts arguments.now) }
+{
+    let trace = file_in(arguments)?;
+    Some(Command::Derive { trace })
+}
+
+/// The command of the arguments after `analyze`.
+fn analyze_in(arguments: &[String]) -> Option<Command<'_>>
+    ensures { option_map asking.asked_by result ≡ asking.analyze_of (asking.texts arguments.now) }
+{
+    match arguments {
+        [trace, query, name] if is_plain(trace.as_str()) && is_plain(name.as_str()) => {
+            let query = query_in(query.as_str())?;
+            Some(Command::Analyze {
+                trace: trace.as_str(),
+                query,
+                name: name.as_str(),
+            })
+        }
+        _ => None,
+    }
+}
+
+/// What an argument asks of a trace.
+fn query_in(argument: &str) -> Option<Query>
+    ensures { result ≡ asking.query_of argument.now }
+{
+    match argument {
+        "accessed" => Some(Query::Accessed),
+        "users" => Some(Query::Users),
+        "written" => Some(Query::Written),
         _ => None,
     }
 }

@@ -1,4 +1,4 @@
-use Rattle.wedge_cli.proofs.Statuses.{run_done, schedule_done, replay_done, schedule_only, usage_only, image_only, read_only, write_only}
+use Rattle.wedge_cli.proofs.Statuses.{run_done, schedule_done, replay_done, derive_done, analyze_done, rejected_only, name_only, usage_only, image_only, read_only, write_only}
 use Rattle.wedge_cli.proofs.top.wedge.Goals as goal
 
 pub returns-clause-run : goal.returns-clause-run
@@ -10,8 +10,8 @@ returns-clause-schedule g c = λ image bytes asked exposed is. schedule_done ima
 pub returns-clause-replay : goal.returns-clause-replay
 returns-clause-replay g c = λ image schedule bytes names asked image_is schedule_is. replay_done image schedule bytes names _ _ _ (c.does.ensures.answer.command _ asked) image_is schedule_is
 
-pub returns-clause-schedule_only : goal.returns-clause-schedule_only
-returns-clause-schedule_only g c = λ a asked is. schedule_only a _ _ _ (c.does.ensures.answer.command a asked) is
+pub returns-clause-rejected_only : goal.returns-clause-rejected_only
+returns-clause-rejected_only g c = λ a asked is. rejected_only a _ _ _ (c.does.ensures.answer.command a asked) is
 
 pub returns-clause-usage_only : goal.returns-clause-usage_only
 returns-clause-usage_only g c = usage_only _ _ _ _ c.does.ensures.answer
@@ -24,3 +24,12 @@ returns-clause-read_only g c = λ a asked is. read_only a _ _ _ (c.does.ensures.
 
 pub returns-clause-write_only : goal.returns-clause-write_only
 returns-clause-write_only g c = write_only _ _ _ _ c.does.ensures.answer
+
+pub returns-clause-derive : goal.returns-clause-derive
+returns-clause-derive g c = λ trace bytes asked exposed. derive_done trace bytes _ _ _ (c.does.ensures.answer.command _ asked) exposed
+
+pub returns-clause-analyze : goal.returns-clause-analyze
+returns-clause-analyze g c = λ trace name bytes query asked exposed. analyze_done query name trace bytes _ _ _ (c.does.ensures.answer.command _ asked) exposed
+
+pub returns-clause-name_only : goal.returns-clause-name_only
+returns-clause-name_only g c = λ a asked is. name_only a _ _ _ (c.does.ensures.answer.command a asked) is
