@@ -1,4 +1,4 @@
-//! Builds each example, runs or lists what was built, and compares what is written with the text that lies
+//! Builds each example, runs or lists what was built, asks about traces, and compares what is written with the text that lies
 //! beside the example.
 #![tactic(auto)]
 
@@ -14,8 +14,8 @@ use wedge_cli::wedge;
 /// The most bytes that one example writes.
 const ROOM: u64 = 65536;
 
-/// A partition, or an image where `built` is false; what is done with it; the arguments, in which the image is
-/// `image`; the file of its schedule, which is `schedule` in the arguments, if it has one; and the file with what is
+/// A partition, or an image or a trace where `built` is false; what is done with it; the arguments, in which the
+/// image or the trace is `image`; the file of its schedule, which is `schedule` in the arguments, if it has one; and the file with what is
 /// written.
 struct Example {
     name: &'static str,
@@ -26,7 +26,7 @@ struct Example {
     wanted: &'static str,
 }
 
-static EXAMPLES: [Example; 17] = [
+static EXAMPLES: [Example; 21] = [
     Example {
         name: "hello.toml",
         built: true,
@@ -162,6 +162,38 @@ static EXAMPLES: [Example; 17] = [
         words: &["run", "image"],
         schedule: None,
         wanted: "denied.report",
+    },
+    Example {
+        name: "server.trace",
+        built: false,
+        title: "derive",
+        words: &["derive", "image"],
+        schedule: None,
+        wanted: "server.sheets",
+    },
+    Example {
+        name: "server.trace",
+        built: false,
+        title: "analyze accessed",
+        words: &["analyze", "image", "accessed", "emit"],
+        schedule: None,
+        wanted: "server.accessed",
+    },
+    Example {
+        name: "server.trace",
+        built: false,
+        title: "analyze users",
+        words: &["analyze", "image", "users", "tag:req"],
+        schedule: None,
+        wanted: "server.users",
+    },
+    Example {
+        name: "server.trace",
+        built: false,
+        title: "analyze written",
+        words: &["analyze", "image", "written", "worker"],
+        schedule: None,
+        wanted: "server.written",
     },
 ];
 
