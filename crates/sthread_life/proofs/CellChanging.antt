@@ -1,10 +1,9 @@
 -- Whatever a cell holds beside its bytes is changed by its own events alone.
-use Rattle.std.proofs.Common.{◌≡◌, ℕ, ◌<◌, List, [], ◌∷◌, length, refl, sym, ap, subst, ◌∙◌}
+use Rattle.std.proofs.Common.{◌≡◌, false, ℕ, ◌<◌, List, [], ◌∷◌, length, refl, sym, ap, subst, ◌∙◌}
 use Rattle.std.specs.Prelude.{Option, Some, None, option_map}
 use Rattle.wedge_base.specs.Slots.{Segment, slot_reply as slot_reply_of, slot_after, opened, stored, placed, freed}
-use Rattle.wedge_base.specs.Streams.{Stream, stream_reply as stream_reply_of, stream_after, grown}
+use Rattle.wedge_base.specs.Streams.{Stream, stream_reply as stream_reply_of, stream_after, moved, grown, closed}
 use Rattle.wedge_base.specs.declared.grants.GateId.{GateId}
-use Rattle.wedge_base.specs.declared.rights.FdBits.{FdBits}
 use Rattle.wedge_base.specs.declared.events.SlotWant.TheVariants as slot_want
 use Rattle.wedge_base.specs.declared.events.Want.{Want}
 use Rattle.wedge_base.specs.declared.events.Want.TheVariants as want
@@ -18,20 +17,20 @@ use Rattle.wedge_base.specs.declared.cells.LivesAsk.TheVariants as lives_ask
 use Rattle.wedge_base.specs.declared.cells.SlotAsk.TheVariants as slot_ask
 use Rattle.wedge_base.specs.declared.cells.SlotReply.{SlotReply}
 use Rattle.wedge_base.specs.declared.cells.SlotReply.TheVariants as slot_reply
+use Rattle.wedge_base.specs.declared.cells.StreamAsk.{StreamAsk}
 use Rattle.wedge_base.specs.declared.cells.StreamAsk.TheVariants as stream_ask
-use Rattle.wedge_base.specs.declared.cells.StreamReply.{StreamReply}
-use Rattle.wedge_base.specs.declared.cells.StreamReply.TheVariants as reply
 use Rattle.sthread_life.specs.Actors.{ActorState}
 use Rattle.sthread_life.specs.Local.{rest}
 use Rattle.sthread_life.specs.Calls.{a0}
 use Rattle.sthread_life.specs.Taking.{pair}
 use Rattle.sthread_life.specs.Cells.{Cells, slot_in, stream_in, kept_in, cells_after}
 use Rattle.sthread_life.specs.Worlds.{WorldState, turn_of, Runs}
-use Rattle.sthread_life.specs.CellHistories.{after_turns, Occupant, occupant, occupant_in, occupant_by, occupant_after_event, Mode, mode, mode_in, mode_after_event, places_after_event, numbers_after_event, lives_after_event, kept_after_event, CellsFollow}
+use Rattle.sthread_life.specs.CellHistories.{after_turns, Occupant, occupant, occupant_in, occupant_by, occupant_after_event, Mode, mode, mode_in, mode_by, mode_after_event, places_after_event, numbers_after_event, lives_after_event, kept_after_event, CellsFollow}
 use Rattle.sthread_life.proofs.Between.{event_for, turn_parts}
 use Rattle.sthread_life.proofs.Happening.{Happens, Requested, Joined, Snaps, Started, Opens, Releases, LastJoined, Ended}
 use Rattle.sthread_life.proofs.Settling.{AreCells, AllReady, turn_happens, turn_ready}
 use Rattle.sthread_life.proofs.Meeting.{IsRequest}
+use Rattle.sthread_life.proofs.StreamCalls.{read_cases, append_cases, close_cases, unopened_stays, IsStreamRequest}
 use Rattle.sthread_life.proofs.OneCell.{follows, follows_in}
 
 -- what an event makes of everything that the cells hold beside bytes
@@ -96,17 +95,27 @@ free_stays : (offset : ℕ) (live : Option Live) (g : Option Segment) (r : SlotR
 free_stays offset live g slot_reply.Freed e = ap (option_map (freed offset)) e
 free_stays offset live g r e = e
 
+-- a read, an append and a close
+moved_mode : (count : ℕ) (s : Option Stream) → mode_of (option_map (moved count) s) ≡ mode_of s
+moved_mode count None = refl
+moved_mode count (Some s) = refl
+
 grown_mode : (bytes : List ℕ) (s : Option Stream) → mode_of (option_map (grown bytes) s) ≡ mode_of s
 grown_mode bytes None = refl
 grown_mode bytes (Some s) = refl
 
-append_shows : (bits : FdBits) (bytes : List ℕ) (s : Option Stream) (r : StreamReply) → mode_of (stream_after s (stream_ask.Append bits bytes) r) ≡ mode_of s
-append_shows bits bytes s reply.Appended = grown_mode bytes s
-append_shows bits bytes s r = refl
+closed_mode : (s : Option Stream) → mode_of (option_map closed s) ≡ option_map (λ x. mode x.kind false) (mode_of s)
+closed_mode None = refl
+closed_mode (Some s) = refl
 
-append_stays : (bits : FdBits) (bytes : List ℕ) (s : Option Stream) (r : StreamReply) → s ≡ None → stream_after s (stream_ask.Append bits bytes) r ≡ None
-append_stays bits bytes s reply.Appended e = ap (option_map (grown bytes)) e
-append_stays bits bytes s r e = e
+stream_shows : (b : ActorState) (fd : ℕ) (q : StreamAsk) (s : Option Stream) → IsStreamRequest b fd q → mode_of (stream_after s q (stream_reply_of s q)) ≡ mode_by (mode_of s) q (stream_reply_of s q)
+stream_shows b fd (stream_ask.Open k bytes) s own = absurd own
+stream_shows b fd (stream_ask.Read bits count) s own =
+    read_cases (λ r. mode_of (stream_after s (stream_ask.Read bits count) r) ≡ mode_by (mode_of s) (stream_ask.Read bits count) r) s bits count refl refl refl (λ x e. moved_mode _ s)
+stream_shows b fd (stream_ask.Append bits bytes) s own =
+    append_cases (λ r. mode_of (stream_after s (stream_ask.Append bits bytes) r) ≡ mode_by (mode_of s) (stream_ask.Append bits bytes) r) s bits bytes refl refl refl (grown_mode bytes s)
+stream_shows b fd (stream_ask.Close bits) s own =
+    close_cases (λ r. mode_of (stream_after s (stream_ask.Close bits) r) ≡ mode_by (mode_of s) (stream_ask.Close bits) r) s bits refl (λ k. refl) (closed_mode s)
 
 -- ---- what an event that an actor comes to makes of them
 
@@ -145,11 +154,11 @@ want_changes N c b (want.Slot s (slot_want.Smalloc tag size)) own = slot_changes
 want_changes N c b (want.Slot s (slot_want.Sfree offset)) own =
     let live = pair b (option_map (λ g. g.tag) (slot_in c s)) in
     slot_changes c s (slot_ask.Sfree offset live) (free_stays offset live (slot_in c s) _) (free_shows offset live (slot_in c s) _)
-want_changes N c b (want.Fd fd (stream_ask.Append bits bytes)) own =
-    let r = stream_reply_of (stream_in c fd) (stream_ask.Append bits bytes) in
+want_changes N c b (want.Fd fd q) own =
+    let r = stream_reply_of (stream_in c fd) q in
     record {
       occupants = λ slot. refl;
-      modes = λ n. follows mode_of (λ x. x) c.streams fd n (stream_in c fd) (stream_after (stream_in c fd) (stream_ask.Append bits bytes) r) _ refl refl (append_stays bits bytes (stream_in c fd) r) (append_shows bits bytes (stream_in c fd) r);
+      modes = λ n. follows mode_of (λ x. mode_by x q r) c.streams fd n (stream_in c fd) (stream_after (stream_in c fd) q r) _ refl refl (unopened_stays b fd q (stream_in c fd) own) (stream_shows b fd q (stream_in c fd) own);
       places = refl;
       numbers = refl;
       lives = refl;

@@ -36,10 +36,10 @@ use Rattle.rv_hart.specs.Local.{local}
 use Rattle.sthread_life.specs.Actors.{ActorState, right_of, denies, answers, refuses, ends, spends}
 use Rattle.cow_pages.specs.Listed.{bytes_listed}
 use Rattle.cow_pages.specs.Copies.{copy_at, holds_copy, read_copy}
-use Rattle.sthread_life.specs.Private.{loads, stores, load_bytes, load_copy, load_window, load_range, store_copy, store_window, store_range, has_loaded, fits_read}
+use Rattle.sthread_life.specs.Private.{loads, stores, load_bytes, load_copy, load_window, load_range, store_copy, store_window, store_range, has_loaded, fits_read, fits_write}
 use Rattle.sthread_life.specs.Children.{is_child, without_child}
 use Rattle.sthread_life.proofs.Between.{joined_is, snapped_is}
-use Rattle.sthread_life.specs.Calls.{serves, exit, is_procedure, create, create_with, create_checked, join, are_pages, tag_new, tag_delete, smalloc, free_at, sfree, fd_append, draft_call, sc_new, sc_mem_add, sc_fd_add, with_draft, add_right, add_right_to, add_bits, add_bits_to, bits, a0, a1, a2, a3, a7}
+use Rattle.sthread_life.specs.Calls.{serves, exit, is_procedure, create, create_with, create_checked, join, are_pages, tag_new, tag_delete, smalloc, free_at, sfree, fd_read, fd_append, fd_close, draft_call, sc_new, sc_mem_add, sc_fd_add, with_draft, add_right, add_right_to, add_bits, add_bits_to, bits, a0, a1, a2, a3, a7}
 use Rattle.sthread_life.specs.Drafting.{right_of_number, bits_of_number, edited, with_new, drafts_by_call, drafts_by_need, drafts_by_instr, drafts_by_fuel, drafts_by_word, drafts_after}
 use Rattle.sthread_life.specs.Local.{needed, executed, fuelled, fetched, step}
 use Rattle.sthread_life.specs.Refusals.{full, bad, right_refusal, bits_refusal}
@@ -91,6 +91,12 @@ store_stays : (i : Image) (a : ActorState) (address width value : ℕ) → Stays
 store_stays i a address width value =
     stays_if a (ends a end_.Misaligned) _ _ refl
     (stays_if a (ends a end_.TextStore) _ (in_text i address width) refl (store_range_stays a address width value (range_at a.memory.ranges address width)))
+
+read_stays : (a : ActorState) → Stays a (fd_read a)
+read_stays a =
+    stays_if a (refuses a code.Bad) _ (not (fits_write a (a1 a) (a2 a))) refl
+    (stays_if a (refuses a code.FuelShort) _ (nat_lt a.fuel (a2 a)) refl
+    (stays_if a (refuses a code.NoSuch) _ (nat_le most_fds (a0 a)) refl refl))
 
 append_stays : (i : Image) (a : ActorState) → Stays a (fd_append i a)
 append_stays i a =
@@ -194,9 +200,13 @@ call_edits i a n =
     (λ e. smalloc_stays a ∙ subst (λ m. a.drafts ≡ drafts_by_call a.drafts a.hart.regs m) (sym (eqb-true n 5 e)) refl)
     (λ _. picked (λ x. x.drafts ≡ drafts_by_call a.drafts a.hart.regs n) (n == 6) (sfree a) _
     (λ e. free_stays a (slot_of (a0 a)) ∙ subst (λ m. a.drafts ≡ drafts_by_call a.drafts a.hart.regs m) (sym (eqb-true n 6 e)) refl)
+    (λ _. picked (λ x. x.drafts ≡ drafts_by_call a.drafts a.hart.regs n) (n == 15) (fd_read a) _
+    (λ e. read_stays a ∙ subst (λ m. a.drafts ≡ drafts_by_call a.drafts a.hart.regs m) (sym (eqb-true n 15 e)) refl)
     (λ _. picked (λ x. x.drafts ≡ drafts_by_call a.drafts a.hart.regs n) (n == 16) (fd_append i a) _
     (λ e. append_stays i a ∙ subst (λ m. a.drafts ≡ drafts_by_call a.drafts a.hart.regs m) (sym (eqb-true n 16 e)) refl)
-    (λ _. draft_edits a n))))))))
+    (λ _. picked (λ x. x.drafts ≡ drafts_by_call a.drafts a.hart.regs n) (n == 17) (fd_close a) _
+    (λ e. stays_if a (refuses a code.NoSuch) _ (nat_le most_fds (a0 a)) refl refl ∙ subst (λ m. a.drafts ≡ drafts_by_call a.drafts a.hart.regs m) (sym (eqb-true n 17 e)) refl)
+    (λ _. draft_edits a n))))))))))
 
 -- ---- an instruction
 

@@ -20,7 +20,6 @@ use Rattle.wedge_base.specs.declared.cells.SlotAsk.TheVariants as slot_ask
 use Rattle.wedge_base.specs.declared.cells.SlotReply.{SlotReply}
 use Rattle.wedge_base.specs.declared.cells.SlotReply.TheVariants as slot_reply
 use Rattle.wedge_base.specs.declared.cells.StreamReply.TheVariants as reply
-use Rattle.wedge_base.specs.declared.cells.StreamAsk.TheVariants as stream_ask
 use Rattle.grant_sheet.specs.Granting.{IsWithin}
 use Rattle.grant_sheet.proofs.SheetWithin.{sheet_within}
 use Rattle.rv_isa.specs.declared.Instr.{Instr}
@@ -167,7 +166,7 @@ want_family w b N (want.Slot slot (slot_want.Smalloc tag size)) own at = alone w
 want_family w b N (want.Slot slot (slot_want.Sfree offset)) own at = alone w b _ tt refl (not_starting b _ at) (λ e. absurd cc)
 want_family w b N (want.Slot slot (slot_want.Load offset width)) own at = alone w b _ tt refl (not_starting b _ at) (λ e. absurd cc)
 want_family w b N (want.Slot slot (slot_want.Store offset width value)) own at = alone w b _ tt refl (not_starting b _ at) (λ e. absurd cc)
-want_family w b N (want.Fd fd (stream_ask.Append bits bytes)) own at = alone w b _ tt refl (not_starting b _ at) (λ e. absurd cc)
+want_family w b N (want.Fd fd q) own at = alone w b _ tt refl (not_starting b _ at) (λ e. absurd cc)
 want_family w b N (want.Lives lives_ask.Claim) own at = alone w b _ tt refl (not_starting b _ at) (λ e. absurd cc)
 want_family w b N q own at = absurd own
 
@@ -220,7 +219,7 @@ want_made N c b (want.Slot slot (slot_want.Load offset width)) own = made_same b
 want_made N c b (want.Slot slot (slot_want.Store offset width value)) own = made_same b.made slot _ _ tt
 want_made N c b (want.Slot slot (slot_want.Smalloc tag size)) own = made_same b.made slot _ _ tt
 want_made N c b (want.Slot slot (slot_want.Sfree offset)) own = made_same b.made slot _ _ tt
-want_made N c b (want.Fd fd (stream_ask.Append bits bytes)) own = refl
+want_made N c b (want.Fd fd q) own = refl
 want_made N c b (want.Lives lives_ask.Claim) own = refl
 want_made N c b q own = absurd own
 

@@ -14,7 +14,6 @@ use Rattle.wedge_base.specs.declared.events.Event.TheVariants as event
 use Rattle.wedge_base.specs.declared.events.Turn.{Turn}
 use Rattle.wedge_base.specs.declared.cells.DirectoryAsk.TheVariants as directory_ask
 use Rattle.wedge_base.specs.declared.cells.LivesAsk.TheVariants as lives_ask
-use Rattle.wedge_base.specs.declared.cells.StreamAsk.TheVariants as stream_ask
 use Rattle.sthread_life.specs.declared.phase.Phase.{Phase}
 use Rattle.sthread_life.specs.declared.phase.Phase.TheVariants as phase
 use Rattle.sthread_life.specs.Actors.{ActorState, root, right_of, bits_of}
@@ -104,7 +103,7 @@ request_of_one N c b (want.Slot slot (slot_want.Smalloc tag size)) own = tt
 request_of_one N c b (want.Slot slot (slot_want.Sfree offset)) own = tt
 request_of_one N c b (want.Slot slot (slot_want.Load offset width)) own = tt
 request_of_one N c b (want.Slot slot (slot_want.Store offset width value)) own = tt
-request_of_one N c b (want.Fd fd (stream_ask.Append bits bytes)) own = tt
+request_of_one N c b (want.Fd fd q) own = tt
 request_of_one N c b (want.Lives lives_ask.Claim) own = tt
 request_of_one N c b q own = absurd own
 

@@ -20,7 +20,7 @@ use Rattle.sthread_life.specs.declared.phase.Phase.{Phase}
 use Rattle.sthread_life.specs.declared.phase.Phase.TheVariants as phase
 use Rattle.sthread_life.specs.Actors.{ActorState, right_of, denies, ends, refuses}
 use Rattle.cow_pages.specs.Copies.{copy_at, holds_copy, read_copy}
-use Rattle.sthread_life.specs.Private.{loads, stores, load_bytes, load_copy, load_window, load_range, store_copy, store_window, store_range, has_loaded, fits_read}
+use Rattle.sthread_life.specs.Private.{loads, stores, load_bytes, load_copy, load_window, load_range, store_copy, store_window, store_range, has_loaded, fits_read, fits_write}
 use Rattle.wedge_base.specs.Names.{most_parts}
 use Rattle.wedge_base.specs.Sheets.{Draft, takes_tag, takes_fd, first_excess}
 use Rattle.wedge_base.specs.Maps.{has}
@@ -31,7 +31,7 @@ use Rattle.wedge_base.specs.declared.rights.Right.TheVariants as right
 use Rattle.wedge_base.specs.declared.rights.FdBits.{FdBits}
 use Rattle.wedge_base.specs.declared.rights.Right.{Right}
 use Rattle.sthread_life.specs.Children.{is_child}
-use Rattle.sthread_life.specs.Calls.{serves, exit, is_procedure, create, create_with, create_checked, create_allowed, join, are_pages, tag_new, tag_delete, smalloc, free_at, sfree, fd_append, most_drafts, sc_new, right_asked, bits_asked, add_right, add_right_to, sc_mem_add, add_bits, add_bits_to, sc_fd_add, draft_call, a0, a1, a2, a3, a7}
+use Rattle.sthread_life.specs.Calls.{serves, exit, is_procedure, create, create_with, create_checked, create_allowed, join, are_pages, tag_new, tag_delete, smalloc, free_at, sfree, fd_read, fd_append, fd_close, most_drafts, sc_new, right_asked, bits_asked, add_right, add_right_to, sc_mem_add, add_bits, add_bits_to, sc_fd_add, draft_call, a0, a1, a2, a3, a7}
 use Rattle.sthread_life.specs.Local.{needed, executed, fuelled, fetched, step, is_running}
 use Rattle.sthread_life.specs.Worlds.{WorldState, actor_named, put_actor}
 use Rattle.sthread_life.specs.Moments.{with_actor}
@@ -95,6 +95,12 @@ next_append i a =
     (next_if a.hart (refuses a code.FuelShort) _ (nat_lt a.fuel (a2 a)) (λ e. refl, λ e. absurd cc)
     (next_if a.hart (refuses a code.NoSuch) _ (nat_le most_fds (a0 a)) (λ e. refl, λ e. absurd cc) (λ e. absurd cc, λ e. refl)))
 
+next_read : (a : ActorState) → IsNext a.hart (fd_read a)
+next_read a =
+    next_if a.hart (refuses a code.Bad) _ (not (fits_write a (a1 a) (a2 a))) (λ e. refl, λ e. absurd cc)
+    (next_if a.hart (refuses a code.FuelShort) _ (nat_lt a.fuel (a2 a)) (λ e. refl, λ e. absurd cc)
+    (next_if a.hart (refuses a code.NoSuch) _ (nat_le most_fds (a0 a)) (λ e. refl, λ e. absurd cc) (λ e. absurd cc, λ e. refl)))
+
 next_right : (a : ActorState) (d : Draft) (r : Option Right) → IsNext a.hart (add_right a d r)
 next_right a d None = (λ e. refl, λ e. absurd cc)
 next_right a d (Some r) = next_if a.hart _ (refuses a code.Full) (takes_tag d (a1 a)) (λ e. refl, λ e. absurd cc) (λ e. refl, λ e. absurd cc)
@@ -152,7 +158,9 @@ next_call i a n =
     (next_if a.hart (tag_delete a) _ (n == 4) (next_if a.hart _ (denies a (denial.NotMaker (a0 a))) (has a.made.tags (a0 a)) (λ e. absurd cc, λ e. refl) (λ e. refl, λ e. absurd cc))
     (next_if a.hart (smalloc a) _ (n == 5) (next_smalloc a)
     (next_if a.hart (sfree a) _ (n == 6) (next_free a (slot_of (a0 a)))
-    (next_if a.hart (fd_append i a) _ (n == 16) (next_append i a) (next_draft a n))))))))
+    (next_if a.hart (fd_read a) _ (n == 15) (next_read a)
+    (next_if a.hart (fd_append i a) _ (n == 16) (next_append i a)
+    (next_if a.hart (fd_close a) _ (n == 17) (next_if a.hart (refuses a code.NoSuch) _ (nat_le most_fds (a0 a)) (λ e. refl, λ e. absurd cc) (λ e. absurd cc, λ e. refl)) (next_draft a n))))))))))
 
 -- the actor that was put is at the next word if it runs
 pub put_next : (w : WorldState) (b x a : ActorState) → actor_named w.actors b.name ≡ Some a → x.name ≡ b.name → IsNext b.hart x

@@ -52,7 +52,7 @@ use Rattle.sthread_life.proofs.ByNumber.{same_number, number_itself, found_with,
 use Rattle.sthread_life.proofs.Families.{takes_sheet}
 use Rattle.sthread_life.proofs.FamilyRuns.{Acts, ActsAlone, Starts, Joins, acts, one_begins}
 use Rattle.sthread_life.proofs.Happening.{Happens, snap_cases, Requested, Joined, Snaps, Started, Opens, Releases, LastJoined, Ended}
-use Rattle.sthread_life.proofs.Keeping.{step_remembers, event_remembers}
+use Rattle.sthread_life.proofs.Keeping.{step_remembers, event_copies}
 use Rattle.sthread_life.proofs.Named.{found_name}
 use Rattle.sthread_life.proofs.Preparing.{was_preparing}
 use Rattle.sthread_life.proofs.Resting.{IsCalm, steps_step, rests, stays, goes_on, rest-stays, rest-name}
@@ -240,7 +240,7 @@ memory_granted gs m e all = all
 own_granted : (i : Image) (b : ActorState) (e : Event) → HasItsCopiesGranted b → HasItsCopiesGranted (takes i b e)
 own_granted i b e own slot there =
     ap (λ (s : Sheet). grants_copy s.tags slot) (takes_sheet i b e)
-    ∙ memory_granted b.sheet.tags b.memory e own slot (ap (λ (m : PrivateMemory). is_some (copy_at m.copies slot)) (sym (event_remembers i b e)) ∙ there)
+    ∙ memory_granted b.sheet.tags b.memory e own slot (ap (λ copies. is_some (copy_at copies slot)) (sym (event_copies i b e)) ∙ there)
 
 -- a life is claimed
 claim_granted : (i : Image) (b : ActorState) (p : Preparation) → (takes i b (event.Lives lives_ask.Claim lives_reply.Claimed)).phase ≡ phase.Starting p

@@ -4,7 +4,7 @@ use Rattle.std.specs.Prelude.{Option, Some, None, option_map, option_and_then, n
 use Rattle.wedge_base.specs.Bytes.{number_of, bytes_of, written}
 use Rattle.wedge_base.specs.Images.{Image, fetch, read_text, slot_of}
 use Rattle.wedge_base.specs.Memory.{range_at, read_range}
-use Rattle.wedge_base.specs.Streams.{most_fds}
+use Rattle.wedge_base.specs.Streams.{Stream, stream_reply as stream_reply_of, most_fds}
 use Rattle.wedge_base.specs.declared.address.Place.{Place}
 use Rattle.wedge_base.specs.declared.image.MemoryRange.{MemoryRange}
 use Rattle.wedge_base.specs.declared.events.Event.{Event}
@@ -14,7 +14,11 @@ use Rattle.wedge_base.specs.declared.cells.DirectoryAsk.TheVariants as directory
 use Rattle.wedge_base.specs.declared.cells.DirectoryReply.TheVariants as directory_reply
 use Rattle.wedge_base.specs.declared.cells.SlotAsk.TheVariants as slot_ask
 use Rattle.wedge_base.specs.declared.cells.SlotReply.TheVariants as slot_reply
+use Rattle.wedge_base.specs.declared.cells.StreamAsk.{StreamAsk}
+use Rattle.wedge_base.specs.declared.cells.StreamAsk.TheVariants as stream_ask
 use Rattle.wedge_base.specs.declared.cells.StreamReply.TheVariants as reply
+use Rattle.wedge_base.specs.declared.events.Want.{Want}
+use Rattle.wedge_base.specs.declared.events.Want.TheVariants as want
 use Rattle.wedge_base.specs.declared.rights.End.TheVariants as end_
 use Rattle.wedge_base.specs.declared.rights.Code.TheVariants as code
 use Rattle.rv_isa.specs.declared.Instr.{Instr}
@@ -26,8 +30,9 @@ use Rattle.rv_hart.specs.Local.{local}
 use Rattle.sthread_life.specs.Actors.{ActorState, right_of, denies, ends, refuses}
 use Rattle.cow_pages.specs.Copies.{copy_at, holds_copy, read_copy}
 use Rattle.cow_pages.specs.Listed.{bytes_listed}
+use Rattle.cow_pages.specs.PrivateMemory.{PrivateMemory}
 use Rattle.std.specs.Option.{option_or}
-use Rattle.sthread_life.specs.Private.{load_bytes, load_copy, load_window, load_range, store_copy, store_window, store_range, has_loaded, has_stored, with_bytes, fits_read}
+use Rattle.sthread_life.specs.Private.{load_bytes, load_copy, load_window, load_range, store_copy, store_window, store_range, has_loaded, has_stored, with_bytes, fits_read, fits_write}
 use Rattle.wedge_base.specs.Names.{most_parts}
 use Rattle.wedge_base.specs.Sheets.{Draft, takes_tag, takes_fd, first_excess}
 use Rattle.wedge_base.specs.Maps.{has}
@@ -39,12 +44,18 @@ use Rattle.wedge_base.specs.declared.rights.FdBits.{FdBits}
 use Rattle.wedge_base.specs.declared.rights.Right.{Right}
 use Rattle.wedge_base.specs.declared.rights.Right.TheVariants as right
 use Rattle.sthread_life.specs.Children.{is_child, without_child}
-use Rattle.sthread_life.proofs.Between.{joined_is, snapped_is}
+use Rattle.sthread_life.proofs.Between.{event_for, joined_is, snapped_is}
+use Rattle.sthread_life.proofs.Happening.{Happens, Requested, Joined, Snaps, Started, Opens, Releases, LastJoined, Ended}
+use Rattle.sthread_life.proofs.Meeting.{IsRequest}
+use Rattle.sthread_life.proofs.StreamCalls.{IsStreamRequest, append_cases, close_cases}
+use Rattle.sthread_life.proofs.Reading.{read_remembers}
+use Rattle.sthread_life.specs.Cells.{Cells, stream_in}
+use Rattle.sthread_life.specs.Worlds.{WorldState}
 use Rattle.sthread_life.proofs.WritingCopies.{copied_there}
-use Rattle.sthread_life.specs.Calls.{serves, exit, is_procedure, create, create_with, create_checked, join, are_pages, tag_new, tag_delete, smalloc, free_at, sfree, fd_append, most_drafts, sc_new, right_asked, bits_asked, add_right, add_right_to, sc_mem_add, add_bits, add_bits_to, sc_fd_add, draft_call, a0, a1, a2, a3, a7}
+use Rattle.sthread_life.specs.Calls.{serves, exit, is_procedure, create, create_with, create_checked, join, are_pages, tag_new, tag_delete, smalloc, free_at, sfree, fd_read, fd_append, fd_close, most_drafts, sc_new, right_asked, bits_asked, add_right, add_right_to, sc_mem_add, add_bits, add_bits_to, sc_fd_add, draft_call, a0, a1, a2, a3, a7}
 use Rattle.sthread_life.specs.Local.{needed, executed, fuelled, fetched, step}
 use Rattle.sthread_life.specs.Taking.{runs, loads_by, loads_at, takes}
-use Rattle.sthread_life.specs.Remembering.{copied_bytes, copy_target, target_among, Elsewhere, LoadGives, StoreWrites, NeedRemembers, InstrRemembers, WordRemembers, EventRemembers}
+use Rattle.sthread_life.specs.Remembering.{copied_bytes, copy_target, target_among, Elsewhere, LoadGives, StoreWrites, NeedRemembers, InstrRemembers, WordRemembers, EventRemembers, memory_after}
 use Rattle.sthread_life.proofs.WritingRanges.{length-bytes_of, written_at}
 
 -- what keeps private memory
@@ -111,6 +122,12 @@ append_keeps i a =
     (keeps_if a (refuses a code.FuelShort) _ (nat_lt a.fuel (a2 a)) refl
     (keeps_if a (refuses a code.NoSuch) _ (nat_le most_fds (a0 a)) refl refl))
 
+read_keeps : (a : ActorState) → Keeps a (fd_read a)
+read_keeps a =
+    keeps_if a (refuses a code.Bad) _ (not (fits_write a (a1 a) (a2 a))) refl
+    (keeps_if a (refuses a code.FuelShort) _ (nat_lt a.fuel (a2 a)) refl
+    (keeps_if a (refuses a code.NoSuch) _ (nat_le most_fds (a0 a)) refl refl))
+
 right_keeps : (a : ActorState) (d : Draft) (r : Option Right) → Keeps a (add_right a d r)
 right_keeps a d None = refl
 right_keeps a d (Some r) = keeps_if a _ (refuses a code.Full) (takes_tag d (a1 a)) refl refl
@@ -161,7 +178,9 @@ call_keeps i a n =
     (keeps_if a (tag_delete a) _ (n == 4) (keeps_if a _ (denies a (denial.NotMaker (a0 a))) (has a.made.tags (a0 a)) refl refl)
     (keeps_if a (smalloc a) _ (n == 5) (smalloc_keeps a)
     (keeps_if a (sfree a) _ (n == 6) (free_keeps a (slot_of (a0 a)))
-    (keeps_if a (fd_append i a) _ (n == 16) (append_keeps i a) (draft_keeps a n))))))))
+    (keeps_if a (fd_read a) _ (n == 15) (read_keeps a)
+    (keeps_if a (fd_append i a) _ (n == 16) (append_keeps i a)
+    (keeps_if a (fd_close a) _ (n == 17) (keeps_if a (refuses a code.NoSuch) _ (nat_le most_fds (a0 a)) refl refl) (draft_keeps a n))))))))))
 
 -- an instruction
 need_remembers : (i : Image) (ins : Instr) (a : ActorState) (h : Hart) (n : Need) → NeedRemembers i ins.rd a n (needed i ins a h n)
@@ -198,28 +217,91 @@ loads_keep : (a : ActorState) (ins : Option Instr) (value : ℕ) → Keeps a (lo
 loads_keep a None value = refl
 loads_keep a (Some ins) value = loaded_keeps ins (local ins a.hart).need a value
 
-pub event_remembers : (i : Image) (a : ActorState) (e : Event) → EventRemembers a e (takes i a e)
+-- a read that was given bytes
+abbrev IsNoGift : Event → Type 0
+IsNoGift (event.Fd fd q (reply.Given bytes)) = ⊥
+IsNoGift e = Unit {0}
+
+memory_is : (i : Image) (a : ActorState) (e : Event) → IsNoGift e → (takes i a e).memory ≡ memory_after a.memory e
 unfolding takes
-event_remembers i a (event.Slot slot q (slot_reply.Loaded value)) = loads_keep (runs a) (option_and_then decode (fetch i a.hart.pc)) value
-event_remembers i a (event.Slots (directory_ask.Release place) r) = refl
-event_remembers i a (event.Slots directory_ask.Claim (directory_reply.Claimed place number)) = refl
-event_remembers i a (event.Slots directory_ask.Claim directory_reply.Full) = refl
-event_remembers i a (event.Slots directory_ask.Claim directory_reply.Released) = refl
-event_remembers i a (event.Slot slot q (slot_reply.Snapped pages)) = snapped_is (λ x. x.memory ≡ a.memory) a a.phase slot (Some (bytes_listed pages)) refl (λ x. refl)
-event_remembers i a (event.Slot slot q slot_reply.Gone) = snapped_is (λ x. x.memory ≡ a.memory) a a.phase slot None refl (λ x. refl)
-event_remembers i a (event.Slot slot (slot_ask.Sfree offset live) (slot_reply.Denied tag wants)) = refl
-event_remembers i a (event.Slot slot (slot_ask.Open tag pages) slot_reply.Opened) = refl
-event_remembers i a (event.Slot slot q r) = refl
-event_remembers i a (event.Fd fd q reply.Opened) = refl
-event_remembers i a (event.Fd fd q (reply.Given bytes)) = refl
-event_remembers i a (event.Fd fd q reply.Appended) = refl
-event_remembers i a (event.Fd fd q reply.Closed) = refl
-event_remembers i a (event.Fd fd q reply.NoSuch) = refl
-event_remembers i a (event.Fd fd q (reply.Denied wants)) = refl
-event_remembers i a (event.Fd fd q reply.Bad) = refl
-event_remembers i a (event.Lives lives_ask.Claim lives_reply.Claimed) = refl
-event_remembers i a (event.Lives lives_ask.Claim lives_reply.Full) = refl
-event_remembers i a (event.Lives lives_ask.Claim lives_reply.Released) = refl
-event_remembers i a (event.Lives (lives_ask.Release x) r) = refl
-event_remembers i a (event.Join k e fuel) = joined_is (λ x. x.memory ≡ a.memory) (record a { fuel = a.fuel + fuel; unjoined = without_child a.unjoined k }) a.phase e refl refl
-event_remembers i a e = refl
+memory_is i a (event.Slot slot q (slot_reply.Loaded value)) k = loads_keep (runs a) (option_and_then decode (fetch i a.hart.pc)) value
+memory_is i a (event.Slots (directory_ask.Release place) r) k = refl
+memory_is i a (event.Slots directory_ask.Claim (directory_reply.Claimed place number)) k = refl
+memory_is i a (event.Slots directory_ask.Claim directory_reply.Full) k = refl
+memory_is i a (event.Slots directory_ask.Claim directory_reply.Released) k = refl
+memory_is i a (event.Slot slot q (slot_reply.Snapped pages)) k = snapped_is (λ x. x.memory ≡ a.memory) a a.phase slot (Some (bytes_listed pages)) refl (λ x. refl)
+memory_is i a (event.Slot slot q slot_reply.Gone) k = snapped_is (λ x. x.memory ≡ a.memory) a a.phase slot None refl (λ x. refl)
+memory_is i a (event.Slot slot (slot_ask.Sfree offset live) (slot_reply.Denied tag wants)) k = refl
+memory_is i a (event.Slot slot (slot_ask.Open tag pages) slot_reply.Opened) k = refl
+memory_is i a (event.Slot slot q r) k = refl
+memory_is i a (event.Fd fd q reply.Opened) k = refl
+memory_is i a (event.Fd fd q (reply.Given bytes)) k = absurd k
+memory_is i a (event.Fd fd q reply.Appended) k = refl
+memory_is i a (event.Fd fd q reply.Closed) k = refl
+memory_is i a (event.Fd fd q reply.NoSuch) k = refl
+memory_is i a (event.Fd fd q (reply.Denied wants)) k = refl
+memory_is i a (event.Fd fd q reply.Bad) k = refl
+memory_is i a (event.Lives lives_ask.Claim lives_reply.Claimed) k = refl
+memory_is i a (event.Lives lives_ask.Claim lives_reply.Full) k = refl
+memory_is i a (event.Lives lives_ask.Claim lives_reply.Released) k = refl
+memory_is i a (event.Lives (lives_ask.Release x) r) k = refl
+memory_is i a (event.Join child e fuel) k = joined_is (λ x. x.memory ≡ a.memory) (record a { fuel = a.fuel + fuel; unjoined = without_child a.unjoined child }) a.phase e refl refl
+memory_is i a e k = refl
+
+-- no event but an opening, or an end, changes the copies
+pub event_copies : (i : Image) (a : ActorState) (e : Event) → (takes i a e).memory.copies ≡ (memory_after a.memory e).copies
+unfolding takes
+event_copies i a (event.Fd fd q (reply.Given bytes)) = refl
+event_copies i a (event.Fd fd q reply.Opened) = refl
+event_copies i a (event.Fd fd q reply.Appended) = refl
+event_copies i a (event.Fd fd q reply.Closed) = refl
+event_copies i a (event.Fd fd q reply.NoSuch) = refl
+event_copies i a (event.Fd fd q (reply.Denied wants)) = refl
+event_copies i a (event.Fd fd q reply.Bad) = refl
+event_copies i a (event.Slots q r) = ap (λ (m : PrivateMemory). m.copies) (memory_is i a (event.Slots q r) tt)
+event_copies i a (event.Slot slot q r) = ap (λ (m : PrivateMemory). m.copies) (memory_is i a (event.Slot slot q r) tt)
+event_copies i a (event.Lives q r) = ap (λ (m : PrivateMemory). m.copies) (memory_is i a (event.Lives q r) tt)
+event_copies i a (event.Join k x fuel) = ap (λ (m : PrivateMemory). m.copies) (memory_is i a (event.Join k x fuel) tt)
+event_copies i a e = refl
+
+-- an event that gives nothing is remembered as one
+without_gift : (i : Image) (a : ActorState) (e : Event) → IsNoGift e → EventRemembers a e (takes i a e)
+without_gift i a (event.Fd fd q (reply.Given bytes)) k = absurd k
+without_gift i a (event.Fd fd q reply.Opened) k = memory_is i a (event.Fd fd q reply.Opened) tt
+without_gift i a (event.Fd fd q reply.Appended) k = memory_is i a (event.Fd fd q reply.Appended) tt
+without_gift i a (event.Fd fd q reply.Closed) k = memory_is i a (event.Fd fd q reply.Closed) tt
+without_gift i a (event.Fd fd q reply.NoSuch) k = memory_is i a (event.Fd fd q reply.NoSuch) tt
+without_gift i a (event.Fd fd q (reply.Denied wants)) k = memory_is i a (event.Fd fd q (reply.Denied wants)) tt
+without_gift i a (event.Fd fd q reply.Bad) k = memory_is i a (event.Fd fd q reply.Bad) tt
+without_gift i a e k = memory_is i a e k
+
+stream_remembers : (i : Image) (a : ActorState) (fd : ℕ) (q : StreamAsk) (s : Option Stream) → IsStreamRequest a fd q
+    → EventRemembers a (event.Fd fd q (stream_reply_of s q)) (takes i a (event.Fd fd q (stream_reply_of s q)))
+stream_remembers i a fd (stream_ask.Open k bytes) s own = absurd own
+stream_remembers i a fd (stream_ask.Read bits count) s own = read_remembers i a fd count bits s own.1 own.3
+stream_remembers i a fd (stream_ask.Append bits bytes) s own =
+    without_gift i a (event.Fd fd (stream_ask.Append bits bytes) (stream_reply_of s (stream_ask.Append bits bytes)))
+    (append_cases (λ r. IsNoGift (event.Fd fd (stream_ask.Append bits bytes) r)) s bits bytes tt tt tt tt)
+stream_remembers i a fd (stream_ask.Close bits) s own =
+    without_gift i a (event.Fd fd (stream_ask.Close bits) (stream_reply_of s (stream_ask.Close bits)))
+    (close_cases (λ r. IsNoGift (event.Fd fd (stream_ask.Close bits) r)) s bits tt (λ k. tt) tt)
+
+want_remembers : (i : Image) (c : Cells) (b : ActorState) (N : ℕ → Type 0) (q : Want) → IsRequest N b q → EventRemembers b (event_for c b q) (takes i b (event_for c b q))
+want_remembers i c b N (want.Slots q) own = without_gift i b (event_for c b (want.Slots q)) tt
+want_remembers i c b N (want.Slot slot q) own = without_gift i b (event_for c b (want.Slot slot q)) tt
+want_remembers i c b N (want.Fd fd q) own = stream_remembers i b fd q (stream_in c fd) own
+want_remembers i c b N (want.Lives q) own = without_gift i b (event_for c b (want.Lives q)) tt
+want_remembers i c b N q own = absurd own
+
+gift_free : (i : Image) (a : ActorState) (e : Event) {f : Event} → e ≡ f → IsNoGift f → EventRemembers a e (takes i a e)
+gift_free i a e is none = without_gift i a e (subst IsNoGift (sym is) none)
+
+pub event_remembers : (w : WorldState) (b : ActorState) (e : Event) → Happens w b e → EventRemembers b e (takes w.image b e)
+event_remembers w b e (Requested r) = subst (λ y. EventRemembers b y (takes w.image b y)) (sym r.is) (want_remembers w.image w.cells b _ r.want r.own)
+event_remembers w b e (Joined j) = gift_free w.image b e j.join.is tt
+event_remembers w b e (Snaps s) = gift_free w.image b e s.is tt
+event_remembers w b e (Started s) = gift_free w.image b e s.is tt
+event_remembers w b e (Opens o) = gift_free w.image b e o.is tt
+event_remembers w b e (Releases r) = gift_free w.image b e r.is tt
+event_remembers w b e (LastJoined j) = gift_free w.image b e j.join.is tt
+event_remembers w b e (Ended f) = gift_free w.image b e f.is tt

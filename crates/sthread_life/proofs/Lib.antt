@@ -7,6 +7,7 @@ pub mod Resting
 pub mod Directing
 pub mod Between
 pub mod Named
+pub mod StreamCalls
 pub mod Meeting
 pub mod Happening
 pub mod Settling
@@ -21,9 +22,11 @@ pub mod PutBack
 pub mod Preparing
 pub mod GrantedCopies
 pub mod Creating
+pub mod Reading
 pub mod Keeping
 pub mod Checking
 pub mod TagMoments
+pub mod StreamMoments
 pub mod Mediating
 pub mod OneCell
 pub mod CellChanging

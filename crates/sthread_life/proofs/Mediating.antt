@@ -4,17 +4,12 @@ use Rattle.wedge_base.specs.Lives.{most_lives, lives_next}
 use Rattle.std.specs.Prelude.{Option, Some, None, nat_lt, IsSomeAnd, option_map, not, ◌+◌, slice_get, slice_set, slice_range, option_and_then, if◌then◌else◌}
 use Rattle.wedge_base.specs.Bytes.{number_of}
 use Rattle.wedge_base.specs.Images.{Image, fetch}
-use Rattle.wedge_base.specs.Rights.{append_bit}
 use Rattle.wedge_base.specs.Slots.{Segment, slot_reply as slot_reply_of, slot_after}
-use Rattle.wedge_base.specs.Streams.{Stream, append_reply, live_reply, stream_reply as stream_reply_of, stream_after}
-use Rattle.wedge_base.specs.declared.rights.FdBits.{FdBits}
 use Rattle.wedge_base.specs.declared.rights.Denial.{Denial}
 use Rattle.wedge_base.specs.declared.rights.Denial.TheVariants as denial
 use Rattle.wedge_base.specs.declared.rights.End.TheVariants as end_
 use Rattle.wedge_base.specs.declared.rights.Code.TheVariants as code
 use Rattle.wedge_base.specs.declared.rights.Right.TheVariants as right
-use Rattle.wedge_base.specs.declared.rights.StreamKind.{StreamKind}
-use Rattle.wedge_base.specs.declared.rights.StreamKind.TheVariants as kind
 use Rattle.wedge_base.specs.declared.events.SlotWant.TheVariants as slot_want
 use Rattle.wedge_base.specs.declared.events.Want.{Want}
 use Rattle.wedge_base.specs.declared.events.Want.TheVariants as want
@@ -34,7 +29,6 @@ use Rattle.wedge_base.specs.declared.cells.SlotAsk.TheVariants as slot_ask
 use Rattle.wedge_base.specs.declared.cells.SlotReply.{SlotReply}
 use Rattle.wedge_base.specs.declared.cells.SlotReply.TheVariants as slot_reply
 use Rattle.wedge_base.specs.declared.cells.StreamAsk.{StreamAsk}
-use Rattle.wedge_base.specs.declared.cells.StreamAsk.TheVariants as stream_ask
 use Rattle.wedge_base.specs.declared.cells.StreamReply.{StreamReply}
 use Rattle.wedge_base.specs.declared.cells.StreamReply.TheVariants as reply
 use Rattle.rv_isa.specs.declared.Instr.{Instr}
@@ -44,8 +38,8 @@ use Rattle.rv_hart.specs.declared.Need.TheVariants as need
 use Rattle.rv_hart.specs.Local.{local, put, extended}
 use Rattle.sthread_life.specs.declared.phase.Phase.{Phase}
 use Rattle.sthread_life.specs.declared.phase.Phase.TheVariants as phase
-use Rattle.sthread_life.specs.Actors.{ActorState, bits_of, ends, refuses, spends, answers}
-use Rattle.sthread_life.specs.Calls.{a0, a2}
+use Rattle.sthread_life.specs.Actors.{ActorState, ends, refuses}
+use Rattle.sthread_life.specs.Calls.{a0}
 use Rattle.sthread_life.specs.Private.{has_stored}
 use Rattle.sthread_life.specs.Local.{step, rest, has_ended, is_running, run_local}
 use Rattle.sthread_life.specs.Children.{without_child}
@@ -56,15 +50,16 @@ use Rattle.sthread_life.proofs.Preparing.{step_unprepared, event_prepares}
 use Rattle.sthread_life.specs.Taking.{pair, runs, loads_by, loads_at, has_snapped, answered_end, has_started, takes_lives, takes, child_of, begun}
 use Rattle.sthread_life.specs.Cells.{Cells, held, slot_in, stream_in, cells_after}
 use Rattle.sthread_life.specs.Worlds.{WorldState, opening, actor_named, put_actor, with_begun, turn_of, Runs}
-use Rattle.sthread_life.specs.Requests.{Access, Request, Loads, Stores, Appends, Creates, Deletes, Allots, Frees, request_at, in_tag, to_stream}
-use Rattle.sthread_life.specs.Allowed.{may_use, lacks, is_refused, is_source, next_word, IsDone, denied}
+use Rattle.sthread_life.specs.Requests.{Access, Request, Loads, Stores, Reads, Appends, Closes, Creates, Deletes, Allots, Frees, request_at, in_tag}
+use Rattle.sthread_life.specs.Allowed.{may_use, lacks, is_refused, next_word, IsDone, denied}
 use Rattle.sthread_life.specs.Moments.{EachMoment, TurnHas, with_actor, is_use, slot_used, NothingDenied, IsChecked, ComesToEvent, IsMet, IsAnswered, MeetsWith, AnswersAt}
 use Rattle.sthread_life.specs.Ends.{GoesTo, is_end_event, end_of, end_at, end_by, reply_end}
-use Rattle.sthread_life.specs.Refusals.{full, no_such, bad, RefusesIn, RefusesAfter, slot_refuses, stream_refuses, is_refusal, stream_refusal, refused}
+use Rattle.sthread_life.specs.Refusals.{full, no_such, bad, RefusesIn, RefusesAfter, slot_refuses, is_refusal, refused}
 use Rattle.sthread_life.specs.Remembering.{WordRemembers, EventRemembers}
 use Rattle.sthread_life.specs.Laws.{IsLawful, MomentsAreLawful}
-use Rattle.sthread_life.proofs.Checking.{kept, put_there, checked_denied, checked_allowed, after, stayed, same_slots, same_streams, pair_on, slot_world, stream_world}
+use Rattle.sthread_life.proofs.Checking.{kept, put_there, checked_denied, checked_allowed, after, stayed, same_slots, pair_on, slot_world}
 use Rattle.sthread_life.proofs.TagMoments.{claim_unused, close_answered, place_answered, free_answered, opened_denials, released_denials, claim_slot_next, close_next, place_next, free_next, opened_next, released_next, slots_told, claim_slot_refused, close_refused, place_refused, free_refused, claim_slot_passed, close_passed, place_passed, free_passed, step_makes, event_makes}
+use Rattle.sthread_life.proofs.StreamMoments.{stream_answered, stream_next, stream_refused, stream_passed}
 use Rattle.sthread_life.proofs.Named.{found_name, put_put, named_begun, begun_noted}
 use Rattle.sthread_life.proofs.Keeping.{step_remembers, event_remembers}
 use Rattle.sthread_life.proofs.Settling.{AllReady, turn_happens, turn_ready, opening_ready}
@@ -116,7 +111,9 @@ comes_there w b p x pn q = (q.0, ap (with_actor w) q.1 ∙ ap (λ (as_ : List Ac
 met_by : (w : WorldState) (b p x a : ActorState) (r : Request) → actor_named w.actors b.name ≡ Some a → p.name ≡ b.name → p.denials ≡ b.denials → x.name ≡ b.name → p.phase ≡ phase.Running → MetBy p r x → IsMet (with_actor w b) p (Some r) (with_actor w x)
 met_by w b p x a (Loads y rd s) named pn pd xn run m = comes_there w b p x pn m
 met_by w b p x a (Stores y value) named pn pd xn run m = comes_there w b p x pn m
+met_by w b p x a (Reads fd s n) named pn pd xn run m = comes_there w b p x pn m
 met_by w b p x a (Appends fd s bytes) named pn pd xn run m = comes_there w b p x pn m
+met_by w b p x a (Closes fd s) named pn pd xn run m = comes_there w b p x pn m
 met_by w b p x a (Creates d) named pn pd xn run m = checked_now w b p x a (Creates d) named pn pd xn run (λ o e. e.1) (λ o e. (refl, e)) (λ y. refl) (λ y. refl) m
 met_by w b p x a (Deletes tag) named pn pd xn run m = checked_now w b p x a (Deletes tag) named pn pd xn run (λ o e. e.1) (λ o e. (refl, e)) (λ y. refl) (λ y. refl) m
 met_by w b p x a (Allots tag size) named pn pd xn run m = checked_now w b p x a (Allots tag size) named pn pd xn run (λ o e. e.1) (λ o e. (refl, e)) (λ y. refl) (λ y. refl) m
@@ -248,38 +245,6 @@ unfolding takes
 store_answered w b a slot offset width value None named there = (kept w (record w.cells { slots = slice_set w.cells.slots slot None }) b (ends b end_.Unmapped) refl refl, refl)
 store_answered w b a slot offset width value (Some g) named there = store_inside w b a slot offset width value g _ named there
 
--- an append: with the bit or without, to a live stream of either kind, or to none
-append_checked : (w : WorldState) (b a : ActorState) (fd : ℕ) (bytes : List ℕ) (s : Stream) (t : Bool) (k : StreamKind) → actor_named w.actors b.name ≡ Some a → stream_in w.cells fd ≡ Some s → (bits_of b fd).append ≡ t → s.kind ≡ k
-    → IsChecked (with_actor w b) b (Appends fd s bytes) (Some (event.Fd fd (stream_ask.Append (bits_of b fd) bytes) (if t then append_reply k else reply.Denied append_bit)))
-    (stream_world w b fd (Some s) (stream_ask.Append (bits_of b fd) bytes) (if t then append_reply k else reply.Denied append_bit))
-unfolding takes
-append_checked w b a fd bytes s false k named there held is =
-    checked_denied _ b (Appends fd s bytes) _ _ (denial.Fd fd append_bit) (ap (λ u. if u then None else Some (denial.Fd fd append_bit)) held) (λ e. let f = e.0 in absurd cc) (stayed w b _ _ (same_streams w fd (Some s) there) refl)
-append_checked w b a fd bytes s true kind.Append named there held is =
-    checked_allowed _ b (Appends fd s bytes) _ _ false (ap (λ u. if u then None else Some (denial.Fd fd append_bit)) held) (ap is_source is) (λ e. refl, λ e. (refl, put_there w b (answers (spends b (a2 b)) (a2 b)) a named refl))
-    (kept w (record w.cells { streams = slice_set w.cells.streams fd (stream_after (Some s) (stream_ask.Append (bits_of b fd) bytes) reply.Appended) }) b _ refl refl)
-    (λ z. absurd cc)
-append_checked w b a fd bytes s true kind.Source named there held is =
-    checked_allowed _ b (Appends fd s bytes) _ _ true (ap (λ u. if u then None else Some (denial.Fd fd append_bit)) held) (ap is_source is) (λ e. let f = e.0 in absurd cc, λ e. absurd cc)
-    (kept w (record w.cells { streams = slice_set w.cells.streams fd (Some s) }) b _ refl refl)
-    (λ z. same_streams w fd (Some s) there)
-
-append_live : (w : WorldState) (b a : ActorState) (fd : ℕ) (bytes : List ℕ) (s : Stream) (v : Bool) → actor_named w.actors b.name ≡ Some a → stream_in w.cells fd ≡ Some s
-    → IsAnswered (with_actor w b) b (event.Fd fd (stream_ask.Append (bits_of b fd) bytes) (if v then live_reply s (stream_ask.Append (bits_of b fd) bytes) else reply.NoSuch))
-    (if v then Some (Appends fd s bytes) else None)
-    (stream_world w b fd (Some s) (stream_ask.Append (bits_of b fd) bytes) (if v then live_reply s (stream_ask.Append (bits_of b fd) bytes) else reply.NoSuch))
-unfolding takes
-append_live w b a fd bytes s false named there = (kept w (record w.cells { streams = slice_set w.cells.streams fd (Some s) }) b (refuses b code.NoSuch) refl refl, refl)
-append_live w b a fd bytes s true named there = append_checked w b a fd bytes s _ s.kind named there refl refl
-
-append_answered : (w : WorldState) (b a : ActorState) (fd : ℕ) (bytes : List ℕ) (s : Option Stream) → actor_named w.actors b.name ≡ Some a → stream_in w.cells fd ≡ s
-    → IsAnswered (with_actor w b) b (event.Fd fd (stream_ask.Append (bits_of b fd) bytes) (stream_reply_of s (stream_ask.Append (bits_of b fd) bytes)))
-    (to_stream fd bytes s)
-    (stream_world w b fd s (stream_ask.Append (bits_of b fd) bytes) (stream_reply_of s (stream_ask.Append (bits_of b fd) bytes)))
-unfolding takes
-append_answered w b a fd bytes None named there = (kept w (record w.cells { streams = slice_set w.cells.streams fd None }) b (refuses b code.NoSuch) refl refl, refl)
-append_answered w b a fd bytes (Some s) named there = append_live w b a fd bytes s s.live named there
-
 -- what is wanted is answered as the request that it is
 abbrev IsAnsweredFor : WorldState → ActorState → Want → Option Request → Type 0
 IsAnsweredFor w b q o = IsAnswered (with_actor w b) b (event_for w.cells b q) o (after w b (event_for w.cells b q))
@@ -301,8 +266,7 @@ answered_for w b a rd s (want.Slot slot (slot_want.Smalloc tag size)) named own 
 answered_for w b a rd s (want.Slot slot (slot_want.Sfree offset)) named own = free_answered w b a slot offset (slot_in w.cells slot) named refl
 answered_for w b a rd s (want.Slot slot (slot_want.Load offset width)) named own = load_answered w b a slot offset width rd s (slot_in w.cells slot) named own refl
 answered_for w b a rd s (want.Slot slot (slot_want.Store offset width value)) named own = store_answered w b a slot offset width value (slot_in w.cells slot) named refl
-answered_for w b a rd s (want.Fd fd (stream_ask.Append bits bytes)) named own =
-    subst (λ x. IsAnsweredFor w b (want.Fd fd (stream_ask.Append x bytes)) (to_stream fd bytes (stream_in w.cells fd))) (sym own.0) (append_answered w b a fd bytes (stream_in w.cells fd) named refl)
+answered_for w b a rd s (want.Fd fd q) named own = stream_answered w b a fd q named own
 answered_for w b a rd s (want.Lives lives_ask.Claim) named own = claimed_for w b (slice_get b.drafts (a0 b)) own refl
 answered_for w b a rd s q named own = absurd own
 
@@ -410,7 +374,7 @@ want_end w b N (want.Slot slot (slot_want.Smalloc tag size)) own = (slot_end w.i
 want_end w b N (want.Slot slot (slot_want.Sfree offset)) own = (slot_end w.image b slot _ _).0
 want_end w b N (want.Slot slot (slot_want.Load offset width)) own = (slot_end w.image b slot _ _).0
 want_end w b N (want.Slot slot (slot_want.Store offset width value)) own = (slot_end w.image b slot _ _).0
-want_end w b N (want.Fd fd (stream_ask.Append bits bytes)) own = (stream_end w.image b fd (stream_ask.Append bits bytes) _).0
+want_end w b N (want.Fd fd q) own = (stream_end w.image b fd q _).0
 want_end w b N (want.Lives lives_ask.Claim) own = claim_end w.image b _ _ refl
 want_end w b N q own = absurd own
 
@@ -467,17 +431,6 @@ store_next i b slot offset width value o (Some g) = by_tests _ _
     by_tests true false = (λ e. absurd cc, λ e. refl)
     by_tests true true = (λ e. refl, λ e. absurd cc)
 
-append_next : (i : Image) (b : ActorState) (fd : ℕ) (bits : FdBits) (bytes : List ℕ) (s : Option Stream) → IsNext b.hart (takes i b (event.Fd fd (stream_ask.Append bits bytes) (stream_reply_of s (stream_ask.Append bits bytes))))
-unfolding takes
-append_next i b fd bits bytes None = (λ e. refl, λ e. absurd cc)
-append_next i b fd bits bytes (Some s) = by_tests s.live bits.append s.kind
-  where
-    by_tests : (v t : Bool) (k : StreamKind) → IsNext b.hart (takes i b (event.Fd fd (stream_ask.Append bits bytes) (if v then (if t then append_reply k else reply.Denied append_bit) else reply.NoSuch)))
-    by_tests false t k = (λ e. refl, λ e. absurd cc)
-    by_tests true false k = (λ e. refl, λ e. absurd cc)
-    by_tests true true kind.Append = (λ e. refl, λ e. absurd cc)
-    by_tests true true kind.Source = (λ e. refl, λ e. absurd cc)
-
 claim_next : (i : Image) (b : ActorState) (t : Bool) → IsNext b.hart (takes i b (event.Lives lives_ask.Claim (if t then lives_reply.Claimed else lives_reply.Full)))
 unfolding takes
 claim_next i b true = (λ e. absurd cc, λ e. refl)
@@ -490,7 +443,7 @@ want_next w b rd s (want.Slot slot (slot_want.Smalloc tag size)) own = place_nex
 want_next w b rd s (want.Slot slot (slot_want.Sfree offset)) own = free_next w.image b slot offset _ (slot_in w.cells slot)
 want_next w b rd s (want.Slot slot (slot_want.Load offset width)) own = load_next w.image b slot offset width _ (slot_in w.cells slot) rd s own
 want_next w b rd s (want.Slot slot (slot_want.Store offset width value)) own = store_next w.image b slot offset width value _ (slot_in w.cells slot)
-want_next w b rd s (want.Fd fd (stream_ask.Append bits bytes)) own = append_next w.image b fd bits bytes (stream_in w.cells fd)
+want_next w b rd s (want.Fd fd q) own = stream_next w.image b fd q (stream_in w.cells fd) own
 want_next w b rd s (want.Lives lives_ask.Claim) own = claim_next w.image b _
 want_next w b rd s q own = absurd own
 
@@ -574,22 +527,6 @@ refuses_in w b (suc n) has run = λ code told.
     let is : step w.image b ≡ refused p code = (step_comes w.image b n run has).codes code told in
     ap (with_actor w) is ∙ ap (λ (as_ : List ActorState). record w { actors = as_ }) (sym (put_put w.actors b (refused p code) refl))
 
--- an append that its event refuses: to no live stream, and to a source
-append_refused : (w : WorldState) (b : ActorState) (fd code : ℕ) (bytes : List ℕ) (s : Option Stream) → stream_in w.cells fd ≡ s → stream_refusal b fd s ≡ Some code
-    → stream_world w b fd s (stream_ask.Append (bits_of b fd) bytes) (stream_reply_of s (stream_ask.Append (bits_of b fd) bytes)) ≡ with_actor (with_actor w b) (refused b code)
-unfolding takes
-append_refused w b fd code bytes None there told =
-    let same : 5 ≡ code = cc in
-    subst (λ n. stream_world w b fd None (stream_ask.Append (bits_of b fd) bytes) reply.NoSuch ≡ with_actor (with_actor w b) (refused b n)) same (stayed w b _ _ (same_streams w fd None there) refl)
-append_refused w b fd code bytes (Some s) there told = by_tests s.live (bits_of b fd).append s.kind told
-  where
-    by_tests : (v t : Bool) (k : StreamKind) → (if not v then Some 5 else if not t then None else if is_source k then Some 6 else None) ≡ Some code
-        → stream_world w b fd (Some s) (stream_ask.Append (bits_of b fd) bytes) (if v then (if t then append_reply k else reply.Denied append_bit) else reply.NoSuch) ≡ with_actor (with_actor w b) (refused b code)
-    by_tests false t k h = let same : 5 ≡ code = cc in subst (λ n. stream_world w b fd (Some s) (stream_ask.Append (bits_of b fd) bytes) reply.NoSuch ≡ with_actor (with_actor w b) (refused b n)) same (stayed w b _ _ (same_streams w fd (Some s) there) refl)
-    by_tests true false k h = absurd cc
-    by_tests true true kind.Source h = let same : 6 ≡ code = cc in subst (λ n. stream_world w b fd (Some s) (stream_ask.Append (bits_of b fd) bytes) reply.Bad ≡ with_actor (with_actor w b) (refused b n)) same (stayed w b _ _ (same_streams w fd (Some s) there) refl)
-    by_tests true true kind.Append h = absurd cc
-
 -- a life that is not left
 claim_refused : (w : WorldState) (b : ActorState) (n : ℕ) (t : Bool) → (if t then None else Some 2) ≡ Some n
     → record w { cells = record w.cells { lives = (if t then w.cells.lives + 1 else w.cells.lives) }; actors = put_actor w.actors (takes_lives w.image b lives_ask.Claim (if t then lives_reply.Claimed else lives_reply.Full)) } ≡ with_actor (with_actor w b) (refused b n)
@@ -606,8 +543,7 @@ refused_for w b rd s (want.Slot slot (slot_want.Smalloc tag size)) code own told
 refused_for w b rd s (want.Slot slot (slot_want.Sfree offset)) code own told = free_refused w b slot offset code (slot_in w.cells slot) refl told
 refused_for w b rd s (want.Slot slot (slot_want.Load offset width)) code own told = absurd cc
 refused_for w b rd s (want.Slot slot (slot_want.Store offset width value)) code own told = absurd cc
-refused_for w b rd s (want.Fd fd (stream_ask.Append bits bytes)) code own told =
-    subst (λ x. after w b (event_for w.cells b (want.Fd fd (stream_ask.Append x bytes))) ≡ with_actor (with_actor w b) (refused b code)) (sym own.0) (append_refused w b fd code bytes (stream_in w.cells fd) refl told)
+refused_for w b rd s (want.Fd fd q) code own told = stream_refused w b fd q code own told
 refused_for w b rd s (want.Lives lives_ask.Claim) code own told = unfold takes in claim_refused w b code _ told
 refused_for w b rd s q code own told = absurd own
 
@@ -630,17 +566,6 @@ store_passed offset width value live (Some g) = by_tests _ _
     by_tests true false = refl
     by_tests true true = refl
 
-append_passed : (b : ActorState) (fd : ℕ) (bytes : List ℕ) (s : Option Stream) → stream_refusal b fd s ≡ None → stream_refuses (stream_reply_of s (stream_ask.Append (bits_of b fd) bytes)) ≡ false
-append_passed b fd bytes None told = absurd cc
-append_passed b fd bytes (Some s) told = by_tests s.live (bits_of b fd).append s.kind told
-  where
-    by_tests : (v t : Bool) (k : StreamKind) → (if not v then Some no_such else if not t then None else if is_source k then Some bad else None) ≡ None
-        → stream_refuses (if v then (if t then append_reply k else reply.Denied append_bit) else reply.NoSuch) ≡ false
-    by_tests false t k h = absurd cc
-    by_tests true false k h = refl
-    by_tests true true kind.Source h = absurd cc
-    by_tests true true kind.Append h = refl
-
 life_passed : (t : Bool) → (if t then None else Some full) ≡ None → is_refusal (event.Lives lives_ask.Claim (if t then lives_reply.Claimed else lives_reply.Full)) ≡ false
 life_passed true told = refl
 life_passed false told = absurd cc
@@ -652,8 +577,7 @@ passed_for w b rd s (want.Slot slot (slot_want.Load offset width)) own told = lo
 passed_for w b rd s (want.Slot slot (slot_want.Store offset width value)) own told = store_passed offset width value _ (slot_in w.cells slot)
 passed_for w b rd s (want.Slot slot (slot_want.Smalloc tag size)) own told = place_passed tag size (slot_in w.cells slot) told
 passed_for w b rd s (want.Slot slot (slot_want.Sfree offset)) own told = free_passed b offset (slot_in w.cells slot) told
-passed_for w b rd s (want.Fd fd (stream_ask.Append bits bytes)) own told =
-    subst (λ x. stream_refuses (stream_reply_of (stream_in w.cells fd) (stream_ask.Append x bytes)) ≡ false) (sym own.0) (append_passed b fd bytes (stream_in w.cells fd) told)
+passed_for w b rd s (want.Fd fd q) own told = stream_passed b fd q (stream_in w.cells fd) own told
 passed_for w b rd s (want.Lives lives_ask.Claim) own told = life_passed _ told
 passed_for w b rd s q own told = absurd own
 
@@ -735,7 +659,7 @@ turn_lawful w t new all e =
       refuses = refuses_after w b e h;
       pays = done_such (λ y. y.fuel + cost_by b e + given_by b (Some e) ≡ b.fuel + brought_by (Some e)) w b a e named (event_pays w b e h);
       edits = done_such (λ y. y.drafts ≡ b.drafts) w b a e named (event_edits w.image b e);
-      remembers = done_such (EventRemembers b e) w b a e named (event_remembers w.image b e);
+      remembers = done_such (EventRemembers b e) w b a e named (event_remembers w b e h);
       family = event_family w b e h;
       makes = event_makes w b e h;
       copies = done_such (PreparesBy (with_actor w b) b b.phase e) w b a e named (event_prepares w b e h);

@@ -18,6 +18,7 @@ use Rattle.wedge_base.specs.declared.events.SlotWant.TheVariants as slot_want
 use Rattle.wedge_base.specs.declared.events.Want.{Want}
 use Rattle.wedge_base.specs.declared.events.Want.TheVariants as want
 use Rattle.wedge_base.specs.declared.cells.DirectoryAsk.TheVariants as directory_ask
+use Rattle.wedge_base.specs.declared.cells.StreamAsk.{StreamAsk}
 use Rattle.wedge_base.specs.declared.cells.StreamAsk.TheVariants as stream_ask
 use Rattle.rv_isa.specs.declared.Instr.{Instr}
 use Rattle.rv_isa.specs.Table.{decode}
@@ -29,7 +30,7 @@ use Rattle.sthread_life.specs.declared.phase.Phase.{Phase}
 use Rattle.sthread_life.specs.declared.phase.Phase.TheVariants as phase
 use Rattle.sthread_life.specs.Actors.{ActorState, answers, bits_of, slot_held, code_number, denies, ends, refuses, wants}
 use Rattle.cow_pages.specs.Copies.{copy_at, holds_copy}
-use Rattle.sthread_life.specs.Private.{load_bytes, load_copy, load_window, load_range, store_copy, store_window, store_range, has_loaded, fits_read, buffer, buffer_in}
+use Rattle.sthread_life.specs.Private.{load_bytes, load_copy, load_window, load_range, store_copy, store_window, store_range, has_loaded, fits_read, fits_write, buffer, buffer_in}
 use Rattle.wedge_base.specs.Sheets.{Draft, empty_draft, takes_tag, takes_fd, first_excess}
 use Rattle.wedge_base.specs.Slots.{Segment}
 use Rattle.wedge_base.specs.Streams.{Stream}
@@ -37,12 +38,13 @@ use Rattle.wedge_base.specs.declared.rights.Denial.{Denial}
 use Rattle.wedge_base.specs.declared.rights.Denial.TheVariants as denial
 use Rattle.wedge_base.specs.declared.cells.LivesAsk.TheVariants as lives_ask
 use Rattle.wedge_base.specs.declared.rights.Right.TheVariants as right
-use Rattle.sthread_life.specs.Calls.{serves, is_procedure, create_with, create_checked, create_allowed, are_pages, free_at, fd_append, sc_new, add_right, add_right_to, sc_mem_add, add_bits, add_bits_to, sc_fd_add, bits, a0, a1, a2, a3, a7}
+use Rattle.sthread_life.specs.Calls.{serves, is_procedure, create_with, create_checked, create_allowed, are_pages, free_at, fd_read, fd_append, fd_close, sc_new, add_right, add_right_to, sc_mem_add, add_bits, add_bits_to, sc_fd_add, bits, a0, a1, a2, a3, a7}
 use Rattle.sthread_life.specs.Local.{needed, executed, fuelled, fetched, step, is_running, run_local, rest}
 use Rattle.sthread_life.proofs.Resting.{stays, goes_on, running_is}
+use Rattle.sthread_life.proofs.StreamCalls.{stream_request, stream_refusal, IsStreamRequest, request_at_phase, refusal_at_phase, stream_event}
 use Rattle.sthread_life.specs.Cells.{Cells, slot_in, stream_in}
-use Rattle.sthread_life.specs.Refusals.{fuel_short, full, deep, no_such, bad, start_refusal, create_refusal, pages_refusal, address_refusal, life_refusal, slots_refusal, close_refusal, place_refusal, block_refusal, free_refusal, call_refusal, call_refusal_after, new_refusal, right_refusal, bits_refusal, append_refusal, need_refusal, instr_refusal, word_refusal, refusal_at, stream_refusal, need_refusal_after, instr_refusal_after, word_refusal_after, refusal_after, refused}
-use Rattle.sthread_life.specs.Requests.{Access, Request, Loads, Stores, Appends, Creates, Deletes, Allots, Frees, create_of, in_tag, in_window, bytes_in_range, bytes_at, to_stream, append_of, free_of, call_request, needed_request, instr_request, word_request, request_at}
+use Rattle.sthread_life.specs.Refusals.{fuel_short, full, deep, no_such, bad, start_refusal, create_refusal, pages_refusal, address_refusal, life_refusal, slots_refusal, close_refusal, place_refusal, block_refusal, free_refusal, call_refusal, call_refusal_after, new_refusal, right_refusal, bits_refusal, transfer_refusal, number_refusal, read_refusal, append_refusal, need_refusal, instr_refusal, word_refusal, refusal_at, read_refusal_after, append_refusal_after, stream_close_refusal, need_refusal_after, instr_refusal_after, word_refusal_after, refusal_after, refused}
+use Rattle.sthread_life.specs.Requests.{Access, Request, Loads, Stores, Reads, Appends, Closes, Creates, Deletes, Allots, Frees, create_of, in_tag, in_window, bytes_in_range, bytes_at, in_stream, is_room, read_of, append_of, close_of, free_of, call_request, needed_request, instr_request, word_request, request_at}
 use Rattle.sthread_life.specs.Allowed.{may_use, lacks, is_refused, is_checked_at_event, denied as denied_of}
 use Rattle.sthread_life.specs.Children.{is_child}
 use Rattle.sthread_life.specs.Ends.{end_of, copy_end, window_end, needed_end, instr_end, fuel_end, word_end, end_at}
@@ -51,7 +53,7 @@ use Rattle.sthread_life.specs.Ends.{end_of, copy_end, window_end, needed_end, in
 abbrev pub request_for : Cells → ActorState → ℕ → Bool → Want → Option Request
 request_for c a rd s (want.Slot slot (slot_want.Load offset width)) = in_tag (λ x. Loads x rd s) (record { slot = slot; offset = offset }) width (slot_in c slot)
 request_for c a rd s (want.Slot slot (slot_want.Store offset width value)) = in_tag (λ x. Stores x value) (record { slot = slot; offset = offset }) width (slot_in c slot)
-request_for c a rd s (want.Fd fd (stream_ask.Append bits bytes)) = to_stream fd bytes (stream_in c fd)
+request_for c a rd s (want.Fd fd q) = stream_request fd q (stream_in c fd)
 request_for c a rd s (want.Slot slot (slot_want.Close tag)) = Some (Deletes tag)
 request_for c a rd s (want.Slot slot (slot_want.Smalloc tag size)) = Some (Allots tag size)
 request_for c a rd s (want.Slot slot (slot_want.Sfree offset)) = option_map (Frees (record { slot = slot; offset = offset })) (slot_in c slot)
@@ -64,7 +66,7 @@ refusal_for c a (want.Slots directory_ask.Claim) = slots_refusal c.places
 refusal_for c a (want.Slot slot (slot_want.Close tag)) = close_refusal tag (slot_in c slot)
 refusal_for c a (want.Slot slot (slot_want.Smalloc tag size)) = place_refusal tag size (slot_in c slot)
 refusal_for c a (want.Slot slot (slot_want.Sfree offset)) = block_refusal a offset (slot_in c slot)
-refusal_for c a (want.Fd fd (stream_ask.Append bits bytes)) = stream_refusal a fd (stream_in c fd)
+refusal_for c a (want.Fd fd q) = stream_refusal a fd q (stream_in c fd)
 refusal_for c a (want.Lives lives_ask.Claim) = life_refusal c.lives
 refusal_for c a q = None
 
@@ -91,8 +93,7 @@ MayDelete a slot tag = (has a.made.tags tag ≡ true) × (slot ≡ slot_held a t
 abbrev pub MayAllot : ActorState → ℕ → ℕ → ℕ → Type 0
 MayAllot a slot tag size = (may_use a tag right.ReadWrite ≡ true) × (slot ≡ slot_held a tag) × ((size == 0) ≡ false)
 
--- the wants that are requests today, an append with the bits of the actor and the fuel for it; N is what is known
--- where a load is wanted
+-- the wants that are requests today; N is what is known where a load is wanted
 abbrev pub IsRequest : (ℕ → Type 0) → ActorState → Want → Type 0
 IsRequest N a (want.Slots directory_ask.Claim) = AsksForPages a
 IsRequest N a (want.Slot slot (slot_want.Close tag)) = MayDelete a slot tag
@@ -100,7 +101,7 @@ IsRequest N a (want.Slot slot (slot_want.Smalloc tag size)) = MayAllot a slot ta
 IsRequest N a (want.Slot slot (slot_want.Sfree offset)) = Unit {0}
 IsRequest N a (want.Slot slot (slot_want.Load offset width)) = N width
 IsRequest N a (want.Slot slot (slot_want.Store offset width value)) = Unit {0}
-IsRequest N a (want.Fd fd (stream_ask.Append bits bytes)) = (bits ≡ bits_of a fd) × (a2 a ≤ a.fuel)
+IsRequest N a (want.Fd fd q) = IsStreamRequest a fd q
 IsRequest N a (want.Lives lives_ask.Claim) = IsStartable a
 IsRequest N a q = ⊥
 
@@ -200,7 +201,9 @@ comes_as N a asked asked2 later e told told2 x same coded m = record {
 met_at_event : (a x : ActorState) (q : Want) (r : Request) → x ≡ record a { phase = phase.Within q } → is_checked_at_event r ≡ true → MetBy a r x
 met_at_event a x q (Loads y rd s) is e = (q, is)
 met_at_event a x q (Stores y value) is e = (q, is)
+met_at_event a x q (Reads fd s n) is e = (q, is)
 met_at_event a x q (Appends fd s bytes) is e = (q, is)
+met_at_event a x q (Closes fd s) is e = (q, is)
 met_at_event a x q (Creates d) is e = absurd cc
 met_at_event a x q (Deletes tag) is e = absurd cc
 met_at_event a x q (Allots tag size) is e = absurd cc
@@ -212,14 +215,6 @@ tag_event of p width (Some g) r h e = by_test _ e
   where
     by_test : (t : Bool) → (if t then Some (of (record { place = p; width = width; living = g })) else None) ≡ Some r → is_checked_at_event r ≡ true
     by_test true f = let is : of (record { place = p; width = width; living = g }) ≡ r = cc in subst (λ y. is_checked_at_event y ≡ true) is (h (record { place = p; width = width; living = g }))
-    by_test false f = absurd cc
-
-stream_event : (fd : ℕ) (bytes : List ℕ) (s : Option Stream) (r : Request) → to_stream fd bytes s ≡ Some r → is_checked_at_event r ≡ true
-stream_event fd bytes None r e = absurd cc
-stream_event fd bytes (Some s) r e = by_test s.live e
-  where
-    by_test : (t : Bool) → (if t then Some (Appends fd s bytes) else None) ≡ Some r → is_checked_at_event r ≡ true
-    by_test true f = let is : Appends fd s bytes ≡ r = cc in subst (λ y. is_checked_at_event y ≡ true) is refl
     by_test false f = absurd cc
 
 -- loads
@@ -286,7 +281,9 @@ store_comes N a address width value true true r run = comes_end N a _ _ end_.Tex
 store_comes N a address width value true false (Some r) run = comes_on N a (store_range a address width value (Some r)) _ _ refl refl run (λ c. refl)
 store_comes N a address width value true false None run = store_window_comes N a width value (slot_of address) run
 
--- appends: the buffer that fits, in the two words for it
+-- ---- calls on streams
+
+-- the buffer that fits, in the two words for it
 buffers : (i : Image) (pointer n : ℕ) (t u : Bool) (r : Option MemoryRange)
     → (if not t then None else if u then Some [] else bytes_in_range i pointer n r) ≡ (if t && (u || is_some r || in_text i pointer n) then Some (if u then [] else buffer_in i pointer n r) else None)
 buffers i pointer n false u r = refl
@@ -297,36 +294,67 @@ buffers i pointer n true false None = refl
 not_below : (m n : ℕ) → nat_le n m ≡ not (nat_lt m n)
 not_below m n = grind (arith, nat_tests)
 
-append_told : (c : Cells) (a : ActorState) (fd n : ℕ) (bytes : List ℕ) (t u v : Bool)
-    → (nat_le n a.fuel ≡ not u) → (nat_lt fd most_fds ≡ not v) → append_of c a fd n (if t then Some bytes else None) ≡ (if t && not u && not v then to_stream fd bytes (stream_in c fd) else None)
-append_told c a fd n bytes false u v fuel few = refl
-append_told c a fd n bytes true u v fuel few = rw (fuel, few) refl
-
-append_tests : (N : ℕ → Bool → ℕ → Type 0) (a : ActorState) (fd : ℕ) (bytes : List ℕ) (t u v : Bool) → (u ≡ false → a2 a ≤ a.fuel)
-    → Comes N a (λ c. if t && not u && not v then to_stream fd bytes (stream_in c fd) else None) (λ c. stream_refusal a fd (stream_in c fd)) None
-    (if not t then Some bad else if u then Some fuel_short else if v then Some no_such else None)
-    (if not t then refuses a code.Bad else if u then refuses a code.FuelShort else if v then refuses a code.NoSuch else wants a (want.Fd fd (stream_ask.Append (bits_of a fd) bytes)))
-append_tests N a fd bytes false u v paid = comes_refused N a _ _ code.Bad (λ c. refl)
-append_tests N a fd bytes true true v paid = comes_refused N a _ _ code.FuelShort (λ c. refl)
-append_tests N a fd bytes true false true paid = comes_refused N a _ _ code.NoSuch (λ c. refl)
-append_tests N a fd bytes true false false paid = record {
+-- a number that no descriptor has, and one that a call on a stream may have
+number_comes : (N : ℕ → Bool → ℕ → Type 0) (a : ActorState) (fd : ℕ) (q : StreamAsk) (v : Bool) → IsStreamRequest a fd q
+    → Comes N a (λ c. if not v then stream_request fd q (stream_in c fd) else None) (λ c. stream_refusal a fd q (stream_in c fd)) None
+    (if not v then None else Some no_such)
+    (if v then refuses a code.NoSuch else wants a (want.Fd fd q))
+number_comes N a fd q true own = comes_refused N a _ _ code.NoSuch (λ c. refl)
+number_comes N a fd q false own = record {
   name = refl;
   quiet = λ c h. refl;
-  met = λ c r h. met_at_event a _ (want.Fd fd (stream_ask.Append (bits_of a fd) bytes)) r refl (stream_event fd bytes (stream_in c fd) r h);
+  met = λ c r h. met_at_event a _ (want.Fd fd q) r refl (stream_event fd q (stream_in c fd) r h);
   ends = refl;
-  wants = (0, false, refl, λ c. refl, (refl, paid refl), λ c. refl);
+  wants = (0, false, refl, λ c. refl, own, λ c. refl);
   codes = λ n h. absurd cc;
 }
 
+-- a buffer that does not fit, and too little fuel
+transfer_comes : (N : ℕ → Bool → ℕ → Type 0) (a : ActorState) (fd : ℕ) (q : StreamAsk) (t u v : Bool) → (t ≡ true → u ≡ false → IsStreamRequest a fd q)
+    → Comes N a (λ c. if t && (not u && not v) then stream_request fd q (stream_in c fd) else None) (λ c. stream_refusal a fd q (stream_in c fd)) None
+    (if t then (if not u then (if not v then None else Some no_such) else Some fuel_short) else Some bad)
+    (if not t then refuses a code.Bad else if u then refuses a code.FuelShort else if v then refuses a code.NoSuch else wants a (want.Fd fd q))
+transfer_comes N a fd q false u v own = comes_refused N a _ _ code.Bad (λ c. refl)
+transfer_comes N a fd q true true v own = comes_refused N a _ _ code.FuelShort (λ c. refl)
+transfer_comes N a fd q true false v own = number_comes N a fd q v (own refl refl)
+
+not_above : (fd : ℕ) → nat_lt fd most_fds ≡ not (nat_le most_fds fd)
+not_above fd = grind (arith, nat_tests)
+
+enough : (fuel n : ℕ) → nat_lt fuel n ≡ false → n ≤ fuel
+enough fuel n e = grind (arith, nat_tests, e)
+
+-- reads
+read_told : (c : Cells) (a : ActorState) (fd n : ℕ) (t u v : Bool) → (nat_le n a.fuel ≡ not u) → (nat_lt fd most_fds ≡ not v)
+    → (if t && (nat_le n a.fuel && nat_lt fd most_fds) then in_stream (λ s. Reads fd s n) (stream_in c fd) else None) ≡ (if t && (not u && not v) then in_stream (λ s. Reads fd s n) (stream_in c fd) else None)
+read_told c a fd n t u v fuel few = rw (fuel, few) refl
+
+read_coded : (a : ActorState) (fd n : ℕ) (t u v : Bool) → (nat_le n a.fuel ≡ not u) → (nat_lt fd most_fds ≡ not v)
+    → read_refusal a fd n t ≡ (if t then (if not u then (if not v then None else Some no_such) else Some fuel_short) else Some bad)
+read_coded a fd n t u v fuel few = rw (fuel, few) refl
+
+read_comes : (N : ℕ → Bool → ℕ → Type 0) (a : ActorState) → Comes N a (λ c. read_of c a (a0 a) (a1 a) (a2 a)) (λ c. read_refusal_after a (a0 a) (stream_in c (a0 a))) None (read_refusal a (a0 a) (a2 a) (is_room a (a1 a) (a2 a))) (fd_read a)
+read_comes N a =
+    let t = fits_write a (a1 a) (a2 a) in
+    comes_as N a _ _ _ None _ _ (fd_read a)
+    (λ c. read_told c a (a0 a) (a2 a) t _ _ (not_below a.fuel (a2 a)) (not_above (a0 a)))
+    (read_coded a (a0 a) (a2 a) t _ _ (not_below a.fuel (a2 a)) (not_above (a0 a)))
+    (transfer_comes N a (a0 a) (stream_ask.Read (bits_of a (a0 a)) (a2 a)) t (nat_lt a.fuel (a2 a)) (nat_le most_fds (a0 a)) (λ fits paid. (refl, refl, enough a.fuel (a2 a) paid, fits)))
+
+-- appends
+append_told : (c : Cells) (a : ActorState) (fd n : ℕ) (bytes : List ℕ) (t u v : Bool) → (nat_le n a.fuel ≡ not u) → (nat_lt fd most_fds ≡ not v)
+    → append_of c a fd n (if t then Some bytes else None) ≡ (if t && (not u && not v) then in_stream (λ s. Appends fd s bytes) (stream_in c fd) else None)
+append_told c a fd n bytes false u v fuel few = refl
+append_told c a fd n bytes true u v fuel few = rw (fuel, few) refl
+
 -- its codes, in the tests of the call
 append_coded : (a : ActorState) (fd n : ℕ) (bytes : List ℕ) (t u v : Bool) → (nat_le n a.fuel ≡ not u) → (nat_lt fd most_fds ≡ not v)
-    → append_refusal a fd n (if t then Some bytes else None) ≡ (if not t then Some bad else if u then Some fuel_short else if v then Some no_such else None)
+    → append_refusal a fd n (if t then Some bytes else None) ≡ (if t then (if not u then (if not v then None else Some no_such) else Some fuel_short) else Some bad)
 append_coded a fd n bytes false u v fuel few = refl
-append_coded a fd n bytes true true v fuel few = rw fuel refl
-append_coded a fd n bytes true false true fuel few = rw (fuel, few) refl
-append_coded a fd n bytes true false false fuel few = rw (fuel, few) refl
+append_coded a fd n bytes true u v fuel few = rw (fuel, few) refl
 
-append_comes : (N : ℕ → Bool → ℕ → Type 0) (i : Image) (a : ActorState) → Comes N a (λ c. append_of c a (a0 a) (a2 a) (bytes_at i a (a1 a) (a2 a))) (λ c. stream_refusal a (a0 a) (stream_in c (a0 a))) None (append_refusal a (a0 a) (a2 a) (bytes_at i a (a1 a) (a2 a))) (fd_append i a)
+append_comes : (N : ℕ → Bool → ℕ → Type 0) (i : Image) (a : ActorState)
+    → Comes N a (λ c. append_of c a (a0 a) (a2 a) (bytes_at i a (a1 a) (a2 a))) (λ c. append_refusal_after a (a0 a) (stream_in c (a0 a))) None (append_refusal a (a0 a) (a2 a) (bytes_at i a (a1 a) (a2 a))) (fd_append i a)
 append_comes N i a =
     let t = fits_read i a (a1 a) (a2 a) in
     let bytes = buffer i a (a1 a) (a2 a) in
@@ -336,13 +364,15 @@ append_comes N i a =
     ∙ append_told c a (a0 a) (a2 a) bytes t _ _ (not_below a.fuel (a2 a)) (not_above (a0 a)))
     (ap (append_refusal a (a0 a) (a2 a)) buffer_is
     ∙ append_coded a (a0 a) (a2 a) bytes t _ _ (not_below a.fuel (a2 a)) (not_above (a0 a)))
-    (append_tests N a (a0 a) bytes t (nat_lt a.fuel (a2 a)) (nat_le most_fds (a0 a)) (enough a.fuel (a2 a)))
-  where
-    not_above : (fd : ℕ) → nat_lt fd most_fds ≡ not (nat_le most_fds fd)
-    not_above fd = grind (arith, nat_tests)
+    (transfer_comes N a (a0 a) (stream_ask.Append (bits_of a (a0 a)) bytes) t (nat_lt a.fuel (a2 a)) (nat_le most_fds (a0 a)) (λ fits paid. (refl, enough a.fuel (a2 a) paid)))
 
-    enough : (fuel n : ℕ) → nat_lt fuel n ≡ false → n ≤ fuel
-    enough fuel n e = grind (arith, nat_tests, e)
+-- closes
+close_comes : (N : ℕ → Bool → ℕ → Type 0) (a : ActorState) → Comes N a (λ c. close_of c (a0 a)) (λ c. stream_close_refusal (stream_in c (a0 a))) None (number_refusal (a0 a)) (fd_close a)
+close_comes N a =
+    comes_as N a _ _ _ None _ _ (fd_close a)
+    (λ c. ap (λ t. if t then in_stream (Closes (a0 a)) (stream_in c (a0 a)) else None) (not_above (a0 a)))
+    (ap (λ t. if t then None else Some no_such) (not_above (a0 a)))
+    (number_comes N a (a0 a) (stream_ask.Close (bits_of a (a0 a))) (nat_le most_fds (a0 a)) (refl, tt))
 
 -- calls on drafts
 abbrev AsDraft : (ℕ → Bool → ℕ → Type 0) → ActorState → Option ℕ → ActorState → Type 0
@@ -526,7 +556,9 @@ same_some x y e = cc
 met_now : (r : Request) {a x : ActorState} → is_checked_at_event r ≡ false → IsCheckedNow a r x → MetBy a r x
 met_now (Loads y rd s) now h = absurd cc
 met_now (Stores y value) now h = absurd cc
+met_now (Reads fd s n) now h = absurd cc
 met_now (Appends fd s bytes) now h = absurd cc
+met_now (Closes fd s) now h = absurd cc
 met_now (Creates d) now h = h
 met_now (Deletes tag) now h = h
 met_now (Allots tag size) now h = h
@@ -600,13 +632,21 @@ call_comes N i a n = by_0 (n == 0) refl
     at : (k : ℕ) → (n == k) ≡ true → CallComes N i a k → CallComes N i a n
     at k e h = subst (CallComes N i a) (sym (eqb-true n k e)) h
 
-    by_16 : (t : Bool) → (n == 16) ≡ t → (n == 0) ≡ false → (n == 1) ≡ false → (n == 2) ≡ false → (n == 3) ≡ false → (n == 4) ≡ false → (n == 5) ≡ false → (n == 6) ≡ false → CallComes N i a n
-    by_16 true e e0 e1 e2 e3 e4 e5 e6 = at 16 e (append_comes N i a)
-    by_16 false e e0 e1 e2 e3 e4 e5 e6 = rw (e0, e1, e2, e3, e4, e5, e6, e) (draft_comes N a n (n == 7) (n == 8) (n == 9))
+    by_17 : (t : Bool) → (n == 17) ≡ t → (n == 0) ≡ false → (n == 1) ≡ false → (n == 2) ≡ false → (n == 3) ≡ false → (n == 4) ≡ false → (n == 5) ≡ false → (n == 6) ≡ false → (n == 15) ≡ false → (n == 16) ≡ false → CallComes N i a n
+    by_17 true e e0 e1 e2 e3 e4 e5 e6 e15 e16 = at 17 e (close_comes N a)
+    by_17 false e e0 e1 e2 e3 e4 e5 e6 e15 e16 = rw (e0, e1, e2, e3, e4, e5, e6, e15, e16, e) (draft_comes N a n (n == 7) (n == 8) (n == 9))
+
+    by_16 : (t : Bool) → (n == 16) ≡ t → (n == 0) ≡ false → (n == 1) ≡ false → (n == 2) ≡ false → (n == 3) ≡ false → (n == 4) ≡ false → (n == 5) ≡ false → (n == 6) ≡ false → (n == 15) ≡ false → CallComes N i a n
+    by_16 true e e0 e1 e2 e3 e4 e5 e6 e15 = at 16 e (append_comes N i a)
+    by_16 false e e0 e1 e2 e3 e4 e5 e6 e15 = by_17 (n == 17) refl e0 e1 e2 e3 e4 e5 e6 e15 e
+
+    by_15 : (t : Bool) → (n == 15) ≡ t → (n == 0) ≡ false → (n == 1) ≡ false → (n == 2) ≡ false → (n == 3) ≡ false → (n == 4) ≡ false → (n == 5) ≡ false → (n == 6) ≡ false → CallComes N i a n
+    by_15 true e e0 e1 e2 e3 e4 e5 e6 = at 15 e (read_comes N a)
+    by_15 false e e0 e1 e2 e3 e4 e5 e6 = by_16 (n == 16) refl e0 e1 e2 e3 e4 e5 e6 e
 
     by_6 : (t : Bool) → (n == 6) ≡ t → (n == 0) ≡ false → (n == 1) ≡ false → (n == 2) ≡ false → (n == 3) ≡ false → (n == 4) ≡ false → (n == 5) ≡ false → CallComes N i a n
     by_6 true e e0 e1 e2 e3 e4 e5 = at 6 e (free_comes N a (slot_of (a0 a)))
-    by_6 false e e0 e1 e2 e3 e4 e5 = by_16 (n == 16) refl e0 e1 e2 e3 e4 e5 e
+    by_6 false e e0 e1 e2 e3 e4 e5 = by_15 (n == 15) refl e0 e1 e2 e3 e4 e5 e
 
     by_5 : (t : Bool) → (n == 5) ≡ t → (n == 0) ≡ false → (n == 1) ≡ false → (n == 2) ≡ false → (n == 3) ≡ false → (n == 4) ≡ false → CallComes N i a n
     by_5 true e e0 e1 e2 e3 e4 = at 5 e (allot_comes N a (a1 a == 0) (may_use a (a0 a) right.ReadWrite) refl refl)
@@ -711,7 +751,7 @@ wanted_within N p ph (want.Slot slot (slot_want.Smalloc tag size)) k = k
 wanted_within N p ph (want.Slot slot (slot_want.Sfree offset)) k = k
 wanted_within N p ph (want.Slot slot (slot_want.Load offset width)) k = k
 wanted_within N p ph (want.Slot slot (slot_want.Store offset width value)) k = k
-wanted_within N p ph (want.Fd fd (stream_ask.Append bits bytes)) k = k
+wanted_within N p ph (want.Fd fd q) k = request_at_phase p ph fd q k
 wanted_within N p ph (want.Lives lives_ask.Claim) k = startable_at p ph k
 wanted_within N p ph (want.Join child) k = k
 wanted_within N p ph q k = absurd k
@@ -719,13 +759,13 @@ wanted_within N p ph q k = absurd k
 request_within : (c : Cells) (p : ActorState) (ph : Phase) (rd : ℕ) (s : Bool) (q : Want) → request_for c p rd s q ≡ request_for c (record p { phase = ph }) rd s q
 request_within c p ph rd s (want.Slot slot (slot_want.Load offset width)) = refl
 request_within c p ph rd s (want.Slot slot (slot_want.Store offset width value)) = refl
-request_within c p ph rd s (want.Fd fd (stream_ask.Append bits bytes)) = refl
+request_within c p ph rd s (want.Fd fd q) = refl
 request_within c p ph rd s (want.Lives lives_ask.Claim) = refl
 request_within c p ph rd s q = refl
 
 refusal_within : (c : Cells) (p : ActorState) (ph : Phase) (q : Want) → refusal_for c p q ≡ refusal_for c (record p { phase = ph }) q
 refusal_within c p ph (want.Slot slot (slot_want.Sfree offset)) = refl
-refusal_within c p ph (want.Fd fd (stream_ask.Append bits bytes)) = refl
+refusal_within c p ph (want.Fd fd q) = refusal_at_phase p ph fd q (stream_in c fd)
 refusal_within c p ph (want.Lives lives_ask.Claim) = refl
 refusal_within c p ph q = refl
 

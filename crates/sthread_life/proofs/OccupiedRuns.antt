@@ -32,7 +32,6 @@ use Rattle.wedge_base.specs.declared.cells.SlotAsk.{SlotAsk}
 use Rattle.wedge_base.specs.declared.cells.SlotAsk.TheVariants as slot_ask
 use Rattle.wedge_base.specs.declared.cells.SlotReply.{SlotReply}
 use Rattle.wedge_base.specs.declared.cells.SlotReply.TheVariants as slot_reply
-use Rattle.wedge_base.specs.declared.cells.StreamAsk.TheVariants as stream_ask
 use Rattle.sthread_life.specs.declared.phase.Phase.{Phase}
 use Rattle.sthread_life.specs.declared.phase.Phase.TheVariants as phase
 use Rattle.sthread_life.specs.Actors.{ActorState, root}
@@ -306,7 +305,7 @@ want_turn w a N (want.Slot slot (slot_want.Load offset width)) occ there own non
 want_turn w a N (want.Slot slot (slot_want.Store offset width value)) occ there own none changed = quiet_turn w a _ occ there (store_quiet (slot_in w.cells slot) offset width value _) none changed
 want_turn w a N (want.Slot slot (slot_want.Smalloc tag size)) occ there own none changed = quiet_turn w a _ occ there (place_quiet (slot_in w.cells slot) tag size) none changed
 want_turn w a N (want.Slot slot (slot_want.Sfree offset)) occ there own none changed = quiet_turn w a _ occ there (free_quiet (slot_in w.cells slot) offset _) none changed
-want_turn w a N (want.Fd fd (stream_ask.Append bits bytes)) occ there own none changed = quiet_turn w a _ occ there tt none changed
+want_turn w a N (want.Fd fd q) occ there own none changed = quiet_turn w a _ occ there tt none changed
 want_turn w a N (want.Lives lives_ask.Claim) occ there own none changed = quiet_turn w a _ occ there tt none changed
 want_turn w a N q occ there own none changed = absurd own
 
@@ -398,7 +397,7 @@ suits_want w b N (want.Slot slot (slot_want.Load offset width)) occ own = tt
 suits_want w b N (want.Slot slot (slot_want.Store offset width value)) occ own = tt
 suits_want w b N (want.Slot slot (slot_want.Smalloc tag size)) occ own = tt
 suits_want w b N (want.Slot slot (slot_want.Sfree offset)) occ own = tt
-suits_want w b N (want.Fd fd (stream_ask.Append bits bytes)) occ own = tt
+suits_want w b N (want.Fd fd q) occ own = tt
 suits_want w b N (want.Lives lives_ask.Claim) occ own = tt
 suits_want w b N q occ own = absurd own
 

@@ -1,6 +1,8 @@
 -- What each moment costs is paid.
 use Rattle.std.proofs.Common.{◌≡◌, ℕ, zero, suc, ◌+◌, ◌≤◌, List, refl, sym, subst, arith}
-use Rattle.std.specs.Prelude.{Option, Some, None, option_and_then}
+use Rattle.std.specs.Prelude.{Option, Some, None, option_and_then, length, take, drop}
+use Rattle.std.proofs.lemmas.List.{length-take}
+use Rattle.wedge_base.specs.Streams.{Stream, stream_reply as stream_reply_of}
 use Rattle.wedge_base.specs.Images.{Image, fetch}
 use Rattle.wedge_base.specs.declared.rights.FdBits.{FdBits}
 use Rattle.wedge_base.specs.declared.events.SlotWant.TheVariants as slot_want
@@ -21,14 +23,13 @@ use Rattle.wedge_base.specs.declared.cells.SlotAsk.{SlotAsk}
 use Rattle.wedge_base.specs.declared.cells.SlotAsk.TheVariants as slot_ask
 use Rattle.wedge_base.specs.declared.cells.SlotReply.{SlotReply}
 use Rattle.wedge_base.specs.declared.cells.SlotReply.TheVariants as slot_reply
+use Rattle.wedge_base.specs.declared.cells.StreamAsk.{StreamAsk}
 use Rattle.wedge_base.specs.declared.cells.StreamAsk.TheVariants as stream_ask
-use Rattle.wedge_base.specs.declared.cells.StreamReply.{StreamReply}
-use Rattle.wedge_base.specs.declared.cells.StreamReply.TheVariants as reply
 use Rattle.rv_isa.specs.Table.{decode}
 use Rattle.sthread_life.specs.Actors.{ActorState, spends}
 use Rattle.sthread_life.specs.Calls.{a2, a3}
 use Rattle.sthread_life.specs.Children.{without_child}
-use Rattle.sthread_life.specs.Cells.{Cells}
+use Rattle.sthread_life.specs.Cells.{Cells, stream_in}
 use Rattle.sthread_life.specs.Local.{fuelled, fetched, step}
 use Rattle.sthread_life.specs.Taking.{runs, answered_end, takes}
 use Rattle.sthread_life.specs.Worlds.{WorldState}
@@ -38,6 +39,7 @@ use Rattle.cow_pages.specs.Listed.{bytes_listed}
 use Rattle.sthread_life.proofs.Between.{event_for, loads_fuel, joined_is, snapped_is}
 use Rattle.sthread_life.proofs.Happening.{Happens, Requested, Joined, Snaps, Started, Opens, Releases, LastJoined, Ended}
 use Rattle.sthread_life.proofs.Meeting.{IsRequest}
+use Rattle.sthread_life.proofs.StreamCalls.{IsStreamRequest, read_cases, append_cases, close_cases}
 
 -- ---- an instruction
 
@@ -74,15 +76,28 @@ place_pays i b directory_ask.Claim (directory_reply.Claimed place number) = omeg
 place_pays i b directory_ask.Claim directory_reply.Full = omega arith
 place_pays i b directory_ask.Claim directory_reply.Released = omega arith
 
-append_pays : (i : Image) (b : ActorState) (fd : ℕ) (bits : FdBits) (bytes : List ℕ) (r : StreamReply) → a2 b ≤ b.fuel → EventPays i b (event.Fd fd (stream_ask.Append bits bytes) r)
+append_pays : (i : Image) (b : ActorState) (fd : ℕ) (bits : FdBits) (bytes : List ℕ) (s : Option Stream) → a2 b ≤ b.fuel
+    → EventPays i b (event.Fd fd (stream_ask.Append bits bytes) (stream_reply_of s (stream_ask.Append bits bytes)))
 unfolding takes
-append_pays i b fd bits bytes reply.Appended enough = omega (arith, enough)
-append_pays i b fd bits bytes reply.Opened enough = omega arith
-append_pays i b fd bits bytes (reply.Given given) enough = omega arith
-append_pays i b fd bits bytes reply.Closed enough = omega arith
-append_pays i b fd bits bytes reply.NoSuch enough = omega arith
-append_pays i b fd bits bytes (reply.Denied wants) enough = omega arith
-append_pays i b fd bits bytes reply.Bad enough = omega arith
+append_pays i b fd bits bytes s enough =
+    append_cases (λ r. EventPays i b (event.Fd fd (stream_ask.Append bits bytes) r)) s bits bytes (omega arith) (omega arith) (omega arith) (omega (arith, enough))
+
+read_pays : (i : Image) (b : ActorState) (fd count : ℕ) (bits : FdBits) (s : Option Stream) → count ≡ a2 b → a2 b ≤ b.fuel
+    → EventPays i b (event.Fd fd (stream_ask.Read bits count) (stream_reply_of s (stream_ask.Read bits count)))
+unfolding takes
+read_pays i b fd count bits s is enough =
+    read_cases (λ r. EventPays i b (event.Fd fd (stream_ask.Read bits count) r)) s bits count (omega arith) (omega arith) (omega arith)
+    (λ x e. let less = length-take count (drop x.position x.bytes) in omega (arith, less, is, enough))
+
+close_pays : (i : Image) (b : ActorState) (fd : ℕ) (bits : FdBits) (s : Option Stream) → EventPays i b (event.Fd fd (stream_ask.Close bits) (stream_reply_of s (stream_ask.Close bits)))
+unfolding takes
+close_pays i b fd bits s = close_cases (λ r. EventPays i b (event.Fd fd (stream_ask.Close bits) r)) s bits (omega arith) (λ k. omega arith) (omega arith)
+
+stream_pays : (i : Image) (b : ActorState) (fd : ℕ) (q : StreamAsk) (s : Option Stream) → IsStreamRequest b fd q → EventPays i b (event.Fd fd q (stream_reply_of s q))
+stream_pays i b fd (stream_ask.Open k bytes) s own = absurd own
+stream_pays i b fd (stream_ask.Read bits count) s own = read_pays i b fd count bits s own.1 own.2
+stream_pays i b fd (stream_ask.Append bits bytes) s own = append_pays i b fd bits bytes s own.1
+stream_pays i b fd (stream_ask.Close bits) s own = close_pays i b fd bits s
 
 lives_pay : (i : Image) (b : ActorState) (q : LivesAsk) (r : LivesReply) → EventPays i b (event.Lives q r)
 unfolding takes
@@ -98,7 +113,7 @@ want_pays i c b N (want.Slot slot (slot_want.Smalloc tag size)) own = slot_pays 
 want_pays i c b N (want.Slot slot (slot_want.Sfree offset)) own = slot_pays i b slot _ _
 want_pays i c b N (want.Slot slot (slot_want.Load offset width)) own = slot_pays i b slot _ _
 want_pays i c b N (want.Slot slot (slot_want.Store offset width value)) own = slot_pays i b slot _ _
-want_pays i c b N (want.Fd fd (stream_ask.Append bits bytes)) own = append_pays i b fd bits bytes _ own.1
+want_pays i c b N (want.Fd fd q) own = stream_pays i b fd q (stream_in c fd) own
 want_pays i c b N (want.Lives lives_ask.Claim) own = lives_pay i b _ _
 want_pays i c b N q own = absurd own
 

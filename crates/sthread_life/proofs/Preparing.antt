@@ -16,7 +16,6 @@ use Rattle.wedge_base.specs.declared.cells.LivesAsk.TheVariants as lives_ask
 use Rattle.wedge_base.specs.declared.cells.LivesReply.TheVariants as lives_reply
 use Rattle.wedge_base.specs.declared.cells.SlotAsk.TheVariants as slot_ask
 use Rattle.wedge_base.specs.declared.cells.SlotReply.TheVariants as slot_reply
-use Rattle.wedge_base.specs.declared.cells.StreamAsk.TheVariants as stream_ask
 use Rattle.wedge_base.specs.declared.events.Event.{Event}
 use Rattle.wedge_base.specs.declared.events.Event.TheVariants as event
 use Rattle.wedge_base.specs.declared.events.SlotWant.TheVariants as slot_want
@@ -183,7 +182,7 @@ want_prepares w b N (want.Slot slot (slot_want.Smalloc tag size)) own at = unpre
 want_prepares w b N (want.Slot slot (slot_want.Sfree offset)) own at = unprepared w.image b _ (λ k. subst IsPreparing at k) (λ is. absurd cc)
 want_prepares w b N (want.Slot slot (slot_want.Load offset width)) own at = unprepared w.image b _ (λ k. subst IsPreparing at k) (λ is. absurd cc)
 want_prepares w b N (want.Slot slot (slot_want.Store offset width value)) own at = unprepared w.image b _ (λ k. subst IsPreparing at k) (λ is. absurd cc)
-want_prepares w b N (want.Fd fd (stream_ask.Append bits bytes)) own at = unprepared w.image b _ (λ k. subst IsPreparing at k) (λ is. absurd cc)
+want_prepares w b N (want.Fd fd q) own at = unprepared w.image b _ (λ k. subst IsPreparing at k) (λ is. absurd cc)
 want_prepares w b N (want.Lives lives_ask.Claim) own at = claim_prepares w b (nat_lt w.cells.lives 256)
 want_prepares w b N q own at = absurd own
 

@@ -23,7 +23,7 @@ use Rattle.sthread_life.specs.declared.phase.Phase.{Phase}
 use Rattle.sthread_life.specs.declared.phase.Phase.TheVariants as phase
 use Rattle.sthread_life.specs.Actors.{ActorState, right_of, answers, denies, ends, refuses, spends, wants}
 use Rattle.cow_pages.specs.Copies.{copy_at, holds_copy, read_copy}
-use Rattle.sthread_life.specs.Private.{loads, stores, load_bytes, load_copy, load_window, load_range, store_copy, store_window, store_range, has_loaded, fits_read}
+use Rattle.sthread_life.specs.Private.{loads, stores, load_bytes, load_copy, load_window, load_range, store_copy, store_window, store_range, has_loaded, fits_read, fits_write}
 use Rattle.wedge_base.specs.Names.{most_parts}
 use Rattle.wedge_base.specs.Sheets.{Draft, takes_tag, takes_fd, first_excess}
 use Rattle.wedge_base.specs.Maps.{has}
@@ -35,7 +35,7 @@ use Rattle.wedge_base.specs.declared.rights.Right.TheVariants as right
 use Rattle.wedge_base.specs.declared.rights.FdBits.{FdBits}
 use Rattle.wedge_base.specs.declared.rights.Right.{Right}
 use Rattle.sthread_life.specs.Children.{is_child}
-use Rattle.sthread_life.specs.Calls.{serves, exit, is_procedure, create, create_with, create_checked, create_allowed, join, are_pages, tag_new, tag_delete, smalloc, free_at, sfree, fd_append, most_drafts, sc_new, right_asked, bits_asked, add_right, add_right_to, sc_mem_add, add_bits, add_bits_to, sc_fd_add, draft_call, a0, a1, a2, a3, a7}
+use Rattle.sthread_life.specs.Calls.{serves, exit, is_procedure, create, create_with, create_checked, create_allowed, join, are_pages, tag_new, tag_delete, smalloc, free_at, sfree, fd_read, fd_append, fd_close, most_drafts, sc_new, right_asked, bits_asked, add_right, add_right_to, sc_mem_add, add_bits, add_bits_to, sc_fd_add, draft_call, a0, a1, a2, a3, a7}
 use Rattle.sthread_life.specs.Local.{needed, executed, fuelled, fetched, step, is_running, has_ended, run_local, rest}
 
 -- no event is still to come of a call that had one
@@ -121,6 +121,18 @@ goes_append i a =
     (goes_if a (refuses a code.NoSuch) _ (nat_le most_fds (a0 a)) (goes_refused a code.NoSuch)
     (record { name = refl; compartment = refl; sheet = refl; fuel = refl; made = refl; starts = refl; unjoined = refl; live = λ h. refl; calm = λ h. tt })))
 
+goes_read : (a : ActorState) → Goes a (fd_read a)
+goes_read a =
+    goes_if a (refuses a code.Bad) _ (not (fits_write a (a1 a) (a2 a))) (goes_refused a code.Bad)
+    (goes_if a (refuses a code.FuelShort) _ (nat_lt a.fuel (a2 a)) (goes_refused a code.FuelShort)
+    (goes_if a (refuses a code.NoSuch) _ (nat_le most_fds (a0 a)) (goes_refused a code.NoSuch)
+    (record { name = refl; compartment = refl; sheet = refl; fuel = refl; made = refl; starts = refl; unjoined = refl; live = λ h. refl; calm = λ h. tt })))
+
+goes_close : (a : ActorState) → Goes a (fd_close a)
+goes_close a =
+    goes_if a (refuses a code.NoSuch) _ (nat_le most_fds (a0 a)) (goes_refused a code.NoSuch)
+    (record { name = refl; compartment = refl; sheet = refl; fuel = refl; made = refl; starts = refl; unjoined = refl; live = λ h. refl; calm = λ h. tt })
+
 -- an answer to a call, with other drafts
 goes_drafted : (a : ActorState) (ds : List Draft) (value : ℕ) → Goes a (answers (record a { drafts = ds }) value)
 goes_drafted a ds value = record { name = refl; compartment = refl; sheet = refl; fuel = refl; made = refl; starts = refl; unjoined = refl; live = λ h. refl; calm = λ h. tt }
@@ -198,7 +210,9 @@ goes_call i a n =
     (goes_if a (tag_delete a) _ (n == 4) (goes_delete a)
     (goes_if a (smalloc a) _ (n == 5) (goes_smalloc a)
     (goes_if a (sfree a) _ (n == 6) (goes_free a (slot_of (a0 a)))
-    (goes_if a (fd_append i a) _ (n == 16) (goes_append i a) (goes_draft a n))))))))
+    (goes_if a (fd_read a) _ (n == 15) (goes_read a)
+    (goes_if a (fd_append i a) _ (n == 16) (goes_append i a)
+    (goes_if a (fd_close a) _ (n == 17) (goes_close a) (goes_draft a n))))))))))
 
 goes_needed : (i : Image) (ins : Instr) (a : ActorState) (h : Hart) (n : Need) → Goes a (needed i ins a h n)
 goes_needed i ins a h need.Done = record { name = refl; compartment = refl; sheet = refl; fuel = refl; made = refl; starts = refl; unjoined = refl; live = λ h. h; calm = λ h. h }

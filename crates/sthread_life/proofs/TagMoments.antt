@@ -24,7 +24,6 @@ use Rattle.wedge_base.specs.declared.cells.LivesAsk.TheVariants as lives_ask
 use Rattle.wedge_base.specs.declared.cells.SlotAsk.TheVariants as slot_ask
 use Rattle.wedge_base.specs.declared.cells.SlotReply.{SlotReply}
 use Rattle.wedge_base.specs.declared.cells.SlotReply.TheVariants as slot_reply
-use Rattle.wedge_base.specs.declared.cells.StreamAsk.TheVariants as stream_ask
 use Rattle.rv_isa.specs.declared.Instr.{Instr}
 use Rattle.rv_isa.specs.Table.{decode}
 use Rattle.rv_hart.specs.declared.Hart.{Hart}
@@ -389,7 +388,7 @@ want_makes w b N (want.Slot slot (slot_want.Load offset width)) own = refl
 want_makes w b N (want.Slot slot (slot_want.Store offset width value)) own = refl
 want_makes w b N (want.Slot slot (slot_want.Smalloc tag size)) own = refl
 want_makes w b N (want.Slot slot (slot_want.Sfree offset)) own = refl
-want_makes w b N (want.Fd fd (stream_ask.Append bits bytes)) own = refl
+want_makes w b N (want.Fd fd q) own = refl
 want_makes w b N (want.Lives lives_ask.Claim) own = refl
 want_makes w b N q own = absurd own
 

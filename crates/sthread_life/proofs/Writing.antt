@@ -1,5 +1,5 @@
 -- Bytes of tags and of streams by the history of a run, and who wrote them.
-use Rattle.std.proofs.Common.{◌≡◌, ℕ, ◌<◌, ◌==◌, Bool, true, false, true≢false, List, [], ◌∷◌, ◌++◌, length, refl, sym, ap, subst, ◌∙◌}
+use Rattle.std.proofs.Common.{◌≡◌, ◌+◌, ℕ, ◌<◌, ◌==◌, Bool, true, false, true≢false, List, [], ◌∷◌, ◌++◌, length, refl, sym, ap, subst, ◌∙◌}
 use Rattle.std.proofs.lemmas.Bool.{eqb-true}
 use Rattle.std.specs.Prelude.{Option, Some, None, option_map, not, nat_lt, if◌then◌else◌}
 use Rattle.wedge_base.specs.Bytes.{written, bytes_of}
@@ -7,7 +7,7 @@ use Rattle.wedge_base.specs.Images.{Image}
 use Rattle.wedge_base.specs.Rights.{at_least, append_bit}
 use Rattle.wedge_base.specs.Sheets.{right_on, bits_on}
 use Rattle.wedge_base.specs.Slots.{Segment, slot_reply as slot_reply_of, slot_after, opened, stored, placed, freed}
-use Rattle.wedge_base.specs.Streams.{Stream, stream_reply as stream_reply_of, stream_after, append_reply, grown}
+use Rattle.wedge_base.specs.Streams.{Stream, stream_reply as stream_reply_of, stream_after, append_reply, moved, grown, closed}
 use Rattle.wedge_base.specs.Histories.{Flow, flow, bytes_by, bytes_after_event, bytes_after, flow_by, flow_after_event, flow_after}
 use Rattle.wedge_base.specs.declared.rights.Right.TheVariants as right
 use Rattle.wedge_base.specs.declared.rights.StreamKind.{StreamKind}
@@ -25,8 +25,8 @@ use Rattle.wedge_base.specs.declared.cells.SlotAsk.{SlotAsk}
 use Rattle.wedge_base.specs.declared.cells.SlotAsk.TheVariants as slot_ask
 use Rattle.wedge_base.specs.declared.cells.SlotReply.{SlotReply}
 use Rattle.wedge_base.specs.declared.cells.SlotReply.TheVariants as slot_reply
+use Rattle.wedge_base.specs.declared.cells.StreamAsk.{StreamAsk}
 use Rattle.wedge_base.specs.declared.cells.StreamAsk.TheVariants as stream_ask
-use Rattle.wedge_base.specs.declared.cells.StreamReply.{StreamReply}
 use Rattle.wedge_base.specs.declared.cells.StreamReply.TheVariants as reply
 use Rattle.wedge_base.specs.declared.rights.FdBits.{FdBits}
 use Rattle.sthread_life.specs.Actors.{ActorState, right_of, bits_of}
@@ -44,6 +44,7 @@ use Rattle.sthread_life.proofs.Between.{event_for, turn_parts}
 use Rattle.sthread_life.proofs.Happening.{Happens, Requested, Joined, Snaps, Started, Opens, Releases, LastJoined, Ended}
 use Rattle.sthread_life.proofs.Settling.{AreCells, AllReady, turn_happens, turn_ready, opening_ready}
 use Rattle.sthread_life.proofs.Meeting.{IsRequest}
+use Rattle.sthread_life.proofs.StreamCalls.{read_cases, append_cases, close_cases, unopened_stays, IsStreamRequest}
 use Rattle.sthread_life.proofs.OneCell.{follows, follows_in}
 use Rattle.sthread_life.proofs.CellChanging.{turn_cells, cells_follow}
 
@@ -85,9 +86,22 @@ grown_flow : (bytes : List ℕ) (s : Option Stream) → flow_of (option_map (gro
 grown_flow bytes None = refl
 grown_flow bytes (Some s) = refl
 
-stream_shows : (s : Option Stream) (bits : FdBits) (bytes : List ℕ) (r : StreamReply) → flow_of (stream_after s (stream_ask.Append bits bytes) r) ≡ flow_by (flow_of s) (stream_ask.Append bits bytes) r
-stream_shows s bits bytes reply.Appended = grown_flow bytes s
-stream_shows s bits bytes r = refl
+moved_flow : (count : ℕ) (s : Option Stream) → flow_of (option_map (moved count) s) ≡ option_map (λ g. flow g.bytes (g.taken + count)) (flow_of s)
+moved_flow count None = refl
+moved_flow count (Some s) = refl
+
+closed_flow : (s : Option Stream) → flow_of (option_map closed s) ≡ flow_of s
+closed_flow None = refl
+closed_flow (Some s) = refl
+
+stream_shows : (b : ActorState) (fd : ℕ) (q : StreamAsk) (s : Option Stream) → IsStreamRequest b fd q → flow_of (stream_after s q (stream_reply_of s q)) ≡ flow_by (flow_of s) q (stream_reply_of s q)
+stream_shows b fd (stream_ask.Open k bytes) s own = absurd own
+stream_shows b fd (stream_ask.Read bits count) s own =
+    read_cases (λ r. flow_of (stream_after s (stream_ask.Read bits count) r) ≡ flow_by (flow_of s) (stream_ask.Read bits count) r) s bits count refl refl refl (λ x e. moved_flow _ s)
+stream_shows b fd (stream_ask.Append bits bytes) s own =
+    append_cases (λ r. flow_of (stream_after s (stream_ask.Append bits bytes) r) ≡ flow_by (flow_of s) (stream_ask.Append bits bytes) r) s bits bytes refl refl refl (grown_flow bytes s)
+stream_shows b fd (stream_ask.Close bits) s own =
+    close_cases (λ r. flow_of (stream_after s (stream_ask.Close bits) r) ≡ flow_by (flow_of s) (stream_ask.Close bits) r) s bits refl (λ k. refl) (closed_flow s)
 
 -- ---- what an event that an actor comes to makes of each tag and of each stream
 
@@ -112,9 +126,6 @@ empty_stays (slot_ask.Snap tag) k = refl
 slot_stays : (g : Option Segment) (q : SlotAsk) → IsNoOpening q → g ≡ None → slot_after g q (slot_reply_of g q) ≡ None
 slot_stays g q k e = subst (λ x. slot_after x q (slot_reply_of x q) ≡ None) (sym e) (empty_stays q k)
 
-append_stays : (s : Option Stream) (bits : FdBits) (bytes : List ℕ) → s ≡ None → stream_after s (stream_ask.Append bits bytes) (stream_reply_of s (stream_ask.Append bits bytes)) ≡ None
-append_stays s bits bytes e = subst (λ x. stream_after x (stream_ask.Append bits bytes) (stream_reply_of x (stream_ask.Append bits bytes)) ≡ None) (sym e) refl
-
 slot_follows : (c : Cells) (s : ℕ) (q : SlotAsk) → IsNoOpening q → IsFollowed c (event.Slot s q (slot_reply_of (slot_in c s) q))
 slot_follows c s q k =
     let r = slot_reply_of (slot_in c s) q in
@@ -136,12 +147,11 @@ want_follows N c b (want.Slot s (slot_want.Load offset width)) own = slot_follow
 want_follows N c b (want.Slot s (slot_want.Store offset width value)) own = slot_follows c s _ tt
 want_follows N c b (want.Slot s (slot_want.Smalloc tag size)) own = slot_follows c s _ tt
 want_follows N c b (want.Slot s (slot_want.Sfree offset)) own = slot_follows c s _ tt
-want_follows N c b (want.Fd fd (stream_ask.Append bits bytes)) own =
-    let q = stream_ask.Append bits bytes in
+want_follows N c b (want.Fd fd q) own =
     let r = stream_reply_of (stream_in c fd) q in
     record {
       tags = λ slot. refl;
-      streams = λ n. follows flow_of (λ x. flow_by x q r) c.streams fd n (stream_in c fd) (stream_after (stream_in c fd) q r) _ refl refl (append_stays (stream_in c fd) bits bytes) (stream_shows (stream_in c fd) bits bytes r);
+      streams = λ n. follows flow_of (λ x. flow_by x q r) c.streams fd n (stream_in c fd) (stream_after (stream_in c fd) q r) _ refl refl (unopened_stays b fd q (stream_in c fd) own) (stream_shows b fd q (stream_in c fd) own);
     }
 want_follows N c b (want.Lives lives_ask.Claim) own = record { tags = λ slot. refl; streams = λ fd. refl }
 want_follows N c b q own = absurd own
@@ -217,6 +227,12 @@ append_owned b n fd bits bytes (Some s) own e =
     let both = appended_by n fd bits bytes s.live bits.append s.kind e in
     subst (λ m. (bits_of b m).append ≡ true) (eqb-true n fd both.0) (subst (λ x. x.append ≡ true) own both.1)
 
+stream_owned : (b : ActorState) (n fd : ℕ) (q : StreamAsk) (s : Option Stream) → IsStreamRequest b n q → appends_to fd (event.Fd n q (stream_reply_of s q)) ≡ true → (bits_of b fd).append ≡ true
+stream_owned b n fd (stream_ask.Open k bytes) s own e = absurd own
+stream_owned b n fd (stream_ask.Read bits count) s own e = absurd (true≢false (sym e))
+stream_owned b n fd (stream_ask.Append bits bytes) s own e = append_owned b n fd bits bytes s own.0 e
+stream_owned b n fd (stream_ask.Close bits) s own e = absurd (true≢false (sym e))
+
 record IsOwn (c : Cells) (b : ActorState) (e : Event) : Type 0 where
   stores : (slot : ℕ) → stores_in slot e ≡ true → IsOwned c b slot
   appends : (fd : ℕ) → appends_to fd e ≡ true → (bits_of b fd).append ≡ true
@@ -228,7 +244,7 @@ want_own N c b (want.Slot s (slot_want.Smalloc tag size)) own = record { stores 
 want_own N c b (want.Slot s (slot_want.Sfree offset)) own = record { stores = λ slot e. absurd (true≢false (sym e)); appends = λ fd e. absurd (true≢false (sym e)) }
 want_own N c b (want.Slot s (slot_want.Load offset width)) own = record { stores = λ slot e. absurd (true≢false (sym e)); appends = λ fd e. absurd (true≢false (sym e)) }
 want_own N c b (want.Slot s (slot_want.Store offset width value)) own = record { stores = λ slot e. store_owned c b s offset width value slot (slot_in c s) refl e; appends = λ fd e. absurd (true≢false (sym e)) }
-want_own N c b (want.Fd n (stream_ask.Append bits bytes)) own = record { stores = λ slot e. absurd (true≢false (sym e)); appends = λ fd e. append_owned b n fd bits bytes (stream_in c n) own.0 e }
+want_own N c b (want.Fd n q) own = record { stores = λ slot e. absurd (true≢false (sym e)); appends = λ fd e. stream_owned b n fd q (stream_in c n) own e }
 want_own N c b (want.Lives lives_ask.Claim) own = record { stores = λ slot e. absurd (true≢false (sym e)); appends = λ fd e. absurd (true≢false (sym e)) }
 want_own N c b q own = absurd own
 

@@ -35,10 +35,10 @@ get_behind (y ∷ ys) [] j h k = absurd (omega arith)
 get_behind (y ∷ ys) (x ∷ xs) zero h k = absurd (omega arith)
 get_behind (y ∷ ys) (x ∷ xs) (suc j) h k = get_behind ys xs j (omega arith) (omega arith)
 
-written-zero : (b new : List ℕ) → written b zero new ≡ new ++ drop (length new) b
+pub written-zero : (b new : List ℕ) → written b zero new ≡ new ++ drop (length new) b
 written-zero b new = let e : zero + length new ≡ length new = omega arith in ap (λ n. new ++ drop n b) e
 
-written-suc : (x : ℕ) (b : List ℕ) (o : ℕ) (new : List ℕ) → written (x ∷ b) (suc o) new ≡ x ∷ written b o new
+pub written-suc : (x : ℕ) (b : List ℕ) (o : ℕ) (new : List ℕ) → written (x ∷ b) (suc o) new ≡ x ∷ written b o new
 written-suc x b o new = let e : suc o + length new ≡ suc (o + length new) = omega arith in ap (λ n. (x ∷ (take o b ++ new)) ++ drop n (x ∷ b)) e
 
 pub get-written : (b : List ℕ) (o : ℕ) (new : List ℕ) (j : ℕ) → o + length new ≤ length b → (j < o) ⊎ (o + length new ≤ j) → slice_get (written b o new) j ≡ slice_get b j
@@ -55,7 +55,7 @@ pub record LiesIn (address n : ℕ) (r : MemoryRange) : Type 0 where
   pub above : r.base ≤ address
   pub below : address + n ≤ r.base + length r.bytes
 
-lies_is : (address n : ℕ) (r : MemoryRange) → lies_in address n r ≡ true → LiesIn address n r
+pub lies_is : (address n : ℕ) (r : MemoryRange) → lies_in address n r ≡ true → LiesIn address n r
 lies_is address n r e = by_tests (nat_le r.base address) (nat_le (address + n) (r.base + length r.bytes)) refl refl e
   where
     by_tests : (t u : Bool) → nat_le r.base address ≡ t → nat_le (address + n) (r.base + length r.bytes) ≡ u → (t && u) ≡ true → LiesIn address n r

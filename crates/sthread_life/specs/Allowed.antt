@@ -1,13 +1,16 @@
 -- What a sheet allows: the grant that a request lacks, what refuses it besides, and what it leaves where it
 -- is done and where it is denied. Nothing here calls the step.
-use Rattle.std.specs.Prelude.{◌≡◌, ℕ, ◌+◌, ◌-◌, ◌%◌, ◌^◌, Bool, true, false, not, ◌||◌, List, [], ◌∷◌, ◌++◌, length, nat_lt, slice_range, slice_set, Option, Some, None, is_none, if◌then◌else◌}
+use Rattle.std.specs.Prelude.{◌≡◌, ℕ, ◌+◌, ◌-◌, ◌%◌, ◌^◌, Bool, true, false, not, ◌||◌, List, [], ◌∷◌, ◌++◌, length, nat_lt, slice_range, slice_set, take, drop, Option, Some, None, is_none, if◌then◌else◌}
 use Rattle.wedge_base.specs.Blocks.{block_at}
 use Rattle.wedge_base.specs.Bytes.{number_of}
 use Rattle.wedge_base.specs.Maps.{has}
-use Rattle.wedge_base.specs.Rights.{at_least, append_bit}
+use Rattle.wedge_base.specs.Memory.{write_at}
+use Rattle.wedge_base.specs.Rights.{at_least, read_bit, append_bit}
 use Rattle.wedge_base.specs.Sheets.{first_excess}
 use Rattle.wedge_base.specs.declared.rights.Denial.{Denial}
 use Rattle.wedge_base.specs.declared.rights.Denial.TheVariants as denial
+use Rattle.wedge_base.specs.Streams.{Stream}
+use Rattle.wedge_base.specs.declared.rights.FdBits.{FdBits}
 use Rattle.wedge_base.specs.declared.rights.StreamKind.{StreamKind}
 use Rattle.wedge_base.specs.declared.rights.StreamKind.TheVariants as kind
 use Rattle.wedge_base.specs.declared.rights.Right.{Right}
@@ -29,32 +32,43 @@ use Rattle.rv_hart.specs.declared.Hart.{Hart}
 use Rattle.rv_hart.specs.Local.{reg, put, extended}
 use Rattle.sthread_life.specs.declared.phase.Phase.TheVariants as phase
 use Rattle.sthread_life.specs.Actors.{ActorState, right_of, bits_of, slot_held}
-use Rattle.sthread_life.specs.Requests.{Access, Request, Loads, Stores, Appends, Creates, Deletes, Allots, Frees}
+use Rattle.sthread_life.specs.Requests.{Access, Request, Loads, Stores, Reads, Appends, Closes, Creates, Deletes, Allots, Frees}
 
 -- whether a tag may be used as asked: a copy is never enough for the tag itself
 abbrev pub may_use : ActorState → ℕ → Right → Bool
 may_use a tag wants = at_least (right_of a tag) wants
 
+-- A source takes no bytes and an append stream gives none. The bit to close a stream is the one by which it is used.
+abbrev pub is_source : StreamKind → Bool
+is_source kind.Source = true
+is_source kind.Append = false
+
+abbrev pub may_close : StreamKind → FdBits → Bool
+may_close k bits = if is_source k then bits.read else bits.append
+
+abbrev pub bit_to_close : StreamKind → FdBits
+bit_to_close k = if is_source k then read_bit else append_bit
+
 -- the grant that a request lacks; one that is allowed lacks none
 abbrev pub lacks : ActorState → Request → Option Denial
 lacks a (Loads x rd s) = if may_use a x.living.tag right.Read then None else Some (denial.Tag x.living.tag right.Read)
 lacks a (Stores x value) = if may_use a x.living.tag right.ReadWrite then None else Some (denial.Tag x.living.tag right.ReadWrite)
+lacks a (Reads fd s n) = if (bits_of a fd).read then None else Some (denial.Fd fd read_bit)
 lacks a (Appends fd s bytes) = if (bits_of a fd).append then None else Some (denial.Fd fd append_bit)
+lacks a (Closes fd s) = if may_close s.kind (bits_of a fd) then None else Some (denial.Fd fd (bit_to_close s.kind))
 lacks a (Creates d) = first_excess a.sheet a.made d
 lacks a (Deletes tag) = if has a.made.tags tag then None else Some (denial.NotMaker tag)
 lacks a (Allots tag size) = if may_use a tag right.ReadWrite then None else Some (denial.Tag tag right.ReadWrite)
 lacks a (Frees p g) = if may_use a g.tag right.ReadWrite then None else Some (denial.Tag g.tag right.ReadWrite)
 
--- whether one that is allowed is refused for a cause that comes after the denial: a source takes no bytes; a name has at most
--- 32 parts, and a child is given no more fuel than there is; no block begins at the place
-abbrev pub is_source : StreamKind → Bool
-is_source kind.Source = true
-is_source kind.Append = false
-
+-- whether one that is allowed is refused for a cause that comes after the denial: a stream is of the other kind; a name has at
+-- most 32 parts, and a child is given no more fuel than there is; no block begins at the place
 abbrev pub is_refused : ActorState → Request → Bool
 is_refused a (Loads x rd s) = false
 is_refused a (Stores x value) = false
+is_refused a (Reads fd s n) = not (is_source s.kind)
 is_refused a (Appends fd s bytes) = is_source s.kind
+is_refused a (Closes fd s) = false
 is_refused a (Creates d) = not (nat_lt (length a.name) 32) || nat_lt a.fuel (reg a.hart.regs 13)
 is_refused a (Deletes tag) = false
 is_refused a (Allots tag size) = false
@@ -64,7 +78,9 @@ is_refused a (Frees p g) = is_none (block_at g.blocks p.offset)
 abbrev pub is_checked_at_event : Request → Bool
 is_checked_at_event (Loads x rd s) = true
 is_checked_at_event (Stores x value) = true
+is_checked_at_event (Reads fd s n) = true
 is_checked_at_event (Appends fd s bytes) = true
+is_checked_at_event (Closes fd s) = true
 is_checked_at_event (Creates d) = false
 is_checked_at_event (Deletes tag) = false
 is_checked_at_event (Allots tag size) = false
@@ -91,6 +107,10 @@ comes_to a q = Some (record a { phase = phase.Within q })
 abbrev pub answered : ActorState → ℕ → ℕ → Hart
 answered a value code = record { pc = next_word a; regs = slice_set (slice_set a.hart.regs 10 value) 11 code }
 
+-- the next bytes of a stream, so many at most
+abbrev pub next_bytes : Stream → ℕ → List ℕ
+next_bytes s n = take n (drop s.position s.bytes)
+
 abbrev pub IsDone : ActorState → Request → Option Event → Option ActorState → Type 0
 IsDone a (Loads x rd s) e now =
     (e ≡ Some (event.Slot x.place.slot (slot_ask.Load x.place.offset x.width (living_for a x)) (slot_reply.Loaded (value_in x))))
@@ -98,9 +118,20 @@ IsDone a (Loads x rd s) e now =
 IsDone a (Stores x value) e now =
     (e ≡ Some (event.Slot x.place.slot (slot_ask.Store x.place.offset x.width value (living_for a x)) slot_reply.Stored))
     × (now ≡ Some (record a { hart = record a.hart { pc = next_word a }; phase = phase.Running }))
+IsDone a (Reads fd s n) e now =
+    (e ≡ Some (event.Fd fd (stream_ask.Read (bits_of a fd) n) (stream_reply.Given (next_bytes s n))))
+    × (now ≡ Some (record a {
+      hart = answered a (length (next_bytes s n)) 0;
+      fuel = a.fuel - length (next_bytes s n);
+      memory = record a.memory { ranges = write_at a.memory.ranges (reg a.hart.regs 11) (next_bytes s n) };
+      phase = phase.Running;
+    }))
 IsDone a (Appends fd s bytes) e now =
     (e ≡ Some (event.Fd fd (stream_ask.Append (bits_of a fd) bytes) stream_reply.Appended))
     × (now ≡ Some (record a { hart = answered a (reg a.hart.regs 12) 0; fuel = a.fuel - reg a.hart.regs 12; phase = phase.Running }))
+IsDone a (Closes fd s) e now =
+    (e ≡ Some (event.Fd fd (stream_ask.Close (bits_of a fd)) stream_reply.Closed))
+    × (now ≡ Some (record a { hart = answered a 0 0; phase = phase.Running }))
 IsDone a (Creates d) e now = (e ≡ None) × (now ≡ comes_to a (want.Lives lives_ask.Claim))
 IsDone a (Deletes tag) e now = (e ≡ None) × (now ≡ comes_to a (want.Slot (slot_held a tag) (slot_want.Close tag)))
 IsDone a (Allots tag size) e now = (e ≡ None) × (now ≡ comes_to a (want.Slot (slot_held a tag) (slot_want.Smalloc tag size)))
@@ -122,7 +153,9 @@ answered_denied a d = record a { denials = with_denial a d; hart = answered a 0 
 abbrev pub denied : ActorState → Request → Denial → ActorState
 denied a (Loads x rd s) d = ended_denied a d
 denied a (Stores x value) d = ended_denied a d
+denied a (Reads fd s n) d = answered_denied a d
 denied a (Appends fd s bytes) d = answered_denied a d
+denied a (Closes fd s) d = answered_denied a d
 denied a (Creates draft) d = answered_denied a d
 denied a (Deletes tag) d = answered_denied a d
 denied a (Allots tag size) d = answered_denied a d

@@ -16,7 +16,9 @@ use Rattle.wedge_base.specs.declared.cells.DirectoryAsk.TheVariants as directory
 use Rattle.wedge_base.specs.declared.cells.DirectoryReply.TheVariants as directory_reply
 use Rattle.wedge_base.specs.declared.cells.LivesAsk.TheVariants as lives_ask
 use Rattle.wedge_base.specs.declared.cells.SlotReply.TheVariants as slot_reply
+use Rattle.wedge_base.specs.declared.cells.StreamAsk.{StreamAsk}
 use Rattle.wedge_base.specs.declared.cells.StreamAsk.TheVariants as stream_ask
+use Rattle.wedge_base.specs.declared.cells.StreamReply.TheVariants as stream_reply
 use Rattle.image_form.specs.Rules.{most_fuel}
 use Rattle.rv_hart.specs.declared.Hart.{Hart}
 use Rattle.rv_hart.specs.Local.{reg}
@@ -71,7 +73,7 @@ abbrev pub GivesBelow : ℕ → Directory → Type 0
 GivesBelow limit d = (d.places ≤ limit) × (d.unused ≤ limit) × AllByRecursion (λ p. p < limit) d.released
 
 -- What an actor may want: the claim of a slot for a tag of so many pages, the opening of a tag there, its close and the release
--- of its slot; an aligned access inside the window of a slot, a block in a tag, one to be freed, and a copy of a tag; an append to a descriptor,
+-- of its slot; an aligned access inside the window of a slot, a block in a tag, one to be freed, and a copy of a tag; a read, an append and a close of a descriptor,
 -- a life for a child and the start of its next child where it is ready for that, the join of a child, and its end. Each further
 -- call is one more case.
 abbrev pub WantFitsWhere : Type 0 → Type 0 → (List ℕ → Type 0) → (ℕ → Type 0) → Want → Type 0
@@ -84,7 +86,9 @@ WantFitsWhere P R S J (want.Slot slot (slot_want.Store offset width value)) = (s
 WantFitsWhere P R S J (want.Slot slot (slot_want.Smalloc tag size)) = (slot < slots) × (1 ≤ size)
 WantFitsWhere P R S J (want.Slot slot (slot_want.Sfree offset)) = (slot < slots) × (offset < window)
 WantFitsWhere P R S J (want.Slot slot (slot_want.Snap tag)) = slot < slots
+WantFitsWhere P R S J (want.Fd fd (stream_ask.Read bits count)) = fd < most_fds
 WantFitsWhere P R S J (want.Fd fd (stream_ask.Append bits bytes)) = fd < most_fds
+WantFitsWhere P R S J (want.Fd fd (stream_ask.Close bits)) = fd < most_fds
 WantFitsWhere P R S J (want.Lives lives_ask.Claim) = R
 WantFitsWhere P R S J (want.Lives (lives_ask.Release e)) = Unit {0}
 WantFitsWhere P R S J (want.Start child) = R × S child
@@ -107,12 +111,19 @@ PhaseFitsWhere P R S J (phase.Releasing slot) = slot < slots
 PhaseFitsWhere P R S J (phase.Ending e) = Unit {0}
 PhaseFitsWhere P R S J (phase.Ended e) = Unit {0}
 
--- An event is in bounds: its slot is there, a block begins inside the slot's window, and a copy has as many pages as a tag may have. This is a property of the event alone.
+-- a read gives at most as many bytes as were asked for, and nothing else gives any
+abbrev pub GivesWithin : StreamAsk → List ℕ → Type 0
+GivesWithin (stream_ask.Read bits count) bytes = length bytes ≤ count
+GivesWithin q bytes = ⊥
+
+-- An event is in bounds: its slot is there, a block begins inside the slot's window, a copy has as many pages as a tag may have, and
+-- a stream gives no more bytes than were asked for. This is a property of the event alone.
 abbrev pub IsInBounds : Event → Type 0
 IsInBounds (event.Slots q (directory_reply.Claimed slot tag)) = slot < slots
 IsInBounds (event.Slot slot q (slot_reply.Placed offset)) = (slot < slots) × (offset < window)
 IsInBounds (event.Slot slot q (slot_reply.Snapped pages)) = (slot < slots) × (length pages ≤ most_pages)
 IsInBounds (event.Slot slot q r) = slot < slots
+IsInBounds (event.Fd fd q (stream_reply.Given bytes)) = GivesWithin q bytes
 IsInBounds e = Unit {0}
 
 -- An event fits an actor that takes it: a slot that is claimed is for pages that a tag may have, a start is by one that is

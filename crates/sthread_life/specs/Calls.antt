@@ -25,7 +25,7 @@ use Rattle.image_form.specs.Rules.{begins_at}
 use Rattle.rv_hart.specs.Local.{reg}
 use Rattle.sthread_life.specs.Actors.{ActorState, right_of, bits_of, slot_held, answers, refuses, denies, ends, wants}
 use Rattle.sthread_life.specs.Children.{is_child}
-use Rattle.sthread_life.specs.Private.{fits_read, buffer}
+use Rattle.sthread_life.specs.Private.{fits_read, fits_write, buffer}
 
 -- the arguments of a call, and its number
 abbrev pub a0 : ActorState → ℕ
@@ -47,6 +47,16 @@ a7 a = reg a.hart.regs 17
 abbrev pub exit : ActorState → ActorState
 exit a = ends a (end_.Exited (a0 a))
 
+-- ---- streams: a number that no descriptor has is refused at once, and anything else of a stream is decided at its event
+
+-- fd_read: descriptor, pointer, length
+abbrev pub fd_read : ActorState → ActorState
+fd_read a =
+    if not (fits_write a (a1 a) (a2 a)) then refuses a code.Bad
+    else if nat_lt a.fuel (a2 a) then refuses a code.FuelShort
+    else if nat_le most_fds (a0 a) then refuses a code.NoSuch
+    else wants a (want.Fd (a0 a) (stream_ask.Read (bits_of a (a0 a)) (a2 a)))
+
 -- fd_append: descriptor, pointer, length
 abbrev pub fd_append : Image → ActorState → ActorState
 fd_append i a =
@@ -54,6 +64,12 @@ fd_append i a =
     else if nat_lt a.fuel (a2 a) then refuses a code.FuelShort
     else if nat_le most_fds (a0 a) then refuses a code.NoSuch
     else wants a (want.Fd (a0 a) (stream_ask.Append (bits_of a (a0 a)) (buffer i a (a1 a) (a2 a))))
+
+-- fd_close: descriptor
+abbrev pub fd_close : ActorState → ActorState
+fd_close a =
+    if nat_le most_fds (a0 a) then refuses a code.NoSuch
+    else wants a (want.Fd (a0 a) (stream_ask.Close (bits_of a (a0 a))))
 
 -- ---- sthreads
 
@@ -191,5 +207,7 @@ serves i a n =
     else if n == service_number service.TagDelete then tag_delete a
     else if n == service_number service.Smalloc then smalloc a
     else if n == service_number service.Sfree then sfree a
+    else if n == service_number service.FdRead then fd_read a
     else if n == service_number service.FdAppend then fd_append i a
+    else if n == service_number service.FdClose then fd_close a
     else draft_call a n

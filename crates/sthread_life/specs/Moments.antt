@@ -65,7 +65,9 @@ slot_used slot_reply.Freed = true
 slot_used r = false
 
 abbrev pub stream_used : StreamReply → Bool
+stream_used (stream_reply.Given bytes) = true
 stream_used stream_reply.Appended = true
+stream_used stream_reply.Closed = true
 stream_used r = false
 
 abbrev pub is_use : Event → Bool

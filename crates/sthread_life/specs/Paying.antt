@@ -1,8 +1,8 @@
 -- What each moment costs its actor in fuel, read off the text, the registers and the reply: a second statement, beside the
--- step. An instruction costs a unit, where there is one to take; an append that took place costs a unit for each byte of
--- its length, the call's third argument; nothing else costs anything. A start gives fuel to the child, as the call's fourth
+-- step. An instruction costs a unit, where there is one to take; a read costs a unit for each byte that it gave, and an
+-- append that took place one for each byte of its length, the call's third argument; nothing else costs anything. A start gives fuel to the child, as the call's fourth
 -- argument says, and a join brings back what the child has left.
-use Rattle.std.specs.Prelude.{◌≡◌, ◌+◌, ℕ, zero, suc, Option, Some, None, IsSomeAnd}
+use Rattle.std.specs.Prelude.{◌≡◌, ◌+◌, ℕ, zero, suc, length, Option, Some, None, IsSomeAnd}
 use Rattle.wedge_base.specs.Images.{Image, fetch}
 use Rattle.wedge_base.specs.declared.events.Event.{Event}
 use Rattle.wedge_base.specs.declared.events.Event.TheVariants as event
@@ -22,6 +22,7 @@ abbrev pub cost_at : Image → ActorState → ℕ
 cost_at i a = cost_of_word (fetch i a.hart.pc) a.fuel
 
 abbrev pub cost_by : ActorState → Event → ℕ
+cost_by a (event.Fd fd (stream_ask.Read bits count) (stream_reply.Given bytes)) = length bytes
 cost_by a (event.Fd fd (stream_ask.Append bits bytes) stream_reply.Appended) = reg a.hart.regs 12
 cost_by a e = 0
 

@@ -85,6 +85,10 @@ most_buffer = 256
 abbrev pub fits_read : Image → ActorState → ℕ → ℕ → Bool
 fits_read i a pointer n = nat_le n most_buffer && ((n == 0) || is_some (range_at a.memory.ranges pointer n) || in_text i pointer n)
 
+-- whether a buffer that is written fits: it is empty, or lies wholly in one private range
+abbrev pub fits_write : ActorState → ℕ → ℕ → Bool
+fits_write a pointer n = nat_le n most_buffer && ((n == 0) || is_some (range_at a.memory.ranges pointer n))
+
 abbrev pub buffer_in : Image → ℕ → ℕ → Option MemoryRange → List ℕ
 buffer_in i pointer n (Some r) = read_range r pointer n
 buffer_in i pointer n None = read_text i pointer n

@@ -31,7 +31,7 @@ use Rattle.sthread_life.specs.Actors.{ActorState, bits_of, slot_held}
 use Rattle.sthread_life.specs.Cells.{Cells, slot_in, stream_in}
 use Rattle.sthread_life.specs.Children.{is_child}
 use Rattle.sthread_life.specs.Worlds.{WorldState}
-use Rattle.sthread_life.specs.Requests.{bytes_at}
+use Rattle.sthread_life.specs.Requests.{bytes_at, is_room}
 use Rattle.sthread_life.specs.Allowed.{may_use, is_source, answered}
 use Rattle.sthread_life.specs.Moments.{with_actor}
 
@@ -52,13 +52,20 @@ bad = 6
 
 -- ---- in the instruction, once its unit of fuel is taken
 
--- fd_append: a buffer that does not fit; more bytes than there is fuel; a number that no descriptor has
+-- fd_close: a number that no descriptor has
+abbrev pub number_refusal : ℕ → Option ℕ
+number_refusal fd = if nat_lt fd most_fds then None else Some no_such
+
+-- fd_read and fd_append: a buffer that does not fit; more bytes than there is fuel; a number that no descriptor has
+abbrev pub transfer_refusal : ActorState → ℕ → ℕ → Option ℕ
+transfer_refusal a fd n = if nat_le n a.fuel then number_refusal fd else Some fuel_short
+
+abbrev pub read_refusal : ActorState → ℕ → ℕ → Bool → Option ℕ
+read_refusal a fd n fits = if fits then transfer_refusal a fd n else Some bad
+
 abbrev pub append_refusal : ActorState → ℕ → ℕ → Option (List ℕ) → Option ℕ
 append_refusal a fd n None = Some bad
-append_refusal a fd n (Some bytes) =
-    if not (nat_le n a.fuel) then Some fuel_short
-    else if not (nat_lt fd most_fds) then Some no_such
-    else None
+append_refusal a fd n (Some bytes) = transfer_refusal a fd n
 
 -- sthread_create: no such draft; no procedure at the entry; and where every grant of the draft may be given, a name that has 32
 -- parts already, or less fuel than the child is to have
@@ -121,7 +128,9 @@ call_refusal i a regs n =
     else if n == 4 then None
     else if n == 5 then size_refusal (reg regs 11)
     else if n == 6 then address_refusal (slot_of (reg regs 10))
+    else if n == 15 then read_refusal a (reg regs 10) (reg regs 12) (is_room a (reg regs 11) (reg regs 12))
     else if n == 16 then append_refusal a (reg regs 10) (reg regs 12) (bytes_at i a (reg regs 11) (reg regs 12))
+    else if n == 17 then number_refusal (reg regs 10)
     else draft_refusal a.drafts regs n
 
 abbrev pub need_refusal : Image → ActorState → Need → Option ℕ
@@ -141,14 +150,24 @@ refusal_at i a = word_refusal i a (fetch i a.hart.pc)
 
 -- ---- at the event
 
--- fd_append: a descriptor that is not live; and, where the bit to append is held, a source
-abbrev pub stream_refusal : ActorState → ℕ → Option Stream → Option ℕ
-stream_refusal a fd None = Some no_such
-stream_refusal a fd (Some s) =
-    if not s.live then Some no_such
-    else if not (bits_of a fd).append then None
-    else if is_source s.kind then Some bad
-    else None
+-- a call on a stream: a descriptor that is not live; and, where it is, what refuses the call besides
+abbrev pub live_refusal : (Stream → Option ℕ) → Option Stream → Option ℕ
+live_refusal besides None = Some no_such
+live_refusal besides (Some s) = if s.live then besides s else Some no_such
+
+-- fd_read: where the bit to read is held, an append stream; fd_append: where the bit to append is held, a source; and
+-- fd_close: nothing
+abbrev pub kind_refusal : (held fits : Bool) → Option ℕ
+kind_refusal held fits = if held && not fits then Some bad else None
+
+abbrev pub read_refusal_after : ActorState → ℕ → Option Stream → Option ℕ
+read_refusal_after a fd s = live_refusal (λ x. kind_refusal (bits_of a fd).read (is_source x.kind)) s
+
+abbrev pub append_refusal_after : ActorState → ℕ → Option Stream → Option ℕ
+append_refusal_after a fd s = live_refusal (λ x. kind_refusal (bits_of a fd).append (not (is_source x.kind))) s
+
+abbrev pub stream_close_refusal : Option Stream → Option ℕ
+stream_close_refusal s = live_refusal (λ x. None) s
 
 -- sthread_create: 256 sthreads live, the root among them
 abbrev pub life_refusal : ℕ → Option ℕ
@@ -195,7 +214,9 @@ call_refusal_after c a regs n =
     else if n == 4 then close_refusal (reg regs 10) (slot_in c (slot_held a (reg regs 10)))
     else if n == 5 then place_refusal (reg regs 10) (reg regs 11) (slot_in c (slot_held a (reg regs 10)))
     else if n == 6 then free_refusal c a (slot_of (reg regs 10))
-    else if n == 16 then stream_refusal a (reg regs 10) (stream_in c (reg regs 10))
+    else if n == 15 then read_refusal_after a (reg regs 10) (stream_in c (reg regs 10))
+    else if n == 16 then append_refusal_after a (reg regs 10) (stream_in c (reg regs 10))
+    else if n == 17 then stream_close_refusal (stream_in c (reg regs 10))
     else None
 
 abbrev pub need_refusal_after : Cells → ActorState → Need → Option ℕ

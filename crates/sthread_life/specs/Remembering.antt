@@ -1,6 +1,6 @@
 -- The private bytes of an actor, in its ranges and in its copies of tags: a load gives what is there, a store writes its own bytes and
 -- no others, and nothing else changes any, but that a tag which the actor opens hides no copy. Said byte by byte, apart from the step.
-use Rattle.std.specs.Prelude.{◌≡◌, ℕ, zero, suc, ◌+◌, ◌-◌, ◌%◌, ◌==◌, ◌<◌, ◌≤◌, ◌≢◌, ◌⊎◌, Bool, not, ◌&&◌, List, [], length, slice_get, Option, Some, None, IsSomeAnd, option_map, option_and_then, nat_le, if◌then◌else◌}
+use Rattle.std.specs.Prelude.{◌≡◌, ℕ, zero, suc, ◌+◌, ◌-◌, ◌%◌, ◌==◌, ◌<◌, ◌≤◌, ◌≢◌, ◌⊎◌, Bool, not, ◌&&◌, List, [], ◌∷◌, length, slice_get, Option, Some, None, IsSomeAnd, option_map, option_and_then, nat_le, if◌then◌else◌}
 use Rattle.std.specs.Option.{option_or}
 use Rattle.cow_pages.specs.Copies.{Copies, copy_at, read_copy, without_copy}
 use Rattle.cow_pages.specs.PrivateMemory.{PrivateMemory, no_memory}
@@ -13,6 +13,7 @@ use Rattle.wedge_base.specs.declared.cells.SlotAsk.{SlotAsk}
 use Rattle.wedge_base.specs.declared.cells.SlotAsk.TheVariants as slot_ask
 use Rattle.wedge_base.specs.declared.cells.SlotReply.{SlotReply}
 use Rattle.wedge_base.specs.declared.cells.SlotReply.TheVariants as slot_reply
+use Rattle.wedge_base.specs.declared.cells.StreamReply.TheVariants as stream_reply
 use Rattle.wedge_base.specs.declared.image.MemoryRange.{MemoryRange}
 use Rattle.wedge_base.specs.declared.events.Event.{Event}
 use Rattle.wedge_base.specs.declared.events.Event.TheVariants as event
@@ -20,7 +21,7 @@ use Rattle.rv_isa.specs.declared.Instr.{Instr}
 use Rattle.rv_isa.specs.Table.{decode}
 use Rattle.rv_hart.specs.declared.Need.{Need}
 use Rattle.rv_hart.specs.declared.Need.TheVariants as need
-use Rattle.rv_hart.specs.Local.{local, put, extended}
+use Rattle.rv_hart.specs.Local.{local, reg, put, extended}
 use Rattle.sthread_life.specs.Actors.{ActorState}
 use Rattle.sthread_life.specs.Worlds.{WorldState, actor_named}
 use Rattle.sthread_life.specs.Allowed.{next_word}
@@ -113,7 +114,7 @@ abbrev pub WordRemembers : Image → ActorState → Option Instr → ℕ → Act
 WordRemembers i a ins zero b = b.memory ≡ a.memory
 WordRemembers i a ins (suc n) b = InstrRemembers i (record a { fuel = n }) ins b
 
--- ---- at an event private memory stays, but that an actor has no copy at a slot in which it opens a tag, and nothing once it has ended
+-- ---- at an event private memory stays, but that a read writes into it, that an actor has no copy at a slot in which it opens a tag, and nothing once it has ended
 abbrev pub memory_in : PrivateMemory → ℕ → SlotReply → SlotAsk → PrivateMemory
 memory_in m slot slot_reply.Opened (slot_ask.Open tag pages) = record m { copies = without_copy m.copies slot }
 memory_in m slot r q = m
@@ -123,7 +124,13 @@ memory_after m (event.Lives (lives_ask.Release x) r) = no_memory
 memory_after m (event.Slot slot q r) = memory_in m slot r q
 memory_after m e = m
 
+-- a read writes the bytes that it was given, if there are any, into the buffer of its call, and nothing else
+abbrev pub ReadWrites : ActorState → List ℕ → ActorState → Type 0
+ReadWrites a [] b = b.memory ≡ a.memory
+ReadWrites a (x ∷ xs) b = AreWritten a.memory.ranges b.memory.ranges (reg a.hart.regs 11) (x ∷ xs) × (b.memory.copies ≡ a.memory.copies)
+
 abbrev pub EventRemembers : ActorState → Event → ActorState → Type 0
+EventRemembers a (event.Fd fd q (stream_reply.Given bytes)) b = ReadWrites a bytes b
 EventRemembers a e b = b.memory ≡ memory_after a.memory e
 
 abbrev pub Remembers : WorldState → ActorState → Option Event → WorldState → Type 0

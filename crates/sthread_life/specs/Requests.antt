@@ -1,7 +1,7 @@
 -- The requests that a sheet may forbid, and which of them an instruction makes: read off its word, the
 -- registers, private memory and what lives in the cells. Nothing here calls the step, so that what the step
 -- makes of a request is a theorem.
-use Rattle.std.specs.Prelude.{ℕ, ◌%◌, ◌==◌, Bool, not, ◌&&◌, List, [], length, slice_get, Option, Some, None, is_some, option_map, nat_le, nat_lt, if◌then◌else◌}
+use Rattle.std.specs.Prelude.{ℕ, ◌%◌, ◌==◌, Bool, not, ◌&&◌, List, [], length, slice_get, Option, Some, None, is_some, option_map, nat_le, nat_lt, ◌||◌, if◌then◌else◌}
 use Rattle.std.specs.List.{list_any}
 use Rattle.cow_pages.specs.Copies.{copy_at}
 use Rattle.wedge_base.specs.Memory.{range_at, read_range}
@@ -26,12 +26,14 @@ pub record Access : Type 0 where
   pub living : Segment
 
 -- a request that a sheet may forbid: to load into a register, with a sign or without, to store a value, to
--- append bytes to a live stream, to start a child with the sheet of a draft, to delete a tag, to place a block of so many
+-- read so many bytes of a live stream, to append bytes to one, to close one, to start a child with the sheet of a draft, to delete a tag, to place a block of so many
 -- bytes in a tag, and to free the block at a place of a tag that lives there
 pub data Request : Type 0 where
   Loads : Access → (rd : ℕ) → (is_signed : Bool) → Request
   Stores : Access → (value : ℕ) → Request
+  Reads : (fd : ℕ) → Stream → (count : ℕ) → Request
   Appends : (fd : ℕ) → Stream → (bytes : List ℕ) → Request
+  Closes : (fd : ℕ) → Stream → Request
   Creates : Draft → Request
   Deletes : (tag : ℕ) → Request
   Allots : (tag size : ℕ) → Request
@@ -64,14 +66,27 @@ bytes_at i a pointer n =
     else if n == 0 then Some []
     else bytes_in_range i pointer n (range_at a.memory.ranges pointer n)
 
--- fd_append: the buffer fits, the fuel is enough, and the descriptor is live
-abbrev pub to_stream : ℕ → List ℕ → Option Stream → Option Request
-to_stream fd bytes None = None
-to_stream fd bytes (Some s) = if s.live then Some (Appends fd s bytes) else None
+-- of the stream behind a descriptor, where it is live
+abbrev pub in_stream : (Stream → Request) → Option Stream → Option Request
+in_stream of None = None
+in_stream of (Some s) = if s.live then Some (of s) else None
 
+-- a buffer that is written, where it fits: 256 bytes at most, in one private range
+abbrev pub is_room : ActorState → ℕ → ℕ → Bool
+is_room a pointer n = nat_le n 256 && ((n == 0) || is_some (range_at a.memory.ranges pointer n))
+
+-- fd_read: the buffer fits, the fuel is enough, and the descriptor is live
+abbrev pub read_of : Cells → ActorState → ℕ → ℕ → ℕ → Option Request
+read_of c a fd pointer n = if is_room a pointer n && (nat_le n a.fuel && nat_lt fd most_fds) then in_stream (λ s. Reads fd s n) (stream_in c fd) else None
+
+-- fd_append: the same, of a buffer that is read
 abbrev pub append_of : Cells → ActorState → ℕ → ℕ → Option (List ℕ) → Option Request
 append_of c a fd n None = None
-append_of c a fd n (Some bytes) = if nat_le n a.fuel && nat_lt fd most_fds then to_stream fd bytes (stream_in c fd) else None
+append_of c a fd n (Some bytes) = if nat_le n a.fuel && nat_lt fd most_fds then in_stream (λ s. Appends fd s bytes) (stream_in c fd) else None
+
+-- fd_close: the descriptor is live
+abbrev pub close_of : Cells → ℕ → Option Request
+close_of c fd = if nat_lt fd most_fds then in_stream (Closes fd) (stream_in c fd) else None
 
 -- sthread_create: there is such a draft, and a procedure at the entry
 abbrev pub create_of : Image → ℕ → Option Draft → Option Request
@@ -94,7 +109,9 @@ call_request i c a regs n =
     else if n == 4 then Some (Deletes (reg regs 10))
     else if n == 5 then allot_of (reg regs 10) (reg regs 11)
     else if n == 6 then free_of c (slot_of (reg regs 10))
+    else if n == 15 then read_of c a (reg regs 10) (reg regs 11) (reg regs 12)
     else if n == 16 then append_of c a (reg regs 10) (reg regs 12) (bytes_at i a (reg regs 11) (reg regs 12))
+    else if n == 17 then close_of c (reg regs 10)
     else None
 
 abbrev pub needed_request : Image → Cells → ActorState → ℕ → Need → Option Request

@@ -1,9 +1,10 @@
 -- The actor's part of a shared event: what it wants and asks, and what the reply makes of it.
-use Rattle.std.specs.Prelude.{ℕ, ◌+◌, ◌-◌, List, [], ◌∷◌, slice_get, Option, Some, None, option_map, option_and_then, unwrap_or}
+use Rattle.std.specs.Prelude.{ℕ, ◌+◌, ◌-◌, List, [], ◌∷◌, length, slice_get, Option, Some, None, option_map, option_and_then, unwrap_or}
 use Rattle.cow_pages.specs.Copies.{without_copy}
 use Rattle.cow_pages.specs.Listed.{bytes_listed}
 use Rattle.cow_pages.specs.PrivateMemory.{PrivateMemory, no_memory}
 use Rattle.wedge_base.specs.Images.{Image, fetch, address_of}
+use Rattle.wedge_base.specs.Memory.{write_at}
 use Rattle.wedge_base.specs.Sheets.{Draft, empty_draft, nothing_made, granted, made_tag}
 use Rattle.wedge_base.specs.Wants.{asked_with}
 use Rattle.wedge_base.specs.declared.rights.Right.{Right}
@@ -139,8 +140,16 @@ takes_place a directory_ask.Claim (directory_reply.Claimed slot tag) = record a 
 takes_place a directory_ask.Claim directory_reply.Full = refuses a code.Full
 takes_place a directory_ask.Claim directory_reply.Released = runs a
 
+-- a read writes the bytes that it was given into the buffer of its call, takes a unit of fuel for each, and answers how many they are
+abbrev pub has_read : ActorState → List ℕ → ActorState
+has_read a bytes =
+    let memory = record a.memory { ranges = write_at a.memory.ranges (a1 a) bytes } in
+    answers (spends (record a { memory = memory }) (length bytes)) (length bytes)
+
 -- an append takes a unit of fuel for each byte
 abbrev pub takes_stream : ActorState → ℕ → StreamReply → ActorState
+takes_stream a fd (stream_reply.Given bytes) = has_read a bytes
+takes_stream a fd stream_reply.Closed = answers a 0
 takes_stream a fd stream_reply.Appended = answers (spends a (a2 a)) (a2 a)
 takes_stream a fd stream_reply.NoSuch = refuses a code.NoSuch
 takes_stream a fd (stream_reply.Denied wants) = denies a (denial.Fd fd wants)

@@ -13,6 +13,7 @@ mod local;
 mod phase;
 mod preparation;
 mod starting;
+mod streams;
 mod tags;
 mod take;
 mod unjoined;

@@ -12,14 +12,13 @@ ghost use Rattle.wedge_base.specs.Images.{slots};
 ghost use Rattle.sthread_life.specs.Taking as taking;
 
 use crate::actor::Actor;
-use crate::calls::A2;
 use crate::phase::Phase;
 use cow_pages::{Pages, PrivateView};
 use ready_text::Program;
 use rv_hart::Reply;
 use wedge_base::{
-    Code, Denial, DirectoryAsk, DirectoryReply, End, Event, FdNo, LivesAsk, LivesReply, NoMemory,
-    Right, Slot, SlotAsk, SlotReply, StreamReply, TagNo, address_of,
+    Code, Denial, DirectoryAsk, DirectoryReply, End, Event, LivesAsk, LivesReply, NoMemory, Right,
+    Slot, SlotAsk, SlotReply, TagNo, address_of,
 };
 
 impl Actor {
@@ -76,8 +75,8 @@ impl Actor {
                 self.take_place(*ask, *reply);
                 Ok(None)
             }
-            Event::Fd { fd, reply, .. } => {
-                self.take_stream(*fd, reply)?;
+            Event::Fd { fd, ask, reply } => {
+                self.take_stream(memory, *fd, ask, reply)?;
                 Ok(None)
             }
             Event::Lives { ask, reply } => {
@@ -244,33 +243,6 @@ impl Actor {
         if self.hart.needs_load(*instr) {
             self.hart.finish(*instr, Reply::Loaded(value));
         }
-    }
-
-    /// What a stream's reply makes of it.
-    #[inline(never)]
-    fn take_stream(&mut self, fd: FdNo, reply: &StreamReply) -> Result<(), NoMemory>
-        ensures takes { OnOk result ((m : PrivateMemory)
-            → whole self.new m ≡ taking.takes_stream (whole self.old m) fd reply.now) }
-        ensures name { OnOk result (self.new.name ≡ self.old.name) }
-    {
-        match reply {
-            StreamReply::Appended => {
-                let length = self.hart.reg(A2);
-                self.phase = Phase::Running;
-                self.fuel = self.fuel.saturating_sub(length);
-                self.answer(length, 0);
-            }
-            StreamReply::NoSuch => self.refuse(Code::NoSuch),
-            StreamReply::Denied { wants } => {
-                self.note(Denial::Fd { fd, wants: *wants })?;
-                self.refuse(Code::Denied);
-            }
-            StreamReply::Bad => self.refuse(Code::Bad),
-            StreamReply::Opened | StreamReply::Given { .. } | StreamReply::Closed => {
-                self.phase = Phase::Running;
-            }
-        }
-        Ok(())
     }
 
     /// What the count of live sthreads makes of it: where a life is claimed it prepares a child, and at its end it drops

@@ -20,6 +20,8 @@ mod status;
 #[cfg(test)]
 mod sthread_tests;
 #[cfg(test)]
+mod stream_tests;
+#[cfg(test)]
 mod tag_tests;
 #[cfg(test)]
 mod tests;

@@ -1,18 +1,25 @@
--- Events of the directory and of slots are in bounds.
-use Rattle.std.proofs.Common.{◌≡◌, ℕ, zero, suc, ◌+◌, ◌/◌, ◌<◌, ◌≤◌, ◌==◌, Bool, true, false, List, [], ◌∷◌, ◌++◌, length, refl, sym, ◌∙◌, arith}
-use Rattle.std.proofs.lemmas.List.{length-append}
+-- Events of the directory, of slots and of streams are in bounds.
+use Rattle.std.proofs.Common.{◌≡◌, ℕ, zero, suc, ◌+◌, ◌/◌, ◌<◌, ◌≤◌, ◌==◌, Bool, true, false, List, [], ◌∷◌, ◌++◌, length, drop, refl, sym, ◌∙◌, arith}
+use Rattle.std.proofs.lemmas.List.{length-append, length-take}
 use Rattle.std.proofs.lemmas.Bool.Decides.{nat_tests}
 use Rattle.std.specs.Prelude.{Option, Some, None, IfSome, not, nat_lt, nat_le, is_some, slice_range, if◌then◌else◌}
 use Rattle.wedge_base.specs.Blocks.{Block, AreBlocks, rounded, first_fit, block_at}
 use Rattle.wedge_base.specs.Bytes.{number_of}
 use Rattle.wedge_base.specs.Directories.{Directory, directory_reply}
 use Rattle.wedge_base.specs.Images.{page, slots, window, most_pages}
-use Rattle.wedge_base.specs.Rights.{at_least}
+use Rattle.wedge_base.specs.Rights.{at_least, read_bit, append_bit, bits_within}
 use Rattle.wedge_base.specs.Slots.{Segment, right_in, place_reply, slot_reply}
 use Rattle.wedge_base.specs.declared.cells.DirectoryAsk.{DirectoryAsk}
 use Rattle.wedge_base.specs.declared.cells.DirectoryAsk.TheVariants as directory_ask
 use Rattle.wedge_base.specs.declared.cells.DirectoryReply.{DirectoryReply}
 use Rattle.wedge_base.specs.declared.cells.DirectoryReply.TheVariants as directory_reply_
+use Rattle.wedge_base.specs.Streams.{Stream, closing_bit, read_reply, append_reply, live_reply, dead_reply, stream_reply}
+use Rattle.wedge_base.specs.declared.cells.StreamAsk.{StreamAsk}
+use Rattle.wedge_base.specs.declared.cells.StreamAsk.TheVariants as stream_ask
+use Rattle.wedge_base.specs.declared.cells.StreamReply.TheVariants as stream_reply_
+use Rattle.wedge_base.specs.declared.rights.FdBits.{FdBits}
+use Rattle.wedge_base.specs.declared.rights.StreamKind.{StreamKind}
+use Rattle.wedge_base.specs.declared.rights.StreamKind.TheVariants as kind
 use Rattle.wedge_base.specs.declared.cells.SlotAsk.{SlotAsk}
 use Rattle.wedge_base.specs.declared.cells.SlotAsk.TheVariants as ask
 use Rattle.wedge_base.specs.declared.cells.SlotReply.{SlotReply}
@@ -154,3 +161,37 @@ others_inside slot (Some g) q inside k = none_in_bounds slot q (slot_reply (Some
     live_places (ask.Smalloc tag size) k = absurd k
     live_places (ask.Sfree offset live) k = by_free (at_least (right_in live) right.ReadWrite) (is_some (block_at g.blocks offset))
     live_places (ask.Snap tag) k = absurd k
+
+-- ---- a stream
+
+-- a read gives at most as many bytes as were asked for, and nothing else gives any
+pub gives_inside : (fd : ℕ) (s : Option Stream) (q : StreamAsk) → IsInBounds (event.Fd fd q (stream_reply s q))
+gives_inside fd None (stream_ask.Open k bytes) = tt
+gives_inside fd None (stream_ask.Read bits count) = tt
+gives_inside fd None (stream_ask.Append bits bytes) = tt
+gives_inside fd None (stream_ask.Close bits) = tt
+gives_inside fd (Some s) q = by_ask s.live q
+  where
+    reads : (count : ℕ) (bits : FdBits) (t : Bool) (k : StreamKind) → IsInBounds (event.Fd fd (stream_ask.Read bits count) (if t then read_reply k s count else stream_reply_.Denied read_bit))
+    reads count bits false k = tt
+    reads count bits true kind.Source = omega (arith, length-take count (drop s.position s.bytes))
+    reads count bits true kind.Append = tt
+
+    appends : (bits : FdBits) (bytes : List ℕ) (t : Bool) (k : StreamKind) → IsInBounds (event.Fd fd (stream_ask.Append bits bytes) (if t then append_reply k else stream_reply_.Denied append_bit))
+    appends bits bytes false k = tt
+    appends bits bytes true kind.Source = tt
+    appends bits bytes true kind.Append = tt
+
+    closes : (bits wants : FdBits) (t : Bool) → IsInBounds (event.Fd fd (stream_ask.Close bits) (if t then stream_reply_.Closed else stream_reply_.Denied wants))
+    closes bits wants false = tt
+    closes bits wants true = tt
+
+    by_ask : (v : Bool) (q : StreamAsk) → IsInBounds (event.Fd fd q (if v then live_reply s q else dead_reply q))
+    by_ask false (stream_ask.Open k bytes) = tt
+    by_ask true (stream_ask.Open k bytes) = tt
+    by_ask false (stream_ask.Read bits count) = tt
+    by_ask true (stream_ask.Read bits count) = reads count bits bits.read s.kind
+    by_ask false (stream_ask.Append bits bytes) = tt
+    by_ask true (stream_ask.Append bits bytes) = appends bits bytes bits.append s.kind
+    by_ask false (stream_ask.Close bits) = tt
+    by_ask true (stream_ask.Close bits) = closes bits (closing_bit s.kind) (bits_within (closing_bit s.kind) bits)

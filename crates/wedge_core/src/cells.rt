@@ -21,8 +21,8 @@ use sthread_life::Lives;
 use tag_directory::Directory;
 use tag_segment::SlotState;
 use wedge_base::{
-    Ask, Bytes, DirectoryAsk, DirectoryReply, Event, FdEntry, MOST_FDS, NoMemory, Object, SLOTS,
-    Slot, SlotAsk, SlotReply, StreamAsk, StreamReply, TagEntry, TagNo, Want,
+    Ask, Bytes, DirectoryAsk, DirectoryReply, Event, FdEntry, FdNo, MOST_FDS, NoMemory, Object,
+    SLOTS, Slot, SlotAsk, SlotReply, StreamAsk, StreamReply, TagEntry, TagNo, Want,
 };
 
 /// The cells of a world: the directory of slots, 4,096 slots with the tag that lives in each, the directory of
@@ -128,7 +128,7 @@ impl Cells {
                 Ok(Event::Slot { slot, ask, reply })
             }
             Ask::Fd { fd, ask } => {
-                let reply = ask_stream(&mut self.streams, fd.0, &ask)?;
+                let reply = ask_stream(&mut self.streams, fd, &ask)?;
                 Ok(Event::Fd { fd, ask, reply })
             }
             Ask::Lives(ask) => {
@@ -217,17 +217,18 @@ fn ask_slot(slots: &mut Vec<SlotState>, slot: Slot, ask: &SlotAsk) -> Result<Slo
 }
 
 /// Asks the stream behind a descriptor.
-#[tactic(auto, using(crate::proofs::CellPlaces::held_at))]
-fn ask_stream(streams: &mut Vec<Stream>, fd: u32, ask: &StreamAsk) -> Result<StreamReply, NoMemory>
+#[tactic(auto, using(crate::proofs::CellPlaces::held_at, crate::proofs::Placing::gives_inside))]
+fn ask_stream(streams: &mut Vec<Stream>, fd: FdNo, ask: &StreamAsk) -> Result<StreamReply, NoMemory>
     requires { fd < length streams.old.items }
     ensures is { IfOk result (λ r. r ≡ stream_reply (held (slice_get streams.old.items fd)) ask.now) }
     ensures after { OnOk result (streams.new.items
         ≡ slice_set streams.old.items fd
         (stream_next (held (slice_get streams.old.items fd)) ask.now)) }
+    ensures bounds { IfOk result (λ r. IsInBounds (AnEvent.Fd fd ask.now r)) }
     ensures err { OnErr result (streams.new.items ≡ streams.old.items) }
     ensures count { length streams.new.items ≡ length streams.old.items }
 {
-    let state = &mut streams[fd as usize];
+    let state = &mut streams[fd.0 as usize];
     state.act_once(ask)
 }
 
