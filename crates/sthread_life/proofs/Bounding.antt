@@ -1,5 +1,5 @@
 -- No actor of a run has more rights on what the image declares than the root: a tag that it made is none of those.
-use Rattle.std.proofs.Common.{◌≡◌, ℕ, ◌≤◌, ◌<◌, Bool, true, false, List, [], ◌∷◌, length, refl, sym, ap, subst, ◌∙◌, arith, inl, inr}
+use Rattle.std.proofs.Common.{◌≡◌, ◌≢◌, ℕ, ◌≤◌, ◌<◌, Bool, true, false, List, [], ◌∷◌, length, refl, sym, ap, subst, ◌∙◌, arith, inl, inr}
 use Rattle.std.proofs.lemmas.Bool.Decides.{nat_tests}
 use Rattle.std.specs.Cmp.{nat_cmp_total}
 use Rattle.std.specs.FinMap.Entries.{find-put}
@@ -9,7 +9,8 @@ use Rattle.wedge_base.specs.Images.{Image}
 use Rattle.wedge_base.specs.Maps.{Map, at, has, with}
 use Rattle.wedge_base.specs.Names.{same, root_name}
 use Rattle.wedge_base.specs.Rights.{rank, at_least, no_bits, bits_within}
-use Rattle.wedge_base.specs.Sheets.{Made, right_on, bits_on, bits_in, either_bits}
+use Rattle.wedge_base.specs.Paths.{parts_of, is_front, under}
+use Rattle.wedge_base.specs.Sheets.{Sheet, Made, right_on, bits_on, bits_in, either_bits}
 use Rattle.wedge_base.specs.declared.rights.Right.{Right}
 use Rattle.wedge_base.specs.declared.rights.Right.TheVariants as right
 use Rattle.wedge_base.specs.declared.rights.FdBits.{FdBits}
@@ -31,15 +32,10 @@ use Rattle.sthread_life.proofs.Directing.{claimed_number, next_number}
 use Rattle.sthread_life.proofs.Families.{takes_made, takes_sheet, happens_made, child_begins}
 use Rattle.sthread_life.proofs.FamilyRuns.{Acts, ActsAlone, Starts, Joins, acts, one_begins, kept_at_rest}
 use Rattle.sthread_life.proofs.Happening.{AtOpen, Happens, happens_claim, opens_by_claim}
-use Rattle.sthread_life.proofs.Named.{found_name}
+use Rattle.sthread_life.proofs.Named.{found_name, same_equal, same_self}
 use Rattle.sthread_life.proofs.Resting.{rest-name, rest-uncalm}
 use Rattle.sthread_life.proofs.Settling.{AllReady, turn_happens, turn_ready, opening_ready}
 use Rattle.sthread_life.proofs.Trees.{IsPut, IsDoer, IsOther, FoundPut, find_put, found_or_last}
-
-record IsBounded (i : Image) (a : ActorState) : Type 0 where
-  tags : (tag : ℕ) (r : Right) → tag < length i.tags → at_least (right_of a tag) r ≡ true → at_least (right_of (root i) tag) r ≡ true
-  fds : (fd : ℕ) → bits_within (bits_of a fd) (bits_of (root i) fd) ≡ true
-  opens : (slot tag : ℕ) → a.phase ≡ phase.Opening slot tag → length i.tags ≤ tag
 
 least_of : (o : Option Right) (g r : Right) → at_least o g ≡ true → at_least (Some g) r ≡ true → at_least o r ≡ true
 least_of None g r e f = absurd cc
@@ -60,6 +56,39 @@ both_of false q e = absurd cc
 both_are : (p q : Bool) → p ≡ true → q ≡ true → (p && q) ≡ true
 both_are true q e f = f
 both_are false q e f = absurd cc
+
+record IsBounded (i : Image) (a : ActorState) : Type 0 where
+  tags : (tag : ℕ) (r : Right) → tag < length i.tags → at_least (right_of a tag) r ≡ true → at_least (right_of (root i) tag) r ≡ true
+  fds : (fd : ℕ) → bits_within (bits_of a fd) (bits_of (root i) fd) ≡ true
+  opens : (slot tag : ℕ) → a.phase ≡ phase.Opening slot tag → length i.tags ≤ tag
+  user : i.user ≢ 0 → (a.sheet.user ≡ i.user) × (a.sheet.root ≡ i.root)
+  directory : under i.root a.sheet.root ≡ true
+
+-- ---- directories
+
+front_through : (xs ys zs : List (List ℕ)) → is_front xs ys ≡ true → is_front ys zs ≡ true → is_front xs zs ≡ true
+front_through [] ys zs e f = refl
+front_through (x ∷ xs) [] zs e f = absurd cc
+front_through (x ∷ xs) (y ∷ ys) [] e f = absurd cc
+front_through (x ∷ xs) (y ∷ ys) (z ∷ zs) e f =
+    let p = both_of (same x y) (is_front xs ys) e in
+    let q = both_of (same y z) (is_front ys zs) f in
+    both_are (same x z) (is_front xs zs) (subst (λ m. same m z ≡ true) (sym (same_equal x y p.0)) q.0) (front_through xs ys zs p.1 q.1)
+
+front_itself : (xs : List (List ℕ)) → is_front xs xs ≡ true
+front_itself [] = refl
+front_itself (x ∷ xs) = both_are (same x x) (is_front xs xs) (same_self x) (front_itself xs)
+
+-- a sheet within one that has the root's user and directory, or is user 0, has them too
+child_user : (i : Image) (b c : Sheet) → (c.user ≡ b.user) ⊎ (b.user ≡ 0) → (c.root ≡ b.root) ⊎ ((b.user ≡ 0) × (under b.root c.root ≡ true))
+    → (i.user ≢ 0 → (b.user ≡ i.user) × (b.root ≡ i.root)) → i.user ≢ 0 → (c.user ≡ i.user) × (c.root ≡ i.root)
+child_user i b c (inr zero_is) r own some = absurd (some (sym (own some).0 ∙ zero_is))
+child_user i b c (inl same_user) (inr d) own some = absurd (some (sym (own some).0 ∙ d.0))
+child_user i b c (inl same_user) (inl same_root) own some = (same_user ∙ (own some).0, same_root ∙ (own some).1)
+
+child_directory : (top : List ℕ) (b c : Sheet) → (c.root ≡ b.root) ⊎ ((b.user ≡ 0) × (under b.root c.root ≡ true)) → under top b.root ≡ true → under top c.root ≡ true
+child_directory top b c (inl same_root) own = ap (under top) same_root ∙ own
+child_directory top b c (inr d) own = front_through (parts_of top) (parts_of b.root) (parts_of c.root) own d.1
 
 within_bits : (x y z : FdBits) → bits_within x y ≡ true → bits_within y z ≡ true → bits_within x z ≡ true
 within_bits x y z e f =
@@ -98,6 +127,8 @@ child_bounded i b c child bounded = record {
   tags = λ tag r inside e. by_grant tag r inside (at c.sheet.tags tag) refl (ap (λ m. at_least (right_on c.sheet m tag) r) (sym child.fresh.0) ∙ e);
   fds = λ fd. within_bits (bits_of c fd) (bits_of b fd) (bits_of (root i) fd) (ap (λ x. bits_within x (bits_of b fd)) (ap (λ m. bits_on c.sheet m fd) child.fresh.0 ∙ given_alone (bits_in c.sheet.fds fd)) ∙ child.within.fds fd) (bounded.fds fd);
   opens = λ slot tag is. let f : phase.Running ≡ phase.Opening slot tag = sym child.fresh.5 ∙ is in absurd cc;
+  user = child_user i b.sheet c.sheet child.within.user child.within.root bounded.user;
+  directory = child_directory i.root b.sheet c.sheet child.within.root bounded.directory;
 }
   where
     by_grant : (tag : ℕ) (r : Right) → tag < length i.tags → (o : Option Grant) → at c.sheet.tags tag ≡ o → at_least (option_map (λ g. g.right) (at c.sheet.tags tag)) r ≡ true → at_least (right_of (root i) tag) r ≡ true
@@ -113,6 +144,8 @@ rest_bounded i a bounded =
       tags = λ tag r inside e. bounded.tags tag r inside (ap (λ o. at_least o r) (sym (k.sheet_ tag)) ∙ e);
       fds = λ fd. ap (λ b. bits_within b (bits_of (root i) fd)) (k.bits_ fd) ∙ bounded.fds fd;
       opens = λ slot tag is. bounded.opens slot tag (rest-uncalm i a (phase.Opening slot tag) (λ h. h) is);
+      user = λ some. (ap (λ (x : Sheet). x.user) k.sheet ∙ (bounded.user some).0, ap (λ (x : Sheet). x.root) k.sheet ∙ (bounded.user some).1);
+      directory = ap (λ (x : Sheet). under i.root x.root) k.sheet ∙ bounded.directory;
     }
 
 -- what an actor has made, of the tags that are declared
@@ -141,6 +174,8 @@ doer_bounded w b e counted h bounded =
           let claim = happens_claim w b e slot tag h (opens_by_claim e x.phase slot tag (takes_between w.image b e) is) in
           let number = claimed_number w.cells.places slot tag claim.1 in
           omega (arith, counted, number);
+      user = λ some. (ap (λ (y : Sheet). y.user) sheet ∙ (bounded.user some).0, ap (λ (y : Sheet). y.root) sheet ∙ (bounded.user some).1);
+      directory = ap (λ (y : Sheet). under w.image.root y.root) sheet ∙ bounded.directory;
     }
 
 record AllBounded (w : WorldState) : Type 0 where
@@ -209,7 +244,7 @@ opening_bounded i = record { counted = omega arith; actors = λ m y found. by_na
             itself false = refl
 
         root_bounded : IsBounded i (root i)
-        root_bounded = unfold root in record { tags = λ tag r inside e. e; fds = λ fd. bits_self (bits_of (root i) fd); opens = λ slot tag is. absurd cc }
+        root_bounded = unfold root in record { tags = λ tag r inside e. e; fds = λ fd. bits_self (bits_of (root i) fd); opens = λ slot tag is. absurd cc; user = λ some. (refl, refl); directory = front_itself (parts_of i.root) }
     by_name false e = absurd cc
 
     opening_found : (m : List ℕ) (y : ActorState) → actor_named (opening i).actors m ≡ Some y → (if same root_name m then Some (root i) else None) ≡ Some y
@@ -226,4 +261,4 @@ run_image old (t ∷ ts) new run = run_image run.0 ts new run.2 ∙ ap (λ (w : 
 pub root_bounds : RootBounds
 root_bounds i turns new run name a named =
     let bounded = subst (λ j. IsBounded j a) (run_image (opening i) turns new run) ((runs_bounded (opening i) turns new (opening_ready i) (opening_bounded i) run).actors name a named) in
-    record { tags = λ tag inside r. bounded.tags tag r inside; fds = λ fd inside. bounded.fds fd }
+    record { tags = λ tag inside r. bounded.tags tag r inside; fds = λ fd inside. bounded.fds fd; user = bounded.user; directory = bounded.directory }

@@ -1,5 +1,5 @@
 -- The drafts of an actor after each moment are as its call made them.
-use Rattle.std.proofs.Common.{◌≡◌, ℕ, zero, suc, ◌+◌, Bool, true, false, List, [], ◌∷◌, ◌++◌, length, refl, sym, ap, subst, ◌∙◌, arith}
+use Rattle.std.proofs.Common.{◌≡◌, ℕ, zero, suc, ◌+◌, Bool, true, false, List, [], ◌∷◌, ◌++◌, length, refl, sym, ap, subst, ◌∙◌, arith, ◌-◌}
 use Rattle.std.proofs.lemmas.Bool.{eqb-true}
 use Rattle.std.proofs.lemmas.Bool.Decides.{nat_tests}
 use Rattle.std.specs.Prelude.{Option, Some, None, option_and_then, not, ◌==◌, ◌||◌, nat_lt, nat_le, slice_get, if◌then◌else◌}
@@ -39,10 +39,11 @@ use Rattle.cow_pages.specs.Copies.{copy_at, holds_copy, read_copy}
 use Rattle.sthread_life.specs.Private.{loads, stores, load_bytes, load_copy, load_window, load_range, store_copy, store_window, store_range, has_loaded, fits_read, fits_write}
 use Rattle.sthread_life.specs.Children.{is_child, without_child}
 use Rattle.sthread_life.proofs.Between.{joined_is, snapped_is}
-use Rattle.sthread_life.specs.Calls.{serves, exit, is_procedure, create, create_with, create_checked, join, are_pages, tag_new, tag_delete, smalloc, free_at, sfree, fd_read, fd_append, fd_close, draft_call, sc_new, sc_mem_add, sc_fd_add, with_draft, add_right, add_right_to, add_bits, add_bits_to, bits, a0, a1, a2, a3, a7}
+use Rattle.sthread_life.proofs.Buffers.{path_is}
+use Rattle.sthread_life.specs.Calls.{serves, exit, is_procedure, create, create_with, create_checked, join, are_pages, tag_new, tag_delete, smalloc, free_at, sfree, fd_read, fd_append, fd_close, draft_call, sc_new, sc_mem_add, sc_fd_add, with_draft, add_right, add_right_to, add_bits, add_bits_to, bits, a0, a1, a2, a3, a7, set_user, sc_user, path_in, put_root, set_root, sc_root}
 use Rattle.sthread_life.specs.Drafting.{right_of_number, bits_of_number, edited, with_new, drafts_by_call, drafts_by_need, drafts_by_instr, drafts_by_fuel, drafts_by_word, drafts_after}
 use Rattle.sthread_life.specs.Local.{needed, executed, fuelled, fetched, step}
-use Rattle.sthread_life.specs.Refusals.{full, bad, right_refusal, bits_refusal}
+use Rattle.sthread_life.specs.Refusals.{full, bad, right_refusal, bits_refusal, fuel_short, user_refusal, root_refusal}
 use Rattle.sthread_life.specs.Taking.{runs, loads_by, loads_at, takes}
 
 -- ---- what leaves them as they are
@@ -168,11 +169,35 @@ bits_to_edits : (a : ActorState) (d : Option Draft) → (add_bits_to a d).drafts
 bits_to_edits a None = refl
 bits_to_edits a (Some d) = bits_edits a d (a2 a == 1) (a2 a == 2) (a2 a == 3) (one_not_two (a2 a))
 
-draft_edits : (a : ActorState) (n : ℕ) → (draft_call a n).drafts ≡ drafts_by_call a.drafts a.hart.regs n
-draft_edits a n =
+user_edits : (a : ActorState) (d : Option Draft) → (set_user a d).drafts ≡ edited a.drafts (a0 a) (user_refusal d) (λ x. record x { user = Some (a1 a) }) d
+user_edits a None = refl
+user_edits a (Some d) = refl
+
+path_edits : (a : ActorState) (d : Draft) (path : List ℕ) (t : Bool) → nat_le (a2 a) a.fuel ≡ not t
+    → (if t then refuses a code.FuelShort else answers (spends (with_draft a (a0 a) (record d { root = Some path })) (a2 a)) 0).drafts
+    ≡ edited a.drafts (a0 a) (if nat_le (a2 a) a.fuel then None else Some fuel_short) (λ x. record x { root = Some path }) (Some d)
+path_edits a d path true e = rw e refl
+path_edits a d path false e = rw e refl
+
+not_below : (m n : ℕ) → nat_le n m ≡ not (nat_lt m n)
+not_below m n = grind (arith, nat_tests)
+
+root_edits : (a : ActorState) (path : Option (List ℕ)) (d : Option Draft) → (set_root a path d).drafts ≡ edited a.drafts (a0 a) (root_refusal a (a2 a) path d) (λ x. record x { root = path }) d
+root_edits a path None = refl
+root_edits a None (Some d) = refl
+root_edits a (Some path) (Some d) = path_edits a d path (nat_lt a.fuel (a2 a)) (not_below a.fuel (a2 a))
+
+abbrev EditsRoot : ActorState → Option (List ℕ) → Option (List ℕ) → Option Draft → Type 0
+EditsRoot a path told d = (set_root a path d).drafts ≡ edited a.drafts (a0 a) (root_refusal a (a2 a) told d) (λ x. record x { root = told }) d
+
+draft_edits : (i : Image) (a : ActorState) (n : ℕ) → (draft_call i a n).drafts ≡ drafts_by_call i a a.hart.regs n
+draft_edits i a n =
+    let found = slice_get a.drafts (a0 a) in
     same_if (n == 7) (sc_new a) _ _ _ (new_edits a (length a.drafts) (nat_le 64 (length a.drafts)) (not_over (length a.drafts)))
-    (same_if (n == 8) (sc_mem_add a) _ _ _ (right_to_edits a (slice_get a.drafts (a0 a)))
-    (same_if (n == 9) (sc_fd_add a) _ _ _ (bits_to_edits a (slice_get a.drafts (a0 a))) refl))
+    (same_if (n == 8) (sc_mem_add a) _ _ _ (right_to_edits a found)
+    (same_if (n == 9) (sc_fd_add a) _ _ _ (bits_to_edits a found)
+    (same_if (n == 11) (sc_user a) _ _ _ (user_edits a found)
+    (same_if (n == 12) (sc_root i a) _ _ _ (subst (λ told. EditsRoot a (path_in i a (a1 a) (a2 a)) told found) (sym (path_is i a (a1 a) (a2 a))) (root_edits a (path_in i a (a1 a) (a2 a)) found)) refl))))
   where
     not_over : (n : ℕ) → nat_lt n 64 ≡ not (nat_le 64 n)
     not_over n = grind (arith, nat_tests)
@@ -183,34 +208,34 @@ picked : (P : ActorState → Type 0) (t : Bool) (x y : ActorState) → (t ≡ tr
 picked P true x y h k = h refl
 picked P false x y h k = k refl
 
-call_edits : (i : Image) (a : ActorState) (n : ℕ) → (serves i a n).drafts ≡ drafts_by_call a.drafts a.hart.regs n
+call_edits : (i : Image) (a : ActorState) (n : ℕ) → (serves i a n).drafts ≡ drafts_by_call i a a.hart.regs n
 unfolding serves
 call_edits i a n =
-    picked (λ x. x.drafts ≡ drafts_by_call a.drafts a.hart.regs n) (n == 0) (exit a) _
-    (λ e. subst (λ m. a.drafts ≡ drafts_by_call a.drafts a.hart.regs m) (sym (eqb-true n 0 e)) refl)
-    (λ _. picked (λ x. x.drafts ≡ drafts_by_call a.drafts a.hart.regs n) (n == 1) (create i a) _
-    (λ e. create_stays i a (slice_get a.drafts (a0 a)) ∙ subst (λ m. a.drafts ≡ drafts_by_call a.drafts a.hart.regs m) (sym (eqb-true n 1 e)) refl)
-    (λ _. picked (λ x. x.drafts ≡ drafts_by_call a.drafts a.hart.regs n) (n == 2) (join a) _
-    (λ e. join_stays a ∙ subst (λ m. a.drafts ≡ drafts_by_call a.drafts a.hart.regs m) (sym (eqb-true n 2 e)) refl)
-    (λ _. picked (λ x. x.drafts ≡ drafts_by_call a.drafts a.hart.regs n) (n == 3) (tag_new a) _
-    (λ e. stays_if a _ (refuses a code.Bad) (are_pages (a0 a)) refl refl ∙ subst (λ m. a.drafts ≡ drafts_by_call a.drafts a.hart.regs m) (sym (eqb-true n 3 e)) refl)
-    (λ _. picked (λ x. x.drafts ≡ drafts_by_call a.drafts a.hart.regs n) (n == 4) (tag_delete a) _
-    (λ e. stays_if a _ (denies a (denial.NotMaker (a0 a))) (has a.made.tags (a0 a)) refl refl ∙ subst (λ m. a.drafts ≡ drafts_by_call a.drafts a.hart.regs m) (sym (eqb-true n 4 e)) refl)
-    (λ _. picked (λ x. x.drafts ≡ drafts_by_call a.drafts a.hart.regs n) (n == 5) (smalloc a) _
-    (λ e. smalloc_stays a ∙ subst (λ m. a.drafts ≡ drafts_by_call a.drafts a.hart.regs m) (sym (eqb-true n 5 e)) refl)
-    (λ _. picked (λ x. x.drafts ≡ drafts_by_call a.drafts a.hart.regs n) (n == 6) (sfree a) _
-    (λ e. free_stays a (slot_of (a0 a)) ∙ subst (λ m. a.drafts ≡ drafts_by_call a.drafts a.hart.regs m) (sym (eqb-true n 6 e)) refl)
-    (λ _. picked (λ x. x.drafts ≡ drafts_by_call a.drafts a.hart.regs n) (n == 15) (fd_read a) _
-    (λ e. read_stays a ∙ subst (λ m. a.drafts ≡ drafts_by_call a.drafts a.hart.regs m) (sym (eqb-true n 15 e)) refl)
-    (λ _. picked (λ x. x.drafts ≡ drafts_by_call a.drafts a.hart.regs n) (n == 16) (fd_append i a) _
-    (λ e. append_stays i a ∙ subst (λ m. a.drafts ≡ drafts_by_call a.drafts a.hart.regs m) (sym (eqb-true n 16 e)) refl)
-    (λ _. picked (λ x. x.drafts ≡ drafts_by_call a.drafts a.hart.regs n) (n == 17) (fd_close a) _
-    (λ e. stays_if a (refuses a code.NoSuch) _ (nat_le most_fds (a0 a)) refl refl ∙ subst (λ m. a.drafts ≡ drafts_by_call a.drafts a.hart.regs m) (sym (eqb-true n 17 e)) refl)
-    (λ _. draft_edits a n))))))))))
+    picked (λ x. x.drafts ≡ drafts_by_call i a a.hart.regs n) (n == 0) (exit a) _
+    (λ e. subst (λ m. a.drafts ≡ drafts_by_call i a a.hart.regs m) (sym (eqb-true n 0 e)) refl)
+    (λ _. picked (λ x. x.drafts ≡ drafts_by_call i a a.hart.regs n) (n == 1) (create i a) _
+    (λ e. create_stays i a (slice_get a.drafts (a0 a)) ∙ subst (λ m. a.drafts ≡ drafts_by_call i a a.hart.regs m) (sym (eqb-true n 1 e)) refl)
+    (λ _. picked (λ x. x.drafts ≡ drafts_by_call i a a.hart.regs n) (n == 2) (join a) _
+    (λ e. join_stays a ∙ subst (λ m. a.drafts ≡ drafts_by_call i a a.hart.regs m) (sym (eqb-true n 2 e)) refl)
+    (λ _. picked (λ x. x.drafts ≡ drafts_by_call i a a.hart.regs n) (n == 3) (tag_new a) _
+    (λ e. stays_if a _ (refuses a code.Bad) (are_pages (a0 a)) refl refl ∙ subst (λ m. a.drafts ≡ drafts_by_call i a a.hart.regs m) (sym (eqb-true n 3 e)) refl)
+    (λ _. picked (λ x. x.drafts ≡ drafts_by_call i a a.hart.regs n) (n == 4) (tag_delete a) _
+    (λ e. stays_if a _ (denies a (denial.NotMaker (a0 a))) (has a.made.tags (a0 a)) refl refl ∙ subst (λ m. a.drafts ≡ drafts_by_call i a a.hart.regs m) (sym (eqb-true n 4 e)) refl)
+    (λ _. picked (λ x. x.drafts ≡ drafts_by_call i a a.hart.regs n) (n == 5) (smalloc a) _
+    (λ e. smalloc_stays a ∙ subst (λ m. a.drafts ≡ drafts_by_call i a a.hart.regs m) (sym (eqb-true n 5 e)) refl)
+    (λ _. picked (λ x. x.drafts ≡ drafts_by_call i a a.hart.regs n) (n == 6) (sfree a) _
+    (λ e. free_stays a (slot_of (a0 a)) ∙ subst (λ m. a.drafts ≡ drafts_by_call i a a.hart.regs m) (sym (eqb-true n 6 e)) refl)
+    (λ _. picked (λ x. x.drafts ≡ drafts_by_call i a a.hart.regs n) (n == 15) (fd_read a) _
+    (λ e. read_stays a ∙ subst (λ m. a.drafts ≡ drafts_by_call i a a.hart.regs m) (sym (eqb-true n 15 e)) refl)
+    (λ _. picked (λ x. x.drafts ≡ drafts_by_call i a a.hart.regs n) (n == 16) (fd_append i a) _
+    (λ e. append_stays i a ∙ subst (λ m. a.drafts ≡ drafts_by_call i a a.hart.regs m) (sym (eqb-true n 16 e)) refl)
+    (λ _. picked (λ x. x.drafts ≡ drafts_by_call i a a.hart.regs n) (n == 17) (fd_close a) _
+    (λ e. stays_if a (refuses a code.NoSuch) _ (nat_le most_fds (a0 a)) refl refl ∙ subst (λ m. a.drafts ≡ drafts_by_call i a a.hart.regs m) (sym (eqb-true n 17 e)) refl)
+    (λ _. draft_edits i a n))))))))))
 
 -- ---- an instruction
 
-need_edits : (i : Image) (ins : Instr) (a : ActorState) (h : Hart) (n : Need) → (needed i ins a h n).drafts ≡ drafts_by_need a n
+need_edits : (i : Image) (ins : Instr) (a : ActorState) (h : Hart) (n : Need) → (needed i ins a h n).drafts ≡ drafts_by_need i a n
 need_edits i ins a h need.Done = refl
 need_edits i ins a h (need.Load address width s) = load_stays i ins s a address width
 need_edits i ins a h (need.Store address width value) = store_stays i a address width value
@@ -218,17 +243,19 @@ need_edits i ins a h need.Call = call_edits i a (a7 a)
 need_edits i ins a h need.Break = refl
 need_edits i ins a h need.JumpMisaligned = refl
 
-instr_edits : (i : Image) (a : ActorState) (ins : Option Instr) → (executed i a ins).drafts ≡ drafts_by_instr a ins
+instr_edits : (i : Image) (a : ActorState) (ins : Option Instr) → (executed i a ins).drafts ≡ drafts_by_instr i a ins
 instr_edits i a None = refl
 instr_edits i a (Some ins) = need_edits i ins a (local ins a.hart).hart (local ins a.hart).need
 
-fuel_edits : (i : Image) (a : ActorState) (word n : ℕ) → (fuelled i a word n).drafts ≡ drafts_by_fuel a word n
-fuel_edits i a word zero = refl
-fuel_edits i a word (suc n) = instr_edits i (spends a 1) (decode word)
+fuel_edits : (i : Image) (a : ActorState) (word n : ℕ) → a.fuel ≡ n → (fuelled i a word n).drafts ≡ drafts_by_fuel i a word n
+fuel_edits i a word zero has = refl
+fuel_edits i a word (suc n) has =
+    let left : n ≡ a.fuel - 1 = omega (arith, has) in
+    subst (λ m. (executed i (record a { fuel = m }) (decode word)).drafts ≡ drafts_by_instr i (record a { fuel = n }) (decode word)) left (instr_edits i (record a { fuel = n }) (decode word))
 
-word_edits : (i : Image) (a : ActorState) (o : Option ℕ) → (fetched i a o).drafts ≡ drafts_by_word a o
+word_edits : (i : Image) (a : ActorState) (o : Option ℕ) → (fetched i a o).drafts ≡ drafts_by_word i a o
 word_edits i a None = refl
-word_edits i a (Some word) = fuel_edits i a word a.fuel
+word_edits i a (Some word) = fuel_edits i a word a.fuel refl
 
 pub step_edits : (i : Image) (a : ActorState) → (step i a).drafts ≡ drafts_after i a None
 unfolding step

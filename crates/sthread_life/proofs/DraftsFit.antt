@@ -27,7 +27,8 @@ use Rattle.sthread_life.specs.Calls.{a0}
 use Rattle.sthread_life.specs.Copying.{copy_grants}
 use Rattle.sthread_life.specs.Drafting.{edited, with_new, right_of_number, bits_of_number, drafts_by_call, drafts_by_need, drafts_by_instr, drafts_by_fuel, drafts_by_word, drafts_after}
 use Rattle.sthread_life.specs.Local.{is_running, step, run_local, rest}
-use Rattle.sthread_life.specs.Refusals.{bad, full, new_refusal, right_refusal, bits_refusal}
+use Rattle.sthread_life.specs.Refusals.{bad, full, new_refusal, right_refusal, bits_refusal, user_refusal, root_refusal}
+use Rattle.sthread_life.specs.Requests.{path_at}
 use Rattle.sthread_life.specs.Taking.{draft_at, copies_asked, takes}
 use Rattle.sthread_life.proofs.DraftEdits.{step_edits, event_edits}
 use Rattle.sthread_life.proofs.Resting.{stays, goes_on}
@@ -111,38 +112,50 @@ few_if : (t : Bool) (x y : List Draft) → AreFew x → AreFew y → AreFew (if 
 few_if true x y h k = h
 few_if false x y h k = k
 
-call_few : (ds : List Draft) (regs : List ℕ) (n : ℕ) → AreFew ds → AreFew (drafts_by_call ds regs n)
-call_few ds regs n all =
+-- another user or another root directory is no grant
+user_few : (d : Draft) (user : Option ℕ) → IsFew d → IsFew (record d { user = user })
+user_few d user f = record { few = f.few; tags = f.tags; fds = f.fds }
+
+root_few : (d : Draft) (root : Option (List ℕ)) → IsFew d → IsFew (record d { root = root })
+root_few d root f = record { few = f.few; tags = f.tags; fds = f.fds }
+
+call_few : (i : Image) (a : ActorState) (regs : List ℕ) (n : ℕ) → AreFew a.drafts → AreFew (drafts_by_call i a regs n)
+call_few i a regs n all =
+    let ds = a.drafts in
+    let found = slice_get a.drafts (reg regs 10) in
     few_if (n == 7) _ _ (with_new_few ds (new_refusal ds) all)
-    (few_if (n == 8) _ _ (edited_few ds (reg regs 10) (right_refusal (reg regs 11) (reg regs 12) (slice_get ds (reg regs 10))) _ (slice_get ds (reg regs 10))
+    (few_if (n == 8) _ _ (edited_few ds (reg regs 10) (right_refusal (reg regs 11) (reg regs 12) found) _ found
     (λ d there told. tag_few d (reg regs 11) (right_of_number (reg regs 12)) (right_allowed (reg regs 11) (reg regs 12) d (ap (right_refusal (reg regs 11) (reg regs 12)) (sym there) ∙ told)) (get_few ds (reg regs 10) d all there)) all)
-    (few_if (n == 9) _ ds (edited_few ds (reg regs 10) (bits_refusal (reg regs 11) (reg regs 12) (slice_get ds (reg regs 10))) _ (slice_get ds (reg regs 10))
-    (λ d there told. fd_few d (reg regs 11) (bits_of_number (reg regs 12)) (bits_allowed (reg regs 11) (reg regs 12) d (ap (bits_refusal (reg regs 11) (reg regs 12)) (sym there) ∙ told)) (get_few ds (reg regs 10) d all there)) all) all))
+    (few_if (n == 9) _ _ (edited_few ds (reg regs 10) (bits_refusal (reg regs 11) (reg regs 12) found) _ found
+    (λ d there told. fd_few d (reg regs 11) (bits_of_number (reg regs 12)) (bits_allowed (reg regs 11) (reg regs 12) d (ap (bits_refusal (reg regs 11) (reg regs 12)) (sym there) ∙ told)) (get_few ds (reg regs 10) d all there)) all)
+    (few_if (n == 11) _ _ (edited_few ds (reg regs 10) (user_refusal found) _ found (λ d there told. user_few d (Some (reg regs 11)) (get_few ds (reg regs 10) d all there)) all)
+    (few_if (n == 12) _ ds (edited_few ds (reg regs 10) (root_refusal a (reg regs 12) (path_at i a (reg regs 11) (reg regs 12)) found) _ found
+    (λ d there told. root_few d (path_at i a (reg regs 11) (reg regs 12)) (get_few ds (reg regs 10) d all there)) all) all))))
 
-need_few : (a : ActorState) (n : Need) → AreFew a.drafts → AreFew (drafts_by_need a n)
-need_few a need.Call all = call_few a.drafts a.hart.regs (reg a.hart.regs 17) all
-need_few a need.Done all = all
-need_few a (need.Load address width s) all = all
-need_few a (need.Store address width value) all = all
-need_few a need.Break all = all
-need_few a need.JumpMisaligned all = all
+need_few : (i : Image) (a : ActorState) (n : Need) → AreFew a.drafts → AreFew (drafts_by_need i a n)
+need_few i a need.Call all = call_few i a a.hart.regs (reg a.hart.regs 17) all
+need_few i a need.Done all = all
+need_few i a (need.Load address width s) all = all
+need_few i a (need.Store address width value) all = all
+need_few i a need.Break all = all
+need_few i a need.JumpMisaligned all = all
 
-instr_few : (a : ActorState) (o : Option Instr) → AreFew a.drafts → AreFew (drafts_by_instr a o)
-instr_few a None all = all
-instr_few a (Some ins) all = need_few a (local ins a.hart).need all
+instr_few : (i : Image) (a : ActorState) (o : Option Instr) → AreFew a.drafts → AreFew (drafts_by_instr i a o)
+instr_few i a None all = all
+instr_few i a (Some ins) all = need_few i a (local ins a.hart).need all
 
-fuel_few : (a : ActorState) (word n : ℕ) → AreFew a.drafts → AreFew (drafts_by_fuel a word n)
-fuel_few a word zero all = all
-fuel_few a word (suc n) all = instr_few a (decode word) all
+fuel_few : (i : Image) (a : ActorState) (word n : ℕ) → AreFew a.drafts → AreFew (drafts_by_fuel i a word n)
+fuel_few i a word zero all = all
+fuel_few i a word (suc n) all = instr_few i (record a { fuel = n }) (decode word) all
 
-word_few : (a : ActorState) (o : Option ℕ) → AreFew a.drafts → AreFew (drafts_by_word a o)
-word_few a None all = all
-word_few a (Some word) all = fuel_few a word a.fuel all
+word_few : (i : Image) (a : ActorState) (o : Option ℕ) → AreFew a.drafts → AreFew (drafts_by_word i a o)
+word_few i a None all = all
+word_few i a (Some word) all = fuel_few i a word a.fuel all
 
 -- ---- an instruction, a rest and an event
 
 step_few : (i : Image) (a : ActorState) → AreFew a.drafts → AreFew (step i a).drafts
-step_few i a all = subst AreFew (sym (step_edits i a)) (word_few a (fetch i a.hart.pc) all)
+step_few i a all = subst AreFew (sym (step_edits i a)) (word_few i a (fetch i a.hart.pc) all)
 
 run_few : (i : Image) (n : ℕ) (a : ActorState) (t : Bool) → is_running a.phase ≡ t → AreFew a.drafts → AreFew (run_local i n a).drafts
 run_few i n a false e all = subst (λ (x : ActorState). AreFew x.drafts) (sym (stays i n a e)) all

@@ -31,7 +31,7 @@ use Rattle.wedge_base.specs.declared.rights.Right.TheVariants as right
 use Rattle.wedge_base.specs.declared.rights.FdBits.{FdBits}
 use Rattle.wedge_base.specs.declared.rights.Right.{Right}
 use Rattle.sthread_life.specs.Children.{is_child}
-use Rattle.sthread_life.specs.Calls.{serves, exit, is_procedure, create, create_with, create_checked, create_allowed, join, are_pages, tag_new, tag_delete, smalloc, free_at, sfree, fd_read, fd_append, fd_close, most_drafts, sc_new, right_asked, bits_asked, add_right, add_right_to, sc_mem_add, add_bits, add_bits_to, sc_fd_add, draft_call, a0, a1, a2, a3, a7}
+use Rattle.sthread_life.specs.Calls.{serves, exit, is_procedure, create, create_with, create_checked, create_allowed, join, are_pages, tag_new, tag_delete, smalloc, free_at, sfree, fd_read, fd_append, fd_close, most_drafts, sc_new, right_asked, bits_asked, add_right, add_right_to, sc_mem_add, add_bits, add_bits_to, sc_fd_add, draft_call, a0, a1, a2, a3, a7, set_user, sc_user, path_in, put_root, set_root, sc_root}
 use Rattle.sthread_life.specs.Local.{needed, executed, fuelled, fetched, step, is_running}
 use Rattle.sthread_life.specs.Worlds.{WorldState, actor_named, put_actor}
 use Rattle.sthread_life.specs.Moments.{with_actor}
@@ -117,11 +117,25 @@ next_bits_to : (a : ActorState) (d : Option Draft) → IsNext a.hart (add_bits_t
 next_bits_to a None = (λ e. refl, λ e. absurd cc)
 next_bits_to a (Some d) = next_bits a d (bits_asked (a2 a))
 
-next_draft : (a : ActorState) (n : ℕ) → IsNext a.hart (draft_call a n)
-next_draft a n =
+next_user : (a : ActorState) (d : Option Draft) → IsNext a.hart (set_user a d)
+next_user a None = (λ e. refl, λ e. absurd cc)
+next_user a (Some d) = (λ e. refl, λ e. absurd cc)
+
+next_path : (a : ActorState) (d : Draft) (path : Option (List ℕ)) → IsNext a.hart (put_root a d path)
+next_path a d None = (λ e. refl, λ e. absurd cc)
+next_path a d (Some path) = next_if a.hart (refuses a code.FuelShort) _ (nat_lt a.fuel (a2 a)) (λ e. refl, λ e. absurd cc) (λ e. refl, λ e. absurd cc)
+
+next_root : (a : ActorState) (path : Option (List ℕ)) (d : Option Draft) → IsNext a.hart (set_root a path d)
+next_root a path None = (λ e. refl, λ e. absurd cc)
+next_root a path (Some d) = next_path a d path
+
+next_draft : (i : Image) (a : ActorState) (n : ℕ) → IsNext a.hart (draft_call i a n)
+next_draft i a n =
     next_if a.hart (sc_new a) _ (n == 7) (next_if a.hart (refuses a code.Full) _ (nat_le most_drafts (length a.drafts)) (λ e. refl, λ e. absurd cc) (λ e. refl, λ e. absurd cc))
     (next_if a.hart (sc_mem_add a) _ (n == 8) (next_right_to a (slice_get a.drafts (a0 a)))
-    (next_if a.hart (sc_fd_add a) _ (n == 9) (next_bits_to a (slice_get a.drafts (a0 a))) (λ e. refl, λ e. absurd cc)))
+    (next_if a.hart (sc_fd_add a) _ (n == 9) (next_bits_to a (slice_get a.drafts (a0 a)))
+    (next_if a.hart (sc_user a) _ (n == 11) (next_user a (slice_get a.drafts (a0 a)))
+    (next_if a.hart (sc_root i a) _ (n == 12) (next_root a (path_in i a (a1 a) (a2 a)) (slice_get a.drafts (a0 a))) (λ e. refl, λ e. absurd cc)))))
 
 next_allowed : (a : ActorState) → IsNext a.hart (create_allowed a)
 next_allowed a =
@@ -160,7 +174,7 @@ next_call i a n =
     (next_if a.hart (sfree a) _ (n == 6) (next_free a (slot_of (a0 a)))
     (next_if a.hart (fd_read a) _ (n == 15) (next_read a)
     (next_if a.hart (fd_append i a) _ (n == 16) (next_append i a)
-    (next_if a.hart (fd_close a) _ (n == 17) (next_if a.hart (refuses a code.NoSuch) _ (nat_le most_fds (a0 a)) (λ e. refl, λ e. absurd cc) (λ e. absurd cc, λ e. refl)) (next_draft a n))))))))))
+    (next_if a.hart (fd_close a) _ (n == 17) (next_if a.hart (refuses a code.NoSuch) _ (nat_le most_fds (a0 a)) (λ e. refl, λ e. absurd cc) (λ e. absurd cc, λ e. refl)) (next_draft i a n))))))))))
 
 -- the actor that was put is at the next word if it runs
 pub put_next : (w : WorldState) (b x a : ActorState) → actor_named w.actors b.name ≡ Some a → x.name ≡ b.name → IsNext b.hart x

@@ -52,7 +52,7 @@ use Rattle.sthread_life.proofs.Reading.{read_remembers}
 use Rattle.sthread_life.specs.Cells.{Cells, stream_in}
 use Rattle.sthread_life.specs.Worlds.{WorldState}
 use Rattle.sthread_life.proofs.WritingCopies.{copied_there}
-use Rattle.sthread_life.specs.Calls.{serves, exit, is_procedure, create, create_with, create_checked, join, are_pages, tag_new, tag_delete, smalloc, free_at, sfree, fd_read, fd_append, fd_close, most_drafts, sc_new, right_asked, bits_asked, add_right, add_right_to, sc_mem_add, add_bits, add_bits_to, sc_fd_add, draft_call, a0, a1, a2, a3, a7}
+use Rattle.sthread_life.specs.Calls.{serves, exit, is_procedure, create, create_with, create_checked, join, are_pages, tag_new, tag_delete, smalloc, free_at, sfree, fd_read, fd_append, fd_close, most_drafts, sc_new, right_asked, bits_asked, add_right, add_right_to, sc_mem_add, add_bits, add_bits_to, sc_fd_add, draft_call, a0, a1, a2, a3, a7, set_user, sc_user, path_in, put_root, set_root, sc_root}
 use Rattle.sthread_life.specs.Local.{needed, executed, fuelled, fetched, step}
 use Rattle.sthread_life.specs.Taking.{runs, loads_by, loads_at, takes}
 use Rattle.sthread_life.specs.Remembering.{copied_bytes, copy_target, target_among, Elsewhere, LoadGives, StoreWrites, NeedRemembers, InstrRemembers, WordRemembers, EventRemembers, memory_after}
@@ -144,11 +144,25 @@ bits_to_keep : (a : ActorState) (d : Option Draft) → Keeps a (add_bits_to a d)
 bits_to_keep a None = refl
 bits_to_keep a (Some d) = bits_keep a d (bits_asked (a2 a))
 
-draft_keeps : (a : ActorState) (n : ℕ) → Keeps a (draft_call a n)
-draft_keeps a n =
+user_keeps : (a : ActorState) (d : Option Draft) → Keeps a (set_user a d)
+user_keeps a None = refl
+user_keeps a (Some d) = refl
+
+path_keeps : (a : ActorState) (d : Draft) (path : Option (List ℕ)) → Keeps a (put_root a d path)
+path_keeps a d None = refl
+path_keeps a d (Some path) = keeps_if a (refuses a code.FuelShort) _ (nat_lt a.fuel (a2 a)) refl refl
+
+root_keeps : (a : ActorState) (path : Option (List ℕ)) (d : Option Draft) → Keeps a (set_root a path d)
+root_keeps a path None = refl
+root_keeps a path (Some d) = path_keeps a d path
+
+draft_keeps : (i : Image) (a : ActorState) (n : ℕ) → Keeps a (draft_call i a n)
+draft_keeps i a n =
     keeps_if a (sc_new a) _ (n == 7) (keeps_if a (refuses a code.Full) _ (nat_le most_drafts (length a.drafts)) refl refl)
     (keeps_if a (sc_mem_add a) _ (n == 8) (right_to_keeps a (slice_get a.drafts (a0 a)))
-    (keeps_if a (sc_fd_add a) _ (n == 9) (bits_to_keep a (slice_get a.drafts (a0 a))) refl))
+    (keeps_if a (sc_fd_add a) _ (n == 9) (bits_to_keep a (slice_get a.drafts (a0 a)))
+    (keeps_if a (sc_user a) _ (n == 11) (user_keeps a (slice_get a.drafts (a0 a)))
+    (keeps_if a (sc_root i a) _ (n == 12) (root_keeps a (path_in i a (a1 a) (a2 a)) (slice_get a.drafts (a0 a))) refl))))
 
 create_keeps : (i : Image) (a : ActorState) (d : Option Draft) → Keeps a (create_with i a d)
 create_keeps i a None = refl
@@ -180,7 +194,7 @@ call_keeps i a n =
     (keeps_if a (sfree a) _ (n == 6) (free_keeps a (slot_of (a0 a)))
     (keeps_if a (fd_read a) _ (n == 15) (read_keeps a)
     (keeps_if a (fd_append i a) _ (n == 16) (append_keeps i a)
-    (keeps_if a (fd_close a) _ (n == 17) (keeps_if a (refuses a code.NoSuch) _ (nat_le most_fds (a0 a)) refl refl) (draft_keeps a n))))))))))
+    (keeps_if a (fd_close a) _ (n == 17) (keeps_if a (refuses a code.NoSuch) _ (nat_le most_fds (a0 a)) refl refl) (draft_keeps i a n))))))))))
 
 -- an instruction
 need_remembers : (i : Image) (ins : Instr) (a : ActorState) (h : Hart) (n : Need) → NeedRemembers i ins.rd a n (needed i ins a h n)

@@ -7,6 +7,7 @@ pub mod Resting
 pub mod Directing
 pub mod Between
 pub mod Named
+pub mod Buffers
 pub mod StreamCalls
 pub mod Meeting
 pub mod Happening

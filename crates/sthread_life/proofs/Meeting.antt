@@ -28,7 +28,7 @@ use Rattle.rv_hart.specs.declared.Need.TheVariants as need
 use Rattle.rv_hart.specs.Local.{local}
 use Rattle.sthread_life.specs.declared.phase.Phase.{Phase}
 use Rattle.sthread_life.specs.declared.phase.Phase.TheVariants as phase
-use Rattle.sthread_life.specs.Actors.{ActorState, answers, bits_of, slot_held, code_number, denies, ends, refuses, wants}
+use Rattle.sthread_life.specs.Actors.{ActorState, answers, bits_of, slot_held, code_number, denies, ends, refuses, wants, spends}
 use Rattle.cow_pages.specs.Copies.{copy_at, holds_copy}
 use Rattle.sthread_life.specs.Private.{load_bytes, load_copy, load_window, load_range, store_copy, store_window, store_range, has_loaded, fits_read, fits_write, buffer, buffer_in}
 use Rattle.wedge_base.specs.Sheets.{Draft, empty_draft, takes_tag, takes_fd, first_excess}
@@ -38,12 +38,13 @@ use Rattle.wedge_base.specs.declared.rights.Denial.{Denial}
 use Rattle.wedge_base.specs.declared.rights.Denial.TheVariants as denial
 use Rattle.wedge_base.specs.declared.cells.LivesAsk.TheVariants as lives_ask
 use Rattle.wedge_base.specs.declared.rights.Right.TheVariants as right
-use Rattle.sthread_life.specs.Calls.{serves, is_procedure, create_with, create_checked, create_allowed, are_pages, free_at, fd_read, fd_append, fd_close, sc_new, add_right, add_right_to, sc_mem_add, add_bits, add_bits_to, sc_fd_add, bits, a0, a1, a2, a3, a7}
+use Rattle.sthread_life.proofs.Buffers.{buffer_is, path_is}
+use Rattle.sthread_life.specs.Calls.{serves, is_procedure, create_with, create_checked, create_allowed, are_pages, free_at, fd_read, fd_append, fd_close, sc_new, add_right, add_right_to, sc_mem_add, add_bits, add_bits_to, sc_fd_add, bits, a0, a1, a2, a3, a7, set_user, sc_user, path_in, put_root, set_root, sc_root, draft_call}
 use Rattle.sthread_life.specs.Local.{needed, executed, fuelled, fetched, step, is_running, run_local, rest}
 use Rattle.sthread_life.proofs.Resting.{stays, goes_on, running_is}
 use Rattle.sthread_life.proofs.StreamCalls.{stream_request, stream_refusal, IsStreamRequest, request_at_phase, refusal_at_phase, stream_event}
 use Rattle.sthread_life.specs.Cells.{Cells, slot_in, stream_in}
-use Rattle.sthread_life.specs.Refusals.{fuel_short, full, deep, no_such, bad, start_refusal, create_refusal, pages_refusal, address_refusal, life_refusal, slots_refusal, close_refusal, place_refusal, block_refusal, free_refusal, call_refusal, call_refusal_after, new_refusal, right_refusal, bits_refusal, transfer_refusal, number_refusal, read_refusal, append_refusal, need_refusal, instr_refusal, word_refusal, refusal_at, read_refusal_after, append_refusal_after, stream_close_refusal, need_refusal_after, instr_refusal_after, word_refusal_after, refusal_after, refused}
+use Rattle.sthread_life.specs.Refusals.{fuel_short, full, deep, no_such, bad, start_refusal, create_refusal, pages_refusal, address_refusal, life_refusal, slots_refusal, close_refusal, place_refusal, block_refusal, free_refusal, call_refusal, call_refusal_after, new_refusal, right_refusal, bits_refusal, transfer_refusal, number_refusal, read_refusal, append_refusal, need_refusal, instr_refusal, word_refusal, refusal_at, read_refusal_after, append_refusal_after, stream_close_refusal, need_refusal_after, instr_refusal_after, word_refusal_after, refusal_after, refused, user_refusal, root_refusal, draft_refusal}
 use Rattle.sthread_life.specs.Requests.{Access, Request, Loads, Stores, Reads, Appends, Closes, Creates, Deletes, Allots, Frees, create_of, in_tag, in_window, bytes_in_range, bytes_at, in_stream, is_room, read_of, append_of, close_of, free_of, call_request, needed_request, instr_request, word_request, request_at}
 use Rattle.sthread_life.specs.Allowed.{may_use, lacks, is_refused, is_checked_at_event, denied as denied_of}
 use Rattle.sthread_life.specs.Children.{is_child}
@@ -283,14 +284,6 @@ store_comes N a address width value true false None run = store_window_comes N a
 
 -- ---- calls on streams
 
--- the buffer that fits, in the two words for it
-buffers : (i : Image) (pointer n : ℕ) (t u : Bool) (r : Option MemoryRange)
-    → (if not t then None else if u then Some [] else bytes_in_range i pointer n r) ≡ (if t && (u || is_some r || in_text i pointer n) then Some (if u then [] else buffer_in i pointer n r) else None)
-buffers i pointer n false u r = refl
-buffers i pointer n true true r = refl
-buffers i pointer n true false (Some r) = refl
-buffers i pointer n true false None = refl
-
 not_below : (m n : ℕ) → nat_le n m ≡ not (nat_lt m n)
 not_below m n = grind (arith, nat_tests)
 
@@ -358,13 +351,13 @@ append_comes : (N : ℕ → Bool → ℕ → Type 0) (i : Image) (a : ActorState
 append_comes N i a =
     let t = fits_read i a (a1 a) (a2 a) in
     let bytes = buffer i a (a1 a) (a2 a) in
-    let buffer_is = buffers i (a1 a) (a2 a) (nat_le (a2 a) 256) (a2 a == 0) (range_at a.memory.ranges (a1 a) (a2 a)) in
+    let fits = buffer_is i a (a1 a) (a2 a) in
     comes_as N a _ _ _ None _ _ (fd_append i a)
-    (λ c. ap (append_of c a (a0 a) (a2 a)) buffer_is
+    (λ c. ap (append_of c a (a0 a) (a2 a)) fits
     ∙ append_told c a (a0 a) (a2 a) bytes t _ _ (not_below a.fuel (a2 a)) (not_above (a0 a)))
-    (ap (append_refusal a (a0 a) (a2 a)) buffer_is
+    (ap (append_refusal a (a0 a) (a2 a)) fits
     ∙ append_coded a (a0 a) (a2 a) bytes t _ _ (not_below a.fuel (a2 a)) (not_above (a0 a)))
-    (transfer_comes N a (a0 a) (stream_ask.Append (bits_of a (a0 a)) bytes) t (nat_lt a.fuel (a2 a)) (nat_le most_fds (a0 a)) (λ fits paid. (refl, enough a.fuel (a2 a) paid)))
+    (transfer_comes N a (a0 a) (stream_ask.Append (bits_of a (a0 a)) bytes) t (nat_lt a.fuel (a2 a)) (nat_le most_fds (a0 a)) (λ inside paid. (refl, enough a.fuel (a2 a) paid)))
 
 -- closes
 close_comes : (N : ℕ → Bool → ℕ → Type 0) (a : ActorState) → Comes N a (λ c. close_of c (a0 a)) (λ c. stream_close_refusal (stream_in c (a0 a))) None (number_refusal (a0 a)) (fd_close a)
@@ -414,16 +407,32 @@ bits_to_comes : (N : ℕ → Bool → ℕ → Type 0) (a : ActorState) (d : Opti
 bits_to_comes N a None = comes_refused N a _ _ code.NoSuch (λ c. refl)
 bits_to_comes N a (Some d) = bits_comes N a d (a2 a == 1) (a2 a == 2) (a2 a == 3)
 
-draft_comes : (N : ℕ → Bool → ℕ → Type 0) (a : ActorState) (n : ℕ) (t u v : Bool)
-    → AsDraft N a (if t then new_refusal a.drafts else if u then right_refusal (a1 a) (a2 a) (slice_get a.drafts (a0 a)) else if v then bits_refusal (a1 a) (a2 a) (slice_get a.drafts (a0 a)) else Some bad)
-    (if t then sc_new a else if u then sc_mem_add a else if v then sc_fd_add a else refuses a code.Bad)
-draft_comes N a n true u v = new_comes N a (length a.drafts) (nat_le 64 (length a.drafts)) (not_over (length a.drafts))
+user_comes : (N : ℕ → Bool → ℕ → Type 0) (a : ActorState) (d : Option Draft) → AsDraft N a (user_refusal d) (set_user a d)
+user_comes N a None = comes_refused N a _ _ code.NoSuch (λ c. refl)
+user_comes N a (Some d) = drafted_comes N a _ 0
+
+path_comes : (N : ℕ → Bool → ℕ → Type 0) (a : ActorState) (ds : List Draft) (t : Bool) → nat_le (a2 a) a.fuel ≡ not t
+    → AsDraft N a (if nat_le (a2 a) a.fuel then None else Some fuel_short) (if t then refuses a code.FuelShort else answers (spends (record a { drafts = ds }) (a2 a)) 0)
+path_comes N a ds true e = rw e (comes_refused N a _ _ code.FuelShort (λ c. refl))
+path_comes N a ds false e = rw e (record { name = refl; quiet = λ c h. refl; met = λ c r h. absurd cc; ends = refl; wants = tt; codes = λ n h. absurd cc })
+
+root_comes : (N : ℕ → Bool → ℕ → Type 0) (a : ActorState) (path : Option (List ℕ)) (d : Option Draft) → AsDraft N a (root_refusal a (a2 a) path d) (set_root a path d)
+root_comes N a path None = comes_refused N a _ _ code.NoSuch (λ c. refl)
+root_comes N a None (Some d) = comes_refused N a _ _ code.Bad (λ c. refl)
+root_comes N a (Some path) (Some d) = path_comes N a _ (nat_lt a.fuel (a2 a)) (not_below a.fuel (a2 a))
+
+draft_comes : (N : ℕ → Bool → ℕ → Type 0) (i : Image) (a : ActorState) (n : ℕ) → AsDraft N a (draft_refusal i a a.hart.regs n) (draft_call i a n)
+draft_comes N i a n =
+    let found = slice_get a.drafts (a0 a) in
+    as_if N a _ _ (sc_new a) _ (n == 7) (new_comes N a (length a.drafts) (nat_le 64 (length a.drafts)) (not_over (length a.drafts)))
+    (as_if N a _ _ (sc_mem_add a) _ (n == 8) (right_to_comes N a found)
+    (as_if N a _ _ (sc_fd_add a) _ (n == 9) (bits_to_comes N a found)
+    (as_if N a _ _ (sc_user a) _ (n == 11) (user_comes N a found)
+    (as_if N a _ (Some bad) (sc_root i a) (refuses a code.Bad) (n == 12)
+    (subst (λ told. AsDraft N a (root_refusal a (a2 a) told found) (sc_root i a)) (sym (path_is i a (a1 a) (a2 a))) (root_comes N a (path_in i a (a1 a) (a2 a)) found)) (comes_refused N a _ _ code.Bad (λ c. refl))))))
   where
     not_over : (n : ℕ) → nat_lt n 64 ≡ not (nat_le 64 n)
     not_over n = grind (arith, nat_tests)
-draft_comes N a n false true v = right_to_comes N a (slice_get a.drafts (a0 a))
-draft_comes N a n false false true = bits_to_comes N a (slice_get a.drafts (a0 a))
-draft_comes N a n false false false = comes_refused N a _ _ code.Bad (λ c. refl)
 
 -- the call that starts a child: it is checked at once
 not_over_32 : (n : ℕ) → nat_lt n 32 ≡ not (nat_le 32 n)
@@ -634,7 +643,7 @@ call_comes N i a n = by_0 (n == 0) refl
 
     by_17 : (t : Bool) → (n == 17) ≡ t → (n == 0) ≡ false → (n == 1) ≡ false → (n == 2) ≡ false → (n == 3) ≡ false → (n == 4) ≡ false → (n == 5) ≡ false → (n == 6) ≡ false → (n == 15) ≡ false → (n == 16) ≡ false → CallComes N i a n
     by_17 true e e0 e1 e2 e3 e4 e5 e6 e15 e16 = at 17 e (close_comes N a)
-    by_17 false e e0 e1 e2 e3 e4 e5 e6 e15 e16 = rw (e0, e1, e2, e3, e4, e5, e6, e15, e16, e) (draft_comes N a n (n == 7) (n == 8) (n == 9))
+    by_17 false e e0 e1 e2 e3 e4 e5 e6 e15 e16 = rw (e0, e1, e2, e3, e4, e5, e6, e15, e16, e) (draft_comes N i a n)
 
     by_16 : (t : Bool) → (n == 16) ≡ t → (n == 0) ≡ false → (n == 1) ≡ false → (n == 2) ≡ false → (n == 3) ≡ false → (n == 4) ≡ false → (n == 5) ≡ false → (n == 6) ≡ false → (n == 15) ≡ false → CallComes N i a n
     by_16 true e e0 e1 e2 e3 e4 e5 e6 e15 = at 16 e (append_comes N i a)

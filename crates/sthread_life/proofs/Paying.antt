@@ -1,5 +1,5 @@
 -- What each moment costs is paid.
-use Rattle.std.proofs.Common.{◌≡◌, ℕ, zero, suc, ◌+◌, ◌≤◌, List, refl, sym, subst, arith}
+use Rattle.std.proofs.Common.{◌≡◌, ℕ, zero, suc, ◌+◌, ◌-◌, ◌≤◌, List, refl, sym, subst, arith}
 use Rattle.std.specs.Prelude.{Option, Some, None, option_and_then, length, take, drop}
 use Rattle.std.proofs.lemmas.List.{length-take}
 use Rattle.wedge_base.specs.Streams.{Stream, stream_reply as stream_reply_of}
@@ -30,10 +30,10 @@ use Rattle.sthread_life.specs.Actors.{ActorState, spends}
 use Rattle.sthread_life.specs.Calls.{a2, a3}
 use Rattle.sthread_life.specs.Children.{without_child}
 use Rattle.sthread_life.specs.Cells.{Cells, stream_in}
-use Rattle.sthread_life.specs.Local.{fuelled, fetched, step}
+use Rattle.sthread_life.specs.Local.{executed, fuelled, fetched, step}
 use Rattle.sthread_life.specs.Taking.{runs, answered_end, takes}
 use Rattle.sthread_life.specs.Worlds.{WorldState}
-use Rattle.sthread_life.specs.Paying.{cost_of_word, cost_at, cost_by, given_by, brought_by}
+use Rattle.sthread_life.specs.Paying.{instr_cost, cost_of_word, cost_at, cost_by, given_by, brought_by}
 use Rattle.sthread_life.proofs.Resting.{goes_executed}
 use Rattle.cow_pages.specs.Listed.{bytes_listed}
 use Rattle.sthread_life.proofs.Between.{event_for, loads_fuel, joined_is, snapped_is}
@@ -43,11 +43,15 @@ use Rattle.sthread_life.proofs.StreamCalls.{IsStreamRequest, read_cases, append_
 
 -- ---- an instruction
 
-fuelled_pays : (i : Image) (a : ActorState) (word n : ℕ) → a.fuel ≡ n → (fuelled i a word n).fuel + cost_of_word (Some word) n ≡ a.fuel
+fuelled_pays : (i : Image) (a : ActorState) (word n : ℕ) → a.fuel ≡ n → (fuelled i a word n).fuel + cost_of_word i a (Some word) n ≡ a.fuel
 fuelled_pays i a word zero has = omega arith
-fuelled_pays i a word (suc n) has = let keeps = (goes_executed i (spends a 1) (decode word)).fuel in omega (arith, keeps, has)
+fuelled_pays i a word (suc n) has =
+    let left : n ≡ a.fuel - 1 = omega (arith, has) in
+    let paid : (executed i (spends a 1) (decode word)).fuel + instr_cost i (record a { fuel = n }) (decode word) ≡ n =
+    subst (λ m. (executed i (record a { fuel = m }) (decode word)).fuel + instr_cost i (record a { fuel = n }) (decode word) ≡ n) left (goes_executed i (record a { fuel = n }) (decode word)).fuel in
+    omega (arith, paid, has)
 
-fetched_pays : (i : Image) (a : ActorState) (o : Option ℕ) → (fetched i a o).fuel + cost_of_word o a.fuel ≡ a.fuel
+fetched_pays : (i : Image) (a : ActorState) (o : Option ℕ) → (fetched i a o).fuel + cost_of_word i a o a.fuel ≡ a.fuel
 fetched_pays i a None = omega arith
 fetched_pays i a (Some word) = fuelled_pays i a word a.fuel refl
 

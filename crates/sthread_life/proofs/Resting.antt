@@ -1,6 +1,8 @@
 -- An actor at rest: it keeps its name, its sheet and what it made, it has paid for what it asks, and it does
 -- not run.
 use Rattle.std.proofs.Common.{◌≡◌, ℕ, zero, suc, ◌+◌, ◌<◌, ◌≤◌, Bool, true, false, refl, sym, ap, subst, ◌∙◌, arith}
+use Rattle.std.proofs.lemmas.Bool.Decides.{nat_tests}
+use Rattle.std.proofs.lemmas.Bool.{eqb-true}
 use Rattle.std.specs.Prelude.{Option, Some, None, not, ◌⊎◌, if◌then◌else◌, ◌==◌, nat_lt, nat_le, List, length, slice_get}
 use Rattle.std.proofs.Common.{inl, inr}
 use Rattle.wedge_base.specs.Images.{Image, fetch, in_text, read_text, slot_of}
@@ -35,7 +37,11 @@ use Rattle.wedge_base.specs.declared.rights.Right.TheVariants as right
 use Rattle.wedge_base.specs.declared.rights.FdBits.{FdBits}
 use Rattle.wedge_base.specs.declared.rights.Right.{Right}
 use Rattle.sthread_life.specs.Children.{is_child}
-use Rattle.sthread_life.specs.Calls.{serves, exit, is_procedure, create, create_with, create_checked, create_allowed, join, are_pages, tag_new, tag_delete, smalloc, free_at, sfree, fd_read, fd_append, fd_close, most_drafts, sc_new, right_asked, bits_asked, add_right, add_right_to, sc_mem_add, add_bits, add_bits_to, sc_fd_add, draft_call, a0, a1, a2, a3, a7}
+use Rattle.sthread_life.specs.Refusals.{fuel_short, root_refusal}
+use Rattle.sthread_life.specs.Requests.{path_at}
+use Rattle.sthread_life.specs.Paying.{unrefused, call_cost, need_cost, instr_cost}
+use Rattle.sthread_life.proofs.Buffers.{path_is}
+use Rattle.sthread_life.specs.Calls.{serves, exit, is_procedure, create, create_with, create_checked, create_allowed, join, are_pages, tag_new, tag_delete, smalloc, free_at, sfree, fd_read, fd_append, fd_close, most_drafts, sc_new, right_asked, bits_asked, add_right, add_right_to, sc_mem_add, add_bits, add_bits_to, sc_fd_add, draft_call, a0, a1, a2, a3, a7, set_user, sc_user, path_in, put_root, set_root, sc_root}
 use Rattle.sthread_life.specs.Local.{needed, executed, fuelled, fetched, step, is_running, has_ended, run_local, rest}
 
 -- no event is still to come of a call that had one
@@ -48,181 +54,220 @@ IsCalm (phase.Releasing slot) = ⊥
 IsCalm (phase.Ending e) = Unit {0}
 IsCalm (phase.Ended e) = Unit {0}
 
--- what the work of an instruction keeps, and how it leaves the actor
-pub record Goes (a b : ActorState) : Type 0 where
+-- what the work of an instruction keeps, what it costs beside its unit of fuel, and how it leaves the actor
+pub record Goes (cost : ℕ) (a b : ActorState) : Type 0 where
   pub name : b.name ≡ a.name
   pub compartment : b.compartment ≡ a.compartment
   pub sheet : b.sheet ≡ a.sheet
-  pub fuel : b.fuel ≡ a.fuel
+  pub fuel : b.fuel + cost ≡ a.fuel
   pub made : b.made ≡ a.made
   pub starts : b.starts ≡ a.starts
   pub unjoined : b.unjoined ≡ a.unjoined
   pub live : has_ended a.phase ≡ false → has_ended b.phase ≡ false
   pub calm : IsCalm a.phase → IsCalm b.phase
 
-goes_if : (a x y : ActorState) (b : Bool) → Goes a x → Goes a y → Goes a (if b then x else y)
+costs_nothing : (n : ℕ) → n + 0 ≡ n
+costs_nothing n = omega arith
+
+goes_if : (a x y : ActorState) (b : Bool) → Goes 0 a x → Goes 0 a y → Goes 0 a (if b then x else y)
 goes_if a x y true p q = p
 goes_if a x y false p q = q
 
-goes_end : (a : ActorState) (e : End) → Goes a (ends a e)
-goes_end a e = record { name = refl; compartment = refl; sheet = refl; fuel = refl; made = refl; starts = refl; unjoined = refl; live = λ h. refl; calm = λ h. tt }
+goes_end : (a : ActorState) (e : End) → Goes 0 a (ends a e)
+goes_end a e = record { name = refl; compartment = refl; sheet = refl; fuel = costs_nothing a.fuel; made = refl; starts = refl; unjoined = refl; live = λ h. refl; calm = λ h. tt }
 
-goes_refused : (a : ActorState) (c : Code) → Goes a (refuses a c)
-goes_refused a c = record { name = refl; compartment = refl; sheet = refl; fuel = refl; made = refl; starts = refl; unjoined = refl; live = λ h. refl; calm = λ h. tt }
+goes_refused : (a : ActorState) (c : Code) → Goes 0 a (refuses a c)
+goes_refused a c = record { name = refl; compartment = refl; sheet = refl; fuel = costs_nothing a.fuel; made = refl; starts = refl; unjoined = refl; live = λ h. refl; calm = λ h. tt }
 
-goes_loaded : (ins : Instr) (s : Bool) (a : ActorState) (width value : ℕ) → Goes a (has_loaded ins s a width value)
-goes_loaded ins s a width value = record { name = refl; compartment = refl; sheet = refl; fuel = refl; made = refl; starts = refl; unjoined = refl; live = λ h. h; calm = λ h. h }
+goes_loaded : (ins : Instr) (s : Bool) (a : ActorState) (width value : ℕ) → Goes 0 a (has_loaded ins s a width value)
+goes_loaded ins s a width value = record { name = refl; compartment = refl; sheet = refl; fuel = costs_nothing a.fuel; made = refl; starts = refl; unjoined = refl; live = λ h. h; calm = λ h. h }
 
-goes_load_bytes : (ins : Instr) (s : Bool) (a : ActorState) (width : ℕ) (o : Option (List ℕ)) → Goes a (load_bytes ins s a width o)
+goes_load_bytes : (ins : Instr) (s : Bool) (a : ActorState) (width : ℕ) (o : Option (List ℕ)) → Goes 0 a (load_bytes ins s a width o)
 goes_load_bytes ins s a width None = goes_end a end_.Unmapped
 goes_load_bytes ins s a width (Some bytes) = goes_loaded ins s a width (number_of bytes)
 
-goes_load_copy : (ins : Instr) (s : Bool) (a : ActorState) (width : ℕ) (p : Place) (o : Option (List ℕ)) → Goes a (load_copy ins s a width p o)
-goes_load_copy ins s a width p None = record { name = refl; compartment = refl; sheet = refl; fuel = refl; made = refl; starts = refl; unjoined = refl; live = λ h. refl; calm = λ h. tt }
+goes_load_copy : (ins : Instr) (s : Bool) (a : ActorState) (width : ℕ) (p : Place) (o : Option (List ℕ)) → Goes 0 a (load_copy ins s a width p o)
+goes_load_copy ins s a width p None = record { name = refl; compartment = refl; sheet = refl; fuel = costs_nothing a.fuel; made = refl; starts = refl; unjoined = refl; live = λ h. refl; calm = λ h. tt }
 goes_load_copy ins s a width p (Some bytes) = goes_load_bytes ins s a width (read_copy p.offset width bytes)
 
-goes_load_window : (ins : Instr) (s : Bool) (a : ActorState) (width : ℕ) (p : Option Place) → Goes a (load_window ins s a width p)
+goes_load_window : (ins : Instr) (s : Bool) (a : ActorState) (width : ℕ) (p : Option Place) → Goes 0 a (load_window ins s a width p)
 goes_load_window ins s a width None = goes_end a end_.Unmapped
 goes_load_window ins s a width (Some p) = goes_load_copy ins s a width p (copy_at a.memory.copies p.slot)
 
-goes_load_range : (ins : Instr) (s : Bool) (a : ActorState) (address width : ℕ) (r : Option MemoryRange) → Goes a (load_range ins s a address width r)
+goes_load_range : (ins : Instr) (s : Bool) (a : ActorState) (address width : ℕ) (r : Option MemoryRange) → Goes 0 a (load_range ins s a address width r)
 goes_load_range ins s a address width (Some r) = goes_loaded ins s a width (number_of (read_range r address width))
 goes_load_range ins s a address width None = goes_load_window ins s a width (slot_of address)
 
-goes_load : (i : Image) (ins : Instr) (s : Bool) (a : ActorState) (address width : ℕ) → Goes a (loads i ins s a address width)
+goes_load : (i : Image) (ins : Instr) (s : Bool) (a : ActorState) (address width : ℕ) → Goes 0 a (loads i ins s a address width)
 goes_load i ins s a address width =
     goes_if a (ends a end_.Misaligned) _ _ (goes_end a end_.Misaligned)
     (goes_if a (has_loaded ins s a width (number_of (read_text i address width))) _ (in_text i address width) (goes_loaded ins s a width (number_of (read_text i address width)))
     (goes_load_range ins s a address width (range_at a.memory.ranges address width)))
 
-goes_store_copy : (a : ActorState) (width value : ℕ) (p : Place) (o : Option (List ℕ)) → Goes a (store_copy a width value p o)
-goes_store_copy a width value p None = record { name = refl; compartment = refl; sheet = refl; fuel = refl; made = refl; starts = refl; unjoined = refl; live = λ h. refl; calm = λ h. tt }
+goes_store_copy : (a : ActorState) (width value : ℕ) (p : Place) (o : Option (List ℕ)) → Goes 0 a (store_copy a width value p o)
+goes_store_copy a width value p None = record { name = refl; compartment = refl; sheet = refl; fuel = costs_nothing a.fuel; made = refl; starts = refl; unjoined = refl; live = λ h. refl; calm = λ h. tt }
 goes_store_copy a width value p (Some bytes) =
-    goes_if a _ (ends a end_.Unmapped) (holds_copy p.offset width bytes) (record { name = refl; compartment = refl; sheet = refl; fuel = refl; made = refl; starts = refl; unjoined = refl; live = λ h. h; calm = λ h. h }) (goes_end a end_.Unmapped)
+    goes_if a _ (ends a end_.Unmapped) (holds_copy p.offset width bytes) (record { name = refl; compartment = refl; sheet = refl; fuel = costs_nothing a.fuel; made = refl; starts = refl; unjoined = refl; live = λ h. h; calm = λ h. h }) (goes_end a end_.Unmapped)
 
-goes_store_window : (a : ActorState) (width value : ℕ) (p : Option Place) → Goes a (store_window a width value p)
+goes_store_window : (a : ActorState) (width value : ℕ) (p : Option Place) → Goes 0 a (store_window a width value p)
 goes_store_window a width value None = goes_end a end_.Unmapped
 goes_store_window a width value (Some p) = goes_store_copy a width value p (copy_at a.memory.copies p.slot)
 
-goes_store_range : (a : ActorState) (address width value : ℕ) (r : Option MemoryRange) → Goes a (store_range a address width value r)
-goes_store_range a address width value (Some r) = record { name = refl; compartment = refl; sheet = refl; fuel = refl; made = refl; starts = refl; unjoined = refl; live = λ h. h; calm = λ h. h }
+goes_store_range : (a : ActorState) (address width value : ℕ) (r : Option MemoryRange) → Goes 0 a (store_range a address width value r)
+goes_store_range a address width value (Some r) = record { name = refl; compartment = refl; sheet = refl; fuel = costs_nothing a.fuel; made = refl; starts = refl; unjoined = refl; live = λ h. h; calm = λ h. h }
 goes_store_range a address width value None = goes_store_window a width value (slot_of address)
 
-goes_store : (i : Image) (a : ActorState) (address width value : ℕ) → Goes a (stores i a address width value)
+goes_store : (i : Image) (a : ActorState) (address width value : ℕ) → Goes 0 a (stores i a address width value)
 goes_store i a address width value =
     goes_if a (ends a end_.Misaligned) _ _ (goes_end a end_.Misaligned)
     (goes_if a (ends a end_.TextStore) _ (in_text i address width) (goes_end a end_.TextStore)
     (goes_store_range a address width value (range_at a.memory.ranges address width)))
 
-goes_append : (i : Image) (a : ActorState) → Goes a (fd_append i a)
+goes_append : (i : Image) (a : ActorState) → Goes 0 a (fd_append i a)
 goes_append i a =
     goes_if a (refuses a code.Bad) _ (not (fits_read i a (a1 a) (a2 a))) (goes_refused a code.Bad)
     (goes_if a (refuses a code.FuelShort) _ (nat_lt a.fuel (a2 a)) (goes_refused a code.FuelShort)
     (goes_if a (refuses a code.NoSuch) _ (nat_le most_fds (a0 a)) (goes_refused a code.NoSuch)
-    (record { name = refl; compartment = refl; sheet = refl; fuel = refl; made = refl; starts = refl; unjoined = refl; live = λ h. refl; calm = λ h. tt })))
+    (record { name = refl; compartment = refl; sheet = refl; fuel = costs_nothing a.fuel; made = refl; starts = refl; unjoined = refl; live = λ h. refl; calm = λ h. tt })))
 
-goes_read : (a : ActorState) → Goes a (fd_read a)
+goes_read : (a : ActorState) → Goes 0 a (fd_read a)
 goes_read a =
     goes_if a (refuses a code.Bad) _ (not (fits_write a (a1 a) (a2 a))) (goes_refused a code.Bad)
     (goes_if a (refuses a code.FuelShort) _ (nat_lt a.fuel (a2 a)) (goes_refused a code.FuelShort)
     (goes_if a (refuses a code.NoSuch) _ (nat_le most_fds (a0 a)) (goes_refused a code.NoSuch)
-    (record { name = refl; compartment = refl; sheet = refl; fuel = refl; made = refl; starts = refl; unjoined = refl; live = λ h. refl; calm = λ h. tt })))
+    (record { name = refl; compartment = refl; sheet = refl; fuel = costs_nothing a.fuel; made = refl; starts = refl; unjoined = refl; live = λ h. refl; calm = λ h. tt })))
 
-goes_close : (a : ActorState) → Goes a (fd_close a)
+goes_close : (a : ActorState) → Goes 0 a (fd_close a)
 goes_close a =
     goes_if a (refuses a code.NoSuch) _ (nat_le most_fds (a0 a)) (goes_refused a code.NoSuch)
-    (record { name = refl; compartment = refl; sheet = refl; fuel = refl; made = refl; starts = refl; unjoined = refl; live = λ h. refl; calm = λ h. tt })
+    (record { name = refl; compartment = refl; sheet = refl; fuel = costs_nothing a.fuel; made = refl; starts = refl; unjoined = refl; live = λ h. refl; calm = λ h. tt })
 
 -- an answer to a call, with other drafts
-goes_drafted : (a : ActorState) (ds : List Draft) (value : ℕ) → Goes a (answers (record a { drafts = ds }) value)
-goes_drafted a ds value = record { name = refl; compartment = refl; sheet = refl; fuel = refl; made = refl; starts = refl; unjoined = refl; live = λ h. refl; calm = λ h. tt }
+goes_drafted : (a : ActorState) (ds : List Draft) (value : ℕ) → Goes 0 a (answers (record a { drafts = ds }) value)
+goes_drafted a ds value = record { name = refl; compartment = refl; sheet = refl; fuel = costs_nothing a.fuel; made = refl; starts = refl; unjoined = refl; live = λ h. refl; calm = λ h. tt }
 
-goes_right : (a : ActorState) (d : Draft) (r : Option Right) → Goes a (add_right a d r)
+goes_right : (a : ActorState) (d : Draft) (r : Option Right) → Goes 0 a (add_right a d r)
 goes_right a d None = goes_refused a code.Bad
 goes_right a d (Some r) = goes_if a _ (refuses a code.Full) (takes_tag d (a1 a)) (goes_drafted a _ 0) (goes_refused a code.Full)
 
-goes_right_to : (a : ActorState) (d : Option Draft) → Goes a (add_right_to a d)
+goes_right_to : (a : ActorState) (d : Option Draft) → Goes 0 a (add_right_to a d)
 goes_right_to a None = goes_refused a code.NoSuch
 goes_right_to a (Some d) = goes_right a d (right_asked (a2 a))
 
-goes_bits : (a : ActorState) (d : Draft) (b : Option FdBits) → Goes a (add_bits a d b)
+goes_bits : (a : ActorState) (d : Draft) (b : Option FdBits) → Goes 0 a (add_bits a d b)
 goes_bits a d None = goes_refused a code.Bad
 goes_bits a d (Some b) = goes_if a _ (refuses a code.Full) (takes_fd d (a1 a)) (goes_drafted a _ 0) (goes_refused a code.Full)
 
-goes_bits_to : (a : ActorState) (d : Option Draft) → Goes a (add_bits_to a d)
+goes_bits_to : (a : ActorState) (d : Option Draft) → Goes 0 a (add_bits_to a d)
 goes_bits_to a None = goes_refused a code.NoSuch
 goes_bits_to a (Some d) = goes_bits a d (bits_asked (a2 a))
 
-goes_draft : (a : ActorState) (n : ℕ) → Goes a (draft_call a n)
-goes_draft a n =
-    goes_if a (sc_new a) _ (n == 7) (goes_if a (refuses a code.Full) _ (nat_le most_drafts (length a.drafts)) (goes_refused a code.Full) (goes_drafted a _ (length a.drafts)))
-    (goes_if a (sc_mem_add a) _ (n == 8) (goes_right_to a (slice_get a.drafts (a0 a)))
-    (goes_if a (sc_fd_add a) _ (n == 9) (goes_bits_to a (slice_get a.drafts (a0 a))) (goes_refused a code.Bad)))
-
-goes_allowed : (a : ActorState) → Goes a (create_allowed a)
+goes_allowed : (a : ActorState) → Goes 0 a (create_allowed a)
 goes_allowed a =
     goes_if a (refuses a code.Deep) _ (nat_le most_parts (length a.name)) (goes_refused a code.Deep)
     (goes_if a (refuses a code.FuelShort) _ (nat_lt a.fuel (a3 a)) (goes_refused a code.FuelShort)
-    (record { name = refl; compartment = refl; sheet = refl; fuel = refl; made = refl; starts = refl; unjoined = refl; live = λ h. refl; calm = λ h. tt }))
+    (record { name = refl; compartment = refl; sheet = refl; fuel = costs_nothing a.fuel; made = refl; starts = refl; unjoined = refl; live = λ h. refl; calm = λ h. tt }))
 
-goes_checked : (a : ActorState) (d : Option Denial) → Goes a (create_checked a d)
+goes_checked : (a : ActorState) (d : Option Denial) → Goes 0 a (create_checked a d)
 goes_checked a None = goes_allowed a
-goes_checked a (Some d) = record { name = refl; compartment = refl; sheet = refl; fuel = refl; made = refl; starts = refl; unjoined = refl; live = λ h. refl; calm = λ h. tt }
+goes_checked a (Some d) = record { name = refl; compartment = refl; sheet = refl; fuel = costs_nothing a.fuel; made = refl; starts = refl; unjoined = refl; live = λ h. refl; calm = λ h. tt }
 
-goes_create : (i : Image) (a : ActorState) (d : Option Draft) → Goes a (create_with i a d)
+goes_create : (i : Image) (a : ActorState) (d : Option Draft) → Goes 0 a (create_with i a d)
 goes_create i a None = goes_refused a code.NoSuch
 goes_create i a (Some d) = goes_if a (refuses a code.Bad) _ (not (is_procedure i (a1 a))) (goes_refused a code.Bad) (goes_checked a (first_excess a.sheet a.made d))
 
-goes_join : (a : ActorState) → Goes a (join a)
+goes_join : (a : ActorState) → Goes 0 a (join a)
 goes_join a =
     goes_if a _ (refuses a code.NoSuch) (is_child a.unjoined (a0 a))
-    (record { name = refl; compartment = refl; sheet = refl; fuel = refl; made = refl; starts = refl; unjoined = refl; live = λ h. refl; calm = λ h. tt }) (goes_refused a code.NoSuch)
+    (record { name = refl; compartment = refl; sheet = refl; fuel = costs_nothing a.fuel; made = refl; starts = refl; unjoined = refl; live = λ h. refl; calm = λ h. tt }) (goes_refused a code.NoSuch)
 
 -- calls on tags
-goes_denied : (a : ActorState) (d : Denial) → Goes a (denies a d)
-goes_denied a d = record { name = refl; compartment = refl; sheet = refl; fuel = refl; made = refl; starts = refl; unjoined = refl; live = λ h. refl; calm = λ h. tt }
+goes_denied : (a : ActorState) (d : Denial) → Goes 0 a (denies a d)
+goes_denied a d = record { name = refl; compartment = refl; sheet = refl; fuel = costs_nothing a.fuel; made = refl; starts = refl; unjoined = refl; live = λ h. refl; calm = λ h. tt }
 
-goes_wanting : (a : ActorState) (q : Want) → Goes a (wants a q)
-goes_wanting a q = record { name = refl; compartment = refl; sheet = refl; fuel = refl; made = refl; starts = refl; unjoined = refl; live = λ h. refl; calm = λ h. tt }
+goes_wanting : (a : ActorState) (q : Want) → Goes 0 a (wants a q)
+goes_wanting a q = record { name = refl; compartment = refl; sheet = refl; fuel = costs_nothing a.fuel; made = refl; starts = refl; unjoined = refl; live = λ h. refl; calm = λ h. tt }
 
-goes_tag_new : (a : ActorState) → Goes a (tag_new a)
+goes_tag_new : (a : ActorState) → Goes 0 a (tag_new a)
 goes_tag_new a = goes_if a _ (refuses a code.Bad) (are_pages (a0 a)) (goes_wanting a _) (goes_refused a code.Bad)
 
-goes_delete : (a : ActorState) → Goes a (tag_delete a)
+goes_delete : (a : ActorState) → Goes 0 a (tag_delete a)
 goes_delete a = goes_if a _ (denies a (denial.NotMaker (a0 a))) (has a.made.tags (a0 a)) (goes_wanting a _) (goes_denied a _)
 
-goes_smalloc : (a : ActorState) → Goes a (smalloc a)
+goes_smalloc : (a : ActorState) → Goes 0 a (smalloc a)
 goes_smalloc a =
     goes_if a (refuses a code.Bad) _ (a1 a == 0) (goes_refused a code.Bad)
     (goes_if a _ (denies a (denial.Tag (a0 a) right.ReadWrite)) (at_least (right_of a (a0 a)) right.ReadWrite) (goes_wanting a _) (goes_denied a _))
 
-goes_free : (a : ActorState) (p : Option Place) → Goes a (free_at a p)
+goes_free : (a : ActorState) (p : Option Place) → Goes 0 a (free_at a p)
 goes_free a None = goes_refused a code.Bad
 goes_free a (Some p) = goes_wanting a _
 
-goes_call : (i : Image) (a : ActorState) (n : ℕ) → Goes a (serves i a n)
+goes_user : (a : ActorState) (d : Option Draft) → Goes 0 a (set_user a d)
+goes_user a None = goes_refused a code.NoSuch
+goes_user a (Some d) = goes_drafted a _ 0
+
+-- the call that sets a root directory costs a unit for each byte of the path
+goes_path : (a : ActorState) (ds : List Draft) (t : Bool) → nat_le (a2 a) a.fuel ≡ not t
+    → Goes (unrefused (if nat_le (a2 a) a.fuel then None else Some fuel_short) (a2 a)) a (if t then refuses a code.FuelShort else answers (spends (record a { drafts = ds }) (a2 a)) 0)
+goes_path a ds true e = rw e (goes_refused a code.FuelShort)
+goes_path a ds false e =
+    let enough : a2 a ≤ a.fuel = grind (arith, nat_tests, e) in
+    rw e (record { name = refl; compartment = refl; sheet = refl; fuel = omega (arith, enough); made = refl; starts = refl; unjoined = refl; live = λ h. refl; calm = λ h. tt })
+
+goes_root : (a : ActorState) (path : Option (List ℕ)) (d : Option Draft) → Goes (unrefused (root_refusal a (a2 a) path d) (a2 a)) a (set_root a path d)
+goes_root a path None = goes_refused a code.NoSuch
+goes_root a None (Some d) = goes_refused a code.Bad
+goes_root a (Some path) (Some d) = goes_path a _ (nat_lt a.fuel (a2 a)) (not_below a.fuel (a2 a))
+  where
+    not_below : (m n : ℕ) → nat_le n m ≡ not (nat_lt m n)
+    not_below m n = grind (arith, nat_tests)
+
+-- a call by its number, of which that one alone costs anything
+abbrev GoesCall : Image → ActorState → ℕ → ActorState → Type 0
+GoesCall i a n x = Goes (call_cost i a a.hart.regs n) a x
+
+goes_at : (i : Image) (a x y : ActorState) (n k : ℕ) (t : Bool) → (n == k) ≡ t → (k == 12) ≡ false → Goes 0 a x → GoesCall i a n y → GoesCall i a n (if t then x else y)
+goes_at i a x y n k true e other h rest =
+    let free : call_cost i a a.hart.regs n ≡ 0 = ap (call_cost i a a.hart.regs) (eqb-true n k e) ∙ ap (λ t. if t then unrefused (root_refusal a (a2 a) (path_at i a (a1 a) (a2 a)) (slice_get a.drafts (a0 a))) (a2 a) else 0) other in
+    subst (λ c. Goes c a x) (sym free) h
+goes_at i a x y n k false e other h rest = rest
+
+goes_last : (i : Image) (a : ActorState) (n : ℕ) (t : Bool) → (n == 12) ≡ t → GoesCall i a n (if t then sc_root i a else refuses a code.Bad)
+goes_last i a n true e =
+    rw e (subst (λ path. Goes (unrefused (root_refusal a (a2 a) path (slice_get a.drafts (a0 a))) (a2 a)) a (sc_root i a)) (sym (path_is i a (a1 a) (a2 a))) (goes_root a (path_in i a (a1 a) (a2 a)) (slice_get a.drafts (a0 a))))
+goes_last i a n false e = rw e (goes_refused a code.Bad)
+
+goes_draft : (i : Image) (a : ActorState) (n : ℕ) → GoesCall i a n (draft_call i a n)
+goes_draft i a n =
+    goes_at i a (sc_new a) _ n 7 (n == 7) refl refl (goes_if a (refuses a code.Full) _ (nat_le most_drafts (length a.drafts)) (goes_refused a code.Full) (goes_drafted a _ (length a.drafts)))
+    (goes_at i a (sc_mem_add a) _ n 8 (n == 8) refl refl (goes_right_to a (slice_get a.drafts (a0 a)))
+    (goes_at i a (sc_fd_add a) _ n 9 (n == 9) refl refl (goes_bits_to a (slice_get a.drafts (a0 a)))
+    (goes_at i a (sc_user a) _ n 11 (n == 11) refl refl (goes_user a (slice_get a.drafts (a0 a))) (goes_last i a n (n == 12) refl))))
+
+goes_call : (i : Image) (a : ActorState) (n : ℕ) → GoesCall i a n (serves i a n)
 unfolding serves
 goes_call i a n =
-    goes_if a (exit a) _ (n == 0) (goes_end a (end_.Exited (a0 a)))
-    (goes_if a (create i a) _ (n == 1) (goes_create i a (slice_get a.drafts (a0 a)))
-    (goes_if a (join a) _ (n == 2) (goes_join a)
-    (goes_if a (tag_new a) _ (n == 3) (goes_tag_new a)
-    (goes_if a (tag_delete a) _ (n == 4) (goes_delete a)
-    (goes_if a (smalloc a) _ (n == 5) (goes_smalloc a)
-    (goes_if a (sfree a) _ (n == 6) (goes_free a (slot_of (a0 a)))
-    (goes_if a (fd_read a) _ (n == 15) (goes_read a)
-    (goes_if a (fd_append i a) _ (n == 16) (goes_append i a)
-    (goes_if a (fd_close a) _ (n == 17) (goes_close a) (goes_draft a n))))))))))
+    goes_at i a (exit a) _ n 0 (n == 0) refl refl (goes_end a (end_.Exited (a0 a)))
+    (goes_at i a (create i a) _ n 1 (n == 1) refl refl (goes_create i a (slice_get a.drafts (a0 a)))
+    (goes_at i a (join a) _ n 2 (n == 2) refl refl (goes_join a)
+    (goes_at i a (tag_new a) _ n 3 (n == 3) refl refl (goes_tag_new a)
+    (goes_at i a (tag_delete a) _ n 4 (n == 4) refl refl (goes_delete a)
+    (goes_at i a (smalloc a) _ n 5 (n == 5) refl refl (goes_smalloc a)
+    (goes_at i a (sfree a) _ n 6 (n == 6) refl refl (goes_free a (slot_of (a0 a)))
+    (goes_at i a (fd_read a) _ n 15 (n == 15) refl refl (goes_read a)
+    (goes_at i a (fd_append i a) _ n 16 (n == 16) refl refl (goes_append i a)
+    (goes_at i a (fd_close a) _ n 17 (n == 17) refl refl (goes_close a) (goes_draft i a n))))))))))
 
-goes_needed : (i : Image) (ins : Instr) (a : ActorState) (h : Hart) (n : Need) → Goes a (needed i ins a h n)
-goes_needed i ins a h need.Done = record { name = refl; compartment = refl; sheet = refl; fuel = refl; made = refl; starts = refl; unjoined = refl; live = λ h. h; calm = λ h. h }
+goes_needed : (i : Image) (ins : Instr) (a : ActorState) (h : Hart) (n : Need) → Goes (need_cost i a n) a (needed i ins a h n)
+goes_needed i ins a h need.Done = record { name = refl; compartment = refl; sheet = refl; fuel = costs_nothing a.fuel; made = refl; starts = refl; unjoined = refl; live = λ h. h; calm = λ h. h }
 goes_needed i ins a h (need.Load address width s) = goes_load i ins s a address width
 goes_needed i ins a h (need.Store address width value) = goes_store i a address width value
 goes_needed i ins a h need.Call = goes_call i a (a7 a)
 goes_needed i ins a h need.Break = goes_end a end_.Break
 goes_needed i ins a h need.JumpMisaligned = goes_end a end_.JumpMisaligned
 
-pub goes_executed : (i : Image) (a : ActorState) (ins : Option Instr) → Goes a (executed i a ins)
+pub goes_executed : (i : Image) (a : ActorState) (ins : Option Instr) → Goes (instr_cost i a ins) a (executed i a ins)
 goes_executed i a None = goes_end a end_.BadInstruction
 goes_executed i a (Some ins) = let b = local ins a.hart in goes_needed i ins a b.hart b.need
 
@@ -252,7 +297,7 @@ steps_fuelled : (i : Image) (a : ActorState) (word n : ℕ) → a.fuel ≡ n →
 steps_fuelled i a word zero e = record { name = refl; compartment = refl; sheet = refl; spent = inr (refl, tt); made = refl; starts = refl; unjoined = refl; live = λ h. refl; calm = λ h. tt }
 steps_fuelled i a word (suc n) e =
     let g = goes_executed i (spends a 1) (decode word) in
-    record { name = g.name; compartment = g.compartment; sheet = g.sheet; spent = inl (omega (arith, g.fuel)); made = g.made; starts = g.starts; unjoined = g.unjoined; live = g.live; calm = g.calm }
+    record { name = g.name; compartment = g.compartment; sheet = g.sheet; spent = inl (omega (arith, g.fuel, e)); made = g.made; starts = g.starts; unjoined = g.unjoined; live = g.live; calm = g.calm }
 
 steps_fetched : (i : Image) (a : ActorState) (word : Option ℕ) → Steps a (fetched i a word)
 steps_fetched i a None = record { name = refl; compartment = refl; sheet = refl; spent = inr (refl, tt); made = refl; starts = refl; unjoined = refl; live = λ h. refl; calm = λ h. tt }

@@ -1,7 +1,8 @@
 -- The service calls: what the actor itself decides, up to the event that a call wants.
-use Rattle.std.specs.Prelude.{ℕ, ◌==◌, Bool, true, false, not, ◌&&◌, nat_lt, nat_le, [], ◌∷◌, ◌++◌, length, slice_get, slice_set, Option, Some, None, if◌then◌else◌}
+use Rattle.std.specs.Prelude.{ℕ, ◌==◌, Bool, true, false, not, ◌&&◌, nat_lt, nat_le, List, [], ◌∷◌, ◌++◌, length, slice_get, slice_set, Option, Some, None, if◌then◌else◌}
 use Rattle.wedge_base.specs.Images.{Image, most_pages, slot_of}
 use Rattle.wedge_base.specs.Maps.{has}
+use Rattle.wedge_base.specs.Paths.{resolve}
 use Rattle.wedge_base.specs.Rights.{at_least}
 use Rattle.wedge_base.specs.Services.{service_number}
 use Rattle.wedge_base.specs.declared.service.Service.TheVariants as service
@@ -23,7 +24,7 @@ use Rattle.wedge_base.specs.declared.events.Want.TheVariants as want
 use Rattle.wedge_base.specs.declared.cells.StreamAsk.TheVariants as stream_ask
 use Rattle.image_form.specs.Rules.{begins_at}
 use Rattle.rv_hart.specs.Local.{reg}
-use Rattle.sthread_life.specs.Actors.{ActorState, right_of, bits_of, slot_held, answers, refuses, denies, ends, wants}
+use Rattle.sthread_life.specs.Actors.{ActorState, right_of, bits_of, slot_held, answers, refuses, denies, ends, wants, spends}
 use Rattle.sthread_life.specs.Children.{is_child}
 use Rattle.sthread_life.specs.Private.{fits_read, fits_write, buffer}
 
@@ -189,12 +190,47 @@ add_bits_to a (Some d) = add_bits a d (bits_asked (a2 a))
 abbrev pub sc_fd_add : ActorState → ActorState
 sc_fd_add a = add_bits_to a (slice_get a.drafts (a0 a))
 
+-- a draft with a user, and with a root directory, in place of those that it had
+abbrev pub with_user : Draft → ℕ → Draft
+with_user d user = record d { user = Some user }
+
+abbrev pub with_root : Draft → List ℕ → Draft
+with_root d root = record d { root = Some root }
+
+-- sc_user: draft, user
+abbrev pub set_user : ActorState → Option Draft → ActorState
+set_user a None = refuses a code.NoSuch
+set_user a (Some d) = answers (with_draft a (a0 a) (with_user d (a1 a))) 0
+
+abbrev pub sc_user : ActorState → ActorState
+sc_user a = set_user a (slice_get a.drafts (a0 a))
+
+-- the path that a buffer holds, under the root directory of its actor; none where the buffer does not fit or holds no path
+abbrev pub path_in : Image → ActorState → ℕ → ℕ → Option (List ℕ)
+path_in i a pointer n = if fits_read i a pointer n then resolve a.sheet.root (buffer i a pointer n) else None
+
+-- sc_root: draft, pointer, length. Each byte of the path takes a unit of fuel.
+abbrev pub put_root : ActorState → Draft → Option (List ℕ) → ActorState
+put_root a d None = refuses a code.Bad
+put_root a d (Some path) =
+    if nat_lt a.fuel (a2 a) then refuses a code.FuelShort
+    else answers (spends (with_draft a (a0 a) (with_root d path)) (a2 a)) 0
+
+abbrev pub set_root : ActorState → Option (List ℕ) → Option Draft → ActorState
+set_root a path None = refuses a code.NoSuch
+set_root a path (Some d) = put_root a d path
+
+abbrev pub sc_root : Image → ActorState → ActorState
+sc_root i a = set_root a (path_in i a (a1 a) (a2 a)) (slice_get a.drafts (a0 a))
+
 -- a call on drafts by its number; any other number is refused
-abbrev pub draft_call : ActorState → ℕ → ActorState
-draft_call a n =
+abbrev pub draft_call : Image → ActorState → ℕ → ActorState
+draft_call i a n =
     if n == service_number service.ScNew then sc_new a
     else if n == service_number service.ScMemAdd then sc_mem_add a
     else if n == service_number service.ScFdAdd then sc_fd_add a
+    else if n == service_number service.ScUser then sc_user a
+    else if n == service_number service.ScRoot then sc_root i a
     else refuses a code.Bad
 
 -- ---- a call by its number
@@ -210,4 +246,4 @@ serves i a n =
     else if n == service_number service.FdRead then fd_read a
     else if n == service_number service.FdAppend then fd_append i a
     else if n == service_number service.FdClose then fd_close a
-    else draft_call a n
+    else draft_call i a n

@@ -13,7 +13,8 @@ use Rattle.rv_hart.specs.declared.Need.{Need}
 use Rattle.rv_hart.specs.declared.Need.TheVariants as need
 use Rattle.rv_hart.specs.Local.{local, reg}
 use Rattle.sthread_life.specs.Actors.{ActorState}
-use Rattle.sthread_life.specs.Refusals.{new_refusal, right_refusal, bits_refusal}
+use Rattle.sthread_life.specs.Refusals.{new_refusal, right_refusal, bits_refusal, user_refusal, root_refusal}
+use Rattle.sthread_life.specs.Requests.{path_at}
 use Rattle.sthread_life.specs.Worlds.{WorldState, actor_named}
 
 -- the right and the bits of an argument from 1 to 3
@@ -33,32 +34,38 @@ abbrev pub with_new : List Draft → Option ℕ → List Draft
 with_new ds (Some code) = ds
 with_new ds None = ds ++ empty_draft ∷ []
 
--- sc_new, sc_mem_add and sc_fd_add
-abbrev pub drafts_by_call : List Draft → List ℕ → ℕ → List Draft
-drafts_by_call ds regs n =
+-- sc_new, sc_mem_add, sc_fd_add, sc_user and sc_root
+abbrev pub drafts_by_call : Image → ActorState → List ℕ → ℕ → List Draft
+drafts_by_call i a regs n =
+    let ds = a.drafts in
+    let found = slice_get a.drafts (reg regs 10) in
+    let path = path_at i a (reg regs 11) (reg regs 12) in
     if n == 7 then with_new ds (new_refusal ds)
-    else if n == 8 then edited ds (reg regs 10) (right_refusal (reg regs 11) (reg regs 12) (slice_get ds (reg regs 10))) (λ d. with_tag d (reg regs 11) (right_of_number (reg regs 12))) (slice_get ds (reg regs 10))
-    else if n == 9 then edited ds (reg regs 10) (bits_refusal (reg regs 11) (reg regs 12) (slice_get ds (reg regs 10))) (λ d. with_fd d (reg regs 11) (bits_of_number (reg regs 12))) (slice_get ds (reg regs 10))
+    else if n == 8 then edited ds (reg regs 10) (right_refusal (reg regs 11) (reg regs 12) found) (λ d. with_tag d (reg regs 11) (right_of_number (reg regs 12))) found
+    else if n == 9 then edited ds (reg regs 10) (bits_refusal (reg regs 11) (reg regs 12) found) (λ d. with_fd d (reg regs 11) (bits_of_number (reg regs 12))) found
+    else if n == 11 then edited ds (reg regs 10) (user_refusal found) (λ d. record d { user = Some (reg regs 11) }) found
+    else if n == 12 then edited ds (reg regs 10) (root_refusal a (reg regs 12) path found) (λ d. record d { root = path }) found
     else ds
 
-abbrev pub drafts_by_need : ActorState → Need → List Draft
-drafts_by_need a need.Call = drafts_by_call a.drafts a.hart.regs (reg a.hart.regs 17)
-drafts_by_need a n = a.drafts
+abbrev pub drafts_by_need : Image → ActorState → Need → List Draft
+drafts_by_need i a need.Call = drafts_by_call i a a.hart.regs (reg a.hart.regs 17)
+drafts_by_need i a n = a.drafts
 
-abbrev pub drafts_by_instr : ActorState → Option Instr → List Draft
-drafts_by_instr a None = a.drafts
-drafts_by_instr a (Some ins) = drafts_by_need a (local ins a.hart).need
+abbrev pub drafts_by_instr : Image → ActorState → Option Instr → List Draft
+drafts_by_instr i a None = a.drafts
+drafts_by_instr i a (Some ins) = drafts_by_need i a (local ins a.hart).need
 
-abbrev pub drafts_by_fuel : ActorState → ℕ → ℕ → List Draft
-drafts_by_fuel a word zero = a.drafts
-drafts_by_fuel a word (suc n) = drafts_by_instr a (decode word)
+-- with so much fuel, of which the instruction takes a unit first
+abbrev pub drafts_by_fuel : Image → ActorState → ℕ → ℕ → List Draft
+drafts_by_fuel i a word zero = a.drafts
+drafts_by_fuel i a word (suc n) = drafts_by_instr i (record a { fuel = n }) (decode word)
 
-abbrev pub drafts_by_word : ActorState → Option ℕ → List Draft
-drafts_by_word a None = a.drafts
-drafts_by_word a (Some word) = drafts_by_fuel a word a.fuel
+abbrev pub drafts_by_word : Image → ActorState → Option ℕ → List Draft
+drafts_by_word i a None = a.drafts
+drafts_by_word i a (Some word) = drafts_by_fuel i a word a.fuel
 
 abbrev pub drafts_after : Image → ActorState → Option Event → List Draft
-drafts_after i a None = drafts_by_word a (fetch i a.hart.pc)
+drafts_after i a None = drafts_by_word i a (fetch i a.hart.pc)
 drafts_after i a (Some e) = a.drafts
 
 abbrev pub EditsDrafts : WorldState → ActorState → Option Event → WorldState → Type 0

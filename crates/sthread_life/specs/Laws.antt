@@ -80,7 +80,7 @@ abbrev pub FuelIsKept : Type 0
 FuelIsKept = (i : Image) (turns : List Turn) (new : WorldState) → Runs (opening i) turns new → (fuel_of (opening i) ≡ i.fuel) × EachStep TakesItsUnits (opening i) turns
 
 -- in each world of a run no actor has a right on a declared tag, or bits on a declared descriptor, that the root did not begin
--- with
+-- with, nor a user or a root directory that the root could not give
 abbrev pub RootBounds : Type 0
 RootBounds = (i : Image) (turns : List Turn) (new : WorldState) → Runs (opening i) turns new → (name : List ℕ) (a : ActorState) → actor_named new.actors name ≡ Some a → IsWithinRoot i a
 

@@ -31,7 +31,7 @@ use Rattle.sthread_life.specs.Actors.{ActorState, bits_of, slot_held}
 use Rattle.sthread_life.specs.Cells.{Cells, slot_in, stream_in}
 use Rattle.sthread_life.specs.Children.{is_child}
 use Rattle.sthread_life.specs.Worlds.{WorldState}
-use Rattle.sthread_life.specs.Requests.{bytes_at, is_room}
+use Rattle.sthread_life.specs.Requests.{bytes_at, path_at, is_room}
 use Rattle.sthread_life.specs.Allowed.{may_use, is_source, answered}
 use Rattle.sthread_life.specs.Moments.{with_actor}
 
@@ -111,11 +111,24 @@ abbrev pub bits_refusal : ℕ → ℕ → Option Draft → Option ℕ
 bits_refusal fd bits None = Some no_such
 bits_refusal fd bits (Some d) = if not ((bits == 1) || ((bits == 2) || (bits == 3))) then Some bad else if takes_fd d fd then None else Some full
 
-abbrev pub draft_refusal : List Draft → List ℕ → ℕ → Option ℕ
-draft_refusal ds regs n =
-    if n == 7 then new_refusal ds
-    else if n == 8 then right_refusal (reg regs 11) (reg regs 12) (slice_get ds (reg regs 10))
-    else if n == 9 then bits_refusal (reg regs 11) (reg regs 12) (slice_get ds (reg regs 10))
+-- sc_user: no such draft
+abbrev pub user_refusal : Option Draft → Option ℕ
+user_refusal None = Some no_such
+user_refusal (Some d) = None
+
+-- sc_root: no such draft; a buffer that does not fit, or that holds no path; more bytes than there is fuel
+abbrev pub root_refusal : ActorState → ℕ → Option (List ℕ) → Option Draft → Option ℕ
+root_refusal a n path None = Some no_such
+root_refusal a n None (Some d) = Some bad
+root_refusal a n (Some path) (Some d) = if nat_le n a.fuel then None else Some fuel_short
+
+abbrev pub draft_refusal : Image → ActorState → List ℕ → ℕ → Option ℕ
+draft_refusal i a regs n =
+    if n == 7 then new_refusal a.drafts
+    else if n == 8 then right_refusal (reg regs 11) (reg regs 12) (slice_get a.drafts (reg regs 10))
+    else if n == 9 then bits_refusal (reg regs 11) (reg regs 12) (slice_get a.drafts (reg regs 10))
+    else if n == 11 then user_refusal (slice_get a.drafts (reg regs 10))
+    else if n == 12 then root_refusal a (reg regs 12) (path_at i a (reg regs 11) (reg regs 12)) (slice_get a.drafts (reg regs 10))
     else Some bad
 
 -- exit is never refused, and a number that is no call is bad
@@ -131,7 +144,7 @@ call_refusal i a regs n =
     else if n == 15 then read_refusal a (reg regs 10) (reg regs 12) (is_room a (reg regs 11) (reg regs 12))
     else if n == 16 then append_refusal a (reg regs 10) (reg regs 12) (bytes_at i a (reg regs 11) (reg regs 12))
     else if n == 17 then number_refusal (reg regs 10)
-    else draft_refusal a.drafts regs n
+    else draft_refusal i a regs n
 
 abbrev pub need_refusal : Image → ActorState → Need → Option ℕ
 need_refusal i a need.Call = call_refusal i a a.hart.regs (reg a.hart.regs 17)

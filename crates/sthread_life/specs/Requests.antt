@@ -1,11 +1,12 @@
 -- The requests that a sheet may forbid, and which of them an instruction makes: read off its word, the
 -- registers, private memory and what lives in the cells. Nothing here calls the step, so that what the step
 -- makes of a request is a theorem.
-use Rattle.std.specs.Prelude.{ℕ, ◌%◌, ◌==◌, Bool, not, ◌&&◌, List, [], length, slice_get, Option, Some, None, is_some, option_map, nat_le, nat_lt, ◌||◌, if◌then◌else◌}
+use Rattle.std.specs.Prelude.{ℕ, ◌%◌, ◌==◌, Bool, not, ◌&&◌, List, [], length, slice_get, Option, Some, None, is_some, option_map, option_and_then, nat_le, nat_lt, ◌||◌, if◌then◌else◌}
 use Rattle.std.specs.List.{list_any}
 use Rattle.cow_pages.specs.Copies.{copy_at}
 use Rattle.wedge_base.specs.Memory.{range_at, read_range}
 use Rattle.wedge_base.specs.Images.{Image, fetch, in_text, read_text, slot_of}
+use Rattle.wedge_base.specs.Paths.{resolve}
 use Rattle.wedge_base.specs.Sheets.{Draft}
 use Rattle.wedge_base.specs.Slots.{Segment}
 use Rattle.wedge_base.specs.Streams.{Stream, most_fds}
@@ -65,6 +66,10 @@ bytes_at i a pointer n =
     if not (nat_le n 256) then None
     else if n == 0 then Some []
     else bytes_in_range i pointer n (range_at a.memory.ranges pointer n)
+
+-- the path that such bytes are, under the actor's root directory
+abbrev pub path_at : Image → ActorState → ℕ → ℕ → Option (List ℕ)
+path_at i a pointer n = option_and_then (resolve a.sheet.root) (bytes_at i a pointer n)
 
 -- of the stream behind a descriptor, where it is live
 abbrev pub in_stream : (Stream → Request) → Option Stream → Option Request

@@ -57,7 +57,7 @@ impl Actor {
         } else if number == Service::FdClose.number() {
             self.fd_close();
         } else {
-            self.draft_call(number)?;
+            self.draft_call(image, memory, number)?;
         }
         Ok(())
     }

@@ -8,7 +8,9 @@ ghost use Rattle.sthread_life.specs.Calls as calls;
 
 use crate::actor::Actor;
 use crate::calls::{A0, A1, A2};
+use cow_pages::PrivateView;
 use grant_sheet::{Draft, DraftFault};
+use image_form::Image;
 use wedge_base::{Code, FdBits, FdNo, NoMemory, Right, Service, TagNo};
 
 /// The most drafts of an actor.
@@ -16,10 +18,15 @@ const MOST_DRAFTS: usize = 64;
 
 impl Actor {
     /// The call on drafts of this number; any other number is refused.
-    pub(crate) fn draft_call(&mut self, number: u32) -> Result<(), NoMemory>
+    pub(crate) fn draft_call(
+        &mut self,
+        image: &Image,
+        memory: &PrivateView,
+        number: u32,
+    ) -> Result<(), NoMemory>
         requires { self.old.phase ≡ phase.Running }
-        ensures { OnOk result ((m : PrivateMemory) → whole self.new m
-            ≡ calls.draft_call (whole self.old m) number) }
+        ensures { OnOk result (whole self.new memory.now
+            ≡ calls.draft_call image.now (whole self.old memory.now) number) }
     {
         if number == Service::ScNew.number() {
             self.sc_new()?;
@@ -27,6 +34,10 @@ impl Actor {
             self.sc_mem_add()?;
         } else if number == Service::ScFdAdd.number() {
             self.sc_fd_add()?;
+        } else if number == Service::ScUser.number() {
+            self.sc_user();
+        } else if number == Service::ScRoot.number() {
+            self.sc_root(image, memory)?;
         } else {
             self.refuse(Code::Bad);
         }
@@ -95,6 +106,22 @@ impl Actor {
             Err(DraftFault::NoMemory) => return Err(NoMemory),
         }
         Ok(())
+    }
+
+    /// The call that sets the user of a draft.
+    fn sc_user(&mut self)
+        requires { self.old.phase ≡ phase.Running }
+        ensures { (m : PrivateMemory) → whole self.new m ≡ calls.sc_user (whole self.old m) }
+    {
+        let number = self.hart.reg(A0) as usize;
+        if number >= self.drafts.len() {
+            self.refuse(Code::NoSuch);
+            return;
+        }
+        let user = self.hart.reg(A1);
+        let draft = &mut self.drafts[number];
+        draft.set_user(user);
+        self.answer(0, 0);
     }
 }
 

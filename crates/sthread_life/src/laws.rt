@@ -42,7 +42,7 @@ pub fn actors_walk()
 {}
 
 /// In every run the fuel of the actors that are not joined yet is in sum that of the image, less exactly the units that the
-/// turns took: a unit for each instruction, and one for each byte that was appended. A start gives fuel to a child, and a
+/// turns took: a unit for each instruction, and one for each byte that was read or appended and of the path of a root directory. A start gives fuel to a child, and a
 /// join brings back what is left, so neither changes the sum.
 /// So every run ends: 1,029 turns for each unit of fuel, and two, are more than it can have.
 pub fn fuel_is_kept()
@@ -51,7 +51,8 @@ pub fn fuel_is_kept()
 {}
 
 /// In every world of a run, no actor has a right on a declared tag, or bits on a declared descriptor, that the root did
-/// not have.
+/// not have. Where the root's user is not 0, every actor has the root's user and root directory, and every actor's root directory
+/// is under the root's.
 pub fn rights_are_within_the_roots()
     ensures { RootBounds }
 {}

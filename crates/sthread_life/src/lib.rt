@@ -12,6 +12,7 @@ mod lives;
 mod local;
 mod phase;
 mod preparation;
+mod roots;
 mod starting;
 mod streams;
 mod tags;

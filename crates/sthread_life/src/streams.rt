@@ -79,7 +79,13 @@ impl Actor {
     }
 
     /// Whether a buffer that is read fits.
-    fn fits_read(&self, image: &Image, memory: &PrivateView, pointer: u32, length: u32) -> bool
+    pub(crate) fn fits_read(
+        &self,
+        image: &Image,
+        memory: &PrivateView,
+        pointer: u32,
+        length: u32,
+    ) -> bool
         ensures { result ≡ private.fits_read image.now (whole self.now memory.now) pointer length }
     {
         length <= MOST_BUFFER
@@ -87,7 +93,7 @@ impl Actor {
     }
 
     /// The bytes of a buffer that fits.
-    fn buffer(
+    pub(crate) fn buffer(
         &self,
         image: &Image,
         memory: &PrivateView,

@@ -9,9 +9,12 @@ use std::sync::Wait;
 use std::test::Fail;
 use std::thread::Threads;
 
-/// What stands after the fuel and before the text of a partition; and what stands after the right that the root has on a tag
-/// `box` of one page: a stream `out` to which it may append.
-static HEAD: &str = "user = 0\nroot = \"/\"\nentry = \"main\"\ntext = \"\"\"\n";
+/// The user and the root directory of a partition that may do all.
+static OWNER: &str = "user = 0\nroot = \"/\"\n";
+
+/// What stands before the text of a partition; and what stands after the right that the root has on a tag `box` of one page: a
+/// stream `out` to which it may append.
+static HEAD: &str = "entry = \"main\"\ntext = \"\"\"\n";
 
 static TAIL: &str = "\"\n[[fd]]\nname = \"out\"\nkind = \"append\"\nbits = \"append\"\n";
 
@@ -22,7 +25,19 @@ pub(crate) fn partition(
     text: &str,
     right: &str,
 ) -> Result<Vec<u8>, Fail> {
-    let mut bytes = Vec::from_slice(alloc, fuel.as_bytes())?;
+    let mut keys = String::from_str(alloc, fuel)?;
+    keys.push_str(OWNER)?;
+    partition_as(alloc, keys.as_str(), text, right)
+}
+
+/// The same, with the lines for its user and its root directory behind the one for its fuel.
+pub(crate) fn partition_as(
+    alloc: Global,
+    keys: &str,
+    text: &str,
+    right: &str,
+) -> Result<Vec<u8>, Fail> {
+    let mut bytes = Vec::from_slice(alloc, keys.as_bytes())?;
     for piece in [
         HEAD,
         text,

@@ -29,6 +29,8 @@ mod top;
 #[cfg(test)]
 mod trace_tests;
 mod traces;
+#[cfg(test)]
+mod user_tests;
 mod words;
 mod writing;
 

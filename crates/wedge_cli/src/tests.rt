@@ -304,10 +304,11 @@ fn what_is_no_run_says_why(rt: HostRuntime) -> Result<(), Fail> {
             },
         )?;
     }
-    // Another user than 0.
+    // A file.
     let mut bytes = image_of(alloc, 100, &OK, 3, 2)?;
-    bytes.truncate(132);
-    bytes.extend_from_slice(&[7, 0, 0, 0, 1, 0, 0x2f])?;
+    bytes.truncate(128);
+    bytes.extend_from_slice(&[1, 0, 0, 0, 2, 0, b'/', b'a', 0, 0, 0, 0, 0, 0, 0, 0])?;
+    bytes.extend_from_slice(&[0, 0, 0, 0, 0, 0, 0, 0, 0, 0, 0, 0, 1, 0, b'/'])?;
     let run = Run {
         bytes,
         read_fails: 0,
