@@ -1,14 +1,17 @@
 -- A child is prepared by the claim of a life and by the copies of tags: what its memory then has.
 use Rattle.std.proofs.Common.{◌≡◌, ◌≢◌, ◌⊎◌, inl, inr, ⊎_elim, ℕ, ◌+◌, Bool, true, false, List, [], ◌∷◌, ◌++◌, refl, sym, ap, subst, ◌∙◌}
 use Rattle.std.specs.Prelude.{Option, Some, None, ◌==◌, nat_lt, option_map, slice_get, unwrap_or, if◌then◌else◌}
-use Rattle.std.specs.List.{AllByRecursion}
+use Rattle.std.specs.List.{AllByRecursion, cons_option}
 use Rattle.std.specs.Option.{option_or}
 use Rattle.std.proofs.lemmas.Bool.{eqb-true, eq-eqb}
 use Rattle.cow_pages.specs.Copies.{Copies, is_slot, copy_at, with_copy}
 use Rattle.cow_pages.specs.Listed.{bytes_listed}
 use Rattle.cow_pages.specs.PrivateMemory.{PrivateMemory}
 use Rattle.wedge_base.specs.Images.{Image}
+use Rattle.wedge_base.specs.Maps.{Map}
 use Rattle.wedge_base.specs.Pages.{PageAt, pages_of}
+use Rattle.wedge_base.specs.Sheets.{is_copy, granted}
+use Rattle.wedge_base.specs.declared.rights.Grant.{Grant}
 use Rattle.wedge_base.specs.Slots.{Segment, slot_reply as slot_reply_of}
 use Rattle.wedge_base.specs.declared.cells.DirectoryAsk.TheVariants as directory_ask
 use Rattle.wedge_base.specs.declared.cells.DirectoryReply.TheVariants as directory_reply
@@ -27,12 +30,13 @@ use Rattle.sthread_life.specs.declared.copy_grant.CopyGrant.{CopyGrant}
 use Rattle.sthread_life.specs.declared.phase.Phase.{Phase}
 use Rattle.sthread_life.specs.declared.phase.Phase.TheVariants as phase
 use Rattle.sthread_life.specs.Actors.{ActorState, pristine, right_of}
+use Rattle.sthread_life.specs.Calls.{a0}
 use Rattle.sthread_life.specs.Cells.{Cells, slot_in}
-use Rattle.sthread_life.specs.ChildCopies.{grants_asked, own_at, IsOfTag, IsPrepared, Prepares, pages_living, snap_reply, NotPreparing, SnapsNext, PreparesBy}
-use Rattle.sthread_life.specs.Copying.{Preparation, copied_from, is_copy_alone, prepared, behind_first}
+use Rattle.sthread_life.specs.ChildCopies.{copy_asked, copies_in, own_at, IsOfTag, IsPrepared, Prepares, pages_living, snap_reply, NotPreparing, SnapsNext, PreparesBy}
+use Rattle.sthread_life.specs.Copying.{Preparation, copy_grants, copied_from, is_copy_alone, prepared, behind_first}
 use Rattle.sthread_life.specs.Local.{step}
 use Rattle.sthread_life.specs.Moments.{with_actor}
-use Rattle.sthread_life.specs.Taking.{has_snapped, takes}
+use Rattle.sthread_life.specs.Taking.{draft_at, copies_asked, has_snapped, takes}
 use Rattle.sthread_life.specs.Worlds.{WorldState}
 use Rattle.sthread_life.proofs.Between.{event_for, IsPreparing, takes_between}
 use Rattle.sthread_life.proofs.ByNumber.{same_number, number_itself, found_with}
@@ -167,11 +171,23 @@ was_preparing i b e k = no_preparing (takes i b e).phase (takes_between i b e) k
 unprepared : (i : Image) (b : ActorState) (e : Event) → (IsPreparing b.phase → ⊥) → (e ≡ event.Lives lives_ask.Claim lives_reply.Claimed → ⊥) → NotPreparing (takes i b e).phase
 unprepared i b e before other = not_preparing (takes i b e).phase (λ k. ⊎_elim other before (was_preparing i b e k))
 
+-- the grants of copies of a sheet, in the two words for them
+copy_in : (e : ℕ × Grant) (r : Right) (es : List CopyGrant) → (if is_copy r then record { tag = e.0; slot = e.1.slot } ∷ es else es) ≡ cons_option (copy_asked e.0 e.1.slot r) es
+copy_in e right.Cow es = refl
+copy_in e right.Read es = refl
+copy_in e right.ReadWrite es = refl
+
+copies_are : (gs : Map Grant) → copy_grants gs ≡ copies_in gs
+copies_are [] = refl
+copies_are (e ∷ es) = copy_in e e.1.right (copy_grants es) ∙ ap (cons_option (copy_asked e.0 e.1.slot e.1.right)) (copies_are es)
+
 -- the claim of a life
 claim_prepares : (w : WorldState) (b : ActorState) (t : Bool)
     → PreparesBy (with_actor w b) b (phase.Within (want.Lives lives_ask.Claim)) (event.Lives lives_ask.Claim (if t then lives_reply.Claimed else lives_reply.Full)) (takes w.image b (event.Lives lives_ask.Claim (if t then lives_reply.Claimed else lives_reply.Full)))
 unfolding takes
-claim_prepares w b true = record { preparation = prepared b.sheet b.made b.memory.copies (pristine w.image) (grants_asked b); prepared = prepared_so b (pristine w.image) (grants_asked b); after = refl }
+claim_prepares w b true =
+    subst (λ gs. Prepares b (pristine w.image) gs (takes w.image b (event.Lives lives_ask.Claim lives_reply.Claimed))) (copies_are (granted b.sheet b.made (draft_at b.drafts (a0 b))).tags)
+    (record { preparation = prepared b.sheet b.made b.memory.copies (pristine w.image) (copies_asked b); prepared = prepared_so b (pristine w.image) (copies_asked b); after = refl })
 claim_prepares w b false = tt
 
 want_prepares : (w : WorldState) (b : ActorState) (N : ℕ → Type 0) (q : Want) → IsRequest N b q → b.phase ≡ phase.Within q

@@ -1,12 +1,13 @@
 -- The copies with which a child begins, read off the draft, the starter's rights and own copies, and the slots: a second statement, beside
 -- the step.
-use Rattle.std.specs.Prelude.{◌≡◌, ◌≢◌, ℕ, ◌==◌, List, [], ◌∷◌, ◌++◌, Option, Some, None, IsSomeAnd, option_map, slice_get, unwrap_or, if◌then◌else◌}
+use Rattle.std.specs.Prelude.{◌≡◌, ◌≢◌, ℕ, ◌==◌, List, [], ◌∷◌, ◌++◌, filter_map, Option, Some, None, IsSomeAnd, option_map, slice_get, unwrap_or, if◌then◌else◌}
 use Rattle.std.specs.List.{AllByRecursion}
 use Rattle.std.specs.Option.{option_or}
 use Rattle.cow_pages.specs.Copies.{Copies, copy_at}
 use Rattle.cow_pages.specs.Listed.{bytes_listed}
 use Rattle.cow_pages.specs.PrivateMemory.{PrivateMemory}
 use Rattle.wedge_base.specs.Images.{Image}
+use Rattle.wedge_base.specs.Maps.{Map}
 use Rattle.wedge_base.specs.Pages.{PageAt, pages_of}
 use Rattle.wedge_base.specs.Sheets.{granted, empty_draft}
 use Rattle.wedge_base.specs.Slots.{Segment}
@@ -17,6 +18,8 @@ use Rattle.wedge_base.specs.declared.cells.SlotReply.{SlotReply}
 use Rattle.wedge_base.specs.declared.cells.SlotReply.TheVariants as slot_reply
 use Rattle.wedge_base.specs.declared.events.Event.{Event}
 use Rattle.wedge_base.specs.declared.events.Event.TheVariants as event
+use Rattle.wedge_base.specs.declared.rights.Grant.{Grant}
+use Rattle.wedge_base.specs.declared.rights.Right.{Right}
 use Rattle.wedge_base.specs.declared.rights.Right.TheVariants as right
 use Rattle.rv_hart.specs.Local.{reg}
 use Rattle.sthread_life.specs.declared.copy_grant.CopyGrant.{CopyGrant}
@@ -24,12 +27,20 @@ use Rattle.sthread_life.specs.declared.phase.Phase.{Phase}
 use Rattle.sthread_life.specs.declared.phase.Phase.TheVariants as phase
 use Rattle.sthread_life.specs.Actors.{ActorState, pristine, right_of}
 use Rattle.sthread_life.specs.Cells.{slot_in}
-use Rattle.sthread_life.specs.Copying.{Preparation, copy_grants, copied_from}
+use Rattle.sthread_life.specs.Copying.{Preparation, copied_from}
 use Rattle.sthread_life.specs.Worlds.{WorldState, actor_named}
 
--- the grants of copies that a child is to have, by the draft at hand
+-- the grants of copies that a child is to have, by the draft at hand: one for each tag on which the draft gives the right to a copy
+-- alone, in the order of the tags' numbers
+abbrev pub copy_asked : ℕ → ℕ → Right → Option CopyGrant
+copy_asked tag slot right.Cow = Some (record { tag = tag; slot = slot })
+copy_asked tag slot r = None
+
+abbrev pub copies_in : Map Grant → List CopyGrant
+copies_in gs = filter_map (λ e. copy_asked e.0 e.1.slot e.1.right) gs
+
 abbrev pub grants_asked : ActorState → List CopyGrant
-grants_asked a = copy_grants (granted a.sheet a.made (unwrap_or (slice_get a.drafts (reg a.hart.regs 10)) empty_draft)).tags
+grants_asked a = copies_in (granted a.sheet a.made (unwrap_or (slice_get a.drafts (reg a.hart.regs 10)) empty_draft)).tags
 
 -- what the starter's own copies give at a slot, by grants in order, of which the last counts
 abbrev pub own_at : Copies → ℕ → List CopyGrant → Option (List ℕ)
