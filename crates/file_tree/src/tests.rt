@@ -1,7 +1,10 @@
+ghost use Rattle.std.specs.Prelude.{◌≡◌, true};
+ghost use Rattle.file_tree.specs.Lookup.{AreAscending, AreAscendingFrom};
+
 use super::*;
 use std::alloc::Global;
 use std::test::Fail;
-use wedge_base::{Bytes, FdBits, FileEntry, PathText, StreamKind, is_canonical};
+use wedge_base::{Bytes, FdBits, FileEntry, NoMemory, PathText, StreamKind, is_canonical};
 
 /// The canonical path of this text.
 fn path(alloc: Global, text: &[u8]) -> Result<PathText, PathFault> {
@@ -84,5 +87,94 @@ fn files_open_to_whom_their_mode_says(rt: HostRuntime) -> Result<(), Fail> {
         let found = may_open(user, &file, FdBits { read, append });
         assert_eq!(rt; found, may, "user {user}, mode {mode:04b}, {read} {append}");
     }
+    Ok(())
+}
+
+/// A file of this path and owner.
+fn file(alloc: Global, path: &[u8], owner: u32) -> Result<FileEntry, NoMemory> {
+    Ok(FileEntry {
+        path: Bytes::from_slice(alloc, path)?,
+        owner,
+        mode: 0,
+        kind: StreamKind::Source,
+        content: Bytes::from_slice(alloc, b"")?,
+    })
+}
+
+/// Whether the paths of files ascend, the first from a text.
+fn are_ascending_from(before: &[u8], files: &[FileEntry]) -> bool
+    ensures { result ≡ true → AreAscendingFrom before.now files.now }
+{
+    match files {
+        [] => true,
+        [file, others @ ..] => {
+            before.cmp(file.path.as_slice()).is_lt()
+                && are_ascending_from(file.path.as_slice(), others)
+        }
+    }
+}
+
+/// Whether the paths of files ascend.
+fn are_ascending(files: &[FileEntry]) -> bool
+    ensures { result ≡ true → AreAscending files.now }
+{
+    match files {
+        [] => true,
+        [file, others @ ..] => are_ascending_from(file.path.as_slice(), others),
+    }
+}
+
+/// The owner of the file of a path among files, if there is one.
+fn owner_at(files: &[FileEntry], path: &[u8]) -> Result<Option<u32>, Fail> {
+    if !are_ascending(files) {
+        return Err("the paths do not ascend".into());
+    }
+    Ok(file_at(files, path).map(|file| file.owner))
+}
+
+/// The file of each path is found, and none at any other path. A file's owner is its position.
+#[test]
+fn files_are_found_by_their_paths(rt: HostRuntime) -> Result<(), Fail> {
+    let three = ["/b", "/d", "/f"];
+    let prefixes = ["/a", "/a.b", "/a/b", "/a/b/c"];
+    for (paths, path, found) in [
+        ([].as_slice(), "/a", None),
+        (["/a"].as_slice(), "/a", Some(0)),
+        (["/a"].as_slice(), "/", None),
+        (["/a"].as_slice(), "/b", None),
+        (three.as_slice(), "/a", None),
+        (three.as_slice(), "/b", Some(0)),
+        (three.as_slice(), "/c", None),
+        (three.as_slice(), "/d", Some(1)),
+        (three.as_slice(), "/e", None),
+        (three.as_slice(), "/f", Some(2)),
+        (three.as_slice(), "/g", None),
+        (prefixes.as_slice(), "/", None),
+        (prefixes.as_slice(), "/a", Some(0)),
+        (prefixes.as_slice(), "/a.", None),
+        (prefixes.as_slice(), "/a.b", Some(1)),
+        (prefixes.as_slice(), "/a/", None),
+        (prefixes.as_slice(), "/a/b", Some(2)),
+        (prefixes.as_slice(), "/a/b/", None),
+        (prefixes.as_slice(), "/a/b/c", Some(3)),
+        (prefixes.as_slice(), "/a/b/c/d", None),
+    ] {
+        let mut files = Vec::new(rt.alloc());
+        for (path, owner) in paths.iter().zip(0..1024) {
+            files.push(file(rt.alloc(), path.as_bytes(), owner)?)?;
+        }
+        let answer = owner_at(files.as_slice(), path.as_bytes())?;
+        assert_eq!(rt; answer, found, "at {path}");
+    }
+    let mut files = Vec::new(rt.alloc());
+    for k in 0..1024 {
+        let path = format!(in rt.alloc(); "/{k:04}")?;
+        files.push(file(rt.alloc(), path.as_bytes(), k)?)?;
+    }
+    for k in 0..1024 {
+        let path = format!(in rt.alloc(); "/{k:04}")?;
+        assert_eq!(rt; owner_at(files.as_slice(), path.as_bytes())?, Some(k));
+    }
+    assert_eq!(rt; owner_at(files.as_slice(), b"/1024")?, None);
     Ok(())
 }
