@@ -1,12 +1,14 @@
 -- What a turn is made of, and what its event leaves of the actor.
-use Rattle.std.proofs.Common.{◌≡◌, ℕ, ◌+◌, List, refl, sym, ap, subst, ◌∙◌}
+use Rattle.std.proofs.Common.{◌≡◌, ℕ, ◌+◌, List, [], ◌∷◌, ◌++◌, refl, sym, ap, subst, ◌∙◌}
 use Rattle.std.specs.Prelude.{Option, Some, None, option_map, option_and_then}
 use Rattle.wedge_base.specs.Images.{Image, fetch}
 use Rattle.wedge_base.specs.declared.events.Want.{Want}
 use Rattle.wedge_base.specs.declared.events.Want.TheVariants as want
 use Rattle.wedge_base.specs.declared.events.Event.{Event}
 use Rattle.wedge_base.specs.declared.events.Event.TheVariants as event
+use Rattle.wedge_base.specs.declared.cells.DirectoryAsk.{DirectoryAsk}
 use Rattle.wedge_base.specs.declared.cells.DirectoryAsk.TheVariants as directory_ask
+use Rattle.wedge_base.specs.declared.cells.DirectoryReply.{DirectoryReply}
 use Rattle.wedge_base.specs.declared.cells.DirectoryReply.TheVariants as directory_reply
 use Rattle.wedge_base.specs.declared.cells.SlotAsk.TheVariants as slot_ask
 use Rattle.wedge_base.specs.declared.cells.SlotReply.TheVariants as slot_reply
@@ -15,17 +17,21 @@ use Rattle.rv_isa.specs.Table.{decode}
 use Rattle.rv_hart.specs.declared.Need.{Need}
 use Rattle.rv_hart.specs.declared.Need.TheVariants as need
 use Rattle.rv_hart.specs.Local.{local}
+use Rattle.wedge_base.specs.declared.cells.StreamAsk.{StreamAsk}
 use Rattle.wedge_base.specs.declared.cells.StreamReply.TheVariants as stream_reply
 use Rattle.wedge_base.specs.declared.cells.LivesAsk.TheVariants as lives_ask
 use Rattle.wedge_base.specs.declared.cells.LivesReply.TheVariants as lives_reply
 use Rattle.wedge_base.specs.declared.rights.End.{End}
 use Rattle.sthread_life.specs.declared.phase.Phase.{Phase}
 use Rattle.sthread_life.specs.declared.phase.Phase.TheVariants as phase
-use Rattle.sthread_life.specs.Actors.{ActorState, answers_more}
+use Rattle.sthread_life.specs.Actors.{ActorState, answers, answers_more, spends}
+use Rattle.sthread_life.specs.Calls.{a1}
+use Rattle.sthread_life.specs.Opening.{FileOpening}
+use Rattle.wedge_base.specs.Sheets.{made_fd}
 use Rattle.sthread_life.specs.Between.{IsBetween}
 use Rattle.sthread_life.specs.Children.{without_child, child_name}
 use Rattle.sthread_life.specs.Local.{rest, end_reached}
-use Rattle.sthread_life.specs.Taking.{wanted, pair, runs, loads_by, loads_at, has_snapped, end_value, end_number, answered_end, takes}
+use Rattle.sthread_life.specs.Taking.{wanted, pair, runs, loads_by, loads_at, has_snapped, has_number, has_opened_file, end_value, end_number, answered_end, takes}
 use Rattle.sthread_life.specs.Copying.{Preparation}
 use Rattle.cow_pages.specs.Listed.{bytes_listed}
 use Rattle.wedge_base.specs.Directories.{directory_reply}
@@ -58,8 +64,34 @@ joined_is Q a (phase.Within q) e own other = other
 joined_is Q a (phase.Starting pre) e own other = other
 joined_is Q a (phase.Opening slot tag) e own other = other
 joined_is Q a (phase.Releasing slot) e own other = other
+joined_is Q a (phase.OpeningFile o) e own other = other
 joined_is Q a (phase.Ending x) e own other = own
 joined_is Q a (phase.Ended x) e own other = other
+
+-- what a number that is claimed leaves of an actor: one that opens a file goes on with that, and any other runs
+pub numbered_is : (Q : ActorState → Type 0) (a : ActorState) (p : Phase) (fd : ℕ) → Q (runs a) → ((o : FileOpening) → Q (record a { phase = phase.OpeningFile (record o { number = Some fd }) })) → Q (has_number a p fd)
+numbered_is Q a phase.Running fd other on = other
+numbered_is Q a (phase.Within q) fd other on = other
+numbered_is Q a (phase.Starting pre) fd other on = other
+numbered_is Q a (phase.Opening s tag) fd other on = other
+numbered_is Q a (phase.Releasing s) fd other on = other
+numbered_is Q a (phase.OpeningFile o) fd other on = on o
+numbered_is Q a (phase.Ending x) fd other on = other
+numbered_is Q a (phase.Ended x) fd other on = other
+
+-- what the stream of a file that is opened leaves of it
+abbrev pub opened_file : ActorState → FileOpening → ℕ → ActorState
+opened_file a o fd = answers (spends (record a { made = made_fd a.made fd o.bits; labels = a.labels ++ record { number = fd; path = o.path } ∷ [] }) (a1 a)) fd
+
+pub opened_is : (Q : ActorState → Type 0) (a : ActorState) (p : Phase) (fd : ℕ) → Q (runs a) → ((o : FileOpening) → Q (opened_file a o fd)) → Q (has_opened_file a p fd)
+opened_is Q a phase.Running fd other on = other
+opened_is Q a (phase.Within q) fd other on = other
+opened_is Q a (phase.Starting pre) fd other on = other
+opened_is Q a (phase.Opening s tag) fd other on = other
+opened_is Q a (phase.Releasing s) fd other on = other
+opened_is Q a (phase.OpeningFile o) fd other on = on o
+opened_is Q a (phase.Ending x) fd other on = other
+opened_is Q a (phase.Ended x) fd other on = other
 
 -- what the copy of a tag leaves of an actor: one that prepares a child goes on with that, and any other runs
 pub snapped_is : (Q : ActorState → Type 0) (a : ActorState) (p : Phase) (slot : ℕ) (bytes : Option (List ℕ)) → Q (runs a) → ((x : Preparation) → Q (record a { phase = phase.Starting x })) → Q (has_snapped a p slot bytes)
@@ -68,6 +100,7 @@ snapped_is Q a (phase.Within q) slot bytes other on = other
 snapped_is Q a (phase.Starting pre) slot bytes other on = on _
 snapped_is Q a (phase.Opening s tag) slot bytes other on = other
 snapped_is Q a (phase.Releasing s) slot bytes other on = other
+snapped_is Q a (phase.OpeningFile o) slot bytes other on = other
 snapped_is Q a (phase.Ending x) slot bytes other on = other
 snapped_is Q a (phase.Ended x) slot bytes other on = other
 
@@ -78,6 +111,7 @@ IsPreparing (phase.Within q) = ⊥
 IsPreparing (phase.Starting pre) = Unit {0}
 IsPreparing (phase.Opening slot tag) = ⊥
 IsPreparing (phase.Releasing slot) = ⊥
+IsPreparing (phase.OpeningFile o) = ⊥
 IsPreparing (phase.Ending e) = ⊥
 IsPreparing (phase.Ended e) = ⊥
 
@@ -87,13 +121,27 @@ MayPrepare (phase.Within q) = ⊥
 MayPrepare (phase.Starting pre) = Unit {0}
 MayPrepare (phase.Opening slot tag) = ⊥
 MayPrepare (phase.Releasing slot) = ⊥
+MayPrepare (phase.OpeningFile o) = ⊥
 MayPrepare (phase.Ending e) = Unit {0}
 MayPrepare (phase.Ended e) = Unit {0}
 
+-- one that claimed a number goes on with the file that it opens
+abbrev pub MayNumber : ℕ → Phase → Type 0
+MayNumber fd phase.Running = Unit {0}
+MayNumber fd (phase.Within q) = ⊥
+MayNumber fd (phase.Starting pre) = ⊥
+MayNumber fd (phase.Opening slot tag) = ⊥
+MayNumber fd (phase.Releasing slot) = ⊥
+MayNumber fd (phase.OpeningFile o) = o.number ≡ Some fd
+MayNumber fd (phase.Ending e) = ⊥
+MayNumber fd (phase.Ended e) = ⊥
+
 -- An event leaves the actor that did it between instructions; one that claimed a life prepares a child, which goes on with the copies of
--- tags, one that claimed a slot is about to open a tag there, and one that closed a tag to release its slot.
+-- tags, one that claimed a slot is about to open a tag there, one that claimed a number to open the stream of its file, and one that
+-- closed a tag to release its slot.
 abbrev pub Leaves : Event → Phase → Type 0
 Leaves (event.Slots directory_ask.Claim (directory_reply.Claimed place number)) p = p ≡ phase.Opening place number
+Leaves (event.Fds directory_ask.Claim (directory_reply.Claimed fd number)) p = MayNumber fd p
 Leaves (event.Slot slot q slot_reply.Closed) p = p ≡ phase.Releasing slot
 Leaves (event.Slot slot q (slot_reply.Snapped pages)) p = MayPrepare p
 Leaves (event.Slot slot q slot_reply.Gone) p = MayPrepare p
@@ -106,6 +154,7 @@ joined_between a (phase.Within q) e is = tt
 joined_between a (phase.Starting pre) e is = tt
 joined_between a (phase.Opening slot tag) e is = tt
 joined_between a (phase.Releasing slot) e is = tt
+joined_between a (phase.OpeningFile o) e is = tt
 joined_between a (phase.Ending x) e is = subst IsBetween (sym is) tt
 joined_between a (phase.Ended x) e is = tt
 
@@ -122,7 +171,11 @@ takes_between i a (event.Slot slot q slot_reply.Gone) = snapped_is (λ x. MayPre
 takes_between i a (event.Slot slot (slot_ask.Sfree offset live) (slot_reply.Denied tag wants)) = tt
 takes_between i a (event.Slot slot (slot_ask.Open tag pages) slot_reply.Opened) = tt
 takes_between i a (event.Slot slot q r) = tt
-takes_between i a (event.Fd fd q stream_reply.Opened) = tt
+takes_between i a (event.Fds (directory_ask.Release place) r) = tt
+takes_between i a (event.Fds directory_ask.Claim (directory_reply.Claimed fd number)) = numbered_is (λ x. MayNumber fd x.phase) a a.phase fd tt (λ o. refl)
+takes_between i a (event.Fds directory_ask.Claim directory_reply.Full) = tt
+takes_between i a (event.Fds directory_ask.Claim directory_reply.Released) = tt
+takes_between i a (event.Fd fd q stream_reply.Opened) = opened_is (λ x. IsBetween x.phase) a a.phase fd tt (λ o. tt)
 takes_between i a (event.Fd fd q (stream_reply.Given bytes)) = tt
 takes_between i a (event.Fd fd q stream_reply.Appended) = tt
 takes_between i a (event.Fd fd q stream_reply.Closed) = tt
@@ -161,7 +214,11 @@ takes_name i b (event.Slot slot q slot_reply.Gone) = snapped_is (λ x. x.name �
 takes_name i b (event.Slot slot (slot_ask.Sfree offset live) (slot_reply.Denied tag wants)) = refl
 takes_name i b (event.Slot slot (slot_ask.Open tag pages) slot_reply.Opened) = refl
 takes_name i b (event.Slot slot q r) = refl
-takes_name i b (event.Fd fd q stream_reply.Opened) = refl
+takes_name i b (event.Fds (directory_ask.Release place) r) = refl
+takes_name i b (event.Fds directory_ask.Claim (directory_reply.Claimed fd number)) = numbered_is (λ x. x.name ≡ b.name) b b.phase fd refl (λ o. refl)
+takes_name i b (event.Fds directory_ask.Claim directory_reply.Full) = refl
+takes_name i b (event.Fds directory_ask.Claim directory_reply.Released) = refl
+takes_name i b (event.Fd fd q stream_reply.Opened) = opened_is (λ x. x.name ≡ b.name) b b.phase fd refl (λ o. refl)
 takes_name i b (event.Fd fd q (stream_reply.Given bytes)) = refl
 takes_name i b (event.Fd fd q stream_reply.Appended) = refl
 takes_name i b (event.Fd fd q stream_reply.Closed) = refl
@@ -187,6 +244,19 @@ loaded_fuel ins need.JumpMisaligned a value = refl
 pub loads_fuel : (a : ActorState) (ins : Option Instr) (value : ℕ) → (loads_at a ins value).fuel ≡ a.fuel
 loads_fuel a None value = refl
 loads_fuel a (Some ins) value = loaded_fuel ins (local ins a.hart).need a value
+
+-- the claim of a number takes no fuel
+pub number_fuel : (i : Image) (b : ActorState) (q : DirectoryAsk) (r : DirectoryReply) → (takes i b (event.Fds q r)).fuel ≡ b.fuel
+unfolding takes
+number_fuel i b (directory_ask.Release place) r = refl
+number_fuel i b directory_ask.Claim (directory_reply.Claimed fd number) = numbered_is (λ x. x.fuel ≡ b.fuel) b b.phase fd refl (λ o. refl)
+number_fuel i b directory_ask.Claim directory_reply.Full = refl
+number_fuel i b directory_ask.Claim directory_reply.Released = refl
+
+-- and the opening of a file's stream leaves its actor as it says
+pub opened_at : (i : Image) (b : ActorState) (o : FileOpening) (fd : ℕ) (q : StreamAsk) → b.phase ≡ phase.OpeningFile o → takes i b (event.Fd fd q stream_reply.Opened) ≡ opened_file b o fd
+unfolding takes
+opened_at i b o fd q at_ = ap (λ p. has_opened_file b p fd) at_
 
 -- the event of a want that is of a cell, or a start
 abbrev pub event_for : Cells → ActorState → Want → Event

@@ -1,10 +1,10 @@
 -- No actor of a run has more rights on what the image declares than the root: a tag that it made is none of those.
-use Rattle.std.proofs.Common.{◌≡◌, ◌≢◌, ℕ, ◌≤◌, ◌<◌, Bool, true, false, List, [], ◌∷◌, length, refl, sym, ap, subst, ◌∙◌, arith, inl, inr}
+use Rattle.std.proofs.Common.{◌≡◌, ◌≢◌, ℕ, ◌+◌, ◌≤◌, ◌<◌, Bool, true, false, List, [], ◌∷◌, length, refl, sym, ap, subst, ◌∙◌, arith, inl, inr}
 use Rattle.std.proofs.lemmas.Bool.Decides.{nat_tests}
 use Rattle.std.specs.Cmp.{nat_cmp_total}
 use Rattle.std.specs.FinMap.Entries.{find-put}
 use Rattle.std.specs.Ordering.{nat_cmp, eq_by_cmp}
-use Rattle.std.specs.Prelude.{Option, Some, None, is_some, option_map, nat_le, ◌&&◌, ◌||◌, ◌⊎◌, if◌then◌else◌}
+use Rattle.std.specs.Prelude.{Option, Some, None, is_some, option_map, unwrap_or, nat_le, nat_lt, ◌&&◌, ◌||◌, ◌⊎◌, if◌then◌else◌}
 use Rattle.wedge_base.specs.Images.{Image}
 use Rattle.wedge_base.specs.Maps.{Map, at, has, with}
 use Rattle.wedge_base.specs.Names.{same, root_name}
@@ -18,20 +18,32 @@ use Rattle.wedge_base.specs.declared.rights.Grant.{Grant}
 use Rattle.wedge_base.specs.declared.events.Event.{Event}
 use Rattle.wedge_base.specs.declared.events.Event.TheVariants as event
 use Rattle.wedge_base.specs.declared.events.Turn.{Turn}
+use Rattle.wedge_base.specs.declared.events.Want.{Want}
+use Rattle.wedge_base.specs.declared.events.Want.TheVariants as want
+use Rattle.wedge_base.specs.declared.cells.DirectoryAsk.TheVariants as directory_ask
+use Rattle.wedge_base.specs.declared.cells.DirectoryReply.TheVariants as directory_reply
+use Rattle.wedge_base.specs.declared.cells.LivesAsk.TheVariants as lives_ask
+use Rattle.wedge_base.specs.declared.cells.LivesReply.TheVariants as lives_reply
+use Rattle.wedge_base.specs.declared.cells.SlotReply.TheVariants as slot_reply
+use Rattle.wedge_base.specs.Directories.{Directory, Claim, no_number, claim_from, claim, claim_reply, claim_next, directory_reply as directory_reply_of, directory_next}
+use Rattle.sthread_life.specs.declared.phase.Phase.{Phase}
 use Rattle.sthread_life.specs.declared.phase.Phase.TheVariants as phase
 use Rattle.sthread_life.specs.Actors.{ActorState, root, right_of, bits_of}
+use Rattle.sthread_life.specs.Between.{IsBetween}
 use Rattle.sthread_life.specs.Cells.{Cells, cells_after}
+use Rattle.sthread_life.specs.Opening.{FileOpening}
 use Rattle.sthread_life.specs.Children.{child_name}
-use Rattle.sthread_life.specs.Families.{IsChild, made_by}
+use Rattle.sthread_life.specs.Families.{IsChild, made_under, made_by}
 use Rattle.sthread_life.specs.Laws.{RootBounds}
 use Rattle.sthread_life.specs.Local.{rest}
 use Rattle.sthread_life.specs.Taking.{next_start, takes, begun, child_of}
 use Rattle.sthread_life.specs.Worlds.{WorldState, opening, actor_named, put_actor, with_begun, turn_of, Runs}
-use Rattle.sthread_life.proofs.Between.{takes_name, takes_between, turn_parts}
+use Rattle.sthread_life.proofs.Between.{event_for, Leaves, IsPreparing, MayPrepare, MayNumber, takes_name, takes_between, turn_parts}
 use Rattle.sthread_life.proofs.Directing.{claimed_number, next_number}
-use Rattle.sthread_life.proofs.Families.{takes_made, takes_sheet, happens_made, child_begins}
+use Rattle.sthread_life.proofs.Meeting.{IsRequest}
+use Rattle.sthread_life.proofs.Families.{MadeBy, MadeNothing, MadeTag, MadeFd, takes_made, takes_sheet, happens_made, child_begins}
 use Rattle.sthread_life.proofs.FamilyRuns.{Acts, ActsAlone, Starts, Joins, acts, one_begins, kept_at_rest}
-use Rattle.sthread_life.proofs.Happening.{AtOpen, Happens, happens_claim, opens_by_claim}
+use Rattle.sthread_life.proofs.Happening.{Happens, Requested, Joined, Snaps, Started, Opens, Releases, Numbers, OpensFile, LastJoined, Ended, happens_claim, happens_number, opens_by_claim}
 use Rattle.sthread_life.proofs.Named.{found_name, same_equal, same_self}
 use Rattle.sthread_life.proofs.Resting.{rest-name, rest-uncalm}
 use Rattle.sthread_life.proofs.Settling.{AllReady, turn_happens, turn_ready, opening_ready}
@@ -59,8 +71,9 @@ both_are false q e f = absurd cc
 
 record IsBounded (i : Image) (a : ActorState) : Type 0 where
   tags : (tag : ℕ) (r : Right) → tag < length i.tags → at_least (right_of a tag) r ≡ true → at_least (right_of (root i) tag) r ≡ true
-  fds : (fd : ℕ) → bits_within (bits_of a fd) (bits_of (root i) fd) ≡ true
+  fds : (fd : ℕ) → fd < length i.fds → bits_within (bits_of a fd) (bits_of (root i) fd) ≡ true
   opens : (slot tag : ℕ) → a.phase ≡ phase.Opening slot tag → length i.tags ≤ tag
+  files : (o : FileOpening) (fd : ℕ) → a.phase ≡ phase.OpeningFile o → o.number ≡ Some fd → length i.fds ≤ fd
   user : i.user ≢ 0 → (a.sheet.user ≡ i.user) × (a.sheet.root ≡ i.root)
   directory : under i.root a.sheet.root ≡ true
 
@@ -125,8 +138,10 @@ with_other m k v n apart = find-put nat_cmp nat_cmp_total n k v m ∙ by_key (eq
 child_bounded : (i : Image) (b c : ActorState) → IsChild b c → IsBounded i b → IsBounded i c
 child_bounded i b c child bounded = record {
   tags = λ tag r inside e. by_grant tag r inside (at c.sheet.tags tag) refl (ap (λ m. at_least (right_on c.sheet m tag) r) (sym child.fresh.0) ∙ e);
-  fds = λ fd. within_bits (bits_of c fd) (bits_of b fd) (bits_of (root i) fd) (ap (λ x. bits_within x (bits_of b fd)) (ap (λ m. bits_on c.sheet m fd) child.fresh.0 ∙ given_alone (bits_in c.sheet.fds fd)) ∙ child.within.fds fd) (bounded.fds fd);
+  fds = λ fd inside.
+      within_bits (bits_of c fd) (bits_of b fd) (bits_of (root i) fd) (ap (λ x. bits_within x (bits_of b fd)) (ap (λ m. bits_on c.sheet m fd) child.fresh.0 ∙ given_alone (bits_in c.sheet.fds fd)) ∙ child.within.fds fd) (bounded.fds fd inside);
   opens = λ slot tag is. let f : phase.Running ≡ phase.Opening slot tag = sym child.fresh.5 ∙ is in absurd cc;
+  files = λ o fd is some. let f : phase.Running ≡ phase.OpeningFile o = sym child.fresh.5 ∙ is in absurd cc;
   user = child_user i b.sheet c.sheet child.within.user child.within.root bounded.user;
   directory = child_directory i.root b.sheet c.sheet child.within.root bounded.directory;
 }
@@ -142,26 +157,122 @@ rest_bounded i a bounded =
     let k = kept_at_rest i a _ refl in
     record {
       tags = λ tag r inside e. bounded.tags tag r inside (ap (λ o. at_least o r) (sym (k.sheet_ tag)) ∙ e);
-      fds = λ fd. ap (λ b. bits_within b (bits_of (root i) fd)) (k.bits_ fd) ∙ bounded.fds fd;
+      fds = λ fd inside. ap (λ b. bits_within b (bits_of (root i) fd)) (k.bits_ fd) ∙ bounded.fds fd inside;
       opens = λ slot tag is. bounded.opens slot tag (rest-uncalm i a (phase.Opening slot tag) (λ h. h) is);
+      files = λ o fd is some. bounded.files o fd (rest-uncalm i a (phase.OpeningFile o) (λ h. let f : None ≡ Some fd = sym h ∙ some in cc) is) some;
       user = λ some. (ap (λ (x : Sheet). x.user) k.sheet ∙ (bounded.user some).0, ap (λ (x : Sheet). x.root) k.sheet ∙ (bounded.user some).1);
       directory = ap (λ (x : Sheet). under i.root x.root) k.sheet ∙ bounded.directory;
     }
 
--- what an actor has made, of the tags that are declared
-made_declared : (w : WorldState) (b : ActorState) (e : Event) → IsBounded w.image b → (made_by b.made (Some e) ≡ b.made) ⊎ AtOpen w b e → (tag : ℕ) → tag < length w.image.tags → has (made_by b.made (Some e)).tags tag ≡ has b.made.tags tag
-made_declared w b e bounded (inl same) tag inside = ap (λ (m : Made). has m.tags tag) same
-made_declared w b e bounded (inr o) tag inside =
+-- what an actor has made, of the tags and of the descriptors that are declared
+made_declared : (w : WorldState) (b : ActorState) (e : Event) → IsBounded w.image b → MadeBy w b e → (tag : ℕ) → tag < length w.image.tags → has (made_by b (Some e)).tags tag ≡ has b.made.tags tag
+made_declared w b e bounded (MadeNothing none) tag inside = ap (λ (m : Made). has m.tags tag) none
+made_declared w b e bounded (MadeTag o) tag inside =
     let from = bounded.opens o.slot o.tag o.at in
-    ap (λ y. has (made_by b.made (Some y)).tags tag) o.is ∙ ap (λ x. is_some x) (with_other b.made.tags o.tag o.slot tag (λ same. absurd (omega (arith, inside, from, same))))
+    ap (λ y. has (made_by b (Some y)).tags tag) o.is ∙ ap (λ x. is_some x) (with_other b.made.tags o.tag o.slot tag (λ same_tag. absurd (omega (arith, inside, from, same_tag))))
+made_declared w b e bounded (MadeFd f) tag inside = ap (λ y. has (made_by b (Some y)).tags tag) f.is ∙ ap (λ p. has (made_under b.made p f.fd).tags tag) f.at
 
-made_fds : (w : WorldState) (b : ActorState) (e : Event) → (made_by b.made (Some e) ≡ b.made) ⊎ AtOpen w b e → (made_by b.made (Some e)).fds ≡ b.made.fds
-made_fds w b e (inl same) = ap (λ (m : Made). m.fds) same
-made_fds w b e (inr o) = ap (λ y. (made_by b.made (Some y)).fds) o.is
+made_fds : (w : WorldState) (b : ActorState) (e : Event) → IsBounded w.image b → MadeBy w b e → (fd : ℕ) → fd < length w.image.fds → bits_in (made_by b (Some e)).fds fd ≡ bits_in b.made.fds fd
+made_fds w b e bounded (MadeNothing none) fd inside = ap (λ (m : Made). bits_in m.fds fd) none
+made_fds w b e bounded (MadeTag o) fd inside = ap (λ y. bits_in (made_by b (Some y)).fds fd) o.is
+made_fds w b e bounded (MadeFd f) fd inside =
+    let from = bounded.files f.opening f.fd f.at f.some in
+    ap (λ y. bits_in (made_by b (Some y)).fds fd) f.is ∙ (ap (λ p. bits_in (made_under b.made p f.fd).fds fd) f.at
+    ∙ ap (λ (k : Option FdBits). unwrap_or k no_bits) (with_other b.made.fds f.fd f.opening.bits fd (λ same_fd. absurd (omega (arith, inside, from, same_fd)))))
+
+-- the numbers of descriptors that are given out are above those that are declared: none is ever released
+record GivesAbove (n : ℕ) (d : Directory) : Type 0 where
+  unused : n ≤ d.unused
+  released : d.released ≡ []
+
+claim_above : (n : ℕ) (d : Directory) (ps : List ℕ) (c : Claim) → GivesAbove n d → ps ≡ [] → claim_from d ps ≡ Some c → (n ≤ c.place) × GivesAbove n c.left
+claim_above n d (p ∷ ps) c h none e = absurd cc
+claim_above n d [] c h none e = by_room (nat_lt d.unused d.places) e
+  where
+    by_room : (t : Bool) → (if t then Some (record { place = d.unused; left = record d { number = d.number + 1; unused = d.unused + 1 } }) else None) ≡ Some c → (n ≤ c.place) × GivesAbove n c.left
+    by_room false e = absurd cc
+    by_room true e =
+        let is : record { place = d.unused; left = record d { number = d.number + 1; unused = d.unused + 1 } } ≡ c = cc in
+        let from = h.unused in
+        subst (λ (x : Claim). (n ≤ x.place) × GivesAbove n x.left) is (h.unused, record { unused = omega (arith, from); released = h.released })
+
+claimed_above : (n : ℕ) (d : Directory) (c : Claim) → GivesAbove n d → claim d ≡ Some c → (n ≤ c.place) × GivesAbove n c.left
+claimed_above n d c h e = by_number (nat_lt d.number no_number) e
+  where
+    by_number : (t : Bool) → (if t then claim_from d d.released else None) ≡ Some c → (n ≤ c.place) × GivesAbove n c.left
+    by_number true e = claim_above n d d.released c h h.released e
+    by_number false e = absurd cc
+
+place_above : (n : ℕ) (d : Directory) (place number : ℕ) → GivesAbove n d → directory_reply_of d directory_ask.Claim ≡ directory_reply.Claimed place number → n ≤ place
+place_above n d place number h e = by_claim (claim d) refl e
+  where
+    by_claim : (o : Option Claim) → claim d ≡ o → claim_reply d o ≡ directory_reply.Claimed place number → n ≤ place
+    by_claim None is e = absurd cc
+    by_claim (Some c) is e = let same_place : c.place ≡ place = cc in subst (λ k. n ≤ k) same_place (claimed_above n d c h is).0
+
+next_above : (n : ℕ) (d : Directory) → GivesAbove n d → GivesAbove n (directory_next d directory_ask.Claim)
+next_above n d h = by_claim (claim d) refl
+  where
+    by_claim : (o : Option Claim) → claim d ≡ o → GivesAbove n (claim_next d o)
+    by_claim None is = h
+    by_claim (Some c) is = (claimed_above n d c h is).1
+
+-- no event releases a number
+request_above : (n : ℕ) (N : ℕ → Type 0) (c : Cells) (b : ActorState) (q : Want) → IsRequest N b q → GivesAbove n c.numbers → GivesAbove n (cells_after c (event_for c b q)).numbers
+request_above n N c b (want.Slots q) own h = h
+request_above n N c b (want.Slot slot q) own h = h
+request_above n N c b (want.Fd fd q) own h = h
+request_above n N c b (want.Lives q) own h = h
+request_above n N c b q own h = absurd own
+
+cells_above : (n : ℕ) (w : WorldState) (b : ActorState) (e : Event) → Happens w b e → GivesAbove n w.cells.numbers → GivesAbove n (cells_after w.cells e).numbers
+cells_above n w b e (Requested r) h = subst (λ y. GivesAbove n (cells_after w.cells y).numbers) (sym r.is) (request_above n _ w.cells b r.want r.own h)
+cells_above n w b e (Joined j) h = subst (λ y. GivesAbove n (cells_after w.cells y).numbers) (sym j.join.is) h
+cells_above n w b e (Snaps s) h = subst (λ y. GivesAbove n (cells_after w.cells y).numbers) (sym s.is) h
+cells_above n w b e (Started s) h = subst (λ y. GivesAbove n (cells_after w.cells y).numbers) (sym s.is) h
+cells_above n w b e (Opens o) h = subst (λ y. GivesAbove n (cells_after w.cells y).numbers) (sym o.is) h
+cells_above n w b e (Releases r) h = subst (λ y. GivesAbove n (cells_after w.cells y).numbers) (sym r.is) h
+cells_above n w b e (Numbers m) h = subst (λ y. GivesAbove n (cells_after w.cells y).numbers) (sym m.is) (next_above n w.cells.numbers h)
+cells_above n w b e (OpensFile f) h = subst (λ y. GivesAbove n (cells_after w.cells y).numbers) (sym f.is) h
+cells_above n w b e (LastJoined j) h = subst (λ y. GivesAbove n (cells_after w.cells y).numbers) (sym j.join.is) h
+cells_above n w b e (Ended f) h = subst (λ y. GivesAbove n (cells_after w.cells y).numbers) (sym f.is) h
+
+-- an actor has a number for its file only once it claimed one, or had one before
+numbered_by : (i : Image) (b : ActorState) (e : Event) (o : FileOpening) (fd : ℕ) → (takes i b e).phase ≡ phase.OpeningFile o → o.number ≡ Some fd
+    → (number : ℕ) × (e ≡ event.Fds directory_ask.Claim (directory_reply.Claimed fd number))
+numbered_by i b e o fd is some = leaves_number e (takes i b e).phase (takes_between i b e) is
+  where
+    between : (p : Phase) → IsBetween p → p ≡ phase.OpeningFile o → ⊥
+    between p h at_ = subst IsBetween at_ h
+
+    prepares : (p : Phase) → MayPrepare p → p ≡ phase.OpeningFile o → ⊥
+    prepares p h at_ = subst MayPrepare at_ h
+
+    leaves_number : (y : Event) (p : Phase) → Leaves y p → p ≡ phase.OpeningFile o → (number : ℕ) × (y ≡ event.Fds directory_ask.Claim (directory_reply.Claimed fd number))
+    leaves_number (event.Fds directory_ask.Claim (directory_reply.Claimed place number)) p h at_ =
+        let same_number : Some place ≡ Some fd = sym (subst (MayNumber place) at_ h) ∙ some in
+        let same_place : place ≡ fd = cc in
+        (number, ap (λ n. event.Fds directory_ask.Claim (directory_reply.Claimed n number)) same_place)
+    leaves_number (event.Fds directory_ask.Claim directory_reply.Full) p h at_ = absurd (between p h at_)
+    leaves_number (event.Fds directory_ask.Claim directory_reply.Released) p h at_ = absurd (between p h at_)
+    leaves_number (event.Fds (directory_ask.Release place) r) p h at_ = absurd (between p h at_)
+    leaves_number (event.Lives lives_ask.Claim lives_reply.Claimed) p h at_ = absurd (subst IsPreparing at_ h)
+    leaves_number (event.Lives lives_ask.Claim lives_reply.Full) p h at_ = absurd (between p h at_)
+    leaves_number (event.Lives lives_ask.Claim lives_reply.Released) p h at_ = absurd (between p h at_)
+    leaves_number (event.Lives (lives_ask.Release x) r) p h at_ = absurd (between p h at_)
+    leaves_number (event.Slots directory_ask.Claim (directory_reply.Claimed slot tag)) p h at_ = let f : phase.Opening slot tag ≡ phase.OpeningFile o = sym h ∙ at_ in absurd cc
+    leaves_number (event.Slots directory_ask.Claim directory_reply.Full) p h at_ = absurd (between p h at_)
+    leaves_number (event.Slots directory_ask.Claim directory_reply.Released) p h at_ = absurd (between p h at_)
+    leaves_number (event.Slots (directory_ask.Release place) r) p h at_ = absurd (between p h at_)
+    leaves_number (event.Slot s q slot_reply.Closed) p h at_ = let f : phase.Releasing s ≡ phase.OpeningFile o = sym h ∙ at_ in absurd cc
+    leaves_number (event.Slot s q (slot_reply.Snapped pages)) p h at_ = absurd (prepares p h at_)
+    leaves_number (event.Slot s q slot_reply.Gone) p h at_ = absurd (prepares p h at_)
+    leaves_number (event.Slot s q r) p h at_ = absurd (between p h at_)
+    leaves_number y p h at_ = absurd (between p h at_)
 
 -- so its event leaves its actor bounded
-doer_bounded : (w : WorldState) (b : ActorState) (e : Event) → length w.image.tags ≤ w.cells.places.number → Happens w b e → IsBounded w.image b → IsBounded w.image (takes w.image b e)
-doer_bounded w b e counted h bounded =
+doer_bounded : (w : WorldState) (b : ActorState) (e : Event) → length w.image.tags ≤ w.cells.places.number → GivesAbove (length w.image.fds) w.cells.numbers → Happens w b e → IsBounded w.image b → IsBounded w.image (takes w.image b e)
+doer_bounded w b e counted above h bounded =
     let x = takes w.image b e in
     let sheet = takes_sheet w.image b e in
     let made = takes_made w.image b e in
@@ -169,17 +280,24 @@ doer_bounded w b e counted h bounded =
     record {
       tags = λ tag r inside e2. bounded.tags tag r inside (sym (ap (λ o. at_least o r) (ap (λ s. right_on s x.made tag) sheet ∙ (ap (λ m. right_on b.sheet m tag) made
           ∙ ap (λ t. if t then Some right.ReadWrite else option_map (λ g. g.right) (at b.sheet.tags tag)) (made_declared w b e bounded by tag inside)))) ∙ e2);
-      fds = λ fd. ap (λ y. bits_within y (bits_of (root w.image) fd)) (ap (λ s. bits_on s x.made fd) sheet ∙ (ap (λ m. bits_on b.sheet m fd) made ∙ ap (λ f. either_bits (bits_in b.sheet.fds fd) (bits_in f fd)) (made_fds w b e by))) ∙ bounded.fds fd;
+      fds = λ fd inside.
+          ap (λ y. bits_within y (bits_of (root w.image) fd))
+          (ap (λ s. bits_on s x.made fd) sheet ∙ (ap (λ m. bits_on b.sheet m fd) made ∙ ap (λ f. either_bits (bits_in b.sheet.fds fd) f) (made_fds w b e bounded by fd inside)))
+          ∙ bounded.fds fd inside;
       opens = λ slot tag is.
           let claim = happens_claim w b e slot tag h (opens_by_claim e x.phase slot tag (takes_between w.image b e) is) in
           let number = claimed_number w.cells.places slot tag claim.1 in
           omega (arith, counted, number);
+      files = λ o fd is some.
+          let from = numbered_by w.image b e o fd is some in
+          place_above (length w.image.fds) w.cells.numbers fd from.0 above (happens_number w b e fd from.0 h from.1).1;
       user = λ some. (ap (λ (y : Sheet). y.user) sheet ∙ (bounded.user some).0, ap (λ (y : Sheet). y.root) sheet ∙ (bounded.user some).1);
       directory = ap (λ (y : Sheet). under w.image.root y.root) sheet ∙ bounded.directory;
     }
 
 record AllBounded (w : WorldState) : Type 0 where
   counted : length w.image.tags ≤ w.cells.places.number
+  above : GivesAbove (length w.image.fds) w.cells.numbers
   actors : (m : List ℕ) (a : ActorState) → actor_named w.actors m ≡ Some a → IsBounded w.image a
 
 -- an event leaves the numbers of tags above those that are declared
@@ -204,10 +322,10 @@ turn_bounded w name e new all bounded t =
     let h = turn_happens w name e new all p in
     let there : actor_named w.actors a.name ≡ Some a = ap (actor_named w.actors) (found_name w.actors name a p.named) ∙ p.named in
     let put : IsPut w.actors a x = record { name = takes_name w.image b e ∙ rest-name w.image a; there = there } in
-    let doer = doer_bounded w b e bounded.counted h (rest_bounded w.image a (bounded.actors a.name a there)) in
+    let doer = doer_bounded w b e bounded.counted bounded.above h (rest_bounded w.image a (bounded.actors a.name a there)) in
     let child = begins_bounded w b e (acts w b e h) (rest_bounded w.image a (bounded.actors a.name a there)) in
     subst AllBounded (sym p.new_is)
-    (record { counted = cells_counted (length w.image.tags) w.cells e bounded.counted; actors = by_begun w a x bounded put doer (begun w.image b e) child })
+    (record { counted = cells_counted (length w.image.tags) w.cells e bounded.counted; above = cells_above (length w.image.fds) w b e h bounded.above; actors = by_begun w a x bounded put doer (begun w.image b e) child })
   where
     by_found : (w : WorldState) (a x : ActorState) → AllBounded w → IsPut w.actors a x → IsBounded w.image x → (m : List ℕ) (y : ActorState) → FoundPut w.actors a x m y → IsBounded w.image y
     by_found w a x bounded put doer m y (IsDoer is f) = subst (IsBounded w.image) (sym f) doer
@@ -231,7 +349,7 @@ turn_bounded w name e new all bounded t =
     begins_bounded w b e (Joins k listed j) bounded c is = let f : None ≡ Some c = sym (ap (begun w.image b) j.is) ∙ is in absurd cc
 
 opening_bounded : (i : Image) → AllBounded (opening i)
-opening_bounded i = record { counted = omega arith; actors = λ m y found. by_name (same root_name m) (opening_found m y found) }
+opening_bounded i = record { counted = omega arith; above = record { unused = omega arith; released = refl }; actors = λ m y found. by_name (same root_name m) (opening_found m y found) }
   where
     by_name : (t : Bool) {y : ActorState} → (if t then Some (root i) else None) ≡ Some y → IsBounded i y
     by_name true e = let is : root i ≡ _ = cc in subst (IsBounded i) is root_bounded
@@ -244,7 +362,7 @@ opening_bounded i = record { counted = omega arith; actors = λ m y found. by_na
             itself false = refl
 
         root_bounded : IsBounded i (root i)
-        root_bounded = unfold root in record { tags = λ tag r inside e. e; fds = λ fd. bits_self (bits_of (root i) fd); opens = λ slot tag is. absurd cc; user = λ some. (refl, refl); directory = front_itself (parts_of i.root) }
+        root_bounded = unfold root in record { tags = λ tag r inside e. e; fds = λ fd inside. bits_self (bits_of (root i) fd); opens = λ slot tag is. absurd cc; files = λ o fd is some. absurd cc; user = λ some. (refl, refl); directory = front_itself (parts_of i.root) }
     by_name false e = absurd cc
 
     opening_found : (m : List ℕ) (y : ActorState) → actor_named (opening i).actors m ≡ Some y → (if same root_name m then Some (root i) else None) ≡ Some y
@@ -261,4 +379,4 @@ run_image old (t ∷ ts) new run = run_image run.0 ts new run.2 ∙ ap (λ (w : 
 pub root_bounds : RootBounds
 root_bounds i turns new run name a named =
     let bounded = subst (λ j. IsBounded j a) (run_image (opening i) turns new run) ((runs_bounded (opening i) turns new (opening_ready i) (opening_bounded i) run).actors name a named) in
-    record { tags = λ tag inside r. bounded.tags tag r inside; fds = λ fd inside. bounded.fds fd; user = bounded.user; directory = bounded.directory }
+    record { tags = λ tag inside r. bounded.tags tag r inside; fds = bounded.fds; user = bounded.user; directory = bounded.directory }

@@ -1,5 +1,5 @@
 -- Buffers that are read, and the paths in them, in the two words for each.
-use Rattle.std.proofs.Common.{◌≡◌, ℕ, Bool, true, false, List, [], refl, ap, ◌∙◌}
+use Rattle.std.proofs.Common.{◌≡◌, ℕ, Bool, true, false, [], refl, ap, ◌∙◌}
 use Rattle.std.specs.Prelude.{Option, Some, None, is_some, option_and_then, not, ◌&&◌, ◌||◌, ◌==◌, nat_le, if◌then◌else◌}
 use Rattle.wedge_base.specs.Images.{Image, in_text}
 use Rattle.wedge_base.specs.Memory.{range_at}

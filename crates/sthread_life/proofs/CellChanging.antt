@@ -1,8 +1,8 @@
 -- Whatever a cell holds beside its bytes is changed by its own events alone.
-use Rattle.std.proofs.Common.{◌≡◌, false, ℕ, ◌<◌, List, [], ◌∷◌, length, refl, sym, ap, subst, ◌∙◌}
+use Rattle.std.proofs.Common.{◌≡◌, true, false, ℕ, ◌<◌, List, [], ◌∷◌, length, refl, sym, ap, subst, ◌∙◌}
 use Rattle.std.specs.Prelude.{Option, Some, None, option_map}
 use Rattle.wedge_base.specs.Slots.{Segment, slot_reply as slot_reply_of, slot_after, opened, stored, placed, freed}
-use Rattle.wedge_base.specs.Streams.{Stream, stream_reply as stream_reply_of, stream_after, moved, grown, closed}
+use Rattle.wedge_base.specs.Streams.{Stream, opened as stream_opened, stream_reply as stream_reply_of, stream_after, moved, grown, closed}
 use Rattle.wedge_base.specs.declared.grants.GateId.{GateId}
 use Rattle.wedge_base.specs.declared.events.SlotWant.TheVariants as slot_want
 use Rattle.wedge_base.specs.declared.events.Want.{Want}
@@ -17,6 +17,8 @@ use Rattle.wedge_base.specs.declared.cells.LivesAsk.TheVariants as lives_ask
 use Rattle.wedge_base.specs.declared.cells.SlotAsk.TheVariants as slot_ask
 use Rattle.wedge_base.specs.declared.cells.SlotReply.{SlotReply}
 use Rattle.wedge_base.specs.declared.cells.SlotReply.TheVariants as slot_reply
+use Rattle.wedge_base.specs.declared.rights.StreamKind.{StreamKind}
+use Rattle.wedge_base.specs.declared.cells.StreamReply.TheVariants as stream_reply
 use Rattle.wedge_base.specs.declared.cells.StreamAsk.{StreamAsk}
 use Rattle.wedge_base.specs.declared.cells.StreamAsk.TheVariants as stream_ask
 use Rattle.sthread_life.specs.Actors.{ActorState}
@@ -27,7 +29,7 @@ use Rattle.sthread_life.specs.Cells.{Cells, slot_in, stream_in, kept_in, cells_a
 use Rattle.sthread_life.specs.Worlds.{WorldState, turn_of, Runs}
 use Rattle.sthread_life.specs.CellHistories.{after_turns, Occupant, occupant, occupant_in, occupant_by, occupant_after_event, Mode, mode, mode_in, mode_by, mode_after_event, places_after_event, numbers_after_event, lives_after_event, kept_after_event, CellsFollow}
 use Rattle.sthread_life.proofs.Between.{event_for, turn_parts}
-use Rattle.sthread_life.proofs.Happening.{Happens, Requested, Joined, Snaps, Started, Opens, Releases, LastJoined, Ended}
+use Rattle.sthread_life.proofs.Happening.{Happens, Requested, Joined, Snaps, Started, Opens, Releases, Numbers, OpensFile, LastJoined, Ended}
 use Rattle.sthread_life.proofs.Settling.{AreCells, AllReady, turn_happens, turn_ready}
 use Rattle.sthread_life.proofs.Meeting.{IsRequest}
 use Rattle.sthread_life.proofs.StreamCalls.{read_cases, append_cases, close_cases, unopened_stays, IsStreamRequest}
@@ -178,6 +180,18 @@ open_changes c s tag pages inside = record {
   gates = λ id. refl;
 }
 
+-- a stream is opened on a descriptor that is there
+file_changes : (c : Cells) (fd : ℕ) (k : StreamKind) (bytes : List ℕ) → fd < length c.streams
+    → IsChanged c (event.Fd fd (stream_ask.Open k bytes) stream_reply.Opened) (cells_after c (event.Fd fd (stream_ask.Open k bytes) stream_reply.Opened))
+file_changes c fd k bytes inside = record {
+  occupants = λ slot. refl;
+  modes = λ n. follows_in mode_of (λ x. Some (mode k true)) c.streams fd n (Some (stream_opened k bytes)) _ inside refl refl;
+  places = refl;
+  numbers = refl;
+  lives = refl;
+  gates = λ id. refl;
+}
+
 pub event_changes : (w : WorldState) (b : ActorState) (e : Event) → AreCells w.image w.cells → Happens w b e → IsChanged w.cells e (cells_after w.cells e)
 event_changes w b e cells (Requested r) = subst (λ y. IsChanged w.cells y (cells_after w.cells y)) (sym r.is) (want_changes _ w.cells b r.want r.own)
 event_changes w b e cells (Joined j) =
@@ -193,6 +207,10 @@ event_changes w b e cells (Opens o) =
     subst (λ y. IsChanged w.cells y (cells_after w.cells y)) (sym o.is) (open_changes w.cells o.slot o.tag (a0 b) (subst (λ n. o.slot < n) (sym cells.slots) o.inside))
 event_changes w b e cells (Releases r) =
     subst (λ y. IsChanged w.cells y (cells_after w.cells y)) (sym r.is) (record { occupants = λ slot. refl; modes = λ fd. refl; places = refl; numbers = refl; lives = refl; gates = λ id. refl })
+event_changes w b e cells (Numbers n) =
+    subst (λ y. IsChanged w.cells y (cells_after w.cells y)) (sym n.is) (record { occupants = λ slot. refl; modes = λ fd. refl; places = refl; numbers = refl; lives = refl; gates = λ id. refl })
+event_changes w b e cells (OpensFile f) =
+    subst (λ y. IsChanged w.cells y (cells_after w.cells y)) (sym f.is) (file_changes w.cells f.fd f.opening.kind f.opening.bytes (subst (λ n. f.fd < n) (sym cells.streams) f.inside))
 event_changes w b e cells (LastJoined j) =
     subst (λ y. IsChanged w.cells y (cells_after w.cells y)) (sym j.join.is) (record { occupants = λ slot. refl; modes = λ fd. refl; places = refl; numbers = refl; lives = refl; gates = λ id. refl })
 event_changes w b e cells (Ended f) =

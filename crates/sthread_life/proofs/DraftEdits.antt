@@ -33,14 +33,17 @@ use Rattle.rv_hart.specs.declared.Hart.{Hart}
 use Rattle.rv_hart.specs.declared.Need.{Need}
 use Rattle.rv_hart.specs.declared.Need.TheVariants as need
 use Rattle.rv_hart.specs.Local.{local}
+use Rattle.wedge_base.specs.Files.{may_open}
+use Rattle.wedge_base.specs.declared.image.FileEntry.{FileEntry}
+use Rattle.wedge_base.specs.declared.rights.FdBits.{FdBits}
 use Rattle.sthread_life.specs.Actors.{ActorState, right_of, denies, answers, refuses, ends, spends}
 use Rattle.cow_pages.specs.Listed.{bytes_listed}
 use Rattle.cow_pages.specs.Copies.{copy_at, holds_copy, read_copy}
 use Rattle.sthread_life.specs.Private.{loads, stores, load_bytes, load_copy, load_window, load_range, store_copy, store_window, store_range, has_loaded, fits_read, fits_write}
 use Rattle.sthread_life.specs.Children.{is_child, without_child}
-use Rattle.sthread_life.proofs.Between.{joined_is, snapped_is}
+use Rattle.sthread_life.proofs.Between.{joined_is, numbered_is, opened_is, snapped_is}
 use Rattle.sthread_life.proofs.Buffers.{path_is}
-use Rattle.sthread_life.specs.Calls.{serves, exit, is_procedure, create, create_with, create_checked, join, are_pages, tag_new, tag_delete, smalloc, free_at, sfree, fd_read, fd_append, fd_close, draft_call, sc_new, sc_mem_add, sc_fd_add, with_draft, add_right, add_right_to, add_bits, add_bits_to, bits, a0, a1, a2, a3, a7, set_user, sc_user, path_in, put_root, set_root, sc_root}
+use Rattle.sthread_life.specs.Calls.{serves, exit, is_procedure, create, create_with, create_checked, join, are_pages, tag_new, tag_delete, smalloc, free_at, sfree, fd_read, fd_append, fd_close, draft_call, sc_new, sc_mem_add, sc_fd_add, with_draft, add_right, add_right_to, add_bits, add_bits_to, bits, a0, a1, a2, a3, a7, set_user, sc_user, path_in, set_root, sc_root, file_at, mode_asked, suits, open_file, open_path, file_open}
 use Rattle.sthread_life.specs.Drafting.{right_of_number, bits_of_number, edited, with_new, drafts_by_call, drafts_by_need, drafts_by_instr, drafts_by_fuel, drafts_by_word, drafts_after}
 use Rattle.sthread_life.specs.Local.{needed, executed, fuelled, fetched, step}
 use Rattle.sthread_life.specs.Refusals.{full, bad, right_refusal, bits_refusal, fuel_short, user_refusal, root_refusal}
@@ -104,6 +107,15 @@ append_stays i a =
     stays_if a (refuses a code.Bad) _ (not (fits_read i a (a1 a) (a2 a))) refl
     (stays_if a (refuses a code.FuelShort) _ (nat_lt a.fuel (a2 a)) refl
     (stays_if a (refuses a code.NoSuch) _ (nat_le most_fds (a0 a)) refl refl))
+
+file_stays : (a : ActorState) (path : List ℕ) (b : FdBits) (f : Option FileEntry) → Stays a (open_file a path b f)
+file_stays a path b None = refl
+file_stays a path b (Some f) = stays_if a (denies a (denial.File path)) _ (not (may_open a.sheet.user f b)) refl (stays_if a (refuses a code.Bad) _ (not (suits f.kind b)) refl refl)
+
+open_stays : (i : Image) (a : ActorState) (b : Option FdBits) (path : Option (List ℕ)) → Stays a (open_path i a b path)
+open_stays i a None path = refl
+open_stays i a (Some b) None = refl
+open_stays i a (Some b) (Some path) = stays_if a (refuses a code.FuelShort) _ (nat_lt a.fuel (a1 a)) refl (file_stays a path b (file_at i path))
 
 create_stays : (i : Image) (a : ActorState) (d : Option Draft) → Stays a (create_with i a d)
 create_stays i a None = refl
@@ -231,7 +243,9 @@ call_edits i a n =
     (λ e. append_stays i a ∙ subst (λ m. a.drafts ≡ drafts_by_call i a a.hart.regs m) (sym (eqb-true n 16 e)) refl)
     (λ _. picked (λ x. x.drafts ≡ drafts_by_call i a a.hart.regs n) (n == 17) (fd_close a) _
     (λ e. stays_if a (refuses a code.NoSuch) _ (nat_le most_fds (a0 a)) refl refl ∙ subst (λ m. a.drafts ≡ drafts_by_call i a a.hart.regs m) (sym (eqb-true n 17 e)) refl)
-    (λ _. draft_edits i a n))))))))))
+    (λ _. picked (λ x. x.drafts ≡ drafts_by_call i a a.hart.regs n) (n == 18) (file_open i a) _
+    (λ e. open_stays i a (mode_asked (a2 a)) (path_in i a (a0 a) (a1 a)) ∙ subst (λ m. a.drafts ≡ drafts_by_call i a a.hart.regs m) (sym (eqb-true n 18 e)) refl)
+    (λ _. draft_edits i a n)))))))))))
 
 -- ---- an instruction
 
@@ -287,7 +301,11 @@ event_edits i a (event.Slot slot q slot_reply.Gone) = snapped_is (λ x. x.drafts
 event_edits i a (event.Slot slot (slot_ask.Sfree offset live) (slot_reply.Denied tag wants)) = refl
 event_edits i a (event.Slot slot (slot_ask.Open tag pages) slot_reply.Opened) = refl
 event_edits i a (event.Slot slot q r) = refl
-event_edits i a (event.Fd fd q reply.Opened) = refl
+event_edits i a (event.Fds (directory_ask.Release place) r) = refl
+event_edits i a (event.Fds directory_ask.Claim (directory_reply.Claimed fd number)) = numbered_is (λ x. x.drafts ≡ a.drafts) a a.phase fd refl (λ o. refl)
+event_edits i a (event.Fds directory_ask.Claim directory_reply.Full) = refl
+event_edits i a (event.Fds directory_ask.Claim directory_reply.Released) = refl
+event_edits i a (event.Fd fd q reply.Opened) = opened_is (λ x. x.drafts ≡ a.drafts) a a.phase fd refl (λ o. refl)
 event_edits i a (event.Fd fd q (reply.Given given)) = refl
 event_edits i a (event.Fd fd q reply.Appended) = refl
 event_edits i a (event.Fd fd q reply.Closed) = refl

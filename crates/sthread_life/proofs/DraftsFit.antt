@@ -1,5 +1,5 @@
 -- In every run each draft of an actor has at most 1,024 grants, so a child has at most as many copies.
-use Rattle.std.proofs.Common.{◌≡◌, ℕ, zero, suc, ◌+◌, ◌≤◌, ◌<◌, Bool, true, false, not, List, [], ◌∷◌, ◌++◌, length, refl, sym, ap, subst, ◌∙◌, arith}
+use Rattle.std.proofs.Common.{◌≡◌, ℕ, zero, suc, ◌+◌, ◌≤◌, Bool, true, false, not, List, [], ◌∷◌, ◌++◌, length, refl, sym, ap, subst, ◌∙◌, arith}
 use Rattle.std.proofs.lemmas.Bool.Decides.{nat_tests}
 use Rattle.std.proofs.lemmas.List.{length-map}
 use Rattle.std.proofs.Math.Dec.{T}
@@ -7,15 +7,14 @@ use Rattle.std.specs.List.{AllByRecursion}
 use Rattle.std.specs.Ordering.{nat_cmp}
 use Rattle.std.specs.Cmp.{nat_cmp_total}
 use Rattle.std.specs.FinMap.Entries.{is_sorted, is_sorted-put, length-put}
-use Rattle.std.specs.Prelude.{Option, Some, None, is_some, map, nat_le, ◌==◌, ◌||◌, slice_get, slice_set, unwrap_or, if◌then◌else◌}
+use Rattle.std.specs.Prelude.{Option, Some, None, ◌==◌, ◌||◌, slice_get, slice_set, unwrap_or, if◌then◌else◌}
 use Rattle.wedge_base.specs.Images.{Image, fetch}
-use Rattle.wedge_base.specs.Maps.{Map, at, has, with}
-use Rattle.wedge_base.specs.Sheets.{Sheet, Made, Draft, is_copy, empty_draft, grants, granted, tag_granted, most_grants, is_full, takes_tag, takes_fd, with_tag, with_fd}
+use Rattle.wedge_base.specs.Maps.{Map, has, with}
+use Rattle.wedge_base.specs.Sheets.{Draft, is_copy, empty_draft, grants, granted, tag_granted, most_grants, is_full, takes_tag, takes_fd, with_tag, with_fd}
 use Rattle.wedge_base.specs.declared.events.Event.{Event}
 use Rattle.wedge_base.specs.declared.rights.FdBits.{FdBits}
 use Rattle.wedge_base.specs.declared.rights.Grant.{Grant}
 use Rattle.wedge_base.specs.declared.rights.Right.{Right}
-use Rattle.wedge_base.specs.declared.rights.Right.TheVariants as right
 use Rattle.rv_isa.specs.declared.Instr.{Instr}
 use Rattle.rv_isa.specs.Table.{decode}
 use Rattle.rv_hart.specs.declared.Need.{Need}
@@ -25,7 +24,7 @@ use Rattle.sthread_life.specs.declared.copy_grant.CopyGrant.{CopyGrant}
 use Rattle.sthread_life.specs.Actors.{ActorState}
 use Rattle.sthread_life.specs.Calls.{a0}
 use Rattle.sthread_life.specs.Copying.{copy_grants}
-use Rattle.sthread_life.specs.Drafting.{edited, with_new, right_of_number, bits_of_number, drafts_by_call, drafts_by_need, drafts_by_instr, drafts_by_fuel, drafts_by_word, drafts_after}
+use Rattle.sthread_life.specs.Drafting.{edited, with_new, right_of_number, bits_of_number, drafts_by_call, drafts_by_need, drafts_by_instr, drafts_by_fuel, drafts_by_word}
 use Rattle.sthread_life.specs.Local.{is_running, step, run_local, rest}
 use Rattle.sthread_life.specs.Refusals.{bad, full, new_refusal, right_refusal, bits_refusal, user_refusal, root_refusal}
 use Rattle.sthread_life.specs.Requests.{path_at}

@@ -1,7 +1,7 @@
 -- Starts, joins and ends among actors are as the registers, the drafts and the child say.
-use Rattle.std.proofs.Common.{◌≡◌, ℕ, ◌+◌, Bool, true, false, List, [], ◌∷◌, ◌++◌, refl, sym, ap, subst, ◌∙◌, arith, inl, inr}
+use Rattle.std.proofs.Common.{◌≡◌, ℕ, ◌+◌, Bool, true, false, List, [], ◌∷◌, ◌++◌, refl, sym, ap, subst, ◌∙◌, arith}
 use Rattle.std.proofs.lemmas.Bool.{eq-eqb}
-use Rattle.std.specs.Prelude.{Option, Some, None, ◌⊎◌, IsSomeAnd, option_and_then, unwrap_or, is_some, ◌&&◌, if◌then◌else◌}
+use Rattle.std.specs.Prelude.{Option, Some, None, IsSomeAnd, option_and_then, unwrap_or, is_some, ◌&&◌, if◌then◌else◌}
 use Rattle.wedge_base.specs.Images.{Image, fetch}
 use Rattle.wedge_base.specs.Names.{same}
 use Rattle.wedge_base.specs.Sheets.{Made, empty_draft, granted}
@@ -19,6 +19,9 @@ use Rattle.wedge_base.specs.declared.cells.SlotAsk.{SlotAsk}
 use Rattle.wedge_base.specs.declared.cells.SlotAsk.TheVariants as slot_ask
 use Rattle.wedge_base.specs.declared.cells.SlotReply.{SlotReply}
 use Rattle.wedge_base.specs.declared.cells.SlotReply.TheVariants as slot_reply
+use Rattle.wedge_base.specs.declared.cells.StreamAsk.{StreamAsk}
+use Rattle.wedge_base.specs.declared.cells.StreamAsk.TheVariants as stream_ask
+use Rattle.wedge_base.specs.declared.cells.StreamReply.{StreamReply}
 use Rattle.wedge_base.specs.declared.cells.StreamReply.TheVariants as reply
 use Rattle.grant_sheet.specs.Granting.{IsWithin}
 use Rattle.grant_sheet.proofs.SheetWithin.{sheet_within}
@@ -27,6 +30,7 @@ use Rattle.rv_isa.specs.Table.{decode}
 use Rattle.rv_hart.specs.declared.Need.{Need}
 use Rattle.rv_hart.specs.declared.Need.TheVariants as need
 use Rattle.rv_hart.specs.Local.{local}
+use Rattle.sthread_life.specs.declared.files.StreamLabel.{StreamLabel}
 use Rattle.sthread_life.specs.declared.phase.Phase.{Phase}
 use Rattle.sthread_life.specs.declared.phase.Phase.TheVariants as phase
 use Rattle.sthread_life.specs.Actors.{ActorState}
@@ -34,40 +38,55 @@ use Rattle.sthread_life.specs.Calls.{a0}
 use Rattle.sthread_life.specs.Cells.{Cells}
 use Rattle.sthread_life.specs.Children.{Children, is_number, fuel_given, is_child, without_child, child_name}
 use Rattle.sthread_life.specs.Ends.{is_end_event}
-use Rattle.sthread_life.specs.Families.{IsChild, IsStart, IsFirst, ActsAlone, made_in, made_by, joined, KeepsFamily}
+use Rattle.sthread_life.specs.Families.{IsChild, IsStart, IsFirst, ActsAlone, made_in, made_under, made_by, labelled_under, labels_by, joined, KeepsFamily}
 use Rattle.sthread_life.specs.Local.{end_reached, step}
 use Rattle.sthread_life.specs.Moments.{with_actor}
 use Rattle.cow_pages.specs.Listed.{bytes_listed}
 use Rattle.sthread_life.specs.Copying.{Preparation}
 use Rattle.sthread_life.specs.declared.copy_grant.CopyGrant.{CopyGrant}
-use Rattle.sthread_life.specs.Taking.{runs, loads_by, loads_at, next_start, draft_at, takes, child_of, memory_made}
+use Rattle.sthread_life.specs.Taking.{runs, loads_by, loads_at, next_start, draft_at, takes, child_of, memory_made, has_opened_file}
 use Rattle.sthread_life.specs.Worlds.{WorldState, actor_named, put_actor, happened}
-use Rattle.sthread_life.proofs.Between.{event_for, IsJoin, joined_is, snapped_is, takes_name}
-use Rattle.sthread_life.proofs.Happening.{AtOpen, Happens, Requested, Joined, Snaps, Started, Opens, Releases, LastJoined, Ended, joined_at}
+use Rattle.sthread_life.proofs.Between.{event_for, IsJoin, joined_is, numbered_is, snapped_is, takes_name}
+use Rattle.sthread_life.proofs.Happening.{AtOpen, AtFile, Happens, Requested, Joined, Snaps, Started, Opens, Releases, Numbers, OpensFile, LastJoined, Ended, joined_at}
 use Rattle.sthread_life.proofs.Meeting.{IsRequest, IsStartable}
 use Rattle.sthread_life.proofs.Named.{put_put, named_put_other}
 use Rattle.sthread_life.proofs.Resting.{steps_step}
 
 -- ---- what an event leaves as it is
 
-pub record IsSame (e : Option Event) (a x : ActorState) : Type 0 where
+pub record IsSameWith (made_ : Made) (labels_ : List StreamLabel) (a x : ActorState) : Type 0 where
   pub compartment : x.compartment ≡ a.compartment
   pub sheet : x.sheet ≡ a.sheet
-  pub made : x.made ≡ made_by a.made e
+  pub made : x.made ≡ made_
+  pub labels : x.labels ≡ labels_
   pub starts : x.starts ≡ a.starts
   pub unjoined : x.unjoined ≡ a.unjoined
 
+abbrev pub IsSame : Option Event → ActorState → ActorState → Type 0
+IsSame e a x = IsSameWith (made_by a e) (labels_by a e) a x
+
 loaded_same : (ins : Instr) (n : Need) (a : ActorState) (value : ℕ) → IsSame None a (loads_by ins n a value)
-loaded_same ins need.Done a value = record { compartment = refl; sheet = refl; made = refl; starts = refl; unjoined = refl }
-loaded_same ins (need.Load address width s) a value = record { compartment = refl; sheet = refl; made = refl; starts = refl; unjoined = refl }
-loaded_same ins (need.Store address width v) a value = record { compartment = refl; sheet = refl; made = refl; starts = refl; unjoined = refl }
-loaded_same ins need.Call a value = record { compartment = refl; sheet = refl; made = refl; starts = refl; unjoined = refl }
-loaded_same ins need.Break a value = record { compartment = refl; sheet = refl; made = refl; starts = refl; unjoined = refl }
-loaded_same ins need.JumpMisaligned a value = record { compartment = refl; sheet = refl; made = refl; starts = refl; unjoined = refl }
+loaded_same ins need.Done a value = record { compartment = refl; sheet = refl; made = refl; labels = refl; starts = refl; unjoined = refl }
+loaded_same ins (need.Load address width s) a value = record { compartment = refl; sheet = refl; made = refl; labels = refl; starts = refl; unjoined = refl }
+loaded_same ins (need.Store address width v) a value = record { compartment = refl; sheet = refl; made = refl; labels = refl; starts = refl; unjoined = refl }
+loaded_same ins need.Call a value = record { compartment = refl; sheet = refl; made = refl; labels = refl; starts = refl; unjoined = refl }
+loaded_same ins need.Break a value = record { compartment = refl; sheet = refl; made = refl; labels = refl; starts = refl; unjoined = refl }
+loaded_same ins need.JumpMisaligned a value = record { compartment = refl; sheet = refl; made = refl; labels = refl; starts = refl; unjoined = refl }
 
 loads_same : (a : ActorState) (ins : Option Instr) (value : ℕ) → IsSame None a (loads_at a ins value)
-loads_same a None value = record { compartment = refl; sheet = refl; made = refl; starts = refl; unjoined = refl }
+loads_same a None value = record { compartment = refl; sheet = refl; made = refl; labels = refl; starts = refl; unjoined = refl }
 loads_same a (Some ins) value = loaded_same ins (local ins a.hart).need a value
+
+-- the stream of a file is opened
+opened_same : (a : ActorState) (p : Phase) (fd : ℕ) → IsSameWith (made_under a.made p fd) (labelled_under a.labels p fd) a (has_opened_file a p fd)
+opened_same a phase.Running fd = record { compartment = refl; sheet = refl; made = refl; labels = refl; starts = refl; unjoined = refl }
+opened_same a (phase.Within q) fd = record { compartment = refl; sheet = refl; made = refl; labels = refl; starts = refl; unjoined = refl }
+opened_same a (phase.Starting pre) fd = record { compartment = refl; sheet = refl; made = refl; labels = refl; starts = refl; unjoined = refl }
+opened_same a (phase.Opening slot tag) fd = record { compartment = refl; sheet = refl; made = refl; labels = refl; starts = refl; unjoined = refl }
+opened_same a (phase.Releasing slot) fd = record { compartment = refl; sheet = refl; made = refl; labels = refl; starts = refl; unjoined = refl }
+opened_same a (phase.OpeningFile o) fd = record { compartment = refl; sheet = refl; made = refl; labels = refl; starts = refl; unjoined = refl }
+opened_same a (phase.Ending x) fd = record { compartment = refl; sheet = refl; made = refl; labels = refl; starts = refl; unjoined = refl }
+opened_same a (phase.Ended x) fd = record { compartment = refl; sheet = refl; made = refl; labels = refl; starts = refl; unjoined = refl }
 
 -- an event of no other actor
 abbrev pub IsOfOne : Event → Type 0
@@ -79,32 +98,37 @@ pub takes_same : (i : Image) (a : ActorState) (e : Event) → IsOfOne e → IsSa
 unfolding takes
 takes_same i a (event.Slot slot q (slot_reply.Loaded value)) h =
     let s = loads_same (runs a) (option_and_then decode (fetch i a.hart.pc)) value in
-    record { compartment = s.compartment; sheet = s.sheet; made = s.made; starts = s.starts; unjoined = s.unjoined }
-takes_same i a (event.Slots (directory_ask.Release place) r) h = record { compartment = refl; sheet = refl; made = refl; starts = refl; unjoined = refl }
-takes_same i a (event.Slots directory_ask.Claim (directory_reply.Claimed place number)) h = record { compartment = refl; sheet = refl; made = refl; starts = refl; unjoined = refl }
-takes_same i a (event.Slots directory_ask.Claim directory_reply.Full) h = record { compartment = refl; sheet = refl; made = refl; starts = refl; unjoined = refl }
-takes_same i a (event.Slots directory_ask.Claim directory_reply.Released) h = record { compartment = refl; sheet = refl; made = refl; starts = refl; unjoined = refl }
+    record { compartment = s.compartment; sheet = s.sheet; made = s.made; labels = s.labels; starts = s.starts; unjoined = s.unjoined }
+takes_same i a (event.Slots (directory_ask.Release place) r) h = record { compartment = refl; sheet = refl; made = refl; labels = refl; starts = refl; unjoined = refl }
+takes_same i a (event.Slots directory_ask.Claim (directory_reply.Claimed place number)) h = record { compartment = refl; sheet = refl; made = refl; labels = refl; starts = refl; unjoined = refl }
+takes_same i a (event.Slots directory_ask.Claim directory_reply.Full) h = record { compartment = refl; sheet = refl; made = refl; labels = refl; starts = refl; unjoined = refl }
+takes_same i a (event.Slots directory_ask.Claim directory_reply.Released) h = record { compartment = refl; sheet = refl; made = refl; labels = refl; starts = refl; unjoined = refl }
 takes_same i a (event.Slot slot q (slot_reply.Snapped pages)) h =
-    snapped_is (IsSame (Some (event.Slot slot q (slot_reply.Snapped pages))) a) a a.phase slot (Some (bytes_listed pages)) (record { compartment = refl; sheet = refl; made = refl; starts = refl; unjoined = refl }) (λ x. record { compartment = refl; sheet = refl; made = refl; starts = refl; unjoined = refl })
+    snapped_is (IsSame (Some (event.Slot slot q (slot_reply.Snapped pages))) a) a a.phase slot (Some (bytes_listed pages)) (record { compartment = refl; sheet = refl; made = refl; labels = refl; starts = refl; unjoined = refl }) (λ x. record { compartment = refl; sheet = refl; made = refl; labels = refl; starts = refl; unjoined = refl })
 takes_same i a (event.Slot slot q slot_reply.Gone) h =
-    snapped_is (IsSame (Some (event.Slot slot q slot_reply.Gone)) a) a a.phase slot None (record { compartment = refl; sheet = refl; made = refl; starts = refl; unjoined = refl }) (λ x. record { compartment = refl; sheet = refl; made = refl; starts = refl; unjoined = refl })
-takes_same i a (event.Slot slot (slot_ask.Sfree offset live) (slot_reply.Denied tag wants)) h = record { compartment = refl; sheet = refl; made = refl; starts = refl; unjoined = refl }
-takes_same i a (event.Slot slot (slot_ask.Open tag pages) slot_reply.Opened) h = record { compartment = refl; sheet = refl; made = refl; starts = refl; unjoined = refl }
-takes_same i a (event.Slot slot q r) h = record { compartment = refl; sheet = refl; made = refl; starts = refl; unjoined = refl }
-takes_same i a (event.Fd fd q reply.Opened) h = record { compartment = refl; sheet = refl; made = refl; starts = refl; unjoined = refl }
-takes_same i a (event.Fd fd q (reply.Given bytes)) h = record { compartment = refl; sheet = refl; made = refl; starts = refl; unjoined = refl }
-takes_same i a (event.Fd fd q reply.Appended) h = record { compartment = refl; sheet = refl; made = refl; starts = refl; unjoined = refl }
-takes_same i a (event.Fd fd q reply.Closed) h = record { compartment = refl; sheet = refl; made = refl; starts = refl; unjoined = refl }
-takes_same i a (event.Fd fd q reply.NoSuch) h = record { compartment = refl; sheet = refl; made = refl; starts = refl; unjoined = refl }
-takes_same i a (event.Fd fd q (reply.Denied wants)) h = record { compartment = refl; sheet = refl; made = refl; starts = refl; unjoined = refl }
-takes_same i a (event.Fd fd q reply.Bad) h = record { compartment = refl; sheet = refl; made = refl; starts = refl; unjoined = refl }
-takes_same i a (event.Lives lives_ask.Claim lives_reply.Claimed) h = record { compartment = refl; sheet = refl; made = refl; starts = refl; unjoined = refl }
-takes_same i a (event.Lives lives_ask.Claim lives_reply.Full) h = record { compartment = refl; sheet = refl; made = refl; starts = refl; unjoined = refl }
-takes_same i a (event.Lives lives_ask.Claim lives_reply.Released) h = record { compartment = refl; sheet = refl; made = refl; starts = refl; unjoined = refl }
-takes_same i a (event.Lives (lives_ask.Release x) r) h = record { compartment = refl; sheet = refl; made = refl; starts = refl; unjoined = refl }
+    snapped_is (IsSame (Some (event.Slot slot q slot_reply.Gone)) a) a a.phase slot None (record { compartment = refl; sheet = refl; made = refl; labels = refl; starts = refl; unjoined = refl }) (λ x. record { compartment = refl; sheet = refl; made = refl; labels = refl; starts = refl; unjoined = refl })
+takes_same i a (event.Slot slot (slot_ask.Sfree offset live) (slot_reply.Denied tag wants)) h = record { compartment = refl; sheet = refl; made = refl; labels = refl; starts = refl; unjoined = refl }
+takes_same i a (event.Slot slot (slot_ask.Open tag pages) slot_reply.Opened) h = record { compartment = refl; sheet = refl; made = refl; labels = refl; starts = refl; unjoined = refl }
+takes_same i a (event.Slot slot q r) h = record { compartment = refl; sheet = refl; made = refl; labels = refl; starts = refl; unjoined = refl }
+takes_same i a (event.Fd fd q reply.Opened) h = opened_same a a.phase fd
+takes_same i a (event.Fds (directory_ask.Release place) r) h = record { compartment = refl; sheet = refl; made = refl; labels = refl; starts = refl; unjoined = refl }
+takes_same i a (event.Fds directory_ask.Claim (directory_reply.Claimed fd number)) h =
+    numbered_is (IsSame (Some (event.Fds directory_ask.Claim (directory_reply.Claimed fd number))) a) a a.phase fd (record { compartment = refl; sheet = refl; made = refl; labels = refl; starts = refl; unjoined = refl }) (λ o. record { compartment = refl; sheet = refl; made = refl; labels = refl; starts = refl; unjoined = refl })
+takes_same i a (event.Fds directory_ask.Claim directory_reply.Full) h = record { compartment = refl; sheet = refl; made = refl; labels = refl; starts = refl; unjoined = refl }
+takes_same i a (event.Fds directory_ask.Claim directory_reply.Released) h = record { compartment = refl; sheet = refl; made = refl; labels = refl; starts = refl; unjoined = refl }
+takes_same i a (event.Fd fd q (reply.Given bytes)) h = record { compartment = refl; sheet = refl; made = refl; labels = refl; starts = refl; unjoined = refl }
+takes_same i a (event.Fd fd q reply.Appended) h = record { compartment = refl; sheet = refl; made = refl; labels = refl; starts = refl; unjoined = refl }
+takes_same i a (event.Fd fd q reply.Closed) h = record { compartment = refl; sheet = refl; made = refl; labels = refl; starts = refl; unjoined = refl }
+takes_same i a (event.Fd fd q reply.NoSuch) h = record { compartment = refl; sheet = refl; made = refl; labels = refl; starts = refl; unjoined = refl }
+takes_same i a (event.Fd fd q (reply.Denied wants)) h = record { compartment = refl; sheet = refl; made = refl; labels = refl; starts = refl; unjoined = refl }
+takes_same i a (event.Fd fd q reply.Bad) h = record { compartment = refl; sheet = refl; made = refl; labels = refl; starts = refl; unjoined = refl }
+takes_same i a (event.Lives lives_ask.Claim lives_reply.Claimed) h = record { compartment = refl; sheet = refl; made = refl; labels = refl; starts = refl; unjoined = refl }
+takes_same i a (event.Lives lives_ask.Claim lives_reply.Full) h = record { compartment = refl; sheet = refl; made = refl; labels = refl; starts = refl; unjoined = refl }
+takes_same i a (event.Lives lives_ask.Claim lives_reply.Released) h = record { compartment = refl; sheet = refl; made = refl; labels = refl; starts = refl; unjoined = refl }
+takes_same i a (event.Lives (lives_ask.Release x) r) h = record { compartment = refl; sheet = refl; made = refl; labels = refl; starts = refl; unjoined = refl }
 takes_same i a (event.Start child) h = absurd h
 takes_same i a (event.Join k e fuel) h = absurd h
-takes_same i a e h = record { compartment = refl; sheet = refl; made = refl; starts = refl; unjoined = refl }
+takes_same i a e h = record { compartment = refl; sheet = refl; made = refl; labels = refl; starts = refl; unjoined = refl }
 
 -- ---- an instruction, and an event of no other actor
 
@@ -118,6 +142,7 @@ step_family w b run =
       compartment = s.compartment;
       sheet = s.sheet;
       made = s.made;
+      labels = s.labels;
       starts = s.starts;
       unjoined = s.unjoined;
       starting = λ p e complete. let f : phase.Running ≡ phase.Starting p = sym run ∙ e in absurd cc;
@@ -143,6 +168,7 @@ alone w b e one actors starting childless =
       compartment = s.compartment;
       sheet = s.sheet;
       made = s.made;
+      labels = s.labels;
       starts = s.starts;
       unjoined = s.unjoined;
       starting = starting;
@@ -171,7 +197,7 @@ want_family w b N (want.Lives lives_ask.Claim) own at = alone w b _ tt refl (not
 want_family w b N q own at = absurd own
 
 -- an event makes a tag of its actor's only where it opens one
-pub takes_made : (i : Image) (a : ActorState) (e : Event) → (takes i a e).made ≡ made_by a.made (Some e)
+pub takes_made : (i : Image) (a : ActorState) (e : Event) → (takes i a e).made ≡ made_by a (Some e)
 unfolding takes
 takes_made i a (event.Start child) = refl
 takes_made i a (event.Join k x fuel) = joined_is (λ y. y.made ≡ a.made) (record a { fuel = a.fuel + fuel; unjoined = without_child a.unjoined k }) a.phase x refl refl
@@ -212,26 +238,44 @@ made_same m slot slot_reply.Opened (slot_ask.Sfree offset live) k = refl
 made_same m slot slot_reply.Opened (slot_ask.Snap tag) k = refl
 made_same m slot r q k = refl
 
-pub want_made : (N : ℕ → Type 0) (c : Cells) (b : ActorState) (q : Want) → IsRequest N b q → made_by b.made (Some (event_for c b q)) ≡ b.made
-want_made N c b (want.Slots directory_ask.Claim) own = refl
-want_made N c b (want.Slot slot (slot_want.Close tag)) own = made_same b.made slot _ _ tt
-want_made N c b (want.Slot slot (slot_want.Load offset width)) own = made_same b.made slot _ _ tt
-want_made N c b (want.Slot slot (slot_want.Store offset width value)) own = made_same b.made slot _ _ tt
-want_made N c b (want.Slot slot (slot_want.Smalloc tag size)) own = made_same b.made slot _ _ tt
-want_made N c b (want.Slot slot (slot_want.Sfree offset)) own = made_same b.made slot _ _ tt
-want_made N c b (want.Fd fd q) own = refl
-want_made N c b (want.Lives lives_ask.Claim) own = refl
-want_made N c b q own = absurd own
+-- nor a descriptor by who has opened no file
+made_within : (b : ActorState) (q : Want) (fd : ℕ) (x : StreamAsk) (r : StreamReply) → b.phase ≡ phase.Within q → made_by b (Some (event.Fd fd x r)) ≡ b.made
+made_within b q fd x reply.Opened at = ap (λ p. made_under b.made p fd) at
+made_within b q fd x (reply.Given bytes) at = refl
+made_within b q fd x reply.Appended at = refl
+made_within b q fd x reply.Closed at = refl
+made_within b q fd x reply.NoSuch at = refl
+made_within b q fd x (reply.Denied wants) at = refl
+made_within b q fd x reply.Bad at = refl
 
-pub happens_made : (w : WorldState) (b : ActorState) (e : Event) → Happens w b e → (made_by b.made (Some e) ≡ b.made) ⊎ AtOpen w b e
-happens_made w b e (Requested r) = inl (ap (λ y. made_by b.made (Some y)) r.is ∙ want_made _ w.cells b r.want r.own)
-happens_made w b e (Joined j) = inl (ap (λ y. made_by b.made (Some y)) j.join.is)
-happens_made w b e (Snaps s) = inl (ap (λ y. made_by b.made (Some y)) s.is ∙ made_same b.made s.grant.slot _ _ tt)
-happens_made w b e (Started s) = inl (ap (λ y. made_by b.made (Some y)) s.is)
-happens_made w b e (Opens o) = inr o
-happens_made w b e (Releases r) = inl (ap (λ y. made_by b.made (Some y)) r.is)
-happens_made w b e (LastJoined j) = inl (ap (λ y. made_by b.made (Some y)) j.join.is)
-happens_made w b e (Ended f) = inl (ap (λ y. made_by b.made (Some y)) f.is)
+pub want_made : (N : ℕ → Type 0) (c : Cells) (b : ActorState) (q : Want) → IsRequest N b q → b.phase ≡ phase.Within q → made_by b (Some (event_for c b q)) ≡ b.made
+want_made N c b (want.Slots directory_ask.Claim) own at = refl
+want_made N c b (want.Slot slot (slot_want.Close tag)) own at = made_same b.made slot _ _ tt
+want_made N c b (want.Slot slot (slot_want.Load offset width)) own at = made_same b.made slot _ _ tt
+want_made N c b (want.Slot slot (slot_want.Store offset width value)) own at = made_same b.made slot _ _ tt
+want_made N c b (want.Slot slot (slot_want.Smalloc tag size)) own at = made_same b.made slot _ _ tt
+want_made N c b (want.Slot slot (slot_want.Sfree offset)) own at = made_same b.made slot _ _ tt
+want_made N c b (want.Fd fd q) own at = made_within b (want.Fd fd q) fd q _ at
+want_made N c b (want.Lives lives_ask.Claim) own at = refl
+want_made N c b q own at = absurd own
+
+-- what an event makes its actor have made: nothing, a tag that it opens, or the descriptor of a file
+pub data MadeBy (w : WorldState) (b : ActorState) (e : Event) : Type 0 where
+  MadeNothing : made_by b (Some e) ≡ b.made → MadeBy w b e
+  MadeTag : AtOpen w b e → MadeBy w b e
+  MadeFd : AtFile w b e → MadeBy w b e
+
+pub happens_made : (w : WorldState) (b : ActorState) (e : Event) → Happens w b e → MadeBy w b e
+happens_made w b e (Requested r) = MadeNothing (ap (λ y. made_by b (Some y)) r.is ∙ want_made _ w.cells b r.want r.own r.at)
+happens_made w b e (Joined j) = MadeNothing (ap (λ y. made_by b (Some y)) j.join.is)
+happens_made w b e (Snaps s) = MadeNothing (ap (λ y. made_by b (Some y)) s.is ∙ made_same b.made s.grant.slot _ _ tt)
+happens_made w b e (Started s) = MadeNothing (ap (λ y. made_by b (Some y)) s.is)
+happens_made w b e (Opens o) = MadeTag o
+happens_made w b e (Releases r) = MadeNothing (ap (λ y. made_by b (Some y)) r.is)
+happens_made w b e (Numbers n) = MadeNothing (ap (λ y. made_by b (Some y)) n.is)
+happens_made w b e (OpensFile f) = MadeFd f
+happens_made w b e (LastJoined j) = MadeNothing (ap (λ y. made_by b (Some y)) j.join.is)
+happens_made w b e (Ended f) = MadeNothing (ap (λ y. made_by b (Some y)) f.is)
 
 -- ---- a start
 
@@ -253,7 +297,7 @@ child_begins i b p at complete ready =
       complete = complete;
       memory = ap (memory_made i) at;
       fuel = refl;
-      fresh = (refl, refl, refl, refl, refl, refl);
+      fresh = (refl, refl, refl, refl, refl, refl, refl);
     }
 
 start_family : (w : WorldState) (b : ActorState) (p : Preparation) → b.phase ≡ phase.Starting p → p.left ≡ [] → IsStartable b
@@ -278,6 +322,7 @@ ended_so (phase.Within q) x e = absurd cc
 ended_so (phase.Starting pre) x e = absurd cc
 ended_so (phase.Opening slot tag) x e = absurd cc
 ended_so (phase.Releasing slot) x e = absurd cc
+ended_so (phase.OpeningFile o) x e = absurd cc
 ended_so (phase.Ending y) x e = absurd cc
 ended_so (phase.Ended y) x e = cc
 
@@ -293,6 +338,7 @@ joins_as i b (phase.Within q) k x fuel at = joined_at b (phase.Within q) x k fue
 joins_as i b (phase.Starting pre) k x fuel at = joined_at b (phase.Starting pre) x k fuel at
 joins_as i b (phase.Opening slot tag) k x fuel at = joined_at b (phase.Opening slot tag) x k fuel at
 joins_as i b (phase.Releasing slot) k x fuel at = joined_at b (phase.Releasing slot) x k fuel at
+joins_as i b (phase.OpeningFile o) k x fuel at = joined_at b (phase.OpeningFile o) x k fuel at
 joins_as i b (phase.Ending y) k x fuel at = joined_at b (phase.Ending y) x k fuel at
 joins_as i b (phase.Ended y) k x fuel at = joined_at b (phase.Ended y) x k fuel at
 
@@ -336,6 +382,12 @@ event_family w b e (Opens o) =
 event_family w b e (Releases r) =
     subst (λ y. KeepsFamily (with_actor w b) b (Some y) (after w b y)) (sym r.is)
     (alone w b (event.Slots (directory_ask.Release r.slot) directory_reply.Released) tt refl (λ p h complete. let g : phase.Releasing r.slot ≡ phase.Starting p = sym r.at ∙ h in absurd cc) (λ h. absurd cc))
+event_family w b e (Numbers n) =
+    subst (λ y. KeepsFamily (with_actor w b) b (Some y) (after w b y)) (sym n.is)
+    (alone w b (event.Fds directory_ask.Claim _) tt refl (λ p h complete. let g : phase.OpeningFile n.opening ≡ phase.Starting p = sym n.at ∙ h in absurd cc) (λ h. absurd cc))
+event_family w b e (OpensFile f) =
+    subst (λ y. KeepsFamily (with_actor w b) b (Some y) (after w b y)) (sym f.is)
+    (alone w b (event.Fd f.fd (stream_ask.Open f.opening.kind f.opening.bytes) reply.Opened) tt refl (λ p h complete. let g : phase.OpeningFile f.opening ≡ phase.Starting p = sym f.at ∙ h in absurd cc) (λ h. absurd cc))
 event_family w b e (Ended f) =
     subst (λ y. KeepsFamily (with_actor w b) b (Some y) (after w b y)) (sym f.is)
     (alone w b (event.Lives (lives_ask.Release f.end_) lives_reply.Released) tt refl (λ p h complete. let g : phase.Ending f.end_ ≡ phase.Starting p = sym f.at ∙ h in absurd cc) (λ h. f.left))

@@ -31,7 +31,7 @@ use Rattle.sthread_life.proofs.Families.{IsOfOne, takes_same, first_child}
 use Rattle.sthread_life.specs.FamilyTrees.{IsOfTree, Family}
 use Rattle.sthread_life.proofs.FamilyKept.{family_alone, JoinsChild, family_joined, StartsChild, family_started}
 use Rattle.sthread_life.proofs.FuelSums.{sum_alone, sum_joined, sum_started}
-use Rattle.sthread_life.proofs.Happening.{Happens, Requested, Joined, Snaps, Started, Opens, Releases, LastJoined, Ended, AtStart}
+use Rattle.sthread_life.proofs.Happening.{Happens, Requested, Joined, Snaps, Started, Opens, Releases, Numbers, OpensFile, LastJoined, Ended, AtStart}
 use Rattle.sthread_life.proofs.Meeting.{IsRequest}
 use Rattle.sthread_life.proofs.Named.{found_name, same_equal}
 use Rattle.sthread_life.proofs.Paying.{step_pays, event_pays}
@@ -123,6 +123,8 @@ acts w b e (Started s) = Starts s
 acts w b e (LastJoined j) = Joins j.first.0 (subst (λ cs. is_child cs j.first.0 ≡ true) (sym j.left) (first_is_child j.first j.others)) j.join
 acts w b e (Opens o) = ActsAlone (subst IsOfOne (sym o.is) tt)
 acts w b e (Releases r) = ActsAlone (subst IsOfOne (sym r.is) tt)
+acts w b e (Numbers n) = ActsAlone (subst IsOfOne (sym n.is) tt)
+acts w b e (OpensFile f) = ActsAlone (subst IsOfOne (sym f.is) tt)
 acts w b e (Ended f) = ActsAlone (subst IsOfOne (sym f.is) tt)
 
 pub lives : (w : WorldState) (b : ActorState) (e : Event) → Happens w b e → has_ended b.phase ≡ false
@@ -133,6 +135,8 @@ lives w b e (Started s) = ap has_ended s.at
 lives w b e (LastJoined j) = ap has_ended j.at
 lives w b e (Opens o) = ap has_ended o.at
 lives w b e (Releases r) = ap has_ended r.at
+lives w b e (Numbers n) = ap has_ended n.at
+lives w b e (OpensFile f) = ap has_ended f.at
 lives w b e (Ended f) = ap has_ended f.at
 
 -- ---- a turn
@@ -149,6 +153,7 @@ ended_reached (phase.Within q) x e = absurd cc
 ended_reached (phase.Starting pre) x e = absurd cc
 ended_reached (phase.Opening slot tag) x e = absurd cc
 ended_reached (phase.Releasing slot) x e = absurd cc
+ended_reached (phase.OpeningFile o) x e = absurd cc
 ended_reached (phase.Ending y) x e = absurd cc
 ended_reached (phase.Ended y) x e = refl
 

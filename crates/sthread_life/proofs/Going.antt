@@ -18,6 +18,8 @@ use Rattle.rv_hart.specs.declared.Need.TheVariants as need
 use Rattle.rv_hart.specs.Local.{local, next_pc}
 use Rattle.sthread_life.specs.declared.phase.Phase.{Phase}
 use Rattle.sthread_life.specs.declared.phase.Phase.TheVariants as phase
+use Rattle.wedge_base.specs.Files.{may_open}
+use Rattle.wedge_base.specs.declared.image.FileEntry.{FileEntry}
 use Rattle.sthread_life.specs.Actors.{ActorState, right_of, denies, ends, refuses}
 use Rattle.cow_pages.specs.Copies.{copy_at, holds_copy, read_copy}
 use Rattle.sthread_life.specs.Private.{loads, stores, load_bytes, load_copy, load_window, load_range, store_copy, store_window, store_range, has_loaded, fits_read, fits_write}
@@ -31,7 +33,7 @@ use Rattle.wedge_base.specs.declared.rights.Right.TheVariants as right
 use Rattle.wedge_base.specs.declared.rights.FdBits.{FdBits}
 use Rattle.wedge_base.specs.declared.rights.Right.{Right}
 use Rattle.sthread_life.specs.Children.{is_child}
-use Rattle.sthread_life.specs.Calls.{serves, exit, is_procedure, create, create_with, create_checked, create_allowed, join, are_pages, tag_new, tag_delete, smalloc, free_at, sfree, fd_read, fd_append, fd_close, most_drafts, sc_new, right_asked, bits_asked, add_right, add_right_to, sc_mem_add, add_bits, add_bits_to, sc_fd_add, draft_call, a0, a1, a2, a3, a7, set_user, sc_user, path_in, put_root, set_root, sc_root}
+use Rattle.sthread_life.specs.Calls.{serves, exit, is_procedure, create, create_with, create_checked, create_allowed, join, are_pages, tag_new, tag_delete, smalloc, free_at, sfree, fd_read, fd_append, fd_close, most_drafts, sc_new, right_asked, bits_asked, add_right, add_right_to, sc_mem_add, add_bits, add_bits_to, sc_fd_add, draft_call, a0, a1, a2, a3, a7, set_user, sc_user, path_in, put_root, set_root, sc_root, file_at, mode_asked, suits, open_file, open_path, file_open}
 use Rattle.sthread_life.specs.Local.{needed, executed, fuelled, fetched, step, is_running}
 use Rattle.sthread_life.specs.Worlds.{WorldState, actor_named, put_actor}
 use Rattle.sthread_life.specs.Moments.{with_actor}
@@ -162,6 +164,17 @@ next_free : (a : ActorState) (p : Option Place) → IsNext a.hart (free_at a p)
 next_free a None = (λ e. refl, λ e. absurd cc)
 next_free a (Some p) = (λ e. absurd cc, λ e. refl)
 
+next_file : (a : ActorState) (path : List ℕ) (b : FdBits) (f : Option FileEntry) → IsNext a.hart (open_file a path b f)
+next_file a path b None = (λ e. refl, λ e. absurd cc)
+next_file a path b (Some f) =
+    next_if a.hart (denies a (denial.File path)) _ (not (may_open a.sheet.user f b)) (λ e. refl, λ e. absurd cc)
+    (next_if a.hart (refuses a code.Bad) _ (not (suits f.kind b)) (λ e. refl, λ e. absurd cc) (λ e. absurd cc, λ e. refl))
+
+next_open : (i : Image) (a : ActorState) (b : Option FdBits) (path : Option (List ℕ)) → IsNext a.hart (open_path i a b path)
+next_open i a None path = (λ e. refl, λ e. absurd cc)
+next_open i a (Some b) None = (λ e. refl, λ e. absurd cc)
+next_open i a (Some b) (Some path) = next_if a.hart (refuses a code.FuelShort) _ (nat_lt a.fuel (a1 a)) (λ e. refl, λ e. absurd cc) (next_file a path b (file_at i path))
+
 next_call : (i : Image) (a : ActorState) (n : ℕ) → IsNext a.hart (serves i a n)
 unfolding serves
 next_call i a n =
@@ -174,7 +187,8 @@ next_call i a n =
     (next_if a.hart (sfree a) _ (n == 6) (next_free a (slot_of (a0 a)))
     (next_if a.hart (fd_read a) _ (n == 15) (next_read a)
     (next_if a.hart (fd_append i a) _ (n == 16) (next_append i a)
-    (next_if a.hart (fd_close a) _ (n == 17) (next_if a.hart (refuses a code.NoSuch) _ (nat_le most_fds (a0 a)) (λ e. refl, λ e. absurd cc) (λ e. absurd cc, λ e. refl)) (next_draft i a n))))))))))
+    (next_if a.hart (fd_close a) _ (n == 17) (next_if a.hart (refuses a code.NoSuch) _ (nat_le most_fds (a0 a)) (λ e. refl, λ e. absurd cc) (λ e. absurd cc, λ e. refl))
+    (next_if a.hart (file_open i a) _ (n == 18) (next_open i a (mode_asked (a2 a)) (path_in i a (a0 a) (a1 a))) (next_draft i a n)))))))))))
 
 -- the actor that was put is at the next word if it runs
 pub put_next : (w : WorldState) (b x a : ActorState) → actor_named w.actors b.name ≡ Some a → x.name ≡ b.name → IsNext b.hart x

@@ -1,8 +1,8 @@
 -- In every run the private copies of an actor, and of a child that it prepares, are at the slots of the grants of copies on their sheets.
-use Rattle.std.proofs.Common.{◌≡◌, ◌⊎◌, inl, inr, ⊎_elim, ℕ, zero, suc, ◌+◌, Bool, true, false, List, [], ◌∷◌, refl, sym, ap, subst, ◌∙◌, arith}
+use Rattle.std.proofs.Common.{◌≡◌, ◌⊎◌, inl, inr, ℕ, zero, suc, ◌+◌, Bool, true, false, List, [], ◌∷◌, refl, sym, ap, subst, ◌∙◌}
 use Rattle.std.specs.List.{AllByRecursion}
 use Rattle.std.specs.Prelude.{Option, Some, None, not, is_some, option_and_then, ◌&&◌, ◌||◌, ◌==◌, ◌%◌, if◌then◌else◌}
-use Rattle.std.proofs.lemmas.Bool.{eqb-true, eq-eqb}
+use Rattle.std.proofs.lemmas.Bool.{eq-eqb}
 use Rattle.cow_pages.specs.Copies.{Copies, is_slot, copy_at, with_copy, without_copy, read_copy}
 use Rattle.cow_pages.specs.Listed.{bytes_listed}
 use Rattle.cow_pages.specs.PrivateMemory.{PrivateMemory}
@@ -34,7 +34,6 @@ use Rattle.rv_hart.specs.declared.Need.{Need}
 use Rattle.rv_hart.specs.declared.Need.TheVariants as need
 use Rattle.rv_hart.specs.Local.{local}
 use Rattle.sthread_life.specs.declared.copy_grant.CopyGrant.{CopyGrant}
-use Rattle.sthread_life.specs.declared.phase.Phase.{Phase}
 use Rattle.sthread_life.specs.declared.phase.Phase.TheVariants as phase
 use Rattle.sthread_life.specs.Actors.{ActorState, pristine, root}
 use Rattle.sthread_life.specs.Calls.{a0}
@@ -44,14 +43,14 @@ use Rattle.sthread_life.specs.CopiesGranted.{grants_copy, AreGranted, HasItsCopi
 use Rattle.sthread_life.specs.Copying.{Preparation, with_declared, copy_grants, copied_from, is_copy_alone, prepared, behind_first}
 use Rattle.sthread_life.specs.Laws.{CopiesAreGranted}
 use Rattle.sthread_life.specs.Local.{is_running, step, run_local, rest}
-use Rattle.sthread_life.specs.Remembering.{copied_bytes, AreCopied, Target, InRange, InCopy, Elsewhere, copy_target, target_among, target_of, LoadGives, StoreWrites, NeedRemembers, InstrRemembers, WordRemembers, memory_in, memory_after}
+use Rattle.sthread_life.specs.Remembering.{copied_bytes, Elsewhere, copy_target, target_among, LoadGives, StoreWrites, NeedRemembers, InstrRemembers, WordRemembers, memory_in, memory_after}
 use Rattle.sthread_life.specs.Taking.{draft_at, copies_asked, has_snapped, next_start, takes, memory_made, child_of, begun}
 use Rattle.sthread_life.specs.Worlds.{WorldState, opening, actor_named, put_actor, with_begun, turn_of, Runs}
-use Rattle.sthread_life.proofs.Between.{IsPreparing, takes_name, takes_between, snapped_is, turn_parts}
+use Rattle.sthread_life.proofs.Between.{IsPreparing, takes_name, snapped_is, turn_parts}
 use Rattle.sthread_life.proofs.ByNumber.{same_number, number_itself, found_with, found_elsewhere, found_gone}
 use Rattle.sthread_life.proofs.Families.{takes_sheet}
 use Rattle.sthread_life.proofs.FamilyRuns.{Acts, ActsAlone, Starts, Joins, acts, one_begins}
-use Rattle.sthread_life.proofs.Happening.{Happens, snap_cases, Requested, Joined, Snaps, Started, Opens, Releases, LastJoined, Ended}
+use Rattle.sthread_life.proofs.Happening.{Happens, snap_cases, Requested, Joined, Snaps, Started, Opens, Releases, Numbers, OpensFile, LastJoined, Ended}
 use Rattle.sthread_life.proofs.Keeping.{step_remembers, event_copies}
 use Rattle.sthread_life.proofs.Named.{found_name}
 use Rattle.sthread_life.proofs.Preparing.{was_preparing}
@@ -304,6 +303,8 @@ event_granted w b e (Requested r) h p is = by_cause w b e p is (was_preparing w.
 event_granted w b e (Joined j) h p is = by_cause w b e p is (was_preparing w.image b e (subst IsPreparing (sym is) tt)) (λ k. subst IsPreparing j.at k)
 event_granted w b e (Opens o) h p is = by_cause w b e p is (was_preparing w.image b e (subst IsPreparing (sym is) tt)) (λ k. subst IsPreparing o.at k)
 event_granted w b e (Releases r) h p is = by_cause w b e p is (was_preparing w.image b e (subst IsPreparing (sym is) tt)) (λ k. subst IsPreparing r.at k)
+event_granted w b e (Numbers n) h p is = by_cause w b e p is (was_preparing w.image b e (subst IsPreparing (sym is) tt)) (λ k. subst IsPreparing n.at k)
+event_granted w b e (OpensFile f) h p is = by_cause w b e p is (was_preparing w.image b e (subst IsPreparing (sym is) tt)) (λ k. subst IsPreparing f.at k)
 event_granted w b e (LastJoined j) h p is = by_cause w b e p is (was_preparing w.image b e (subst IsPreparing (sym is) tt)) (λ k. subst IsPreparing j.at k)
 event_granted w b e (Ended f) h p is = by_cause w b e p is (was_preparing w.image b e (subst IsPreparing (sym is) tt)) (λ k. subst IsPreparing f.at k)
 

@@ -1,5 +1,5 @@
 -- What an actor at rest comes to: the event of its request, the join of a child, the start of one, or its end.
-use Rattle.std.proofs.Common.{◌≡◌, ℕ, ◌+◌, ◌<◌, Bool, true, List, [], ◌∷◌, refl, sym, ap, subst, ◌∙◌}
+use Rattle.std.proofs.Common.{◌≡◌, ℕ, ◌+◌, ◌<◌, ◌≤◌, Bool, true, List, [], ◌∷◌, refl, sym, ap, subst, ◌∙◌}
 use Rattle.std.specs.Prelude.{Option, Some, None, false, ◌==◌, if◌then◌else◌}
 use Rattle.wedge_base.specs.Directories.{directory_reply as directory_reply_of}
 use Rattle.wedge_base.specs.Images.{Image}
@@ -22,19 +22,24 @@ use Rattle.sthread_life.specs.declared.phase.Phase.{Phase}
 use Rattle.sthread_life.specs.declared.phase.Phase.TheVariants as phase
 use Rattle.sthread_life.specs.Actors.{ActorState}
 use Rattle.sthread_life.specs.Between.{IsBetween, GivesBelow}
-use Rattle.sthread_life.specs.Calls.{a0}
-use Rattle.sthread_life.specs.Cells.{Cells, slot_in}
+use Rattle.sthread_life.specs.Calls.{a0, a1}
+use Rattle.sthread_life.specs.Cells.{Cells, slot_in, stream_in}
 use Rattle.sthread_life.specs.Children.{Children, is_child, without_child, child_name}
 use Rattle.sthread_life.specs.Refusals.{refusal_after}
 use Rattle.sthread_life.specs.Requests.{request_at}
 use Rattle.sthread_life.specs.Copying.{Preparation}
+use Rattle.sthread_life.specs.Opening.{FileOpening}
+use Rattle.wedge_base.specs.Streams.{Stream, stream_reply as stream_reply_of}
+use Rattle.wedge_base.specs.declared.cells.StreamAsk.TheVariants as stream_ask
+use Rattle.wedge_base.specs.declared.cells.StreamReply.TheVariants as stream_reply
+use Rattle.wedge_base.specs.declared.rights.StreamKind.{StreamKind}
 use Rattle.sthread_life.specs.declared.copy_grant.CopyGrant.{CopyGrant}
 use Rattle.cow_pages.specs.Listed.{bytes_listed}
-use Rattle.sthread_life.specs.Taking.{next_start, starting_want, ending_want, wanted, wanted_at, has_snapped, answered_end, takes}
+use Rattle.sthread_life.specs.Taking.{next_start, starting_want, ending_want, wanted, wanted_at, has_snapped, opening_want, answered_end, takes}
 use Rattle.sthread_life.specs.Worlds.{WorldState, event_at}
-use Rattle.sthread_life.proofs.Between.{event_for, IsJoin, ComesOf, comes_of, Leaves, IsPreparing, MayPrepare, takes_between}
+use Rattle.sthread_life.proofs.Between.{event_for, IsJoin, ComesOf, comes_of, Leaves, IsPreparing, MayPrepare, MayNumber, numbered_is, takes_between}
 use Rattle.sthread_life.proofs.Directing.{claimed_inside}
-use Rattle.sthread_life.proofs.Meeting.{request_for, refusal_for, slots_in, AsksForPages, IsRequest, IsWanted, IsStartable, startable_at, ReadsAs, LoadsAt}
+use Rattle.sthread_life.proofs.Meeting.{request_for, refusal_for, slots_in, fds_in, NumberIn, AsksForPages, IsRequest, IsWanted, IsStartable, startable_at, ReadsAs, LoadsAt}
 
 -- the event of a request
 pub record AtRequest (w : WorldState) (b : ActorState) (e : Event) : Type 0 where
@@ -89,6 +94,24 @@ pub record AtRelease (b : ActorState) (e : Event) : Type 0 where
   pub at : b.phase ≡ phase.Releasing slot
   pub is : e ≡ event.Slots (directory_ask.Release slot) directory_reply.Released
 
+-- the claim of a number for the descriptor of a file
+pub record AtNumber (w : WorldState) (b : ActorState) (e : Event) : Type 0 where
+  pub opening : FileOpening
+  pub at : b.phase ≡ phase.OpeningFile opening
+  pub none : opening.number ≡ None
+  pub paid : a1 b ≤ b.fuel
+  pub is : e ≡ event.Fds directory_ask.Claim (directory_reply_of w.cells.numbers directory_ask.Claim)
+
+-- the opening of the stream of a file, on the number that was claimed for it
+pub record AtFile (w : WorldState) (b : ActorState) (e : Event) : Type 0 where
+  pub opening : FileOpening
+  pub fd : ℕ
+  pub at : b.phase ≡ phase.OpeningFile opening
+  pub some : opening.number ≡ Some fd
+  pub inside : fd < fds_in w.image
+  pub paid : a1 b ≤ b.fuel
+  pub is : e ≡ event.Fd fd (stream_ask.Open opening.kind opening.bytes) stream_reply.Opened
+
 -- the join of its first child by an actor whose end is decided
 pub record AtLastJoin (w : WorldState) (b : ActorState) (e : Event) : Type 0 where
   pub end_ : End
@@ -112,6 +135,8 @@ pub data Happens (w : WorldState) (b : ActorState) (e : Event) : Type 0 where
   Started : AtStart b e → Happens w b e
   Opens : AtOpen w b e → Happens w b e
   Releases : AtRelease b e → Happens w b e
+  Numbers : AtNumber w b e → Happens w b e
+  OpensFile : AtFile w b e → Happens w b e
   LastJoined : AtLastJoin w b e → Happens w b e
   Ended : AtEnd b e → Happens w b e
 
@@ -119,6 +144,15 @@ pub data Happens (w : WorldState) (b : ActorState) (e : Event) : Type 0 where
 pub opens_so : (g : Option Segment) (tag pages : ℕ) → slot_reply_of g (slot_ask.Open tag pages) ≡ slot_reply.Opened
 opens_so None tag pages = refl
 opens_so (Some g) tag pages = refl
+
+-- whatever stream was there, one is opened
+pub stream_opens : (s : Option Stream) (k : StreamKind) (bytes : List ℕ) → stream_reply_of s (stream_ask.Open k bytes) ≡ stream_reply.Opened
+stream_opens None k bytes = refl
+stream_opens (Some s) k bytes = by_life s.live
+  where
+    by_life : (t : Bool) → (if t then stream_reply.Opened else stream_reply.Opened) ≡ stream_reply.Opened
+    by_life true = refl
+    by_life false = refl
 
 -- the copy of a tag, or that it lives no more
 pub snap_cases : (P : SlotReply → Type 0) (g : Option Segment) (tag : ℕ) → ((pages : List PageAt) → P (slot_reply.Snapped pages)) → P slot_reply.Gone → P (slot_reply_of g (slot_ask.Snap tag))
@@ -156,6 +190,12 @@ module _ (w : WorldState) (b : ActorState) (e : Event) where
   preparing pre (g ∷ gs) q at left is ready comes =
       Snaps (record { preparation = pre; grant = g; others = gs; at = at; left = left; ready = ready; is = subst (λ y. ComesOf w b y e) (sym is) comes })
 
+  opening_at : (o : FileOpening) (n : Option ℕ) (q : Want) → b.phase ≡ phase.OpeningFile o → o.number ≡ n → opening_want o n ≡ q → (a1 b ≤ b.fuel) × NumberIn w.image n → ComesOf w b q e → Happens w b e
+  opening_at o None q at none is reads comes = Numbers (record { opening = o; at = at; none = none; paid = reads.0; is = subst (λ y. ComesOf w b y e) (sym is) comes })
+  opening_at o (Some fd) q at some is reads comes =
+      let same : e ≡ event_for w.cells b (want.Fd fd (stream_ask.Open o.kind o.bytes)) = subst (λ y. ComesOf w b y e) (sym is) comes in
+      OpensFile (record { opening = o; fd = fd; at = at; some = some; inside = reads.1; paid = reads.0; is = same ∙ ap (event.Fd fd (stream_ask.Open o.kind o.bytes)) (stream_opens (stream_in w.cells fd) o.kind o.bytes) })
+
   by_phase : (p : Phase) (q : Want) → b.phase ≡ p → ReadsAs w.image b p → wanted_at b p ≡ Some q → ComesOf w b q e → Happens w b e
   by_phase phase.Running q at reads wants comes = absurd cc
   by_phase (phase.Within x) q at reads wants comes =
@@ -169,6 +209,7 @@ module _ (w : WorldState) (b : ActorState) (e : Event) where
   by_phase (phase.Releasing slot) q at reads wants comes =
       let is : want.Slots (directory_ask.Release slot) ≡ q = cc in
       Releases (record { slot = slot; at = at; is = subst (λ y. ComesOf w b y e) (sym is) comes })
+  by_phase (phase.OpeningFile o) q at reads wants comes = let is : opening_want o o.number ≡ q = cc in opening_at o o.number q at refl is reads comes
   by_phase (phase.Ending x) q at reads wants comes = let is : ending_want b.unjoined x ≡ q = cc in ending b.unjoined x q at refl is comes
   by_phase (phase.Ended x) q at reads wants comes = absurd cc
 
@@ -183,6 +224,7 @@ between_reads i x (phase.Within q) h = absurd h
 between_reads i x (phase.Starting pre) h = absurd h
 between_reads i x (phase.Opening slot tag) h = absurd h
 between_reads i x (phase.Releasing slot) h = absurd h
+between_reads i x (phase.OpeningFile o) h = absurd h
 between_reads i x (phase.Ending e) h = tt
 between_reads i x (phase.Ended e) h = tt
 
@@ -192,6 +234,7 @@ preparing_reads i x (phase.Within q) h ready = absurd h
 preparing_reads i x (phase.Starting pre) h ready = ready tt
 preparing_reads i x (phase.Opening slot tag) h ready = absurd h
 preparing_reads i x (phase.Releasing slot) h ready = absurd h
+preparing_reads i x (phase.OpeningFile o) h ready = absurd h
 preparing_reads i x (phase.Ending e) h ready = tt
 preparing_reads i x (phase.Ended e) h ready = tt
 
@@ -201,26 +244,42 @@ may_prepare (phase.Within q) h = absurd h
 may_prepare (phase.Starting pre) h = tt
 may_prepare (phase.Opening slot tag) h = absurd h
 may_prepare (phase.Releasing slot) h = absurd h
+may_prepare (phase.OpeningFile o) h = absurd h
 may_prepare (phase.Ending e) h = absurd h
 may_prepare (phase.Ended e) h = absurd h
 
--- one that leaves its phase between instructions is in nothing more; one that prepares a child may start it, and one that
--- claimed a slot may open a tag there
+numbered_reads : (i : Image) (x : ActorState) (fd : ℕ) (p : Phase) → MayNumber fd p → (a1 x ≤ x.fuel) × (fd < fds_in i) → ReadsAs i x p
+numbered_reads i x fd phase.Running h paid = tt
+numbered_reads i x fd (phase.Within q) h paid = absurd h
+numbered_reads i x fd (phase.Starting pre) h paid = absurd h
+numbered_reads i x fd (phase.Opening slot tag) h paid = absurd h
+numbered_reads i x fd (phase.Releasing slot) h paid = absurd h
+numbered_reads i x fd (phase.OpeningFile o) h paid = (paid.0, subst (NumberIn i) (sym h) paid.1)
+numbered_reads i x fd (phase.Ending e) h paid = absurd h
+numbered_reads i x fd (phase.Ended e) h paid = absurd h
+
+-- one that leaves its phase between instructions is in nothing more; one that prepares a child may start it, one that
+-- claimed a slot may open a tag there, and one that claimed a number may open the stream of its file
 leaves_reads : (i : Image) (x : ActorState) (e : Event) (p : Phase) → Leaves e p → (IsPreparing p → IsStartable x)
-    → ((slot tag : ℕ) → e ≡ event.Slots directory_ask.Claim (directory_reply.Claimed slot tag) → (slot < slots_in i) × AsksForPages x) → ReadsAs i x p
-leaves_reads i x (event.Lives lives_ask.Claim lives_reply.Claimed) p h ready opens = preparing_reads i x p (may_prepare p h) ready
-leaves_reads i x (event.Lives lives_ask.Claim lives_reply.Full) p h ready opens = between_reads i x p h
-leaves_reads i x (event.Lives lives_ask.Claim lives_reply.Released) p h ready opens = between_reads i x p h
-leaves_reads i x (event.Lives (lives_ask.Release end) r) p h ready opens = between_reads i x p h
-leaves_reads i x (event.Slots directory_ask.Claim (directory_reply.Claimed slot tag)) p h ready opens = subst (ReadsAs i x) (sym h) (opens slot tag refl)
-leaves_reads i x (event.Slots directory_ask.Claim directory_reply.Full) p h ready opens = between_reads i x p h
-leaves_reads i x (event.Slots directory_ask.Claim directory_reply.Released) p h ready opens = between_reads i x p h
-leaves_reads i x (event.Slots (directory_ask.Release slot) r) p h ready opens = between_reads i x p h
-leaves_reads i x (event.Slot slot q slot_reply.Closed) p h ready opens = subst (ReadsAs i x) (sym h) tt
-leaves_reads i x (event.Slot slot q (slot_reply.Snapped pages)) p h ready opens = preparing_reads i x p h ready
-leaves_reads i x (event.Slot slot q slot_reply.Gone) p h ready opens = preparing_reads i x p h ready
-leaves_reads i x (event.Slot slot q r) p h ready opens = between_reads i x p h
-leaves_reads i x e p h ready opens = between_reads i x p h
+    → ((slot tag : ℕ) → e ≡ event.Slots directory_ask.Claim (directory_reply.Claimed slot tag) → (slot < slots_in i) × AsksForPages x)
+    → ((fd number : ℕ) → e ≡ event.Fds directory_ask.Claim (directory_reply.Claimed fd number) → (a1 x ≤ x.fuel) × (fd < fds_in i)) → ReadsAs i x p
+leaves_reads i x (event.Lives lives_ask.Claim lives_reply.Claimed) p h ready opens numbers = preparing_reads i x p (may_prepare p h) ready
+leaves_reads i x (event.Lives lives_ask.Claim lives_reply.Full) p h ready opens numbers = between_reads i x p h
+leaves_reads i x (event.Lives lives_ask.Claim lives_reply.Released) p h ready opens numbers = between_reads i x p h
+leaves_reads i x (event.Lives (lives_ask.Release end) r) p h ready opens numbers = between_reads i x p h
+leaves_reads i x (event.Slots directory_ask.Claim (directory_reply.Claimed slot tag)) p h ready opens numbers = subst (ReadsAs i x) (sym h) (opens slot tag refl)
+leaves_reads i x (event.Slots directory_ask.Claim directory_reply.Full) p h ready opens numbers = between_reads i x p h
+leaves_reads i x (event.Slots directory_ask.Claim directory_reply.Released) p h ready opens numbers = between_reads i x p h
+leaves_reads i x (event.Slots (directory_ask.Release slot) r) p h ready opens numbers = between_reads i x p h
+leaves_reads i x (event.Fds directory_ask.Claim (directory_reply.Claimed fd number)) p h ready opens numbers = numbered_reads i x fd p h (numbers fd number refl)
+leaves_reads i x (event.Fds directory_ask.Claim directory_reply.Full) p h ready opens numbers = between_reads i x p h
+leaves_reads i x (event.Fds directory_ask.Claim directory_reply.Released) p h ready opens numbers = between_reads i x p h
+leaves_reads i x (event.Fds (directory_ask.Release place) r) p h ready opens numbers = between_reads i x p h
+leaves_reads i x (event.Slot slot q slot_reply.Closed) p h ready opens numbers = subst (ReadsAs i x) (sym h) tt
+leaves_reads i x (event.Slot slot q (slot_reply.Snapped pages)) p h ready opens numbers = preparing_reads i x p h ready
+leaves_reads i x (event.Slot slot q slot_reply.Gone) p h ready opens numbers = preparing_reads i x p h ready
+leaves_reads i x (event.Slot slot q r) p h ready opens numbers = between_reads i x p h
+leaves_reads i x e p h ready opens numbers = between_reads i x p h
 
 -- an actor is about to open a tag only once it claimed the slot for it
 pub opens_by_claim : (e : Event) (p : Phase) (slot tag : ℕ) → Leaves e p → p ≡ phase.Opening slot tag → e ≡ event.Slots directory_ask.Claim (directory_reply.Claimed slot tag)
@@ -236,6 +295,10 @@ opens_by_claim (event.Slots directory_ask.Claim (directory_reply.Claimed s t)) p
 opens_by_claim (event.Slots directory_ask.Claim directory_reply.Full) p slot tag h is = absurd (subst IsBetween is h)
 opens_by_claim (event.Slots directory_ask.Claim directory_reply.Released) p slot tag h is = absurd (subst IsBetween is h)
 opens_by_claim (event.Slots (directory_ask.Release s) r) p slot tag h is = absurd (subst IsBetween is h)
+opens_by_claim (event.Fds directory_ask.Claim (directory_reply.Claimed fd number)) p slot tag h is = absurd (subst (MayNumber fd) is h)
+opens_by_claim (event.Fds directory_ask.Claim directory_reply.Full) p slot tag h is = absurd (subst IsBetween is h)
+opens_by_claim (event.Fds directory_ask.Claim directory_reply.Released) p slot tag h is = absurd (subst IsBetween is h)
+opens_by_claim (event.Fds (directory_ask.Release s) r) p slot tag h is = absurd (subst IsBetween is h)
 opens_by_claim (event.Slot s q slot_reply.Closed) p slot tag h is = let f : phase.Releasing s ≡ phase.Opening slot tag = sym h ∙ is in absurd cc
 opens_by_claim (event.Slot s q (slot_reply.Snapped pages)) p slot tag h is = absurd (subst MayPrepare is h)
 opens_by_claim (event.Slot s q slot_reply.Gone) p slot tag h is = absurd (subst MayPrepare is h)
@@ -257,6 +320,8 @@ happens_ready w b e (Snaps s) is = s.ready
 happens_ready w b e (Started s) is = s.ready
 happens_ready w b e (Opens o) is = let f = sym o.is ∙ is in absurd cc
 happens_ready w b e (Releases r) is = let f = sym r.is ∙ is in absurd cc
+happens_ready w b e (Numbers n) is = let f = sym n.is ∙ is in absurd cc
+happens_ready w b e (OpensFile f) is = let g = sym f.is ∙ is in absurd cc
 happens_ready w b e (LastJoined j) is = let f = sym j.join.is ∙ is in absurd cc
 happens_ready w b e (Ended f) is = let g = sym f.is ∙ is in absurd cc
 
@@ -268,6 +333,8 @@ happens_preparing w b e (Snaps s) h = s.ready
 happens_preparing w b e (Started s) h = s.ready
 happens_preparing w b e (Opens o) h = absurd (subst IsPreparing o.at h)
 happens_preparing w b e (Releases r) h = absurd (subst IsPreparing r.at h)
+happens_preparing w b e (Numbers n) h = absurd (subst IsPreparing n.at h)
+happens_preparing w b e (OpensFile f) h = absurd (subst IsPreparing f.at h)
 happens_preparing w b e (LastJoined j) h = absurd (subst IsPreparing j.at h)
 happens_preparing w b e (Ended f) h = absurd (subst IsPreparing f.at h)
 
@@ -277,6 +344,7 @@ no_preparing (phase.Within q) h k = absurd h
 no_preparing (phase.Starting pre) h k = absurd h
 no_preparing (phase.Opening slot tag) h k = absurd h
 no_preparing (phase.Releasing slot) h k = absurd h
+no_preparing (phase.OpeningFile o) h k = absurd h
 no_preparing (phase.Ending e) h k = absurd k
 no_preparing (phase.Ended e) h k = absurd k
 
@@ -286,6 +354,7 @@ snapped_startable b (phase.Within q) slot bytes at ready k = absurd k
 snapped_startable b (phase.Starting pre) slot bytes at ready k = startable_at b _ (ready (subst IsPreparing (sym at) tt))
 snapped_startable b (phase.Opening s tag) slot bytes at ready k = absurd k
 snapped_startable b (phase.Releasing s) slot bytes at ready k = absurd k
+snapped_startable b (phase.OpeningFile o) slot bytes at ready k = absurd k
 snapped_startable b (phase.Ending e) slot bytes at ready k = absurd k
 snapped_startable b (phase.Ended e) slot bytes at ready k = absurd k
 
@@ -302,6 +371,10 @@ takes_startable i b (event.Slots directory_ask.Claim (directory_reply.Claimed pl
 takes_startable i b (event.Slots directory_ask.Claim directory_reply.Full) first ready k = absurd k
 takes_startable i b (event.Slots directory_ask.Claim directory_reply.Released) first ready k = absurd k
 takes_startable i b (event.Slots (directory_ask.Release place) r) first ready k = absurd k
+takes_startable i b (event.Fds directory_ask.Claim (directory_reply.Claimed fd number)) first ready k = absurd (numbered_is (λ x. IsPreparing x.phase → ⊥) b b.phase fd (λ y. y) (λ o y. y) k)
+takes_startable i b (event.Fds directory_ask.Claim directory_reply.Full) first ready k = absurd k
+takes_startable i b (event.Fds directory_ask.Claim directory_reply.Released) first ready k = absurd k
+takes_startable i b (event.Fds (directory_ask.Release place) r) first ready k = absurd k
 takes_startable i b (event.Slot slot q r) first ready k = no_preparing (takes i b (event.Slot slot q r)).phase (takes_between i b (event.Slot slot q r)) k
 takes_startable i b e first ready k = no_preparing (takes i b e).phase (takes_between i b e) k
 
@@ -323,6 +396,8 @@ happens_claim w b e slot tag (Snaps s) is = let f = sym s.is ∙ is in absurd cc
 happens_claim w b e slot tag (Started s) is = let f = sym s.is ∙ is in absurd cc
 happens_claim w b e slot tag (Opens o) is = let f = sym o.is ∙ is in absurd cc
 happens_claim w b e slot tag (Releases r) is = let f = sym r.is ∙ is in absurd cc
+happens_claim w b e slot tag (Numbers n) is = let f = sym n.is ∙ is in absurd cc
+happens_claim w b e slot tag (OpensFile f) is = let g = sym f.is ∙ is in absurd cc
 happens_claim w b e slot tag (LastJoined j) is = let f = sym j.join.is ∙ is in absurd cc
 happens_claim w b e slot tag (Ended f) is = let g = sym f.is ∙ is in absurd cc
 
@@ -330,10 +405,38 @@ claimed_pages : (i : Image) (b : ActorState) (e : Event) (slot tag : ℕ) → e 
 unfolding takes
 claimed_pages i b e slot tag is pages = subst (λ y. AsksForPages (takes i b y)) (sym is) pages
 
-pub takes_reads : (w : WorldState) (b : ActorState) (e : Event) → GivesBelow (slots_in w.image) w.cells.places → Happens w b e → ReadsAs w.image (takes w.image b e) (takes w.image b e).phase
-takes_reads w b e sound h =
+-- a number is claimed by an actor that opens a file and has the fuel for its path, and is one of the directory's
+no_claim : (x : Want) (N : ℕ → Type 0) (b : ActorState) (c : Cells) (fd number : ℕ) → IsRequest N b x → event_for c b x ≡ event.Fds directory_ask.Claim (directory_reply.Claimed fd number) → ⊥
+no_claim (want.Slots q) N b c fd number own is = absurd cc
+no_claim (want.Slot slot q) N b c fd number own is = absurd cc
+no_claim (want.Fd n q) N b c fd number own is = absurd cc
+no_claim (want.Lives q) N b c fd number own is = absurd cc
+no_claim q N b c fd number own is = absurd own
+
+pub happens_number : (w : WorldState) (b : ActorState) (e : Event) (fd number : ℕ) → Happens w b e → e ≡ event.Fds directory_ask.Claim (directory_reply.Claimed fd number)
+    → (a1 b ≤ b.fuel) × (directory_reply_of w.cells.numbers directory_ask.Claim ≡ directory_reply.Claimed fd number)
+happens_number w b e fd number (Requested r) is = absurd (no_claim r.want _ b w.cells fd number r.own (sym r.is ∙ is))
+happens_number w b e fd number (Joined j) is = let f = sym j.join.is ∙ is in absurd cc
+happens_number w b e fd number (Snaps s) is = let f = sym s.is ∙ is in absurd cc
+happens_number w b e fd number (Started s) is = let f = sym s.is ∙ is in absurd cc
+happens_number w b e fd number (Opens o) is = let f = sym o.is ∙ is in absurd cc
+happens_number w b e fd number (Releases r) is = let f = sym r.is ∙ is in absurd cc
+happens_number w b e fd number (Numbers n) is = let f = sym n.is ∙ is in (n.paid, cc)
+happens_number w b e fd number (OpensFile o) is = let g = sym o.is ∙ is in absurd cc
+happens_number w b e fd number (LastJoined j) is = let f = sym j.join.is ∙ is in absurd cc
+happens_number w b e fd number (Ended f) is = let g = sym f.is ∙ is in absurd cc
+
+numbered_pays : (i : Image) (b : ActorState) (e : Event) (fd number : ℕ) → e ≡ event.Fds directory_ask.Claim (directory_reply.Claimed fd number) → a1 b ≤ b.fuel → a1 (takes i b e) ≤ (takes i b e).fuel
+unfolding takes
+numbered_pays i b e fd number is paid =
+    subst (λ y. a1 (takes i b y) ≤ (takes i b y).fuel) (sym is) (numbered_is (λ x. a1 x ≤ x.fuel) b b.phase fd paid (λ o. paid))
+
+pub takes_reads : (w : WorldState) (b : ActorState) (e : Event) → GivesBelow (slots_in w.image) w.cells.places → GivesBelow (fds_in w.image) w.cells.numbers
+    → Happens w b e → ReadsAs w.image (takes w.image b e) (takes w.image b e).phase
+takes_reads w b e sound numbers h =
     leaves_reads w.image (takes w.image b e) e (takes w.image b e).phase (takes_between w.image b e) (takes_startable w.image b e (happens_ready w b e h) (happens_preparing w b e h))
     (λ slot tag is. let c = happens_claim w b e slot tag h is in (claimed_inside (slots_in w.image) w.cells.places slot tag sound c.1, claimed_pages w.image b e slot tag is c.0))
+    (λ fd number is. let c = happens_number w b e fd number h is in (numbered_pays w.image b e fd number is c.0, claimed_inside (fds_in w.image) w.cells.numbers fd number numbers c.1))
 
 -- what a join makes of the actor, by what it was at
 pub joined_at : (b : ActorState) (p : Phase) (x : End) (k fuel : ℕ) → b.phase ≡ p

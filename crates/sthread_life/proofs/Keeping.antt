@@ -27,6 +27,8 @@ use Rattle.rv_hart.specs.declared.Hart.{Hart}
 use Rattle.rv_hart.specs.declared.Need.{Need}
 use Rattle.rv_hart.specs.declared.Need.TheVariants as need
 use Rattle.rv_hart.specs.Local.{local}
+use Rattle.wedge_base.specs.Files.{may_open}
+use Rattle.wedge_base.specs.declared.image.FileEntry.{FileEntry}
 use Rattle.sthread_life.specs.Actors.{ActorState, right_of, denies, ends, refuses}
 use Rattle.cow_pages.specs.Copies.{copy_at, holds_copy, read_copy}
 use Rattle.cow_pages.specs.Listed.{bytes_listed}
@@ -44,15 +46,15 @@ use Rattle.wedge_base.specs.declared.rights.FdBits.{FdBits}
 use Rattle.wedge_base.specs.declared.rights.Right.{Right}
 use Rattle.wedge_base.specs.declared.rights.Right.TheVariants as right
 use Rattle.sthread_life.specs.Children.{is_child, without_child}
-use Rattle.sthread_life.proofs.Between.{event_for, joined_is, snapped_is}
-use Rattle.sthread_life.proofs.Happening.{Happens, Requested, Joined, Snaps, Started, Opens, Releases, LastJoined, Ended}
+use Rattle.sthread_life.proofs.Between.{event_for, joined_is, numbered_is, opened_is, snapped_is}
+use Rattle.sthread_life.proofs.Happening.{Happens, Requested, Joined, Snaps, Started, Opens, Releases, Numbers, OpensFile, LastJoined, Ended}
 use Rattle.sthread_life.proofs.Meeting.{IsRequest}
 use Rattle.sthread_life.proofs.StreamCalls.{IsStreamRequest, append_cases, close_cases}
 use Rattle.sthread_life.proofs.Reading.{read_remembers}
 use Rattle.sthread_life.specs.Cells.{Cells, stream_in}
 use Rattle.sthread_life.specs.Worlds.{WorldState}
 use Rattle.sthread_life.proofs.WritingCopies.{copied_there}
-use Rattle.sthread_life.specs.Calls.{serves, exit, is_procedure, create, create_with, create_checked, join, are_pages, tag_new, tag_delete, smalloc, free_at, sfree, fd_read, fd_append, fd_close, most_drafts, sc_new, right_asked, bits_asked, add_right, add_right_to, sc_mem_add, add_bits, add_bits_to, sc_fd_add, draft_call, a0, a1, a2, a3, a7, set_user, sc_user, path_in, put_root, set_root, sc_root}
+use Rattle.sthread_life.specs.Calls.{serves, exit, is_procedure, create, create_with, create_checked, join, are_pages, tag_new, tag_delete, smalloc, free_at, sfree, fd_read, fd_append, fd_close, most_drafts, sc_new, right_asked, bits_asked, add_right, add_right_to, sc_mem_add, add_bits, add_bits_to, sc_fd_add, draft_call, a0, a1, a2, a3, a7, set_user, sc_user, path_in, put_root, set_root, sc_root, file_at, mode_asked, suits, open_file, open_path, file_open}
 use Rattle.sthread_life.specs.Local.{needed, executed, fuelled, fetched, step}
 use Rattle.sthread_life.specs.Taking.{runs, loads_by, loads_at, takes}
 use Rattle.sthread_life.specs.Remembering.{copied_bytes, copy_target, target_among, Elsewhere, LoadGives, StoreWrites, NeedRemembers, InstrRemembers, WordRemembers, EventRemembers, memory_after}
@@ -182,6 +184,15 @@ free_keeps : (a : ActorState) (p : Option Place) → Keeps a (free_at a p)
 free_keeps a None = refl
 free_keeps a (Some p) = refl
 
+file_keeps : (a : ActorState) (path : List ℕ) (b : FdBits) (f : Option FileEntry) → Keeps a (open_file a path b f)
+file_keeps a path b None = refl
+file_keeps a path b (Some f) = keeps_if a (denies a (denial.File path)) _ (not (may_open a.sheet.user f b)) refl (keeps_if a (refuses a code.Bad) _ (not (suits f.kind b)) refl refl)
+
+open_keeps : (i : Image) (a : ActorState) (b : Option FdBits) (path : Option (List ℕ)) → Keeps a (open_path i a b path)
+open_keeps i a None path = refl
+open_keeps i a (Some b) None = refl
+open_keeps i a (Some b) (Some path) = keeps_if a (refuses a code.FuelShort) _ (nat_lt a.fuel (a1 a)) refl (file_keeps a path b (file_at i path))
+
 call_keeps : (i : Image) (a : ActorState) (n : ℕ) → Keeps a (serves i a n)
 unfolding serves
 call_keeps i a n =
@@ -194,7 +205,8 @@ call_keeps i a n =
     (keeps_if a (sfree a) _ (n == 6) (free_keeps a (slot_of (a0 a)))
     (keeps_if a (fd_read a) _ (n == 15) (read_keeps a)
     (keeps_if a (fd_append i a) _ (n == 16) (append_keeps i a)
-    (keeps_if a (fd_close a) _ (n == 17) (keeps_if a (refuses a code.NoSuch) _ (nat_le most_fds (a0 a)) refl refl) (draft_keeps i a n))))))))))
+    (keeps_if a (fd_close a) _ (n == 17) (keeps_if a (refuses a code.NoSuch) _ (nat_le most_fds (a0 a)) refl refl)
+    (keeps_if a (file_open i a) _ (n == 18) (open_keeps i a (mode_asked (a2 a)) (path_in i a (a0 a) (a1 a))) (draft_keeps i a n)))))))))))
 
 -- an instruction
 need_remembers : (i : Image) (ins : Instr) (a : ActorState) (h : Hart) (n : Need) → NeedRemembers i ins.rd a n (needed i ins a h n)
@@ -248,7 +260,11 @@ memory_is i a (event.Slot slot q slot_reply.Gone) k = snapped_is (λ x. x.memory
 memory_is i a (event.Slot slot (slot_ask.Sfree offset live) (slot_reply.Denied tag wants)) k = refl
 memory_is i a (event.Slot slot (slot_ask.Open tag pages) slot_reply.Opened) k = refl
 memory_is i a (event.Slot slot q r) k = refl
-memory_is i a (event.Fd fd q reply.Opened) k = refl
+memory_is i a (event.Fds (directory_ask.Release place) r) k = refl
+memory_is i a (event.Fds directory_ask.Claim (directory_reply.Claimed fd number)) k = numbered_is (λ x. x.memory ≡ a.memory) a a.phase fd refl (λ o. refl)
+memory_is i a (event.Fds directory_ask.Claim directory_reply.Full) k = refl
+memory_is i a (event.Fds directory_ask.Claim directory_reply.Released) k = refl
+memory_is i a (event.Fd fd q reply.Opened) k = opened_is (λ x. x.memory ≡ a.memory) a a.phase fd refl (λ o. refl)
 memory_is i a (event.Fd fd q (reply.Given bytes)) k = absurd k
 memory_is i a (event.Fd fd q reply.Appended) k = refl
 memory_is i a (event.Fd fd q reply.Closed) k = refl
@@ -266,7 +282,8 @@ memory_is i a e k = refl
 pub event_copies : (i : Image) (a : ActorState) (e : Event) → (takes i a e).memory.copies ≡ (memory_after a.memory e).copies
 unfolding takes
 event_copies i a (event.Fd fd q (reply.Given bytes)) = refl
-event_copies i a (event.Fd fd q reply.Opened) = refl
+event_copies i a (event.Fds q r) = ap (λ (m : PrivateMemory). m.copies) (memory_is i a (event.Fds q r) tt)
+event_copies i a (event.Fd fd q reply.Opened) = ap (λ (m : PrivateMemory). m.copies) (memory_is i a (event.Fd fd q reply.Opened) tt)
 event_copies i a (event.Fd fd q reply.Appended) = refl
 event_copies i a (event.Fd fd q reply.Closed) = refl
 event_copies i a (event.Fd fd q reply.NoSuch) = refl
@@ -317,5 +334,7 @@ event_remembers w b e (Snaps s) = gift_free w.image b e s.is tt
 event_remembers w b e (Started s) = gift_free w.image b e s.is tt
 event_remembers w b e (Opens o) = gift_free w.image b e o.is tt
 event_remembers w b e (Releases r) = gift_free w.image b e r.is tt
+event_remembers w b e (Numbers n) = gift_free w.image b e n.is tt
+event_remembers w b e (OpensFile f) = gift_free w.image b e f.is tt
 event_remembers w b e (LastJoined j) = gift_free w.image b e j.join.is tt
 event_remembers w b e (Ended f) = gift_free w.image b e f.is tt

@@ -8,7 +8,9 @@ pub mod Directing
 pub mod Between
 pub mod Named
 pub mod Buffers
+pub mod StreamFits
 pub mod StreamCalls
+pub mod FilesAscend
 pub mod Meeting
 pub mod Happening
 pub mod Settling
@@ -28,6 +30,7 @@ pub mod Keeping
 pub mod Checking
 pub mod TagMoments
 pub mod StreamMoments
+pub mod FileMoments
 pub mod Mediating
 pub mod OneCell
 pub mod CellChanging

@@ -29,6 +29,7 @@ use Rattle.wedge_base.specs.declared.cells.SlotAsk.TheVariants as slot_ask
 use Rattle.wedge_base.specs.declared.cells.SlotReply.{SlotReply}
 use Rattle.wedge_base.specs.declared.cells.SlotReply.TheVariants as slot_reply
 use Rattle.wedge_base.specs.declared.cells.StreamAsk.{StreamAsk}
+use Rattle.wedge_base.specs.declared.cells.StreamAsk.TheVariants as stream_ask
 use Rattle.wedge_base.specs.declared.cells.StreamReply.{StreamReply}
 use Rattle.wedge_base.specs.declared.cells.StreamReply.TheVariants as reply
 use Rattle.rv_isa.specs.declared.Instr.{Instr}
@@ -50,38 +51,40 @@ use Rattle.sthread_life.proofs.Preparing.{step_unprepared, event_prepares}
 use Rattle.sthread_life.specs.Taking.{pair, runs, loads_by, loads_at, has_snapped, answered_end, has_started, takes_lives, takes, child_of, begun}
 use Rattle.sthread_life.specs.Cells.{Cells, held, slot_in, stream_in, cells_after}
 use Rattle.sthread_life.specs.Worlds.{WorldState, opening, actor_named, put_actor, with_begun, turn_of, Runs}
-use Rattle.sthread_life.specs.Requests.{Access, Request, Loads, Stores, Reads, Appends, Closes, Creates, Deletes, Allots, Frees, request_at, in_tag}
+use Rattle.sthread_life.specs.Requests.{Access, Request, Loads, Stores, Reads, Appends, Closes, Opens, Creates, Deletes, Allots, Frees, request_at, in_tag}
 use Rattle.sthread_life.specs.Allowed.{may_use, lacks, is_refused, next_word, IsDone, denied}
 use Rattle.sthread_life.specs.Moments.{EachMoment, TurnHas, with_actor, is_use, slot_used, NothingDenied, IsChecked, ComesToEvent, IsMet, IsAnswered, MeetsWith, AnswersAt}
 use Rattle.sthread_life.specs.Ends.{GoesTo, is_end_event, end_of, end_at, end_by, reply_end}
-use Rattle.sthread_life.specs.Refusals.{full, no_such, bad, RefusesIn, RefusesAfter, slot_refuses, is_refusal, refused}
+use Rattle.sthread_life.specs.Refusals.{full, RefusesIn, RefusesAfter, slot_refuses, is_refusal, refused}
 use Rattle.sthread_life.specs.Remembering.{WordRemembers, EventRemembers}
+use Rattle.sthread_life.specs.TagCalls.{MakesAt}
 use Rattle.sthread_life.specs.Laws.{IsLawful, MomentsAreLawful}
 use Rattle.sthread_life.proofs.Checking.{kept, put_there, checked_denied, checked_allowed, after, stayed, same_slots, pair_on, slot_world}
-use Rattle.sthread_life.proofs.TagMoments.{claim_unused, close_answered, place_answered, free_answered, opened_denials, released_denials, claim_slot_next, close_next, place_next, free_next, opened_next, released_next, slots_told, claim_slot_refused, close_refused, place_refused, free_refused, claim_slot_passed, close_passed, place_passed, free_passed, step_makes, event_makes}
+use Rattle.sthread_life.proofs.TagMoments.{claim_unused, close_answered, place_answered, free_answered, opened_denials, released_denials, claim_slot_next, close_next, place_next, free_next, opened_next, released_next, slots_told, claim_slot_refused, close_refused, place_refused, free_refused, claim_slot_passed, close_passed, place_passed, free_passed, step_makes, want_makes, open_makes, release_makes}
 use Rattle.sthread_life.proofs.StreamMoments.{stream_answered, stream_next, stream_refused, stream_passed}
+use Rattle.sthread_life.proofs.FileMoments.{number_denials, file_denials, number_end, file_end, number_next, file_next, number_refuses, file_refuses, claims_number, opens_file}
 use Rattle.sthread_life.proofs.Named.{found_name, put_put, named_begun, begun_noted}
 use Rattle.sthread_life.proofs.Keeping.{step_remembers, event_remembers}
 use Rattle.sthread_life.proofs.Settling.{AllReady, turn_happens, turn_ready, opening_ready}
-use Rattle.sthread_life.proofs.Meeting.{wanted_for, request_for, refusal_for, IsRequest, IsStartable, IsCheckedNow, MetBy, InstrLoads, NeedLoads, LoadsAt, stuck, step_comes}
+use Rattle.sthread_life.proofs.Meeting.{phase_for, request_for, refusal_for, IsRequest, IsStartable, IsCheckedNow, MetBy, InstrLoads, NeedLoads, LoadsAt, stuck, step_comes}
 use Rattle.sthread_life.specs.Paying.{cost_at, cost_by, given_by, brought_by}
 use Rattle.sthread_life.proofs.Paying.{step_pays, event_pays}
 use Rattle.sthread_life.specs.Drafting.{drafts_after}
 use Rattle.sthread_life.proofs.DraftEdits.{step_edits, event_edits}
 use Rattle.sthread_life.proofs.Going.{IsNext, step_goes}
 use Rattle.sthread_life.proofs.Resting.{steps_step, stays, goes_on, running_is, rest-stops}
-use Rattle.sthread_life.proofs.Between.{event_for, IsJoin, joined_is, snapped_is, takes_name, turn_parts, loaded_runs}
-use Rattle.sthread_life.proofs.Happening.{Happens, snap_cases, Requested, Joined, Snaps, Started, Opens, Releases, LastJoined, Ended, joined_at}
+use Rattle.sthread_life.proofs.Between.{event_for, IsJoin, joined_is, opened_is, snapped_is, takes_name, turn_parts, loaded_runs}
+use Rattle.sthread_life.proofs.Happening.{Happens, snap_cases, Requested, Joined, Snaps, Started, Opens as OpensTag, Releases, Numbers, OpensFile, LastJoined, Ended, joined_at}
 use Rattle.sthread_life.proofs.Families.{step_family, event_family}
 
 -- ---- an instruction
 
 -- a request that is checked at once
 checked_now : (w : WorldState) (b p x a : ActorState) (r : Request) → actor_named w.actors b.name ≡ Some a → p.name ≡ b.name → p.denials ≡ b.denials → x.name ≡ b.name → p.phase ≡ phase.Running
-    → ((o : Option ActorState) → IsDone p r None o → o ≡ Some (record p { phase = phase.Within (wanted_for p r) })) → ((o : Option ActorState) → o ≡ Some (record p { phase = phase.Within (wanted_for p r) }) → IsDone p r None o)
-    → ((y : Denial) → (denied p r y).phase ≡ phase.Running) → ((y : Denial) → (denied p r y).name ≡ p.name) → IsCheckedNow p r x
+    → ((o : Option ActorState) → IsDone p r None o → o ≡ Some (record p { phase = phase_for p r })) → ((o : Option ActorState) → o ≡ Some (record p { phase = phase_for p r }) → IsDone p r None o)
+    → (phase_for p r ≡ phase.Running → ⊥) → ((y : Denial) → (denied p r y).phase ≡ phase.Running) → ((y : Denial) → (denied p r y).name ≡ p.name) → IsCheckedNow p r x
     → IsChecked (with_actor w b) p r None (with_actor w x)
-checked_now w b p x a r named pn pd xn run from to runs_on same_name now = by_denial (lacks p r) refl (is_refused p r) refl
+checked_now w b p x a r named pn pd xn run from to moves runs_on same_name now = by_denial (lacks p r) refl (is_refused p r) refl
   where
     found : actor_named (put_actor w.actors x) p.name ≡ Some x
     found = subst (λ m. actor_named (put_actor w.actors x) m ≡ Some x) (sym pn) (put_there w b x a named xn)
@@ -89,8 +92,8 @@ checked_now w b p x a r named pn pd xn run from to runs_on same_name now = by_de
     put_again_at : (y : ActorState) → y.name ≡ b.name → x ≡ y → with_actor w x ≡ with_actor (with_actor w b) y
     put_again_at y yn is = ap (with_actor w) is ∙ ap (λ (as_ : List ActorState). record w { actors = as_ }) (sym (put_put w.actors b y yn))
 
-    not_within : x.phase ≡ phase.Running → Some x ≡ Some (record p { phase = phase.Within (wanted_for p r) }) → ⊥
-    not_within runs e = let same : x ≡ record p { phase = phase.Within (wanted_for p r) } = cc in let f : phase.Running ≡ phase.Within (wanted_for p r) = sym runs ∙ ap (λ (y : ActorState). y.phase) same in cc
+    not_within : x.phase ≡ phase.Running → Some x ≡ Some (record p { phase = phase_for p r }) → ⊥
+    not_within runs e = let same : x ≡ record p { phase = phase_for p r } = cc in moves (sym (sym runs ∙ ap (λ (y : ActorState). y.phase) same))
 
     denied_runs : (y : Denial) → x ≡ denied p r y → x.phase ≡ phase.Running
     denied_runs y is = ap (λ (z : ActorState). z.phase) is ∙ runs_on y
@@ -114,9 +117,10 @@ met_by w b p x a (Stores y value) named pn pd xn run m = comes_there w b p x pn 
 met_by w b p x a (Reads fd s n) named pn pd xn run m = comes_there w b p x pn m
 met_by w b p x a (Appends fd s bytes) named pn pd xn run m = comes_there w b p x pn m
 met_by w b p x a (Closes fd s) named pn pd xn run m = comes_there w b p x pn m
-met_by w b p x a (Creates d) named pn pd xn run m = checked_now w b p x a (Creates d) named pn pd xn run (λ o e. e.1) (λ o e. (refl, e)) (λ y. refl) (λ y. refl) m
-met_by w b p x a (Deletes tag) named pn pd xn run m = checked_now w b p x a (Deletes tag) named pn pd xn run (λ o e. e.1) (λ o e. (refl, e)) (λ y. refl) (λ y. refl) m
-met_by w b p x a (Allots tag size) named pn pd xn run m = checked_now w b p x a (Allots tag size) named pn pd xn run (λ o e. e.1) (λ o e. (refl, e)) (λ y. refl) (λ y. refl) m
+met_by w b p x a (Opens path f c) named pn pd xn run m = checked_now w b p x a (Opens path f c) named pn pd xn run (λ o e. e.1) (λ o e. (refl, e)) (λ e. absurd cc) (λ y. refl) (λ y. refl) m
+met_by w b p x a (Creates d) named pn pd xn run m = checked_now w b p x a (Creates d) named pn pd xn run (λ o e. e.1) (λ o e. (refl, e)) (λ e. absurd cc) (λ y. refl) (λ y. refl) m
+met_by w b p x a (Deletes tag) named pn pd xn run m = checked_now w b p x a (Deletes tag) named pn pd xn run (λ o e. e.1) (λ o e. (refl, e)) (λ e. absurd cc) (λ y. refl) (λ y. refl) m
+met_by w b p x a (Allots tag size) named pn pd xn run m = checked_now w b p x a (Allots tag size) named pn pd xn run (λ o e. e.1) (λ o e. (refl, e)) (λ e. absurd cc) (λ y. refl) (λ y. refl) m
 met_by w b p x a (Frees q g) named pn pd xn run m = comes_there w b p x pn m
 
 met_as : (w : WorldState) (b p x a : ActorState) (o : Option Request) → actor_named w.actors b.name ≡ Some a → p.name ≡ b.name → p.denials ≡ b.denials → x.name ≡ b.name → p.phase ≡ phase.Running
@@ -316,12 +320,18 @@ answered_at w b a e named (Snaps s) =
 answered_at w b a e named (Started s) =
     subst (λ ph. AnswersAt (with_actor w b) b ph e (after w b e)) (sym s.at)
     (subst (λ y. NothingDenied (with_actor w b) (after w b y) × (is_use y ≡ false)) (sym s.is) (start_unasked w b _, refl))
-answered_at w b a e named (Opens o) =
+answered_at w b a e named (OpensTag o) =
     subst (λ ph. AnswersAt (with_actor w b) b ph e (after w b e)) (sym o.at)
     (subst (λ y. NothingDenied (with_actor w b) (after w b y) × (is_use y ≡ false)) (sym o.is) (unasked w b (event.Slot o.slot (slot_ask.Open o.tag (a0 b)) slot_reply.Opened) refl (opened_denials w.image b o.slot o.tag (a0 b)), refl))
 answered_at w b a e named (Releases r) =
     subst (λ ph. AnswersAt (with_actor w b) b ph e (after w b e)) (sym r.at)
     (subst (λ y. NothingDenied (with_actor w b) (after w b y) × (is_use y ≡ false)) (sym r.is) (unasked w b (event.Slots (directory_ask.Release r.slot) directory_reply.Released) refl (released_denials w.image b r.slot), refl))
+answered_at w b a e named (Numbers n) =
+    subst (λ ph. AnswersAt (with_actor w b) b ph e (after w b e)) (sym n.at)
+    (subst (λ y. NothingDenied (with_actor w b) (after w b y) × (is_use y ≡ false)) (sym n.is) (unasked w b (event.Fds directory_ask.Claim _) refl (number_denials w.image b directory_ask.Claim _), refl))
+answered_at w b a e named (OpensFile f) =
+    subst (λ ph. AnswersAt (with_actor w b) b ph e (after w b e)) (sym f.at)
+    (subst (λ y. NothingDenied (with_actor w b) (after w b y) × (is_use y ≡ false)) (sym f.is) (unasked w b (event.Fd f.fd (stream_ask.Open f.opening.kind f.opening.bytes) reply.Opened) refl (file_denials w.image b f.fd _), refl))
 answered_at w b a e named (LastJoined j) =
     subst (λ ph. AnswersAt (with_actor w b) b ph e (after w b e)) (sym j.at) (join_unasked w b j.first.0 e j.join)
 answered_at w b a e named (Ended f) =
@@ -345,7 +355,7 @@ slot_end i b slot q r = (refl, refl)
 
 stream_end : (i : Image) (b : ActorState) (fd : ℕ) (q : StreamAsk) (r : StreamReply) → (end_of (takes i b (event.Fd fd q r)).phase ≡ None) × ((takes i b (event.Fd fd q r)).name ≡ b.name)
 unfolding takes
-stream_end i b fd q reply.Opened = (refl, refl)
+stream_end i b fd q reply.Opened = opened_is (λ x. (end_of x.phase ≡ None) × (x.name ≡ b.name)) b b.phase fd (refl, refl) (λ o. (refl, refl))
 stream_end i b fd q (reply.Given bytes) = (refl, refl)
 stream_end i b fd q reply.Appended = (refl, refl)
 stream_end i b fd q reply.Closed = (refl, refl)
@@ -385,6 +395,7 @@ join_end i b (phase.Within q) k x fuel at live = ap (λ (y : ActorState). end_of
 join_end i b (phase.Starting pre) k x fuel at live = ap (λ (y : ActorState). end_of y.phase) (joined_at b (phase.Starting pre) x k fuel at)
 join_end i b (phase.Opening slot tag) k x fuel at live = ap (λ (y : ActorState). end_of y.phase) (joined_at b (phase.Opening slot tag) x k fuel at)
 join_end i b (phase.Releasing slot) k x fuel at live = ap (λ (y : ActorState). end_of y.phase) (joined_at b (phase.Releasing slot) x k fuel at)
+join_end i b (phase.OpeningFile o) k x fuel at live = ap (λ (y : ActorState). end_of y.phase) (joined_at b (phase.OpeningFile o) x k fuel at)
 join_end i b (phase.Ending y) k x fuel at live = ap (λ (z : ActorState). end_of z.phase) (joined_at b (phase.Ending y) x k fuel at) ∙ ap end_of at
 join_end i b (phase.Ended y) k x fuel at live = absurd cc
 
@@ -405,8 +416,10 @@ ends_by w b e (Requested r) = subst (λ p. EndsBy w.image b p e) (sym r.at) (sub
 ends_by w b e (Joined j) = subst (λ p. EndsBy w.image b p e) (sym j.at) (subst (EndsBy w.image b (phase.Within (want.Join j.number))) (sym j.join.is) (join_end w.image b _ j.number j.join.how j.join.child.fuel j.at refl))
 ends_by w b e (Snaps s) = subst (λ p. EndsBy w.image b p e) (sym s.at) (subst (EndsBy w.image b (phase.Starting s.preparation)) (sym s.is) (snap_end w.image b s.preparation s.grant.slot s.grant.tag _))
 ends_by w b e (Started s) = subst (λ p. EndsBy w.image b p e) (sym s.at) (subst (EndsBy w.image b (phase.Starting s.preparation)) (sym s.is) (start_end w.image b s.preparation _))
-ends_by w b e (Opens o) = subst (λ p. EndsBy w.image b p e) (sym o.at) (subst (EndsBy w.image b (phase.Opening o.slot o.tag)) (sym o.is) (slot_end w.image b o.slot (slot_ask.Open o.tag (a0 b)) slot_reply.Opened).0)
+ends_by w b e (OpensTag o) = subst (λ p. EndsBy w.image b p e) (sym o.at) (subst (EndsBy w.image b (phase.Opening o.slot o.tag)) (sym o.is) (slot_end w.image b o.slot (slot_ask.Open o.tag (a0 b)) slot_reply.Opened).0)
 ends_by w b e (Releases r) = subst (λ p. EndsBy w.image b p e) (sym r.at) (subst (EndsBy w.image b (phase.Releasing r.slot)) (sym r.is) (released_end w.image b r.slot))
+ends_by w b e (Numbers n) = subst (λ p. EndsBy w.image b p e) (sym n.at) (subst (EndsBy w.image b (phase.OpeningFile n.opening)) (sym n.is) (number_end w.image b directory_ask.Claim _).0)
+ends_by w b e (OpensFile f) = subst (λ p. EndsBy w.image b p e) (sym f.at) (subst (EndsBy w.image b (phase.OpeningFile f.opening)) (sym f.is) (file_end w.image b f.fd _).0)
 ends_by w b e (LastJoined j) = subst (λ p. EndsBy w.image b p e) (sym j.at) (subst (EndsBy w.image b (phase.Ending j.end_)) (sym j.join.is) (join_end w.image b _ j.first.0 j.join.how j.join.child.fuel j.at refl))
 ends_by w b e (Ended f) = subst (λ p. EndsBy w.image b p e) (sym f.at) (subst (EndsBy w.image b (phase.Ending f.end_)) (sym f.is) (last_end w.image b f.end_))
 
@@ -454,6 +467,7 @@ join_next i b (phase.Within q) k x fuel at = subst (IsNext b.hart) (sym (joined_
 join_next i b (phase.Starting pre) k x fuel at = subst (IsNext b.hart) (sym (joined_at b (phase.Starting pre) x k fuel at)) (λ e. refl, λ e. absurd cc)
 join_next i b (phase.Opening slot tag) k x fuel at = subst (IsNext b.hart) (sym (joined_at b (phase.Opening slot tag) x k fuel at)) (λ e. refl, λ e. absurd cc)
 join_next i b (phase.Releasing slot) k x fuel at = subst (IsNext b.hart) (sym (joined_at b (phase.Releasing slot) x k fuel at)) (λ e. refl, λ e. absurd cc)
+join_next i b (phase.OpeningFile o) k x fuel at = subst (IsNext b.hart) (sym (joined_at b (phase.OpeningFile o) x k fuel at)) (λ e. refl, λ e. absurd cc)
 join_next i b (phase.Ending y) k x fuel at =
     subst (IsNext b.hart) (sym (joined_at b (phase.Ending y) x k fuel at)) (λ e. let f : false ≡ true = sym (ap is_running at) ∙ e in absurd cc, λ e. refl)
 join_next i b (phase.Ended y) k x fuel at = subst (IsNext b.hart) (sym (joined_at b (phase.Ended y) x k fuel at)) (λ e. refl, λ e. absurd cc)
@@ -476,8 +490,10 @@ next_by w b e (Requested r) = subst (λ y. IsNext b.hart (takes w.image b y)) (s
 next_by w b e (Joined j) = subst (λ y. IsNext b.hart (takes w.image b y)) (sym j.join.is) (join_next w.image b _ j.number j.join.how j.join.child.fuel j.at)
 next_by w b e (Snaps s) = subst (λ y. IsNext b.hart (takes w.image b y)) (sym s.is) (snap_next w.image b s.preparation s.grant.slot s.grant.tag (slot_in w.cells s.grant.slot) s.at)
 next_by w b e (Started s) = subst (λ y. IsNext b.hart (takes w.image b y)) (sym s.is) (start_next w.image b _)
-next_by w b e (Opens o) = subst (λ y. IsNext b.hart (takes w.image b y)) (sym o.is) (opened_next w.image b o.slot o.tag (a0 b))
+next_by w b e (OpensTag o) = subst (λ y. IsNext b.hart (takes w.image b y)) (sym o.is) (opened_next w.image b o.slot o.tag (a0 b))
 next_by w b e (Releases r) = subst (λ y. IsNext b.hart (takes w.image b y)) (sym r.is) (released_next w.image b r.slot)
+next_by w b e (Numbers n) = subst (λ y. IsNext b.hart (takes w.image b y)) (sym n.is) (number_next w.image b n.opening (claim w.cells.numbers) w.cells.numbers n.at)
+next_by w b e (OpensFile f) = subst (λ y. IsNext b.hart (takes w.image b y)) (sym f.is) (file_next w.image b f.opening f.fd _ f.at)
 next_by w b e (LastJoined j) = subst (λ y. IsNext b.hart (takes w.image b y)) (sym j.join.is) (join_next w.image b _ j.first.0 j.join.how j.join.child.fuel j.at)
 next_by w b e (Ended f) = subst (λ y. IsNext b.hart (takes w.image b y)) (sym f.is) (last_next w.image b f.end_)
 
@@ -488,6 +504,7 @@ joined_live a (phase.Within q) x at = refl
 joined_live a (phase.Starting pre) x at = refl
 joined_live a (phase.Opening slot tag) x at = refl
 joined_live a (phase.Releasing slot) x at = refl
+joined_live a (phase.OpeningFile o) x at = refl
 joined_live a (phase.Ending y) x at = ap has_ended at
 joined_live a (phase.Ended y) x at = refl
 
@@ -503,7 +520,8 @@ reached i b (event.Slot slot q slot_reply.Gone) = snapped_is (λ x. has_ended x.
 reached i b (event.Slot slot (slot_ask.Sfree offset live) (slot_reply.Denied tag wants)) = refl
 reached i b (event.Slot slot (slot_ask.Open tag pages) slot_reply.Opened) = refl
 reached i b (event.Slot slot q r) = refl
-reached i b (event.Fd fd q reply.Opened) = refl
+reached i b (event.Fds q r) = (number_end i b q r).1
+reached i b (event.Fd fd q reply.Opened) = (file_end i b fd q).1
 reached i b (event.Fd fd q (reply.Given bytes)) = refl
 reached i b (event.Fd fd q reply.Appended) = refl
 reached i b (event.Fd fd q reply.Closed) = refl
@@ -594,10 +612,36 @@ refuses_after w b e (Joined j) =
 refuses_after w b e (Snaps s) =
     subst (λ ph. RefusesAfter (with_actor w b) b ph e (after w b e)) (sym s.at) (ap is_refusal s.is ∙ snap_cases (λ r. slot_refuses r ≡ false) (slot_in w.cells s.grant.slot) s.grant.tag (λ pages. refl) refl)
 refuses_after w b e (Started s) = subst (λ ph. RefusesAfter (with_actor w b) b ph e (after w b e)) (sym s.at) (ap is_refusal s.is)
-refuses_after w b e (Opens o) = subst (λ ph. RefusesAfter (with_actor w b) b ph e (after w b e)) (sym o.at) (ap is_refusal o.is)
+refuses_after w b e (OpensTag o) = subst (λ ph. RefusesAfter (with_actor w b) b ph e (after w b e)) (sym o.at) (ap is_refusal o.is)
 refuses_after w b e (Releases r) = subst (λ ph. RefusesAfter (with_actor w b) b ph e (after w b e)) (sym r.at) (ap is_refusal r.is)
+refuses_after w b e (Numbers n) = subst (λ ph. RefusesAfter (with_actor w b) b ph e (after w b e)) (sym n.at) (number_refuses w b e n)
+refuses_after w b e (OpensFile f) = subst (λ ph. RefusesAfter (with_actor w b) b ph e (after w b e)) (sym f.at) (file_refuses w b e f)
 refuses_after w b e (LastJoined j) = subst (λ ph. RefusesAfter (with_actor w b) b ph e (after w b e)) (sym j.at) (ap is_refusal j.join.is)
 refuses_after w b e (Ended f) = subst (λ ph. RefusesAfter (with_actor w b) b ph e (after w b e)) (sym f.at) (ap is_refusal f.is)
+
+-- ---- what an event makes
+
+event_makes : (w : WorldState) (b : ActorState) (e : Event) → Happens w b e → MakesAt (with_actor w b) b b.phase e (after w b e)
+event_makes w b e (Requested r) =
+    subst (λ ph. MakesAt (with_actor w b) b ph e (after w b e)) (sym r.at)
+    (subst (λ y. MakesAt (with_actor w b) b (phase.Within r.want) y (after w b y)) (sym r.is) (want_makes w b _ r.want r.own))
+event_makes w b e (Joined j) =
+    subst (λ ph. MakesAt (with_actor w b) b ph e (after w b e)) (sym j.at)
+    (subst (λ y. MakesAt (with_actor w b) b (phase.Within (want.Join j.number)) y (after w b y)) (sym j.join.is) refl)
+event_makes w b e (Started s) =
+    subst (λ ph. MakesAt (with_actor w b) b ph e (after w b e)) (sym s.at) (subst (λ y. MakesAt (with_actor w b) b (phase.Starting s.preparation) y (after w b y)) (sym s.is) refl)
+event_makes w b e (Snaps s) =
+    subst (λ ph. MakesAt (with_actor w b) b ph e (after w b e)) (sym s.at) (subst (λ y. MakesAt (with_actor w b) b (phase.Starting s.preparation) y (after w b y)) (sym s.is) refl)
+event_makes w b e (OpensTag o) =
+    subst (λ ph. MakesAt (with_actor w b) b ph e (after w b e)) (sym o.at) (subst (λ y. MakesAt (with_actor w b) b (phase.Opening o.slot o.tag) y (after w b y)) (sym o.is) (open_makes w b o.slot o.tag))
+event_makes w b e (Releases r) =
+    subst (λ ph. MakesAt (with_actor w b) b ph e (after w b e)) (sym r.at) (subst (λ y. MakesAt (with_actor w b) b (phase.Releasing r.slot) y (after w b y)) (sym r.is) (release_makes w b r.slot))
+event_makes w b e (Numbers n) = subst (λ ph. MakesAt (with_actor w b) b ph e (after w b e)) (sym n.at) (claims_number w b e n)
+event_makes w b e (OpensFile f) = subst (λ ph. MakesAt (with_actor w b) b ph e (after w b e)) (sym f.at) (opens_file w b e f)
+event_makes w b e (LastJoined j) =
+    subst (λ ph. MakesAt (with_actor w b) b ph e (after w b e)) (sym j.at) (subst (λ y. MakesAt (with_actor w b) b (phase.Ending j.end_) y (after w b y)) (sym j.join.is) refl)
+event_makes w b e (Ended f) =
+    subst (λ ph. MakesAt (with_actor w b) b ph e (after w b e)) (sym f.at) (subst (λ y. MakesAt (with_actor w b) b (phase.Ending f.end_) y (after w b y)) (sym f.is) refl)
 
 -- what holds of the actor that was put
 put_such : (Q : ActorState → Type 0) (w : WorldState) (b x a : ActorState) → actor_named w.actors b.name ≡ Some a → x.name ≡ b.name → Q x → IsSomeAnd (actor_named (put_actor w.actors x) b.name) Q

@@ -3,7 +3,7 @@ use Rattle.std.proofs.Common.{◌≡◌, ℕ, zero, suc, ◌+◌, ◌-◌, ◌�
 use Rattle.std.proofs.lemmas.Bool.{eqb-true}
 use Rattle.std.proofs.lemmas.Bool.Decides.{nat_tests}
 use Rattle.std.specs.Prelude.{Option, Some, None, is_some, option_map, option_and_then, not, ◌&&◌, ◌||◌, ◌==◌, nat_lt, nat_le, if◌then◌else◌, ◌∷◌, ◌++◌, length, slice_get, slice_range}
-use Rattle.wedge_base.specs.Images.{Image, fetch, in_text, read_text, slot_of, slots as most_slots}
+use Rattle.wedge_base.specs.Images.{Image, fetch, read_text, slot_of, slots as most_slots}
 use Rattle.wedge_base.specs.Maps.{has}
 use Rattle.wedge_base.specs.Bytes.{number_of}
 use Rattle.wedge_base.specs.Memory.{range_at, read_range}
@@ -28,25 +28,29 @@ use Rattle.rv_hart.specs.declared.Need.TheVariants as need
 use Rattle.rv_hart.specs.Local.{local}
 use Rattle.sthread_life.specs.declared.phase.Phase.{Phase}
 use Rattle.sthread_life.specs.declared.phase.Phase.TheVariants as phase
+use Rattle.wedge_base.specs.Files.{may_open}
+use Rattle.wedge_base.specs.declared.image.FileEntry.{FileEntry}
+use Rattle.wedge_base.specs.declared.rights.FdBits.{FdBits}
+use Rattle.wedge_base.specs.declared.rights.StreamKind.{StreamKind}
+use Rattle.wedge_base.specs.declared.rights.StreamKind.TheVariants as kind
 use Rattle.sthread_life.specs.Actors.{ActorState, answers, bits_of, slot_held, code_number, denies, ends, refuses, wants, spends}
 use Rattle.cow_pages.specs.Copies.{copy_at, holds_copy}
-use Rattle.sthread_life.specs.Private.{load_bytes, load_copy, load_window, load_range, store_copy, store_window, store_range, has_loaded, fits_read, fits_write, buffer, buffer_in}
+use Rattle.sthread_life.specs.Private.{load_bytes, load_copy, load_window, load_range, store_copy, store_window, store_range, has_loaded, fits_read, fits_write, buffer}
 use Rattle.wedge_base.specs.Sheets.{Draft, empty_draft, takes_tag, takes_fd, first_excess}
 use Rattle.wedge_base.specs.Slots.{Segment}
-use Rattle.wedge_base.specs.Streams.{Stream}
 use Rattle.wedge_base.specs.declared.rights.Denial.{Denial}
 use Rattle.wedge_base.specs.declared.rights.Denial.TheVariants as denial
 use Rattle.wedge_base.specs.declared.cells.LivesAsk.TheVariants as lives_ask
 use Rattle.wedge_base.specs.declared.rights.Right.TheVariants as right
 use Rattle.sthread_life.proofs.Buffers.{buffer_is, path_is}
-use Rattle.sthread_life.specs.Calls.{serves, is_procedure, create_with, create_checked, create_allowed, are_pages, free_at, fd_read, fd_append, fd_close, sc_new, add_right, add_right_to, sc_mem_add, add_bits, add_bits_to, sc_fd_add, bits, a0, a1, a2, a3, a7, set_user, sc_user, path_in, put_root, set_root, sc_root, draft_call}
+use Rattle.sthread_life.specs.Calls.{serves, is_procedure, create_with, create_checked, create_allowed, are_pages, free_at, fd_read, fd_append, fd_close, sc_new, add_right, add_right_to, sc_mem_add, add_bits, add_bits_to, sc_fd_add, bits, a0, a1, a2, a3, a7, set_user, sc_user, path_in, set_root, sc_root, draft_call, file_at, mode_asked, suits, open_file, open_path, file_open}
 use Rattle.sthread_life.specs.Local.{needed, executed, fuelled, fetched, step, is_running, run_local, rest}
 use Rattle.sthread_life.proofs.Resting.{stays, goes_on, running_is}
 use Rattle.sthread_life.proofs.StreamCalls.{stream_request, stream_refusal, IsStreamRequest, request_at_phase, refusal_at_phase, stream_event}
 use Rattle.sthread_life.specs.Cells.{Cells, slot_in, stream_in}
-use Rattle.sthread_life.specs.Refusals.{fuel_short, full, deep, no_such, bad, start_refusal, create_refusal, pages_refusal, address_refusal, life_refusal, slots_refusal, close_refusal, place_refusal, block_refusal, free_refusal, call_refusal, call_refusal_after, new_refusal, right_refusal, bits_refusal, transfer_refusal, number_refusal, read_refusal, append_refusal, need_refusal, instr_refusal, word_refusal, refusal_at, read_refusal_after, append_refusal_after, stream_close_refusal, need_refusal_after, instr_refusal_after, word_refusal_after, refusal_after, refused, user_refusal, root_refusal, draft_refusal}
-use Rattle.sthread_life.specs.Requests.{Access, Request, Loads, Stores, Reads, Appends, Closes, Creates, Deletes, Allots, Frees, create_of, in_tag, in_window, bytes_in_range, bytes_at, in_stream, is_room, read_of, append_of, close_of, free_of, call_request, needed_request, instr_request, word_request, request_at}
-use Rattle.sthread_life.specs.Allowed.{may_use, lacks, is_refused, is_checked_at_event, denied as denied_of}
+use Rattle.sthread_life.specs.Refusals.{fuel_short, full, deep, no_such, bad, start_refusal, create_refusal, pages_refusal, address_refusal, life_refusal, slots_refusal, close_refusal, place_refusal, block_refusal, free_refusal, call_refusal, call_refusal_after, right_refusal, bits_refusal, number_refusal, read_refusal, append_refusal, need_refusal, instr_refusal, word_refusal, refusal_at, read_refusal_after, append_refusal_after, stream_close_refusal, need_refusal_after, instr_refusal_after, word_refusal_after, refusal_after, refused, user_refusal, root_refusal, draft_refusal, file_refusal, open_refusal}
+use Rattle.sthread_life.specs.Requests.{Access, Request, Loads, Stores, Reads, Appends, Closes, Creates, Deletes, Allots, Frees, create_of, in_tag, in_window, bytes_at, in_stream, is_room, read_of, append_of, close_of, free_of, call_request, needed_request, instr_request, word_request, request_at, Opens, bits_to_open, file_of, path_at, open_of}
+use Rattle.sthread_life.specs.Allowed.{may_use, lacks, is_refused, is_checked_at_event, denied as denied_of, fits_kind, opened_as}
 use Rattle.sthread_life.specs.Children.{is_child}
 use Rattle.sthread_life.specs.Ends.{end_of, copy_end, window_end, needed_end, instr_end, fuel_end, word_end, end_at}
 
@@ -118,19 +122,21 @@ WantsAs N a asked later x phase.Running = Unit {0}
 WantsAs N a asked later x (phase.Starting pre) = ⊥
 WantsAs N a asked later x (phase.Opening slot tag) = ⊥
 WantsAs N a asked later x (phase.Releasing slot) = ⊥
+WantsAs N a asked later x (phase.OpeningFile o) = (x ≡ record a { phase = phase.OpeningFile o }) × (o.number ≡ None) × (a1 a ≤ a.fuel)
 WantsAs N a asked later x (phase.Ending e) = Unit {0}
 WantsAs N a asked later x (phase.Ended e) = Unit {0}
 
--- the event to which a request comes that is checked at once
-abbrev pub wanted_for : ActorState → Request → Want
-wanted_for a (Deletes tag) = want.Slot (slot_held a tag) (slot_want.Close tag)
-wanted_for a (Allots tag size) = want.Slot (slot_held a tag) (slot_want.Smalloc tag size)
-wanted_for a r = want.Lives lives_ask.Claim
+-- what a request that is checked at once comes to
+abbrev pub phase_for : ActorState → Request → Phase
+phase_for a (Deletes tag) = phase.Within (want.Slot (slot_held a tag) (slot_want.Close tag))
+phase_for a (Allots tag size) = phase.Within (want.Slot (slot_held a tag) (slot_want.Smalloc tag size))
+phase_for a (Opens path f b) = phase.OpeningFile (opened_as path f b)
+phase_for a r = phase.Within (want.Lives lives_ask.Claim)
 
 -- a request that is checked at once: the actor is denied, or comes to its event, or is refused
 pub record IsCheckedNow (a : ActorState) (r : Request) (x : ActorState) : Type 0 where
   pub denied : (d : Denial) → lacks a r ≡ Some d → x ≡ denied_of a r d
-  pub done : lacks a r ≡ None → is_refused a r ≡ false → x ≡ record a { phase = phase.Within (wanted_for a r) }
+  pub done : lacks a r ≡ None → is_refused a r ≡ false → x ≡ record a { phase = phase_for a r }
   pub refused : lacks a r ≡ None → is_refused a r ≡ true → (x.phase ≡ phase.Running) × (x.denials ≡ a.denials)
 
 -- what an instruction makes of its actor where it makes a request
@@ -185,6 +191,7 @@ wants_as N a asked told later x phase.Running same w = tt
 wants_as N a asked told later x (phase.Starting pre) same w = w
 wants_as N a asked told later x (phase.Opening slot tag) same w = w
 wants_as N a asked told later x (phase.Releasing slot) same w = w
+wants_as N a asked told later x (phase.OpeningFile o) same w = w
 wants_as N a asked told later x (phase.Ending e) same w = tt
 wants_as N a asked told later x (phase.Ended e) same w = tt
 
@@ -205,6 +212,7 @@ met_at_event a x q (Stores y value) is e = (q, is)
 met_at_event a x q (Reads fd s n) is e = (q, is)
 met_at_event a x q (Appends fd s bytes) is e = (q, is)
 met_at_event a x q (Closes fd s) is e = (q, is)
+met_at_event a x q (Opens path f b) is e = absurd cc
 met_at_event a x q (Creates d) is e = absurd cc
 met_at_event a x q (Deletes tag) is e = absurd cc
 met_at_event a x q (Allots tag size) is e = absurd cc
@@ -568,6 +576,7 @@ met_now (Stores y value) now h = absurd cc
 met_now (Reads fd s n) now h = absurd cc
 met_now (Appends fd s bytes) now h = absurd cc
 met_now (Closes fd s) now h = absurd cc
+met_now (Opens path f b) now h = h
 met_now (Creates d) now h = h
 met_now (Deletes tag) now h = h
 met_now (Allots tag size) now h = h
@@ -588,14 +597,14 @@ denied_now N a r d later now lack is = record {
   codes = λ n h. absurd cc;
 }
 
-comes_now : (N : ℕ → Bool → ℕ → Type 0) (a : ActorState) (r : Request) (q : Want) (later : Cells → Option ℕ) → is_checked_at_event r ≡ false → lacks a r ≡ None → is_refused a r ≡ false → wanted_for a r ≡ q
+comes_now : (N : ℕ → Bool → ℕ → Type 0) (a : ActorState) (r : Request) (q : Want) (later : Cells → Option ℕ) → is_checked_at_event r ≡ false → lacks a r ≡ None → is_refused a r ≡ false → phase_for a r ≡ phase.Within q
     → IsWanted (N 0 false) a q → ((c : Cells) → Some r ≡ request_for c a 0 false q) → ((c : Cells) → later c ≡ refusal_for c a q) → Comes N a (λ c. Some r) later None None (wants a q)
 comes_now N a r q later now lack goes is own asked coded = record {
   name = refl;
   quiet = λ c h. absurd cc;
   met = λ c x h. subst (λ y. MetBy a y (wants a q)) (same_some r x h) (met_now r now (record {
     denied = λ y e. let g : None ≡ Some y = sym lack ∙ e in absurd cc;
-    done = λ e f. ap (λ z. record a { phase = phase.Within z }) (sym is);
+    done = λ e f. ap (λ z. record a { phase = z }) (sym is);
     refused = λ e f. absurd (true≢false (sym f ∙ goes));
   }));
   ends = refl;
@@ -629,6 +638,68 @@ free_comes N a (Some p) =
     comes_wanting N a (want.Slot p.slot (slot_want.Sfree p.offset)) (λ c. block_refusal a p.offset (slot_in c p.slot)) tt (λ c. refl)
     (λ c r h. met_at_event a _ (want.Slot p.slot (slot_want.Sfree p.offset)) r refl (freed_event p (slot_in c p.slot) r h))
 
+-- ---- the call that opens a file: it is checked at once
+
+kinds_suit : (k : StreamKind) (b : FdBits) → fits_kind k b ≡ suits k b
+kinds_suit kind.Source b = refl
+kinds_suit kind.Append b = refl
+
+file_tests : (N : ℕ → Bool → ℕ → Type 0) (a : ActorState) (path : List ℕ) (f : FileEntry) (b : FdBits) (t u : Bool) → a1 a ≤ a.fuel → may_open a.sheet.user f b ≡ t → fits_kind f.kind b ≡ u
+    → Comes N a (λ c. Some (Opens path f b)) (λ c. None) None (if t && not u then Some bad else None)
+    (if not t then denies a (denial.File path) else if not u then refuses a code.Bad else record a { phase = phase.OpeningFile (opened_as path f b) })
+file_tests N a path f b false u paid may fits = denied_now N a (Opens path f b) (denial.File path) _ refl (ap (λ v. if v then None else Some (denial.File path)) may) refl
+file_tests N a path f b true false paid may fits =
+    let none : lacks a (Opens path f b) ≡ None = ap (λ v. if v then None else Some (denial.File path)) may in
+    let is : is_refused a (Opens path f b) ≡ true = ap not fits in
+    record {
+      name = refl;
+      quiet = λ c h. absurd cc;
+      met = λ c r h. subst (λ y. MetBy a y (refuses a code.Bad)) (same_some (Opens path f b) r h)
+          (record { denied = λ y e. let g : None ≡ Some y = sym none ∙ e in absurd cc; done = λ e g. absurd (true≢false (sym is ∙ g)); refused = λ e g. (refl, refl) });
+      ends = refl;
+      wants = tt;
+      codes = refused_as a code.Bad;
+    }
+file_tests N a path f b true true paid may fits =
+    let none : lacks a (Opens path f b) ≡ None = ap (λ v. if v then None else Some (denial.File path)) may in
+    let is : is_refused a (Opens path f b) ≡ false = ap not fits in
+    record {
+      name = refl;
+      quiet = λ c h. absurd cc;
+      met = λ c r h. subst (λ y. MetBy a y (record a { phase = phase.OpeningFile (opened_as path f b) })) (same_some (Opens path f b) r h)
+          (record { denied = λ y e. let g : None ≡ Some y = sym none ∙ e in absurd cc; done = λ e g. refl; refused = λ e g. absurd (true≢false (sym g ∙ is)) });
+      ends = refl;
+      wants = (refl, refl, paid);
+      codes = λ n h. absurd cc;
+    }
+
+file_comes : (N : ℕ → Bool → ℕ → Type 0) (a : ActorState) (path : List ℕ) (b : FdBits) (o : Option FileEntry) → a1 a ≤ a.fuel
+    → Comes N a (λ c. option_map (λ f. Opens path f b) o) (λ c. None) None (file_refusal a b o) (open_file a path b o)
+file_comes N a path b None paid = comes_refused N a _ _ code.NoSuch (λ c. refl)
+file_comes N a path b (Some f) paid =
+    subst (λ v. Comes N a (λ c. Some (Opens path f b)) (λ c. None) None (file_refusal a b (Some f)) (if not (may_open a.sheet.user f b) then denies a (denial.File path) else if not v then refuses a code.Bad else record a { phase = phase.OpeningFile (opened_as path f b) }))
+    (kinds_suit f.kind b) (file_tests N a path f b _ _ paid refl refl)
+
+fuel_comes : (N : ℕ → Bool → ℕ → Type 0) (i : Image) (a : ActorState) (path : List ℕ) (b : FdBits) (t : Bool) → nat_lt a.fuel (a1 a) ≡ t → nat_le (a1 a) a.fuel ≡ not t
+    → Comes N a (λ c. open_of i a (a1 a) (Some b) (Some path)) (λ c. None) None (open_refusal i a (a1 a) (Some b) (Some path)) (if t then refuses a code.FuelShort else open_file a path b (file_at i path))
+fuel_comes N i a path b true short e =
+    comes_as N a _ _ _ None _ _ (refuses a code.FuelShort) (λ c. ap (λ v. if v then option_map (λ f. Opens path f b) (file_of i path) else None) e) (ap (λ v. if v then file_refusal a b (file_of i path) else Some fuel_short) e)
+    (comes_refused N a (λ c. None) _ code.FuelShort (λ c. refl))
+fuel_comes N i a path b false short e =
+    comes_as N a _ _ _ None _ _ (open_file a path b (file_at i path)) (λ c. ap (λ v. if v then option_map (λ f. Opens path f b) (file_of i path) else None) e) (ap (λ v. if v then file_refusal a b (file_of i path) else Some fuel_short) e)
+    (file_comes N a path b (file_at i path) (enough a.fuel (a1 a) short))
+
+path_opens : (N : ℕ → Bool → ℕ → Type 0) (i : Image) (a : ActorState) (b : Option FdBits) (path : Option (List ℕ)) → Comes N a (λ c. open_of i a (a1 a) b path) (λ c. None) None (open_refusal i a (a1 a) b path) (open_path i a b path)
+path_opens N i a None path = comes_refused N a _ _ code.Bad (λ c. refl)
+path_opens N i a (Some b) None = comes_refused N a _ _ code.Bad (λ c. refl)
+path_opens N i a (Some b) (Some path) = fuel_comes N i a path b _ refl (not_below a.fuel (a1 a))
+
+open_comes : (N : ℕ → Bool → ℕ → Type 0) (i : Image) (a : ActorState)
+    → Comes N a (λ c. open_of i a (a1 a) (bits_to_open (a2 a)) (path_at i a (a0 a) (a1 a))) (λ c. None) None (open_refusal i a (a1 a) (bits_to_open (a2 a)) (path_at i a (a0 a) (a1 a))) (file_open i a)
+open_comes N i a =
+    subst (λ path. Comes N a (λ c. open_of i a (a1 a) (bits_to_open (a2 a)) path) (λ c. None) None (open_refusal i a (a1 a) (bits_to_open (a2 a)) path) (file_open i a)) (sym (path_is i a (a0 a) (a1 a)))
+    (path_opens N i a (mode_asked (a2 a)) (path_in i a (a0 a) (a1 a)))
+
 -- ---- a call by its number
 
 abbrev CallComes : (ℕ → Bool → ℕ → Type 0) → Image → ActorState → ℕ → Type 0
@@ -641,9 +712,13 @@ call_comes N i a n = by_0 (n == 0) refl
     at : (k : ℕ) → (n == k) ≡ true → CallComes N i a k → CallComes N i a n
     at k e h = subst (CallComes N i a) (sym (eqb-true n k e)) h
 
+    by_18 : (t : Bool) → (n == 18) ≡ t → (n == 0) ≡ false → (n == 1) ≡ false → (n == 2) ≡ false → (n == 3) ≡ false → (n == 4) ≡ false → (n == 5) ≡ false → (n == 6) ≡ false → (n == 15) ≡ false → (n == 16) ≡ false → (n == 17) ≡ false → CallComes N i a n
+    by_18 true e e0 e1 e2 e3 e4 e5 e6 e15 e16 e17 = at 18 e (open_comes N i a)
+    by_18 false e e0 e1 e2 e3 e4 e5 e6 e15 e16 e17 = rw (e0, e1, e2, e3, e4, e5, e6, e15, e16, e17, e) (draft_comes N i a n)
+
     by_17 : (t : Bool) → (n == 17) ≡ t → (n == 0) ≡ false → (n == 1) ≡ false → (n == 2) ≡ false → (n == 3) ≡ false → (n == 4) ≡ false → (n == 5) ≡ false → (n == 6) ≡ false → (n == 15) ≡ false → (n == 16) ≡ false → CallComes N i a n
     by_17 true e e0 e1 e2 e3 e4 e5 e6 e15 e16 = at 17 e (close_comes N a)
-    by_17 false e e0 e1 e2 e3 e4 e5 e6 e15 e16 = rw (e0, e1, e2, e3, e4, e5, e6, e15, e16, e) (draft_comes N i a n)
+    by_17 false e e0 e1 e2 e3 e4 e5 e6 e15 e16 = by_18 (n == 18) refl e0 e1 e2 e3 e4 e5 e6 e15 e16 e
 
     by_16 : (t : Bool) → (n == 16) ≡ t → (n == 0) ≡ false → (n == 1) ≡ false → (n == 2) ≡ false → (n == 3) ≡ false → (n == 4) ≡ false → (n == 5) ≡ false → (n == 6) ≡ false → (n == 15) ≡ false → CallComes N i a n
     by_16 true e e0 e1 e2 e3 e4 e5 e6 e15 = at 16 e (append_comes N i a)
@@ -741,6 +816,14 @@ step_comes i a n run has = fetched_comes i a n (fetch i a.hart.pc) run has
 abbrev pub slots_in : Image → ℕ
 slots_in i = length i.tags + (most_slots - length i.tags)
 
+-- how many descriptors a run of an image has: 1,024, or as many as it declares; and a number of one of them
+abbrev pub fds_in : Image → ℕ
+fds_in i = length i.fds + (most_fds - length i.fds)
+
+abbrev pub NumberIn : Image → Option ℕ → Type 0
+NumberIn i None = Unit {0}
+NumberIn i (Some fd) = fd < fds_in i
+
 -- what an actor is in by its phase: within an instruction it wants what that comes to, and one that is about to start a
 -- child may do so
 abbrev pub ReadsAs : Image → ActorState → Phase → Type 0
@@ -749,6 +832,7 @@ ReadsAs i a phase.Running = Unit {0}
 ReadsAs i a (phase.Starting pre) = IsStartable a
 ReadsAs i a (phase.Opening slot tag) = (slot < slots_in i) × AsksForPages a
 ReadsAs i a (phase.Releasing slot) = Unit {0}
+ReadsAs i a (phase.OpeningFile o) = (a1 a ≤ a.fuel) × NumberIn i o.number
 ReadsAs i a (phase.Ending e) = Unit {0}
 ReadsAs i a (phase.Ended e) = Unit {0}
 
@@ -789,6 +873,7 @@ reads_of i p x phase.Running w = tt
 reads_of i p x (phase.Starting pre) w = absurd w
 reads_of i p x (phase.Opening slot tag) w = absurd w
 reads_of i p x (phase.Releasing slot) w = absurd w
+reads_of i p x (phase.OpeningFile o) w = subst (λ y. ReadsAs i y (phase.OpeningFile o)) (sym w.0) (w.2, subst (NumberIn i) (sym w.1) tt)
 reads_of i p x (phase.Ending e) w = tt
 reads_of i p x (phase.Ended e) w = tt
 

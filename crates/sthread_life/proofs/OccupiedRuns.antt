@@ -9,7 +9,7 @@ use Rattle.wedge_base.specs.Blocks.{rounded, first_fit}
 use Rattle.wedge_base.specs.Bytes.{number_of}
 use Rattle.wedge_base.specs.Directories.{Directory, Claim, claim, claim_reply, claim_next, is_among, is_claimed, release}
 use Rattle.wedge_base.specs.Images.{Image, most_pages}
-use Rattle.wedge_base.specs.Maps.{at}
+use Rattle.wedge_base.specs.Maps.{Map, at}
 use Rattle.wedge_base.specs.Names.{same, root_name}
 use Rattle.wedge_base.specs.Sheets.{Sheet, Made, slot_on, with_grant, root_tags, made_tag}
 use Rattle.wedge_base.specs.Slots.{Segment, place_reply, slot_reply as slot_reply_of, declared_segment}
@@ -40,20 +40,20 @@ use Rattle.sthread_life.specs.Calls.{a0, are_pages}
 use Rattle.sthread_life.specs.CellHistories.{Occupant, occupant, occupant_in, occupant_by, occupant_after_event, places_after_event}
 use Rattle.sthread_life.specs.Cells.{Cells, opening_cells, slot_in, tag_in, cells_after}
 use Rattle.sthread_life.specs.Children.{child_name}
-use Rattle.sthread_life.specs.Families.{IsChild, made_by}
+use Rattle.sthread_life.specs.Families.{IsChild, made_under, made_by}
 use Rattle.sthread_life.specs.Laws.{SlotsAreOccupied}
 use Rattle.sthread_life.specs.Local.{rest}
 use Rattle.sthread_life.specs.Moments.{EachStep}
 use Rattle.sthread_life.specs.Occupancy.{slot_of_call, tag_of_call, slot_known, AreOccupied, AskSuits, SlotsSuit}
 use Rattle.sthread_life.specs.Taking.{next_start, takes, begun, child_of}
 use Rattle.sthread_life.specs.Worlds.{WorldState, opening, actor_named, turn_of, Runs}
-use Rattle.sthread_life.proofs.Between.{IsPreparing, MayPrepare, Leaves, event_for, takes_name, takes_between, turn_parts}
+use Rattle.sthread_life.proofs.Between.{IsPreparing, MayPrepare, MayNumber, Leaves, event_for, takes_name, takes_between, turn_parts}
 use Rattle.sthread_life.proofs.Bounding.{equal_keys, with_same, with_other}
 use Rattle.sthread_life.proofs.CellChanging.{IsChanged, event_changes}
 use Rattle.sthread_life.proofs.Directing.{claimed_rises}
 use Rattle.sthread_life.proofs.Families.{takes_made, takes_sheet, made_same, want_made, child_begins}
 use Rattle.sthread_life.proofs.FamilyRuns.{Acts, ActsAlone, Starts, Joins, acts, one_begins, kept_at_rest}
-use Rattle.sthread_life.proofs.Happening.{Happens, snap_cases, Requested, Joined, Snaps, Started, Opens, Releases, LastJoined, Ended}
+use Rattle.sthread_life.proofs.Happening.{Happens, snap_cases, Requested, Joined, Snaps, Started, Opens, Releases, Numbers, OpensFile, LastJoined, Ended}
 use Rattle.sthread_life.proofs.Meeting.{IsRequest}
 use Rattle.sthread_life.proofs.Named.{found_name}
 use Rattle.sthread_life.proofs.Occupying.{Turns, IsPlain, occupied_after, stays_so, claims_so, opens_so, closes_so, releases_so}
@@ -123,6 +123,7 @@ between_calls (phase.Within q) h = absurd h
 between_calls (phase.Starting pre) h = absurd h
 between_calls (phase.Opening slot tag) h = absurd h
 between_calls (phase.Releasing slot) h = absurd h
+between_calls (phase.OpeningFile o) h = absurd h
 between_calls (phase.Ending e) h = (refl, refl)
 between_calls (phase.Ended e) h = (refl, refl)
 
@@ -136,8 +137,19 @@ prepared_calls (phase.Within q) h = absurd h
 prepared_calls (phase.Starting pre) h = (refl, refl)
 prepared_calls (phase.Opening slot tag) h = absurd h
 prepared_calls (phase.Releasing slot) h = absurd h
+prepared_calls (phase.OpeningFile o) h = absurd h
 prepared_calls (phase.Ending e) h = (refl, refl)
 prepared_calls (phase.Ended e) h = (refl, refl)
+
+numbered_calls : (fd : ℕ) (p : Phase) → MayNumber fd p → (slot_of_call p ≡ None) × (tag_of_call p ≡ None)
+numbered_calls fd phase.Running h = (refl, refl)
+numbered_calls fd (phase.OpeningFile o) h = (refl, refl)
+numbered_calls fd (phase.Within q) h = absurd h
+numbered_calls fd (phase.Starting pre) h = absurd h
+numbered_calls fd (phase.Opening slot tag) h = absurd h
+numbered_calls fd (phase.Releasing slot) h = absurd h
+numbered_calls fd (phase.Ending x) h = absurd h
+numbered_calls fd (phase.Ended x) h = absurd h
 
 quiet_calls : (e : Event) (p : Phase) → IsQuiet e → Leaves e p → (slot_of_call p ≡ None) × (tag_of_call p ≡ None)
 quiet_calls (event.Lives lives_ask.Claim lives_reply.Claimed) p k h = preparing_calls p h
@@ -147,6 +159,10 @@ quiet_calls (event.Lives lives_ask.Claim lives_reply.Full) p k h = between_calls
 quiet_calls (event.Lives lives_ask.Claim lives_reply.Released) p k h = between_calls p h
 quiet_calls (event.Lives (lives_ask.Release x) r) p k h = between_calls p h
 quiet_calls (event.Slots q r) p k h = absurd k
+quiet_calls (event.Fds directory_ask.Claim (directory_reply.Claimed fd number)) p k h = numbered_calls fd p h
+quiet_calls (event.Fds directory_ask.Claim directory_reply.Full) p k h = between_calls p h
+quiet_calls (event.Fds directory_ask.Claim directory_reply.Released) p k h = between_calls p h
+quiet_calls (event.Fds (directory_ask.Release place) r) p k h = between_calls p h
 quiet_calls (event.Slot slot q slot_reply.Closed) p k h = absurd k
 quiet_calls (event.Slot slot q r) p k h = between_calls p h
 quiet_calls e p k h = between_calls p h
@@ -195,11 +211,12 @@ snap_quiet g tag = snap_cases (λ r. IsQuietSlot r (slot_ask.Snap tag)) g tag (�
 -- ---- what an actor holds
 
 -- the slots in which an actor has its tags, where it made none more
-same_known : (i : Image) (a : ActorState) (e : Event) → made_by (rest i a).made (Some e) ≡ (rest i a).made → (tag : ℕ) → slot_known (takes i (rest i a) e) tag ≡ slot_known a tag
+same_known : (i : Image) (a : ActorState) (e : Event) → (made_by (rest i a) (Some e)).tags ≡ (rest i a).made.tags → (tag : ℕ) → slot_known (takes i (rest i a) e) tag ≡ slot_known a tag
 same_known i a e none tag =
     let b = rest i a in
     let k = kept_at_rest i a _ refl in
-    ap (λ (s : Sheet). slot_on s (takes i b e).made tag) (takes_sheet i b e ∙ k.sheet) ∙ ap (λ (m : Made). slot_on a.sheet m tag) (takes_made i b e ∙ (none ∙ k.made))
+    ap (λ (s : Sheet). slot_on s (takes i b e).made tag) (takes_sheet i b e ∙ k.sheet)
+    ∙ ap (λ (m : Map ℕ). option_or (at m tag) (option_map (λ g. g.slot) (at a.sheet.tags tag))) (ap (λ (m : Made). m.tags) (takes_made i b e) ∙ (none ∙ ap (λ (m : Made). m.tags) k.made))
 
 opened_made : (i : Image) (a : ActorState) (slot tag pages : ℕ) → (takes i (rest i a) (event.Slot slot (slot_ask.Open tag pages) slot_reply.Opened)).made ≡ made_tag a.made tag slot
 opened_made i a slot tag pages = takes_made i (rest i a) (event.Slot slot (slot_ask.Open tag pages) slot_reply.Opened) ∙ ap (λ (m : Made). made_tag m tag slot) (kept_at_rest i a _ refl).made
@@ -227,7 +244,7 @@ pub record Occupied (w : WorldState) : Type 0 where
   pub occupied : AreOccupied w.cells w.actors
   pub released : AreReleased w.cells.places.unused w.cells.places.released
 
-quiet_turn : (w : WorldState) (a : ActorState) (e : Event) → Occupied w → actor_named w.actors a.name ≡ Some a → IsQuiet e → made_by (rest w.image a).made (Some e) ≡ (rest w.image a).made → IsChanged w.cells e (cells_after w.cells e) → TurnsBy w a e
+quiet_turn : (w : WorldState) (a : ActorState) (e : Event) → Occupied w → actor_named w.actors a.name ≡ Some a → IsQuiet e → (made_by (rest w.image a) (Some e)).tags ≡ (rest w.image a).made.tags → IsChanged w.cells e (cells_after w.cells e) → TurnsBy w a e
 quiet_turn w a e occ there quiet none changed =
     let calls = quiet_calls e (takes w.image (rest w.image a) e).phase quiet (takes_between w.image (rest w.image a) e) in
     stays_so w.cells (cells_after w.cells e) w.actors a (takes w.image (rest w.image a) e) occ.occupied there (changed.places ∙ quiet_places w.cells.places e quiet)
@@ -295,9 +312,20 @@ release_turn w a slot occ there at_ =
 
 -- ---- any turn
 
+-- who opens a file makes no tag
+tags_under : (m : Made) (p : Phase) (fd : ℕ) → (made_under m p fd).tags ≡ m.tags
+tags_under m phase.Running fd = refl
+tags_under m (phase.Within q) fd = refl
+tags_under m (phase.Starting pre) fd = refl
+tags_under m (phase.Opening slot tag) fd = refl
+tags_under m (phase.Releasing slot) fd = refl
+tags_under m (phase.OpeningFile o) fd = refl
+tags_under m (phase.Ending x) fd = refl
+tags_under m (phase.Ended x) fd = refl
+
 -- no tag is made by a request
 want_turn : (w : WorldState) (a : ActorState) (N : ℕ → Type 0) (q : Want) → Occupied w → actor_named w.actors a.name ≡ Some a → IsRequest N (rest w.image a) q
-    → made_by (rest w.image a).made (Some (event_for w.cells (rest w.image a) q)) ≡ (rest w.image a).made
+    → (made_by (rest w.image a) (Some (event_for w.cells (rest w.image a) q))).tags ≡ (rest w.image a).made.tags
     → IsChanged w.cells (event_for w.cells (rest w.image a) q) (cells_after w.cells (event_for w.cells (rest w.image a) q)) → TurnsBy w a (event_for w.cells (rest w.image a) q)
 want_turn w a N (want.Slots directory_ask.Claim) occ there own none changed = claim_turn w a (claim w.cells.places) occ there refl
 want_turn w a N (want.Slot slot (slot_want.Close tag)) occ there own none changed = close_turn w a slot tag (slot_in w.cells slot) occ there refl changed
@@ -312,13 +340,13 @@ want_turn w a N q occ there own none changed = absurd own
 by_happening : (w : WorldState) (a : ActorState) (e : Event) → AllReady w → Occupied w → actor_named w.actors a.name ≡ Some a → Happens w (rest w.image a) e → TurnsBy w a e
 by_happening w a e all occ there (Requested r) =
     let h = Requested r in
-    subst (TurnsBy w a) (sym r.is) (want_turn w a _ r.want occ there r.own (want_made _ w.cells (rest w.image a) r.want r.own) (subst (λ y. IsChanged w.cells y (cells_after w.cells y)) r.is (event_changes w (rest w.image a) e all.cells h)))
+    subst (TurnsBy w a) (sym r.is) (want_turn w a _ r.want occ there r.own (ap (λ (m : Made). m.tags) (want_made _ w.cells (rest w.image a) r.want r.own r.at)) (subst (λ y. IsChanged w.cells y (cells_after w.cells y)) r.is (event_changes w (rest w.image a) e all.cells h)))
 by_happening w a e all occ there (Joined j) =
     let changed = subst (λ y. IsChanged w.cells y (cells_after w.cells y)) j.join.is (event_changes w (rest w.image a) e all.cells (Joined j)) in
     subst (TurnsBy w a) (sym j.join.is) (quiet_turn w a _ occ there tt refl changed)
 by_happening w a e all occ there (Snaps s) =
     let changed = subst (λ y. IsChanged w.cells y (cells_after w.cells y)) s.is (event_changes w (rest w.image a) e all.cells (Snaps s)) in
-    subst (TurnsBy w a) (sym s.is) (quiet_turn w a _ occ there (snap_quiet (slot_in w.cells s.grant.slot) s.grant.tag) (made_same (rest w.image a).made s.grant.slot _ _ tt) changed)
+    subst (TurnsBy w a) (sym s.is) (quiet_turn w a _ occ there (snap_quiet (slot_in w.cells s.grant.slot) s.grant.tag) (ap (λ (m : Made). m.tags) (made_same (rest w.image a).made s.grant.slot _ _ tt)) changed)
 by_happening w a e all occ there (Started s) =
     let changed = subst (λ y. IsChanged w.cells y (cells_after w.cells y)) s.is (event_changes w (rest w.image a) e all.cells (Started s)) in
     subst (TurnsBy w a) (sym s.is) (quiet_turn w a _ occ there tt refl changed)
@@ -327,6 +355,12 @@ by_happening w a e all occ there (Opens o) =
     subst (TurnsBy w a) (sym o.is) (open_turn w a o.slot o.tag (a0 (rest w.image a)) occ there (rest-uncalm w.image a (phase.Opening o.slot o.tag) (λ h. h) o.at) changed)
 by_happening w a e all occ there (Releases r) =
     subst (TurnsBy w a) (sym r.is) (release_turn w a r.slot occ there (rest-uncalm w.image a (phase.Releasing r.slot) (λ h. h) r.at))
+by_happening w a e all occ there (Numbers n) =
+    let changed = subst (λ y. IsChanged w.cells y (cells_after w.cells y)) n.is (event_changes w (rest w.image a) e all.cells (Numbers n)) in
+    subst (TurnsBy w a) (sym n.is) (quiet_turn w a _ occ there tt refl changed)
+by_happening w a e all occ there (OpensFile f) =
+    let changed = subst (λ y. IsChanged w.cells y (cells_after w.cells y)) f.is (event_changes w (rest w.image a) e all.cells (OpensFile f)) in
+    subst (TurnsBy w a) (sym f.is) (quiet_turn w a _ occ there tt (tags_under (rest w.image a).made (rest w.image a).phase f.fd) changed)
 by_happening w a e all occ there (LastJoined j) =
     let changed = subst (λ y. IsChanged w.cells y (cells_after w.cells y)) j.join.is (event_changes w (rest w.image a) e all.cells (LastJoined j)) in
     subst (TurnsBy w a) (sym j.join.is) (quiet_turn w a _ occ there tt refl changed)
@@ -351,7 +385,7 @@ begins_plain w a e (Starts s) k is =
     let both : Some child ≡ Some k = sym (ap (begun w.image b) s.is) ∙ is in
     let same_child : child ≡ k = cc in
     let begins = child_begins w.image b s.preparation s.at s.complete s.ready in
-    let known : (tag : ℕ) → slot_known (takes w.image b e) tag ≡ slot_known b tag = λ tag. ap (λ (s : Sheet). slot_on s (takes w.image b e).made tag) (takes_sheet w.image b e) ∙ ap (λ (m : Made). slot_on b.sheet m tag) (takes_made w.image b e ∙ ap (λ y. made_by b.made (Some y)) s.is) in
+    let known : (tag : ℕ) → slot_known (takes w.image b e) tag ≡ slot_known b tag = λ tag. ap (λ (s : Sheet). slot_on s (takes w.image b e).made tag) (takes_sheet w.image b e) ∙ ap (λ (m : Made). slot_on b.sheet m tag) (takes_made w.image b e ∙ ap (λ y. made_by b (Some y)) s.is) in
     subst (IsPlain (takes w.image b e)) same_child (record { calls = refl; opens = refl; holds = λ tag slot f. known tag ∙ child_plain w.image b child begins tag slot f })
 
 cells_released : (c : Cells) (e : Event) → AreReleased c.places.unused c.places.released → AreReleased (cells_after c e).places.unused (cells_after c e).places.released
@@ -423,6 +457,8 @@ suits w a e all occ there (Opens o) =
 suits w a e all occ there (Releases r) =
     let at_ = rest-uncalm w.image a (phase.Releasing r.slot) (λ h. h) r.at in
     subst (AskSuits w.cells) (sym r.is) (occ.occupied.called a.name a r.slot there (ap slot_of_call at_))
+suits w a e all occ there (Numbers n) = subst (AskSuits w.cells) (sym n.is) tt
+suits w a e all occ there (OpensFile f) = subst (AskSuits w.cells) (sym f.is) tt
 suits w a e all occ there (LastJoined j) = subst (AskSuits w.cells) (sym j.join.is) tt
 suits w a e all occ there (Ended f) = subst (AskSuits w.cells) (sym f.is) tt
 

@@ -1,6 +1,6 @@
 -- What each moment costs is paid.
-use Rattle.std.proofs.Common.{◌≡◌, ℕ, zero, suc, ◌+◌, ◌-◌, ◌≤◌, List, refl, sym, subst, arith}
-use Rattle.std.specs.Prelude.{Option, Some, None, option_and_then, length, take, drop}
+use Rattle.std.proofs.Common.{◌≡◌, ℕ, zero, suc, ◌+◌, ◌-◌, ◌≤◌, List, refl, sym, subst, arith, ap}
+use Rattle.std.specs.Prelude.{Option, Some, None, option_and_then, drop}
 use Rattle.std.proofs.lemmas.List.{length-take}
 use Rattle.wedge_base.specs.Streams.{Stream, stream_reply as stream_reply_of}
 use Rattle.wedge_base.specs.Images.{Image, fetch}
@@ -27,7 +27,11 @@ use Rattle.wedge_base.specs.declared.cells.StreamAsk.{StreamAsk}
 use Rattle.wedge_base.specs.declared.cells.StreamAsk.TheVariants as stream_ask
 use Rattle.rv_isa.specs.Table.{decode}
 use Rattle.sthread_life.specs.Actors.{ActorState, spends}
-use Rattle.sthread_life.specs.Calls.{a2, a3}
+use Rattle.sthread_life.specs.Opening.{FileOpening}
+use Rattle.wedge_base.specs.declared.rights.StreamKind.{StreamKind}
+use Rattle.wedge_base.specs.declared.cells.StreamReply.TheVariants as stream_reply
+use Rattle.sthread_life.specs.declared.phase.Phase.TheVariants as phase
+use Rattle.sthread_life.specs.Calls.{a1, a2, a3}
 use Rattle.sthread_life.specs.Children.{without_child}
 use Rattle.sthread_life.specs.Cells.{Cells, stream_in}
 use Rattle.sthread_life.specs.Local.{executed, fuelled, fetched, step}
@@ -36,8 +40,8 @@ use Rattle.sthread_life.specs.Worlds.{WorldState}
 use Rattle.sthread_life.specs.Paying.{instr_cost, cost_of_word, cost_at, cost_by, given_by, brought_by}
 use Rattle.sthread_life.proofs.Resting.{goes_executed}
 use Rattle.cow_pages.specs.Listed.{bytes_listed}
-use Rattle.sthread_life.proofs.Between.{event_for, loads_fuel, joined_is, snapped_is}
-use Rattle.sthread_life.proofs.Happening.{Happens, Requested, Joined, Snaps, Started, Opens, Releases, LastJoined, Ended}
+use Rattle.sthread_life.proofs.Between.{event_for, loads_fuel, number_fuel, opened_at, joined_is, snapped_is}
+use Rattle.sthread_life.proofs.Happening.{Happens, Requested, Joined, Snaps, Started, Opens, Releases, Numbers, OpensFile, LastJoined, Ended}
 use Rattle.sthread_life.proofs.Meeting.{IsRequest}
 use Rattle.sthread_life.proofs.StreamCalls.{IsStreamRequest, read_cases, append_cases, close_cases}
 
@@ -132,6 +136,15 @@ join_pays i b k x fuel =
     joined_is (λ y. y.fuel ≡ b.fuel + fuel) (record b { fuel = b.fuel + fuel; unjoined = without_child b.unjoined k }) b.phase x refl refl in
     omega (arith, is)
 
+number_pays : (i : Image) (b : ActorState) (q : DirectoryAsk) (r : DirectoryReply) → EventPays i b (event.Fds q r)
+number_pays i b q r = let same = number_fuel i b q r in omega (arith, same)
+
+file_pays : (i : Image) (b : ActorState) (o : FileOpening) (fd : ℕ) (k : StreamKind) (bytes : List ℕ) → b.phase ≡ phase.OpeningFile o → a1 b ≤ b.fuel
+    → EventPays i b (event.Fd fd (stream_ask.Open k bytes) stream_reply.Opened)
+file_pays i b o fd k bytes at_ paid =
+    let same : (takes i b (event.Fd fd (stream_ask.Open k bytes) stream_reply.Opened)).fuel ≡ b.fuel - a1 b = ap (λ (x : ActorState). x.fuel) (opened_at i b o fd (stream_ask.Open k bytes) at_) in
+    omega (arith, same, paid)
+
 pub event_pays : (w : WorldState) (b : ActorState) (e : Event) → Happens w b e → EventPays w.image b e
 event_pays w b e (Requested r) = subst (EventPays w.image b) (sym r.is) (want_pays w.image w.cells b _ r.want r.own)
 event_pays w b e (Joined j) = subst (EventPays w.image b) (sym j.join.is) (join_pays w.image b j.number j.join.how j.join.child.fuel)
@@ -139,5 +152,7 @@ event_pays w b e (Snaps s) = subst (EventPays w.image b) (sym s.is) (slot_pays w
 event_pays w b e (Started s) = subst (EventPays w.image b) (sym s.is) (start_pays w.image b _ s.ready.enough)
 event_pays w b e (Opens o) = subst (EventPays w.image b) (sym o.is) (slot_pays w.image b o.slot _ _)
 event_pays w b e (Releases r) = subst (EventPays w.image b) (sym r.is) (place_pays w.image b _ _)
+event_pays w b e (Numbers n) = subst (EventPays w.image b) (sym n.is) (number_pays w.image b _ _)
+event_pays w b e (OpensFile f) = subst (EventPays w.image b) (sym f.is) (file_pays w.image b f.opening f.fd f.opening.kind f.opening.bytes f.at f.paid)
 event_pays w b e (LastJoined j) = subst (EventPays w.image b) (sym j.join.is) (join_pays w.image b j.first.0 j.join.how j.join.child.fuel)
 event_pays w b e (Ended f) = subst (EventPays w.image b) (sym f.is) (lives_pay w.image b _ _)

@@ -1,15 +1,15 @@
 -- A child is prepared by the claim of a life and by the copies of tags: what its memory then has.
-use Rattle.std.proofs.Common.{◌≡◌, ◌≢◌, ◌⊎◌, inl, inr, ⊎_elim, ℕ, ◌+◌, Bool, true, false, List, [], ◌∷◌, ◌++◌, refl, sym, ap, subst, ◌∙◌}
-use Rattle.std.specs.Prelude.{Option, Some, None, ◌==◌, nat_lt, option_map, slice_get, unwrap_or, if◌then◌else◌}
-use Rattle.std.specs.List.{AllByRecursion, cons_option}
+use Rattle.std.proofs.Common.{◌≡◌, ◌≢◌, ◌⊎◌, inl, inr, ⊎_elim, ℕ, Bool, true, false, List, [], ◌∷◌, refl, sym, ap, subst, ◌∙◌}
+use Rattle.std.specs.Prelude.{Option, Some, None, ◌==◌, nat_lt, option_map, if◌then◌else◌}
+use Rattle.std.specs.List.{cons_option}
 use Rattle.std.specs.Option.{option_or}
 use Rattle.std.proofs.lemmas.Bool.{eqb-true, eq-eqb}
-use Rattle.cow_pages.specs.Copies.{Copies, is_slot, copy_at, with_copy}
+use Rattle.cow_pages.specs.Copies.{Copies, is_slot, copy_at}
 use Rattle.cow_pages.specs.Listed.{bytes_listed}
 use Rattle.cow_pages.specs.PrivateMemory.{PrivateMemory}
 use Rattle.wedge_base.specs.Images.{Image}
 use Rattle.wedge_base.specs.Maps.{Map}
-use Rattle.wedge_base.specs.Pages.{PageAt, pages_of}
+use Rattle.wedge_base.specs.Pages.{pages_of}
 use Rattle.wedge_base.specs.Sheets.{is_copy, granted}
 use Rattle.wedge_base.specs.declared.rights.Grant.{Grant}
 use Rattle.wedge_base.specs.Slots.{Segment, slot_reply as slot_reply_of}
@@ -31,16 +31,16 @@ use Rattle.sthread_life.specs.declared.phase.Phase.{Phase}
 use Rattle.sthread_life.specs.declared.phase.Phase.TheVariants as phase
 use Rattle.sthread_life.specs.Actors.{ActorState, pristine, right_of}
 use Rattle.sthread_life.specs.Calls.{a0}
-use Rattle.sthread_life.specs.Cells.{Cells, slot_in}
-use Rattle.sthread_life.specs.ChildCopies.{copy_asked, copies_in, own_at, IsOfTag, IsPrepared, Prepares, pages_living, snap_reply, NotPreparing, SnapsNext, PreparesBy}
+use Rattle.sthread_life.specs.Cells.{slot_in}
+use Rattle.sthread_life.specs.ChildCopies.{copy_asked, copies_in, own_at, IsPrepared, Prepares, pages_living, snap_reply, NotPreparing, SnapsNext, PreparesBy}
 use Rattle.sthread_life.specs.Copying.{Preparation, copy_grants, copied_from, is_copy_alone, prepared, behind_first}
 use Rattle.sthread_life.specs.Local.{step}
 use Rattle.sthread_life.specs.Moments.{with_actor}
 use Rattle.sthread_life.specs.Taking.{draft_at, copies_asked, has_snapped, takes}
 use Rattle.sthread_life.specs.Worlds.{WorldState}
-use Rattle.sthread_life.proofs.Between.{event_for, IsPreparing, takes_between}
+use Rattle.sthread_life.proofs.Between.{event_for, IsPreparing, numbered_is, takes_between}
 use Rattle.sthread_life.proofs.ByNumber.{same_number, number_itself, found_with}
-use Rattle.sthread_life.proofs.Happening.{Happens, AtSnap, Requested, Joined, Snaps, Started, Opens, Releases, LastJoined, Ended, no_preparing}
+use Rattle.sthread_life.proofs.Happening.{Happens, AtSnap, Requested, Joined, Snaps, Started, Opens, Releases, Numbers, OpensFile, LastJoined, Ended, no_preparing}
 use Rattle.sthread_life.proofs.Meeting.{IsRequest}
 use Rattle.sthread_life.proofs.Resting.{IsCalm, steps_step}
 
@@ -116,6 +116,7 @@ not_preparing (phase.Within q) h = tt
 not_preparing (phase.Starting pre) h = absurd (h tt)
 not_preparing (phase.Opening slot tag) h = tt
 not_preparing (phase.Releasing slot) h = tt
+not_preparing (phase.OpeningFile o) h = tt
 not_preparing (phase.Ending e) h = tt
 not_preparing (phase.Ended e) h = tt
 
@@ -125,6 +126,7 @@ calm_unprepared (phase.Within q) h = tt
 calm_unprepared (phase.Starting pre) h = absurd h
 calm_unprepared (phase.Opening slot tag) h = tt
 calm_unprepared (phase.Releasing slot) h = tt
+calm_unprepared (phase.OpeningFile o) h = tt
 calm_unprepared (phase.Ending e) h = tt
 calm_unprepared (phase.Ended e) h = tt
 
@@ -148,6 +150,7 @@ was_preparing i b (event.Slot slot q (slot_reply.Snapped pages)) k = inr (by_pha
     by_phase (phase.Starting pre) h = tt
     by_phase (phase.Opening s tag) h = absurd h
     by_phase (phase.Releasing s) h = absurd h
+    by_phase (phase.OpeningFile o) h = absurd h
     by_phase (phase.Ending x) h = absurd h
     by_phase (phase.Ended x) h = absurd h
 was_preparing i b (event.Slot slot q slot_reply.Gone) k = inr (by_phase b.phase k)
@@ -158,6 +161,7 @@ was_preparing i b (event.Slot slot q slot_reply.Gone) k = inr (by_phase b.phase 
     by_phase (phase.Starting pre) h = tt
     by_phase (phase.Opening s tag) h = absurd h
     by_phase (phase.Releasing s) h = absurd h
+    by_phase (phase.OpeningFile o) h = absurd h
     by_phase (phase.Ending x) h = absurd h
     by_phase (phase.Ended x) h = absurd h
 was_preparing i b (event.Slot slot q slot_reply.Closed) k = absurd k
@@ -165,6 +169,10 @@ was_preparing i b (event.Slots directory_ask.Claim (directory_reply.Claimed plac
 was_preparing i b (event.Slots directory_ask.Claim directory_reply.Full) k = absurd k
 was_preparing i b (event.Slots directory_ask.Claim directory_reply.Released) k = absurd k
 was_preparing i b (event.Slots (directory_ask.Release place) r) k = absurd k
+was_preparing i b (event.Fds directory_ask.Claim (directory_reply.Claimed fd number)) k = absurd (numbered_is (λ x. IsPreparing x.phase → ⊥) b b.phase fd (λ y. y) (λ o y. y) k)
+was_preparing i b (event.Fds directory_ask.Claim directory_reply.Full) k = absurd k
+was_preparing i b (event.Fds directory_ask.Claim directory_reply.Released) k = absurd k
+was_preparing i b (event.Fds (directory_ask.Release place) r) k = absurd k
 was_preparing i b (event.Slot slot q r) k = no_preparing (takes i b (event.Slot slot q r)).phase (takes_between i b (event.Slot slot q r)) k
 was_preparing i b e k = no_preparing (takes i b e).phase (takes_between i b e) k
 
@@ -252,6 +260,12 @@ event_prepares w b e (Opens o) =
 event_prepares w b e (Releases r) =
     subst (λ ph. PreparesBy (with_actor w b) b ph e (takes w.image b e)) (sym r.at)
     (subst (λ y. PreparesBy (with_actor w b) b (phase.Releasing r.slot) y (takes w.image b y)) (sym r.is) (unprepared w.image b _ (λ k. subst IsPreparing r.at k) (λ is. absurd cc)))
+event_prepares w b e (Numbers n) =
+    subst (λ ph. PreparesBy (with_actor w b) b ph e (takes w.image b e)) (sym n.at)
+    (subst (λ y. PreparesBy (with_actor w b) b (phase.OpeningFile n.opening) y (takes w.image b y)) (sym n.is) (unprepared w.image b _ (λ k. subst IsPreparing n.at k) (λ is. absurd cc)))
+event_prepares w b e (OpensFile f) =
+    subst (λ ph. PreparesBy (with_actor w b) b ph e (takes w.image b e)) (sym f.at)
+    (subst (λ y. PreparesBy (with_actor w b) b (phase.OpeningFile f.opening) y (takes w.image b y)) (sym f.is) (unprepared w.image b _ (λ k. subst IsPreparing f.at k) (λ is. absurd cc)))
 event_prepares w b e (LastJoined j) =
     subst (λ ph. PreparesBy (with_actor w b) b ph e (takes w.image b e)) (sym j.at)
     (subst (λ y. PreparesBy (with_actor w b) b (phase.Ending j.end_) y (takes w.image b y)) (sym j.join.is) (unprepared w.image b _ (λ k. subst IsPreparing j.at k) (λ is. absurd cc)))

@@ -6,6 +6,8 @@ use Rattle.std.specs.Prelude.{◌++◌, map, replicate, slice_set, Option, Some,
 use Rattle.wedge_base.specs.Names.{same, root_name}
 use Rattle.wedge_base.specs.Images.{Image, slots as most_slots}
 use Rattle.wedge_base.specs.Slots.{Segment, declared_slots, slot_after}
+use Rattle.wedge_base.specs.Streams.{Stream, stream_after, declared_stream, most_fds}
+use Rattle.wedge_base.specs.declared.image.FdEntry.{FdEntry}
 use Rattle.wedge_base.specs.declared.image.TagEntry.{TagEntry}
 use Rattle.wedge_base.specs.declared.events.Want.{Want}
 use Rattle.wedge_base.specs.declared.events.Want.TheVariants as want
@@ -20,15 +22,15 @@ use Rattle.sthread_life.specs.Local.{rest, has_ended, end_reached}
 use Rattle.sthread_life.specs.Children.{child_name}
 use Rattle.sthread_life.specs.Taking.{wanted, takes, child_of, begun}
 use Rattle.sthread_life.specs.Between.{GivesBelow}
-use Rattle.sthread_life.specs.Cells.{Cells, nothings, slot_in, cells_after}
+use Rattle.sthread_life.specs.Cells.{Cells, nothings, slot_in, stream_in, cells_after}
 use Rattle.sthread_life.specs.Worlds.{WorldState, opening, actor_named, put_actor, with_begun, join_event, event_at, happened, wanting, turn_with, turn_of, Runs, is_ended, is_whole, settled}
-use Rattle.sthread_life.specs.Outcomes.{with_actor, lines_of, streams_of, outcome_of}
-use Rattle.sthread_life.proofs.Resting.{rest-name, rest-ended, ended-stays}
+use Rattle.sthread_life.specs.Outcomes.{with_actor, lines_of, labels_of, streams_of, outcome_of}
+use Rattle.sthread_life.proofs.Resting.{rest-name, rest-ended, rest-labels, ended-stays}
 use Rattle.sthread_life.proofs.Between.{TurnParts, turn_parts}
 use Rattle.sthread_life.proofs.DraftsFit.{AreFew, rest_few, takes_few}
 use Rattle.sthread_life.proofs.Happening.{Happens, happens, takes_reads}
 use Rattle.sthread_life.proofs.Directing.{next_sound}
-use Rattle.sthread_life.proofs.Meeting.{slots_in, ReadsAs, rest_reads}
+use Rattle.sthread_life.proofs.Meeting.{slots_in, fds_in, ReadsAs, rest_reads}
 
 -- ---- actors by name, each at rest
 
@@ -98,6 +100,7 @@ join_at_rest i k (Some c) = by_end (has_ended c.phase) refl
     not_reached (phase.Starting pre) e = refl
     not_reached (phase.Opening slot tag) e = refl
     not_reached (phase.Releasing slot) e = refl
+    not_reached (phase.OpeningFile o) e = refl
     not_reached (phase.Ending x) e = refl
     not_reached (phase.Ended x) e = absurd cc
 
@@ -155,6 +158,7 @@ no_line i a (phase.Within q) ls e = refl
 no_line i a (phase.Starting pre) ls e = refl
 no_line i a (phase.Opening slot tag) ls e = refl
 no_line i a (phase.Releasing slot) ls e = refl
+no_line i a (phase.OpeningFile o) ls e = refl
 no_line i a (phase.Ending x) ls e = refl
 no_line i a (phase.Ended x) ls e = absurd cc
 
@@ -166,11 +170,17 @@ lines_at_rest : (i : Image) (actors : List ActorState) → lines_of i (map (rest
 lines_at_rest i [] = refl
 lines_at_rest i (a ∷ as_) = ap (with_actor i (rest i a) (rest i a).phase) (lines_at_rest i as_) ∙ line_at_rest i a (lines_of i as_) _ refl
 
+labels_at_rest : (i : Image) (actors : List ActorState) → labels_of (map (rest i) actors) ≡ labels_of actors
+labels_at_rest i [] = refl
+labels_at_rest i (a ∷ as_) = ap (λ ls. ls ++ labels_of (map (rest i) as_)) (rest-labels i a) ∙ ap (λ ls. a.labels ++ ls) (labels_at_rest i as_)
+
 pub outcome_alike : (v w : WorldState) → settled v ≡ settled w → outcome_of v ≡ outcome_of w
 outcome_alike v w alike = sym (at_rest v) ∙ ap (λ (x : WorldState). outcome_of x) alike ∙ at_rest w
   where
     at_rest : (x : WorldState) → outcome_of (settled x) ≡ outcome_of x
-    at_rest x = ap (λ ls. record { actors = ls; streams = streams_of x.image 0 x.cells.streams }) (lines_at_rest x.image x.actors)
+    at_rest x =
+        ap (λ ls. record { actors = ls; streams = streams_of x.image (labels_of (settled x).actors) 0 x.cells.streams }) (lines_at_rest x.image x.actors)
+        ∙ ap (λ labels. record { actors = lines_of x.image x.actors; streams = streams_of x.image labels 0 x.cells.streams }) (labels_at_rest x.image x.actors)
 
 -- ---- what every actor of a run is in as it rests
 
@@ -178,10 +188,12 @@ abbrev pub AllRead : Image → List ActorState → Type 0
 AllRead i [] = Unit {0}
 AllRead i (b ∷ bs) = ReadsAs i b b.phase × AllRead i bs
 
--- the slots are those of a run of the image, and the directory gives out such alone
+-- the slots and descriptors are those of a run of the image, and their directories give out such alone
 pub record AreCells (i : Image) (c : Cells) : Type 0 where
   pub places : GivesBelow (slots_in i) c.places
   pub slots : length c.slots ≡ slots_in i
+  pub numbers : GivesBelow (fds_in i) c.numbers
+  pub streams : length c.streams ≡ fds_in i
 
 -- no draft of an actor has more grants than a draft may have
 abbrev pub AllFew : List ActorState → Type 0
@@ -275,12 +287,14 @@ set_length (y ∷ ys) zero x = refl
 set_length (y ∷ ys) (suc n) x = ap suc (set_length ys n x)
 
 cells_kept : (i : Image) (c : Cells) (e : Event) → AreCells i c → AreCells i (cells_after c e)
-cells_kept i c (event.Slots q r) h = record { places = next_sound (slots_in i) c.places q h.places; slots = h.slots }
-cells_kept i c (event.Slot slot q r) h = record { places = h.places; slots = set_length c.slots slot (slot_after (slot_in c slot) q r) ∙ h.slots }
-cells_kept i c (event.Fds q r) h = record { places = h.places; slots = h.slots }
-cells_kept i c (event.Fd fd q r) h = record { places = h.places; slots = h.slots }
-cells_kept i c (event.Lives q r) h = record { places = h.places; slots = h.slots }
-cells_kept i c (event.Gate id q r) h = record { places = h.places; slots = h.slots }
+cells_kept i c (event.Slots q r) h = record { places = next_sound (slots_in i) c.places q h.places; slots = h.slots; numbers = h.numbers; streams = h.streams }
+cells_kept i c (event.Slot slot q r) h =
+    record { places = h.places; slots = set_length c.slots slot (slot_after (slot_in c slot) q r) ∙ h.slots; numbers = h.numbers; streams = h.streams }
+cells_kept i c (event.Fds q r) h = record { places = h.places; slots = h.slots; numbers = next_sound (fds_in i) c.numbers q h.numbers; streams = h.streams }
+cells_kept i c (event.Fd fd q r) h =
+    record { places = h.places; slots = h.slots; numbers = h.numbers; streams = set_length c.streams fd (stream_after (stream_in c fd) q r) ∙ h.streams }
+cells_kept i c (event.Lives q r) h = record { places = h.places; slots = h.slots; numbers = h.numbers; streams = h.streams }
+cells_kept i c (event.Gate id q r) h = record { places = h.places; slots = h.slots; numbers = h.numbers; streams = h.streams }
 cells_kept i c (event.Start child) h = h
 cells_kept i c (event.Join k end fuel) h = h
 cells_kept i c (event.Enter run) h = h
@@ -291,7 +305,7 @@ turn_ready w name e new all t =
     let p = turn_parts w name e new t in
     let b = rest w.image p.actor in
     let x = takes w.image b e in
-    let reads = takes_reads w b e all.cells.places (turn_happens w name e new all p) in
+    let reads = takes_reads w b e all.cells.places all.cells.numbers (turn_happens w name e new all p) in
     let put = put_reads w.image (settled w).actors (rest w.image x) all.actors (rest_reads w.image x reads) in
     let few = put_few (settled w).actors (rest w.image x) all.drafts (rest_few w.image x (takes_few w.image b e (actor_few w name p.actor all p.named))) in
     subst AllReady (sym p.new_is) (record {
@@ -302,25 +316,38 @@ turn_ready w name e new all t =
       cells = cells_kept w.image w.cells e all.cells;
     })
 
--- as a run begins, the slots are those that are declared, and then empty ones
+-- as a run begins, the slots and descriptors are those that are declared, and then empty ones
 declared_length : (n : ℕ) (ts : List TagEntry) → length (declared_slots n ts) ≡ length ts
 declared_length n [] = refl
 declared_length n (t ∷ ts) = ap suc (declared_length (n + 1) ts)
 
-replicate_length : (n : ℕ) → length (replicate {A = Option Segment} n None) ≡ n
-replicate_length zero = refl
-replicate_length (suc n) = ap suc (replicate_length n)
+streams_length : (fs : List FdEntry) → length (map {B = Option Stream} (λ f. Some (declared_stream f)) fs) ≡ length fs
+streams_length [] = refl
+streams_length (f ∷ fs) = ap suc (streams_length fs)
 
-nothings_length : (n : ℕ) → length (nothings {X = Segment} n) ≡ n
+replicate_length : (X : Type 0) (n : ℕ) → length (replicate {A = Option X} n None) ≡ n
+replicate_length X zero = refl
+replicate_length X (suc n) = ap suc (replicate_length X n)
+
+nothings_length : (X : Type 0) (n : ℕ) → length (nothings {X = X} n) ≡ n
 unfolding nothings
-nothings_length n = replicate_length n
+nothings_length X n = replicate_length X n
+
+-- one after the other
+filled_length : (X : Type 0) (xs : List (Option X)) (n m : ℕ) → length xs ≡ n → length (xs ++ nothings {X = X} m) ≡ n + m
+filled_length X xs n m is = length-append xs (nothings m) ∙ (ap (λ k. k + length (nothings {X = X} m)) is ∙ ap (λ k. n + k) (nothings_length X m))
 
 pub opening_ready : (i : Image) → AllReady (opening i)
 unfolding root
 opening_ready i = record {
   actors = (rest_reads i (root i) tt, tt);
   drafts = (rest_few i (root i) tt, tt);
-  cells = record { places = (enough most_slots (length i.tags), some (length i.tags) (most_slots - length i.tags), tt); slots = all };
+  cells = record {
+    places = (enough most_slots (length i.tags), some (length i.tags) (most_slots - length i.tags), tt);
+    slots = filled_length Segment (declared_slots 0 i.tags) (length i.tags) (most_slots - length i.tags) (declared_length 0 i.tags);
+    numbers = (enough most_fds (length i.fds), some (length i.fds) (most_fds - length i.fds), tt);
+    streams = filled_length Stream (map (λ f. Some (declared_stream f)) i.fds) (length i.fds) (most_fds - length i.fds) (streams_length i.fds);
+  };
 }
   where
     enough : (m n : ℕ) → m ≤ n + (m - n)
@@ -328,12 +355,6 @@ opening_ready i = record {
 
     some : (m n : ℕ) → m ≤ m + n
     some m n = omega arith
-
-    all : length (declared_slots 0 i.tags ++ nothings (most_slots - length i.tags)) ≡ slots_in i
-    all =
-        length-append (declared_slots 0 i.tags) (nothings (most_slots - length i.tags))
-        ∙ (ap (λ n. n + length (nothings {X = Segment} (most_slots - length i.tags))) (declared_length 0 i.tags)
-        ∙ ap (λ n. length i.tags + n) (nothings_length (most_slots - length i.tags)))
 
 runs_ready : (old : WorldState) (turns : List Turn) (new : WorldState) → AllReady old → Runs old turns new → AllReady new
 runs_ready old [] new all run = subst AllReady (sym run) all

@@ -1,7 +1,7 @@
 -- The calls on streams: the request that each is, the code with which its event refuses it, and what its actor asks.
 use Rattle.std.proofs.Common.{◌≡◌, ℕ, ◌≤◌, Bool, true, false, List, refl, sym, subst}
 use Rattle.std.specs.Prelude.{Option, Some, None, if◌then◌else◌}
-use Rattle.wedge_base.specs.Streams.{Stream, read_reply, append_reply, closing_bit, live_reply, stream_reply, stream_after}
+use Rattle.wedge_base.specs.Streams.{Stream, read_reply, append_reply, closing_bit, stream_reply, stream_after}
 use Rattle.wedge_base.specs.Rights.{read_bit, append_bit, bits_within}
 use Rattle.wedge_base.specs.declared.rights.FdBits.{FdBits}
 use Rattle.wedge_base.specs.declared.rights.StreamKind.{StreamKind}

@@ -23,7 +23,7 @@ use Rattle.sthread_life.specs.Requests.{Request, Reads, Appends, Closes, in_stre
 use Rattle.sthread_life.specs.Allowed.{is_source, may_close, bit_to_close, next_bytes}
 use Rattle.sthread_life.specs.Moments.{with_actor, IsChecked, IsAnswered}
 use Rattle.sthread_life.specs.Refusals.{no_such, bad, stream_refuses, refused, read_refusal_after, append_refusal_after, stream_close_refusal}
-use Rattle.sthread_life.proofs.Checking.{kept, put_there, checked_denied, checked_allowed, after, stayed, same_streams, stream_world}
+use Rattle.sthread_life.proofs.Checking.{kept, put_there, checked_denied, checked_allowed, stayed, same_streams, stream_world}
 use Rattle.sthread_life.proofs.Going.{IsNext}
 use Rattle.sthread_life.proofs.StreamCalls.{stream_request, stream_refusal, IsStreamRequest, read_cases, append_cases, close_cases}
 

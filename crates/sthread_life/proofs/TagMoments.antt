@@ -15,13 +15,13 @@ use Rattle.wedge_base.specs.declared.rights.Right.TheVariants as right
 use Rattle.wedge_base.specs.declared.events.SlotWant.TheVariants as slot_want
 use Rattle.wedge_base.specs.declared.events.Want.{Want}
 use Rattle.wedge_base.specs.declared.events.Want.TheVariants as want
-use Rattle.wedge_base.specs.declared.events.Event.{Event}
 use Rattle.wedge_base.specs.declared.events.Event.TheVariants as event
 use Rattle.wedge_base.specs.declared.cells.DirectoryAsk.TheVariants as directory_ask
 use Rattle.wedge_base.specs.declared.cells.DirectoryReply.TheVariants as directory_reply
 use Rattle.wedge_base.specs.declared.cells.Live.{Live}
 use Rattle.wedge_base.specs.declared.cells.LivesAsk.TheVariants as lives_ask
 use Rattle.wedge_base.specs.declared.cells.SlotAsk.TheVariants as slot_ask
+use Rattle.wedge_base.specs.declared.cells.StreamAsk.TheVariants as stream_ask
 use Rattle.wedge_base.specs.declared.cells.SlotReply.{SlotReply}
 use Rattle.wedge_base.specs.declared.cells.SlotReply.TheVariants as slot_reply
 use Rattle.rv_isa.specs.declared.Instr.{Instr}
@@ -48,7 +48,6 @@ use Rattle.sthread_life.proofs.Between.{event_for}
 use Rattle.sthread_life.proofs.Bounding.{with_same}
 use Rattle.sthread_life.proofs.Checking.{slot_cells, kept, put_there, checked_denied, checked_allowed, after, stayed, same_slots, pair_on, slot_world}
 use Rattle.sthread_life.proofs.Going.{IsNext}
-use Rattle.sthread_life.proofs.Happening.{Happens, Requested, Joined, Snaps, Started, Opens, Releases, LastJoined, Ended}
 use Rattle.sthread_life.proofs.Meeting.{IsRequest, pages_tests}
 use Rattle.sthread_life.proofs.Named.{put_put}
 
@@ -375,7 +374,7 @@ step_makes w b (suc n) has run = λ q told.
 
 -- ---- what their events make
 
-want_makes : (w : WorldState) (b : ActorState) (N : ℕ → Type 0) (q : Want) → IsRequest N b q → MakesAt (with_actor w b) b (phase.Within q) (event_for w.cells b q) (after w b (event_for w.cells b q))
+pub want_makes : (w : WorldState) (b : ActorState) (N : ℕ → Type 0) (q : Want) → IsRequest N b q → MakesAt (with_actor w b) b (phase.Within q) (event_for w.cells b q) (after w b (event_for w.cells b q))
 unfolding takes
 want_makes w b N (want.Slots directory_ask.Claim) own = λ c there. (
   ap (λ o. event.Slots directory_ask.Claim (claim_reply w.cells.places o)) there,
@@ -388,7 +387,10 @@ want_makes w b N (want.Slot slot (slot_want.Load offset width)) own = refl
 want_makes w b N (want.Slot slot (slot_want.Store offset width value)) own = refl
 want_makes w b N (want.Slot slot (slot_want.Smalloc tag size)) own = refl
 want_makes w b N (want.Slot slot (slot_want.Sfree offset)) own = refl
-want_makes w b N (want.Fd fd q) own = refl
+want_makes w b N (want.Fd fd (stream_ask.Open k bytes)) own = absurd own
+want_makes w b N (want.Fd fd (stream_ask.Read bits count)) own = refl
+want_makes w b N (want.Fd fd (stream_ask.Append bits bytes)) own = refl
+want_makes w b N (want.Fd fd (stream_ask.Close bits)) own = refl
 want_makes w b N (want.Lives lives_ask.Claim) own = refl
 want_makes w b N q own = absurd own
 
@@ -396,7 +398,7 @@ want_makes w b N q own = absurd own
 made_is_held : (b : ActorState) (slot tag : ℕ) → right_of (record b { made = made_tag b.made tag slot }) tag ≡ Some right.ReadWrite
 made_is_held b slot tag = ap (λ (o : Option ℕ). if is_some o then Some right.ReadWrite else option_map (λ g. g.right) (at b.sheet.tags tag)) (with_same b.made.tags tag slot)
 
-open_makes : (w : WorldState) (b : ActorState) (slot tag : ℕ) → MakesAt (with_actor w b) b (phase.Opening slot tag) (event.Slot slot (slot_ask.Open tag (a0 b)) slot_reply.Opened) (after w b (event.Slot slot (slot_ask.Open tag (a0 b)) slot_reply.Opened))
+pub open_makes : (w : WorldState) (b : ActorState) (slot tag : ℕ) → MakesAt (with_actor w b) b (phase.Opening slot tag) (event.Slot slot (slot_ask.Open tag (a0 b)) slot_reply.Opened) (after w b (event.Slot slot (slot_ask.Open tag (a0 b)) slot_reply.Opened))
 unfolding takes
 open_makes w b slot tag = (
   refl,
@@ -405,26 +407,6 @@ open_makes w b slot tag = (
   made_is_held b slot tag,
 )
 
-release_makes : (w : WorldState) (b : ActorState) (slot : ℕ) → MakesAt (with_actor w b) b (phase.Releasing slot) (event.Slots (directory_ask.Release slot) directory_reply.Released) (after w b (event.Slots (directory_ask.Release slot) directory_reply.Released))
+pub release_makes : (w : WorldState) (b : ActorState) (slot : ℕ) → MakesAt (with_actor w b) b (phase.Releasing slot) (event.Slots (directory_ask.Release slot) directory_reply.Released) (after w b (event.Slots (directory_ask.Release slot) directory_reply.Released))
 unfolding takes
 release_makes w b slot = (refl, sym (put_put w.actors b (answers b 0) refl))
-
-pub event_makes : (w : WorldState) (b : ActorState) (e : Event) → Happens w b e → MakesAt (with_actor w b) b b.phase e (after w b e)
-event_makes w b e (Requested r) =
-    subst (λ ph. MakesAt (with_actor w b) b ph e (after w b e)) (sym r.at)
-    (subst (λ y. MakesAt (with_actor w b) b (phase.Within r.want) y (after w b y)) (sym r.is) (want_makes w b _ r.want r.own))
-event_makes w b e (Joined j) =
-    subst (λ ph. MakesAt (with_actor w b) b ph e (after w b e)) (sym j.at)
-    (subst (λ y. MakesAt (with_actor w b) b (phase.Within (want.Join j.number)) y (after w b y)) (sym j.join.is) refl)
-event_makes w b e (Started s) =
-    subst (λ ph. MakesAt (with_actor w b) b ph e (after w b e)) (sym s.at) (subst (λ y. MakesAt (with_actor w b) b (phase.Starting s.preparation) y (after w b y)) (sym s.is) refl)
-event_makes w b e (Snaps s) =
-    subst (λ ph. MakesAt (with_actor w b) b ph e (after w b e)) (sym s.at) (subst (λ y. MakesAt (with_actor w b) b (phase.Starting s.preparation) y (after w b y)) (sym s.is) refl)
-event_makes w b e (Opens o) =
-    subst (λ ph. MakesAt (with_actor w b) b ph e (after w b e)) (sym o.at) (subst (λ y. MakesAt (with_actor w b) b (phase.Opening o.slot o.tag) y (after w b y)) (sym o.is) (open_makes w b o.slot o.tag))
-event_makes w b e (Releases r) =
-    subst (λ ph. MakesAt (with_actor w b) b ph e (after w b e)) (sym r.at) (subst (λ y. MakesAt (with_actor w b) b (phase.Releasing r.slot) y (after w b y)) (sym r.is) (release_makes w b r.slot))
-event_makes w b e (LastJoined j) =
-    subst (λ ph. MakesAt (with_actor w b) b ph e (after w b e)) (sym j.at) (subst (λ y. MakesAt (with_actor w b) b (phase.Ending j.end_) y (after w b y)) (sym j.join.is) refl)
-event_makes w b e (Ended f) =
-    subst (λ ph. MakesAt (with_actor w b) b ph e (after w b e)) (sym f.at) (subst (λ y. MakesAt (with_actor w b) b (phase.Ending f.end_) y (after w b y)) (sym f.is) refl)

@@ -18,7 +18,11 @@ use Rattle.wedge_base.specs.declared.events.Event.{Event}
 use Rattle.wedge_base.specs.declared.events.Event.TheVariants as event
 use Rattle.wedge_base.specs.declared.events.Turn.{Turn}
 use Rattle.wedge_base.specs.declared.cells.DirectoryAsk.TheVariants as directory_ask
+use Rattle.wedge_base.specs.declared.cells.DirectoryReply.{DirectoryReply}
 use Rattle.wedge_base.specs.declared.cells.DirectoryReply.TheVariants as directory_reply
+use Rattle.wedge_base.specs.declared.cells.StreamAsk.{StreamAsk}
+use Rattle.wedge_base.specs.declared.cells.StreamReply.TheVariants as stream_reply
+use Rattle.sthread_life.specs.Opening.{FileOpening}
 use Rattle.wedge_base.specs.declared.cells.LivesAsk.TheVariants as lives_ask
 use Rattle.wedge_base.specs.declared.cells.SlotReply.TheVariants as slot_reply
 use Rattle.wedge_base.specs.declared.cells.LivesReply.TheVariants as lives_reply
@@ -32,18 +36,18 @@ use Rattle.sthread_life.specs.Children.{Children, child_name, is_number, fuel_gi
 use Rattle.sthread_life.specs.FamilyTrees.{Family}
 use Rattle.sthread_life.specs.Copying.{Preparation, copied_from, is_copy_alone, prepared, behind_first}
 use Rattle.sthread_life.specs.Cells.{slot_in}
-use Rattle.sthread_life.specs.Fuel.{unit_work, units_of, phase_work, tasks_of, tasks_in, work_left, most_turns}
+use Rattle.sthread_life.specs.Fuel.{unit_work, units_of, opening_work, phase_work, tasks_of, tasks_in, work_left, most_turns}
 use Rattle.sthread_life.specs.Laws.{RunsEnd}
 use Rattle.sthread_life.specs.Local.{is_running, rest}
 use Rattle.sthread_life.specs.Taking.{next_start, answered_end, copies_asked, has_snapped, takes, begun}
 use Rattle.sthread_life.specs.Worlds.{WorldState, opening, actor_named, put_actor, with_begun, turn_of, Runs}
 use Rattle.wedge_base.specs.Names.{same}
-use Rattle.sthread_life.proofs.Between.{IsPreparing, MayPrepare, Leaves, takes_between, takes_name, turn_parts}
+use Rattle.sthread_life.proofs.Between.{IsPreparing, MayPrepare, MayNumber, Leaves, numbered_is, opened_is, takes_between, takes_name, turn_parts}
 use Rattle.sthread_life.proofs.DraftsFit.{AreFew, few_copies}
 use Rattle.sthread_life.proofs.Preparing.{was_preparing}
 use Rattle.sthread_life.proofs.Families.{IsOfOne, takes_same, first_child}
 use Rattle.sthread_life.proofs.FamilyRuns.{kept_at_rest, rest_units, turn_keeps, turn_family, opening_family, one_begins, request_of_one, join_keeps_starts}
-use Rattle.sthread_life.proofs.Happening.{Happens, snap_cases, Requested, Joined, Snaps, Started, Opens, Releases, LastJoined, Ended}
+use Rattle.sthread_life.proofs.Happening.{Happens, snap_cases, Requested, Joined, Snaps, Started, Opens, Releases, Numbers, OpensFile, LastJoined, Ended}
 use Rattle.sthread_life.proofs.Named.{found_name}
 use Rattle.sthread_life.proofs.Resting.{IsCalm, HasPaid, rests, rest-stays, rest-name, running_is}
 use Rattle.sthread_life.proofs.Settling.{AllReady, actor_few, turn_happens, turn_ready, opening_ready}
@@ -113,6 +117,7 @@ record IsPaid (a b : ActorState) (units : ℕ) : Type 0 where
   starting : (p : Preparation) → b.phase ≡ phase.Starting p → 6 + length p.left ≤ unit_work * units + phase_work a.phase
   opening : (slot tag : ℕ) → b.phase ≡ phase.Opening slot tag → 6 ≤ unit_work * units + phase_work a.phase
   releasing : (slot : ℕ) → b.phase ≡ phase.Releasing slot → 6 ≤ unit_work * units + phase_work a.phase
+  file : (o : FileOpening) → b.phase ≡ phase.OpeningFile o → opening_work o.number ≤ unit_work * units + phase_work a.phase
   ending : (e : End) → b.phase ≡ phase.Ending e → 1 ≤ unit_work * units + phase_work a.phase
 
 paid_within : (f g : ℕ) (p : Phase) (q : Want) → p ≡ phase.Within q → HasPaid f g p → g < f
@@ -124,6 +129,13 @@ paid_opening f g slot tag p e h = subst (HasPaid f g) e h
 paid_releasing : (f g slot : ℕ) (p : Phase) → p ≡ phase.Releasing slot → HasPaid f g p → g < f
 paid_releasing f g slot p e h = subst (HasPaid f g) e h
 
+paid_file : (f g : ℕ) (o : FileOpening) (p : Phase) → p ≡ phase.OpeningFile o → HasPaid f g p → g < f
+paid_file f g o p e h = subst (HasPaid f g) e h
+
+opening_most : (n : Option ℕ) → opening_work n ≤ 7
+opening_most None = omega arith
+opening_most (Some fd) = omega arith
+
 rest_paid : (i : Image) (a : ActorState) (t : Bool) → is_running a.phase ≡ t → IsPaid a (rest i a) (units_of i (a.fuel + 1) a)
 rest_paid i a true e =
     let r = rests i a e in
@@ -134,6 +146,7 @@ rest_paid i a true e =
       starting = λ p is. absurd (subst IsCalm is r.calm);
       opening = λ slot tag is. let less = paid_opening a.fuel (rest i a).fuel slot tag (rest i a).phase is r.paid in omega (arith, less, units, work);
       releasing = λ slot is. let less = paid_releasing a.fuel (rest i a).fuel slot (rest i a).phase is r.paid in omega (arith, less, units, work);
+      file = λ o is. let less = paid_file a.fuel (rest i a).fuel o (rest i a).phase is r.paid in let most = opening_most o.number in omega (arith, less, units, work, most);
       ending = λ x is. omega (arith, work);
     }
 rest_paid i a false e =
@@ -144,6 +157,7 @@ rest_paid i a false e =
       starting = λ p is. let work : phase_work a.phase ≡ 6 + length p.left = ap phase_work (sym same ∙ is) in omega (arith, work);
       opening = λ slot tag is. let work : phase_work a.phase ≡ 6 = ap phase_work (sym same ∙ is) in omega (arith, work);
       releasing = λ slot is. let work : phase_work a.phase ≡ 6 = ap phase_work (sym same ∙ is) in omega (arith, work);
+      file = λ o is. let work : phase_work a.phase ≡ opening_work o.number = ap phase_work (sym same ∙ is) in omega (arith, work);
       ending = λ x is. let work : phase_work a.phase ≡ 1 = ap phase_work (sym same ∙ is) in omega (arith, work);
     }
 
@@ -154,6 +168,7 @@ between_work (phase.Within q) h = absurd h
 between_work (phase.Starting pre) h = absurd h
 between_work (phase.Opening slot tag) h = absurd h
 between_work (phase.Releasing slot) h = absurd h
+between_work (phase.OpeningFile o) h = absurd h
 between_work (phase.Ending e) h = omega arith
 between_work (phase.Ended e) h = omega arith
 
@@ -168,6 +183,7 @@ not_within (phase.Within q) h = h q refl
 not_within (phase.Starting pre) h = tt
 not_within (phase.Opening slot tag) h = tt
 not_within (phase.Releasing slot) h = tt
+not_within (phase.OpeningFile o) h = tt
 not_within (phase.Ending e) h = tt
 not_within (phase.Ended e) h = tt
 
@@ -183,6 +199,10 @@ leaves_none (event.Slots directory_ask.Claim (directory_reply.Claimed slot tag))
 leaves_none (event.Slots directory_ask.Claim directory_reply.Full) p h = between_one p h
 leaves_none (event.Slots directory_ask.Claim directory_reply.Released) p h = between_one p h
 leaves_none (event.Slots (directory_ask.Release slot) r) p h = between_one p h
+leaves_none (event.Fds directory_ask.Claim (directory_reply.Claimed fd number)) p h = not_within p (λ q is. subst (MayNumber fd) is h)
+leaves_none (event.Fds directory_ask.Claim directory_reply.Full) p h = between_one p h
+leaves_none (event.Fds directory_ask.Claim directory_reply.Released) p h = between_one p h
+leaves_none (event.Fds (directory_ask.Release place) r) p h = between_one p h
 leaves_none (event.Slot slot q slot_reply.Closed) p h = subst NotWithin (sym h) tt
 leaves_none (event.Slot slot q (slot_reply.Snapped pages)) p h = not_within p (λ q is. subst MayPrepare is h)
 leaves_none (event.Slot slot q slot_reply.Gone) p h = not_within p (λ q is. subst MayPrepare is h)
@@ -195,6 +215,7 @@ work_without (phase.Within q) h few = absurd h
 work_without (phase.Starting pre) h few = let left = few pre refl in omega (arith, left)
 work_without (phase.Opening slot tag) h few = omega arith
 work_without (phase.Releasing slot) h few = omega arith
+work_without (phase.OpeningFile o) h few = let most = opening_most o.number in omega (arith, most)
 work_without (phase.Ending e) h few = omega arith
 work_without (phase.Ended e) h few = omega arith
 
@@ -261,6 +282,7 @@ joined_work a (phase.Within q) x at = omega arith
 joined_work a (phase.Starting pre) x at = omega arith
 joined_work a (phase.Opening slot tag) x at = omega arith
 joined_work a (phase.Releasing slot) x at = omega arith
+joined_work a (phase.OpeningFile o) x at = omega arith
 joined_work a (phase.Ending y) x at = let work : phase_work a.phase ≡ 1 = ap phase_work at in omega (arith, work)
 joined_work a (phase.Ended y) x at = omega arith
 
@@ -274,6 +296,16 @@ join_phase i b k x fuel = joined_work (record b { fuel = b.fuel + fuel; unjoined
 last_phase : (i : Image) (b : ActorState) (k : ℕ) (x y : End) (fuel : ℕ) → b.phase ≡ phase.Ending y → phase_work (takes i b (event.Join k x fuel)).phase ≡ 1
 unfolding takes
 last_phase i b k x y fuel at = last_work (record b { fuel = b.fuel + fuel; unjoined = without_child b.unjoined k }) x y at
+
+number_work : (i : Image) (b : ActorState) (r : DirectoryReply) → phase_work (takes i b (event.Fds directory_ask.Claim r)).phase ≤ 6
+unfolding takes
+number_work i b (directory_reply.Claimed fd number) = numbered_is (λ x. phase_work x.phase ≤ 6) b b.phase fd (omega arith) (λ o. omega arith)
+number_work i b directory_reply.Full = omega arith
+number_work i b directory_reply.Released = omega arith
+
+file_work : (i : Image) (b : ActorState) (fd : ℕ) (q : StreamAsk) → phase_work (takes i b (event.Fd fd q stream_reply.Opened)).phase ≤ 2
+unfolding takes
+file_work i b fd q = opened_is (λ x. phase_work x.phase ≤ 2) b b.phase fd (omega arith) (λ o. omega arith)
 
 event_less : (w : WorldState) (a : ActorState) (e : Event) → AreFew (rest w.image a).drafts → Happens w (rest w.image a) e
     → tasks_of (takes w.image (rest w.image a) e) + begun_tasks (begun w.image (rest w.image a) e) < unit_work * units_of w.image (a.fuel + 1) a + tasks_of a
@@ -318,6 +350,28 @@ event_less w a e drafts (Releases r) =
     let none : begun_tasks (begun w.image b e) ≡ 0 = ap begun_tasks (one_begins w.image b e one) in
     let count : length (takes w.image b e).unjoined ≡ length a.unjoined = ap length (s.unjoined ∙ k.unjoined) in
     omega (arith, paid, few, none, count)
+event_less w a e drafts (Numbers n) =
+    let b = rest w.image a in
+    let one = subst IsOfOne (sym n.is) tt in
+    let s = takes_same w.image b e one in
+    let k = kept_at_rest w.image a _ refl in
+    let paid = (rest_paid w.image a _ refl).file n.opening n.at in
+    let work : opening_work n.opening.number ≡ 7 = ap opening_work n.none in
+    let few : phase_work (takes w.image b e).phase ≤ 6 = subst (λ y. phase_work (takes w.image b y).phase ≤ 6) (sym n.is) (number_work w.image b _) in
+    let none : begun_tasks (begun w.image b e) ≡ 0 = ap begun_tasks (one_begins w.image b e one) in
+    let count : length (takes w.image b e).unjoined ≡ length a.unjoined = ap length (s.unjoined ∙ k.unjoined) in
+    omega (arith, paid, work, few, none, count)
+event_less w a e drafts (OpensFile f) =
+    let b = rest w.image a in
+    let one = subst IsOfOne (sym f.is) tt in
+    let s = takes_same w.image b e one in
+    let k = kept_at_rest w.image a _ refl in
+    let paid = (rest_paid w.image a _ refl).file f.opening f.at in
+    let work : opening_work f.opening.number ≡ 6 = ap opening_work f.some in
+    let few : phase_work (takes w.image b e).phase ≤ 2 = subst (λ y. phase_work (takes w.image b y).phase ≤ 2) (sym f.is) (file_work w.image b f.fd _) in
+    let none : begun_tasks (begun w.image b e) ≡ 0 = ap begun_tasks (one_begins w.image b e one) in
+    let count : length (takes w.image b e).unjoined ≡ length a.unjoined = ap length (s.unjoined ∙ k.unjoined) in
+    omega (arith, paid, work, few, none, count)
 event_less w a e drafts (Snaps s) =
     let b = rest w.image a in
     let k = kept_at_rest w.image a _ refl in
@@ -374,9 +428,9 @@ runs_work old (t ∷ ts) new all f run =
     let less = turn_works old t.actor t.event run.0 all f run.1 in
     omega (arith, others, less)
 
-opening_work : (i : Image) → work_left (opening i) ≡ most_turns i.fuel
+work_at_first : (i : Image) → work_left (opening i) ≡ most_turns i.fuel
 unfolding root
-opening_work i = omega arith
+work_at_first i = omega arith
 
 pub runs_end : RunsEnd
-runs_end i turns new run = let few = runs_work (opening i) turns new (opening_ready i) (opening_family i) run in let work = opening_work i in omega (arith, few, work)
+runs_end i turns new run = let few = runs_work (opening i) turns new (opening_ready i) (opening_family i) run in let work = work_at_first i in omega (arith, few, work)

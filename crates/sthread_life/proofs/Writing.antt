@@ -7,7 +7,7 @@ use Rattle.wedge_base.specs.Images.{Image}
 use Rattle.wedge_base.specs.Rights.{at_least, append_bit}
 use Rattle.wedge_base.specs.Sheets.{right_on, bits_on}
 use Rattle.wedge_base.specs.Slots.{Segment, slot_reply as slot_reply_of, slot_after, opened, stored, placed, freed}
-use Rattle.wedge_base.specs.Streams.{Stream, stream_reply as stream_reply_of, stream_after, append_reply, moved, grown, closed}
+use Rattle.wedge_base.specs.Streams.{Stream, opened as stream_opened, stream_reply as stream_reply_of, stream_after, append_reply, moved, grown, closed}
 use Rattle.wedge_base.specs.Histories.{Flow, flow, bytes_by, bytes_after_event, bytes_after, flow_by, flow_after_event, flow_after}
 use Rattle.wedge_base.specs.declared.rights.Right.TheVariants as right
 use Rattle.wedge_base.specs.declared.rights.StreamKind.{StreamKind}
@@ -41,7 +41,7 @@ use Rattle.sthread_life.specs.Written.{bytes_in, BytesFollow, stores_in, StepWri
 use Rattle.sthread_life.specs.Laws.{RunsWriteTheirOwn}
 use Rattle.sthread_life.proofs.Resting.{rests, rest-stays}
 use Rattle.sthread_life.proofs.Between.{event_for, turn_parts}
-use Rattle.sthread_life.proofs.Happening.{Happens, Requested, Joined, Snaps, Started, Opens, Releases, LastJoined, Ended}
+use Rattle.sthread_life.proofs.Happening.{Happens, Requested, Joined, Snaps, Started, Opens, Releases, Numbers, OpensFile, LastJoined, Ended}
 use Rattle.sthread_life.proofs.Settling.{AreCells, AllReady, turn_happens, turn_ready, opening_ready}
 use Rattle.sthread_life.proofs.Meeting.{IsRequest}
 use Rattle.sthread_life.proofs.StreamCalls.{read_cases, append_cases, close_cases, unopened_stays, IsStreamRequest}
@@ -140,6 +140,12 @@ open_follows c s tag pages inside = record {
   streams = λ fd. refl;
 }
 
+file_follows : (c : Cells) (fd : ℕ) (k : StreamKind) (bytes : List ℕ) → fd < length c.streams → IsFollowed c (event.Fd fd (stream_ask.Open k bytes) reply.Opened)
+file_follows c fd k bytes inside = record {
+  tags = λ slot. refl;
+  streams = λ n. follows_in flow_of (λ x. flow_by x (stream_ask.Open k bytes) reply.Opened) c.streams fd n (Some (stream_opened k bytes)) _ inside refl refl;
+}
+
 want_follows : (N : ℕ → Type 0) (c : Cells) (b : ActorState) (q : Want) → IsRequest N b q → IsFollowed c (event_for c b q)
 want_follows N c b (want.Slots directory_ask.Claim) own = record { tags = λ slot. refl; streams = λ fd. refl }
 want_follows N c b (want.Slot s (slot_want.Close tag)) own = slot_follows c s _ tt
@@ -163,6 +169,8 @@ event_follows w b e cells (Snaps s) = subst (IsFollowed w.cells) (sym s.is) (slo
 event_follows w b e cells (Started s) = subst (IsFollowed w.cells) (sym s.is) (record { tags = λ slot. refl; streams = λ fd. refl })
 event_follows w b e cells (Opens o) = subst (IsFollowed w.cells) (sym o.is) (open_follows w.cells o.slot o.tag (a0 b) (subst (λ n. o.slot < n) (sym cells.slots) o.inside))
 event_follows w b e cells (Releases r) = subst (IsFollowed w.cells) (sym r.is) (record { tags = λ slot. refl; streams = λ fd. refl })
+event_follows w b e cells (Numbers n) = subst (IsFollowed w.cells) (sym n.is) (record { tags = λ slot. refl; streams = λ fd. refl })
+event_follows w b e cells (OpensFile f) = subst (IsFollowed w.cells) (sym f.is) (file_follows w.cells f.fd f.opening.kind f.opening.bytes (subst (λ n. f.fd < n) (sym cells.streams) f.inside))
 event_follows w b e cells (LastJoined j) = subst (IsFollowed w.cells) (sym j.join.is) (record { tags = λ slot. refl; streams = λ fd. refl })
 event_follows w b e cells (Ended f) = subst (IsFollowed w.cells) (sym f.is) (record { tags = λ slot. refl; streams = λ fd. refl })
 
@@ -255,6 +263,8 @@ event_own w b e (Snaps s) = subst (IsOwn w.cells b) (sym s.is) (record { stores 
 event_own w b e (Started s) = subst (IsOwn w.cells b) (sym s.is) (record { stores = λ slot h. absurd (true≢false (sym h)); appends = λ fd h. absurd (true≢false (sym h)) })
 event_own w b e (Opens o) = subst (IsOwn w.cells b) (sym o.is) (record { stores = λ slot h. absurd (true≢false (sym h)); appends = λ fd h. absurd (true≢false (sym h)) })
 event_own w b e (Releases r) = subst (IsOwn w.cells b) (sym r.is) (record { stores = λ slot h. absurd (true≢false (sym h)); appends = λ fd h. absurd (true≢false (sym h)) })
+event_own w b e (Numbers n) = subst (IsOwn w.cells b) (sym n.is) (record { stores = λ slot h. absurd (true≢false (sym h)); appends = λ fd h. absurd (true≢false (sym h)) })
+event_own w b e (OpensFile f) = subst (IsOwn w.cells b) (sym f.is) (record { stores = λ slot h. absurd (true≢false (sym h)); appends = λ fd h. absurd (true≢false (sym h)) })
 event_own w b e (LastJoined j) = subst (IsOwn w.cells b) (sym j.join.is) (record { stores = λ slot h. absurd (true≢false (sym h)); appends = λ fd h. absurd (true≢false (sym h)) })
 event_own w b e (Ended f) = subst (IsOwn w.cells b) (sym f.is) (record { stores = λ slot h. absurd (true≢false (sym h)); appends = λ fd h. absurd (true≢false (sym h)) })
 

@@ -1,12 +1,12 @@
 -- Bytes written into a private copy are read there, and each other byte of each copy stays.
-use Rattle.std.proofs.Common.{◌≡◌, ◌≢◌, ◌⊎◌, inl, inr, ℕ, ◌+◌, ◌<◌, ◌≤◌, Bool, true, false, List, length, refl, sym, ap, ◌∙◌, arith}
+use Rattle.std.proofs.Common.{◌≡◌, ◌⊎◌, ℕ, ◌+◌, ◌<◌, ◌≤◌, true, List, length, refl, sym, ap, ◌∙◌, arith}
 use Rattle.std.proofs.lemmas.Bool.Decides.{nat_tests}
-use Rattle.std.specs.Prelude.{Option, Some, None, option_and_then, slice_get, slice_range, nat_le, if◌then◌else◌}
-use Rattle.cow_pages.specs.Copies.{Copies, is_slot, copy_at, with_copy, holds_copy, read_copy}
+use Rattle.std.specs.Prelude.{Some, None, option_and_then, slice_get, slice_range, nat_le, if◌then◌else◌}
+use Rattle.cow_pages.specs.Copies.{Copies, copy_at, with_copy, holds_copy, read_copy}
 use Rattle.wedge_base.specs.Bytes.{written}
 use Rattle.wedge_base.specs.declared.address.Place.{Place}
 use Rattle.sthread_life.specs.Remembering.{copied_byte, copied_bytes, AreCopied}
-use Rattle.sthread_life.proofs.ByNumber.{same_number, found_with, found_there, found_beside}
+use Rattle.sthread_life.proofs.ByNumber.{found_there, found_beside}
 use Rattle.sthread_life.proofs.WritingRanges.{length-written, read-written, get-written}
 
 inside : (offset : ℕ) (new bytes : List ℕ) → holds_copy offset (length new) bytes ≡ true → offset + length new ≤ length bytes

@@ -16,16 +16,18 @@ use Rattle.rv_hart.specs.declared.Hart.{Hart}
 use Rattle.rv_hart.specs.Local.{put, answered, answered_with}
 use Rattle.sthread_life.specs.Children.{Children}
 use Rattle.sthread_life.specs.Copying.{with_declared}
+use Rattle.sthread_life.specs.declared.files.StreamLabel.{StreamLabel}
 use Rattle.sthread_life.specs.declared.phase.Phase.{Phase}
 use Rattle.sthread_life.specs.declared.phase.Phase.TheVariants as phase
 
--- an actor: its sheet, what it made, its drafts, its registers and private memory, its fuel, its denials, how many actors it
+-- an actor: its sheet, what it made, the paths of the files that it opened, its drafts, its registers and private memory, its fuel, its denials, how many actors it
 -- started and those of them that it has not joined, and what it is at
 pub record ActorState : Type 0 where
   pub name : List ℕ
   pub compartment : ℕ
   pub sheet : Sheet
   pub made : Made
+  pub labels : List StreamLabel
   pub drafts : List Draft
   pub hart : Hart
   pub memory : PrivateMemory
@@ -54,6 +56,7 @@ root i = record {
   compartment = i.entry;
   sheet = root_sheet i.tags i.fds i.user i.root;
   made = nothing_made;
+  labels = [];
   drafts = [];
   hart = opening_hart i.entry;
   memory = root_memory i;
@@ -125,6 +128,7 @@ pub record ActorRecord : Type 0 where
   pub compartment : ℕ
   pub sheet : Sheet
   pub made : Made
+  pub labels : List StreamLabel
   pub drafts : List Draft
   pub hart : Hart
   pub fuel : ℕ
@@ -141,6 +145,7 @@ whole r memory = record {
   compartment = r.compartment;
   sheet = r.sheet;
   made = r.made;
+  labels = r.labels;
   drafts = r.drafts;
   hart = r.hart;
   memory = memory;

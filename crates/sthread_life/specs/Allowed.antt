@@ -3,6 +3,7 @@
 use Rattle.std.specs.Prelude.{◌≡◌, ℕ, ◌+◌, ◌-◌, ◌%◌, ◌^◌, Bool, true, false, not, ◌||◌, List, [], ◌∷◌, ◌++◌, length, nat_lt, slice_range, slice_set, take, drop, Option, Some, None, is_none, if◌then◌else◌}
 use Rattle.wedge_base.specs.Blocks.{block_at}
 use Rattle.wedge_base.specs.Bytes.{number_of}
+use Rattle.wedge_base.specs.Files.{may_open}
 use Rattle.wedge_base.specs.Maps.{has}
 use Rattle.wedge_base.specs.Memory.{write_at}
 use Rattle.wedge_base.specs.Rights.{at_least, read_bit, append_bit}
@@ -10,6 +11,7 @@ use Rattle.wedge_base.specs.Sheets.{first_excess}
 use Rattle.wedge_base.specs.declared.rights.Denial.{Denial}
 use Rattle.wedge_base.specs.declared.rights.Denial.TheVariants as denial
 use Rattle.wedge_base.specs.Streams.{Stream}
+use Rattle.wedge_base.specs.declared.image.FileEntry.{FileEntry}
 use Rattle.wedge_base.specs.declared.rights.FdBits.{FdBits}
 use Rattle.wedge_base.specs.declared.rights.StreamKind.{StreamKind}
 use Rattle.wedge_base.specs.declared.rights.StreamKind.TheVariants as kind
@@ -30,9 +32,10 @@ use Rattle.wedge_base.specs.declared.cells.StreamAsk.TheVariants as stream_ask
 use Rattle.wedge_base.specs.declared.cells.StreamReply.TheVariants as stream_reply
 use Rattle.rv_hart.specs.declared.Hart.{Hart}
 use Rattle.rv_hart.specs.Local.{reg, put, extended}
+use Rattle.sthread_life.specs.Opening.{FileOpening}
 use Rattle.sthread_life.specs.declared.phase.Phase.TheVariants as phase
 use Rattle.sthread_life.specs.Actors.{ActorState, right_of, bits_of, slot_held}
-use Rattle.sthread_life.specs.Requests.{Access, Request, Loads, Stores, Reads, Appends, Closes, Creates, Deletes, Allots, Frees}
+use Rattle.sthread_life.specs.Requests.{Access, Request, Loads, Stores, Reads, Appends, Closes, Opens, Creates, Deletes, Allots, Frees}
 
 -- whether a tag may be used as asked: a copy is never enough for the tag itself
 abbrev pub may_use : ActorState → ℕ → Right → Bool
@@ -56,19 +59,25 @@ lacks a (Stores x value) = if may_use a x.living.tag right.ReadWrite then None e
 lacks a (Reads fd s n) = if (bits_of a fd).read then None else Some (denial.Fd fd read_bit)
 lacks a (Appends fd s bytes) = if (bits_of a fd).append then None else Some (denial.Fd fd append_bit)
 lacks a (Closes fd s) = if may_close s.kind (bits_of a fd) then None else Some (denial.Fd fd (bit_to_close s.kind))
+lacks a (Opens path f b) = if may_open a.sheet.user f b then None else Some (denial.File path)
 lacks a (Creates d) = first_excess a.sheet a.made d
 lacks a (Deletes tag) = if has a.made.tags tag then None else Some (denial.NotMaker tag)
 lacks a (Allots tag size) = if may_use a tag right.ReadWrite then None else Some (denial.Tag tag right.ReadWrite)
 lacks a (Frees p g) = if may_use a g.tag right.ReadWrite then None else Some (denial.Tag g.tag right.ReadWrite)
 
--- whether one that is allowed is refused for a cause that comes after the denial: a stream is of the other kind; a name has at
+-- whether one that is allowed is refused for a cause that comes after the denial: a stream or a file is of the other kind; a name has at
 -- most 32 parts, and a child is given no more fuel than there is; no block begins at the place
+-- a source is opened to be read, and an append stream to be appended to
+abbrev pub fits_kind : StreamKind → FdBits → Bool
+fits_kind k b = if is_source k then b.read else b.append
+
 abbrev pub is_refused : ActorState → Request → Bool
 is_refused a (Loads x rd s) = false
 is_refused a (Stores x value) = false
 is_refused a (Reads fd s n) = not (is_source s.kind)
 is_refused a (Appends fd s bytes) = is_source s.kind
 is_refused a (Closes fd s) = false
+is_refused a (Opens path f b) = not (fits_kind f.kind b)
 is_refused a (Creates d) = not (nat_lt (length a.name) 32) || nat_lt a.fuel (reg a.hart.regs 13)
 is_refused a (Deletes tag) = false
 is_refused a (Allots tag size) = false
@@ -81,6 +90,7 @@ is_checked_at_event (Stores x value) = true
 is_checked_at_event (Reads fd s n) = true
 is_checked_at_event (Appends fd s bytes) = true
 is_checked_at_event (Closes fd s) = true
+is_checked_at_event (Opens path f b) = false
 is_checked_at_event (Creates d) = false
 is_checked_at_event (Deletes tag) = false
 is_checked_at_event (Allots tag size) = false
@@ -88,7 +98,7 @@ is_checked_at_event (Frees p g) = true
 
 -- What a request leaves that is done: its event, and its actor at the next word, with what was loaded or
 -- with the call's answer and code 0. One that is checked in its instruction has come to its event: a child's starter to the
--- claim of a life, a tag that is to be deleted to its close, and a block to the slot in which the tag was opened.
+-- claim of a life, a file to the claim of a number for its descriptor, a tag that is to be deleted to its close, and a block to the slot in which the tag was opened.
 abbrev pub next_word : ActorState → ℕ
 next_word a = (a.hart.pc + 4) % 2 ^ 32
 
@@ -111,6 +121,10 @@ answered a value code = record { pc = next_word a; regs = slice_set (slice_set a
 abbrev pub next_bytes : Stream → ℕ → List ℕ
 next_bytes s n = take n (drop s.position s.bytes)
 
+-- a file that is to be opened under a path with bits, for whose descriptor no number is claimed yet
+abbrev pub opened_as : List ℕ → FileEntry → FdBits → FileOpening
+opened_as path f b = record { path = path; kind = f.kind; bytes = f.content; bits = b; number = None }
+
 abbrev pub IsDone : ActorState → Request → Option Event → Option ActorState → Type 0
 IsDone a (Loads x rd s) e now =
     (e ≡ Some (event.Slot x.place.slot (slot_ask.Load x.place.offset x.width (living_for a x)) (slot_reply.Loaded (value_in x))))
@@ -132,6 +146,7 @@ IsDone a (Appends fd s bytes) e now =
 IsDone a (Closes fd s) e now =
     (e ≡ Some (event.Fd fd (stream_ask.Close (bits_of a fd)) stream_reply.Closed))
     × (now ≡ Some (record a { hart = answered a 0 0; phase = phase.Running }))
+IsDone a (Opens path f b) e now = (e ≡ None) × (now ≡ Some (record a { phase = phase.OpeningFile (opened_as path f b) }))
 IsDone a (Creates d) e now = (e ≡ None) × (now ≡ comes_to a (want.Lives lives_ask.Claim))
 IsDone a (Deletes tag) e now = (e ≡ None) × (now ≡ comes_to a (want.Slot (slot_held a tag) (slot_want.Close tag)))
 IsDone a (Allots tag size) e now = (e ≡ None) × (now ≡ comes_to a (want.Slot (slot_held a tag) (slot_want.Smalloc tag size)))
@@ -156,6 +171,7 @@ denied a (Stores x value) d = ended_denied a d
 denied a (Reads fd s n) d = answered_denied a d
 denied a (Appends fd s bytes) d = answered_denied a d
 denied a (Closes fd s) d = answered_denied a d
+denied a (Opens path f b) d = answered_denied a d
 denied a (Creates draft) d = answered_denied a d
 denied a (Deletes tag) d = answered_denied a d
 denied a (Allots tag size) d = answered_denied a d

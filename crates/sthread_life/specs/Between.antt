@@ -1,5 +1,5 @@
 -- What holds of an actor between instructions, and of what it wants.
-use Rattle.std.specs.Prelude.{◌≡◌, ℕ, ◌+◌, ◌<◌, ◌≤◌, true, List, length, None, IsSomeAnd}
+use Rattle.std.specs.Prelude.{◌≡◌, ℕ, ◌+◌, ◌<◌, ◌≤◌, true, List, length, Option, Some, None, IsSomeAnd}
 use Rattle.std.specs.List.{AllByRecursion}
 use Rattle.wedge_base.specs.Directories.{Directory}
 use Rattle.wedge_base.specs.Names.{most_parts}
@@ -36,6 +36,7 @@ IsBetween (phase.Within q) = ⊥
 IsBetween (phase.Starting p) = ⊥
 IsBetween (phase.Opening slot tag) = ⊥
 IsBetween (phase.Releasing slot) = ⊥
+IsBetween (phase.OpeningFile o) = ⊥
 IsBetween (phase.Ending e) = Unit {0}
 IsBetween (phase.Ended e) = Unit {0}
 
@@ -73,7 +74,8 @@ abbrev pub GivesBelow : ℕ → Directory → Type 0
 GivesBelow limit d = (d.places ≤ limit) × (d.unused ≤ limit) × AllByRecursion (λ p. p < limit) d.released
 
 -- What an actor may want: the claim of a slot for a tag of so many pages, the opening of a tag there, its close and the release
--- of its slot; an aligned access inside the window of a slot, a block in a tag, one to be freed, and a copy of a tag; a read, an append and a close of a descriptor,
+-- of its slot; an aligned access inside the window of a slot, a block in a tag, one to be freed, and a copy of a tag; a number for a descriptor, and the opening, a read, an
+-- append and a close of its stream,
 -- a life for a child and the start of its next child where it is ready for that, the join of a child, and its end. Each further
 -- call is one more case.
 abbrev pub WantFitsWhere : Type 0 → Type 0 → (List ℕ → Type 0) → (ℕ → Type 0) → Want → Type 0
@@ -86,6 +88,8 @@ WantFitsWhere P R S J (want.Slot slot (slot_want.Store offset width value)) = (s
 WantFitsWhere P R S J (want.Slot slot (slot_want.Smalloc tag size)) = (slot < slots) × (1 ≤ size)
 WantFitsWhere P R S J (want.Slot slot (slot_want.Sfree offset)) = (slot < slots) × (offset < window)
 WantFitsWhere P R S J (want.Slot slot (slot_want.Snap tag)) = slot < slots
+WantFitsWhere P R S J (want.Fds directory_ask.Claim) = Unit {0}
+WantFitsWhere P R S J (want.Fd fd (stream_ask.Open k bytes)) = fd < most_fds
 WantFitsWhere P R S J (want.Fd fd (stream_ask.Read bits count)) = fd < most_fds
 WantFitsWhere P R S J (want.Fd fd (stream_ask.Append bits bytes)) = fd < most_fds
 WantFitsWhere P R S J (want.Fd fd (stream_ask.Close bits)) = fd < most_fds
@@ -102,12 +106,18 @@ WantFits a q = WantFitsWhere (AsksPages a.hart) (MayStart a) (IsNextName a.name 
 abbrev pub AreInSlots : List CopyGrant → Type 0
 AreInSlots gs = AllByRecursion (λ g. g.slot < slots) gs
 
+-- the number that is claimed for a descriptor is below 1,024
+abbrev pub NumberFits : Option ℕ → Type 0
+NumberFits None = Unit {0}
+NumberFits (Some fd) = fd < most_fds
+
 abbrev pub PhaseFitsWhere : Type 0 → Type 0 → (List ℕ → Type 0) → (ℕ → Type 0) → Phase → Type 0
 PhaseFitsWhere P R S J phase.Running = Unit {0}
 PhaseFitsWhere P R S J (phase.Within w) = WantFitsWhere P R S J w
 PhaseFitsWhere P R S J (phase.Starting p) = R × AreInSlots p.left
 PhaseFitsWhere P R S J (phase.Opening slot tag) = (slot < slots) × P
 PhaseFitsWhere P R S J (phase.Releasing slot) = slot < slots
+PhaseFitsWhere P R S J (phase.OpeningFile o) = NumberFits o.number
 PhaseFitsWhere P R S J (phase.Ending e) = Unit {0}
 PhaseFitsWhere P R S J (phase.Ended e) = Unit {0}
 
@@ -116,10 +126,11 @@ abbrev pub GivesWithin : StreamAsk → List ℕ → Type 0
 GivesWithin (stream_ask.Read bits count) bytes = length bytes ≤ count
 GivesWithin q bytes = ⊥
 
--- An event is in bounds: its slot is there, a block begins inside the slot's window, a copy has as many pages as a tag may have, and
+-- An event is in bounds: its slot is there, a number for a descriptor is below 1,024, a block begins inside the slot's window, a copy has as many pages as a tag may have, and
 -- a stream gives no more bytes than were asked for. This is a property of the event alone.
 abbrev pub IsInBounds : Event → Type 0
 IsInBounds (event.Slots q (directory_reply.Claimed slot tag)) = slot < slots
+IsInBounds (event.Fds q (directory_reply.Claimed fd number)) = fd < most_fds
 IsInBounds (event.Slot slot q (slot_reply.Placed offset)) = (slot < slots) × (offset < window)
 IsInBounds (event.Slot slot q (slot_reply.Snapped pages)) = (slot < slots) × (length pages ≤ most_pages)
 IsInBounds (event.Slot slot q r) = slot < slots

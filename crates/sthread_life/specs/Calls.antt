@@ -1,12 +1,13 @@
 -- The service calls: what the actor itself decides, up to the event that a call wants.
-use Rattle.std.specs.Prelude.{ℕ, ◌==◌, Bool, true, false, not, ◌&&◌, nat_lt, nat_le, List, [], ◌∷◌, ◌++◌, length, slice_get, slice_set, Option, Some, None, if◌then◌else◌}
+use Rattle.std.specs.Prelude.{ℕ, ◌==◌, Bool, true, false, not, ◌&&◌, nat_lt, nat_le, List, [], ◌∷◌, ◌++◌, length, slice_get, slice_set, find, Option, Some, None, if◌then◌else◌}
 use Rattle.wedge_base.specs.Images.{Image, most_pages, slot_of}
 use Rattle.wedge_base.specs.Maps.{has}
 use Rattle.wedge_base.specs.Paths.{resolve}
-use Rattle.wedge_base.specs.Rights.{at_least}
+use Rattle.wedge_base.specs.Rights.{at_least, read_bit, append_bit}
 use Rattle.wedge_base.specs.Services.{service_number}
 use Rattle.wedge_base.specs.declared.service.Service.TheVariants as service
-use Rattle.wedge_base.specs.Names.{most_parts}
+use Rattle.wedge_base.specs.Files.{may_open}
+use Rattle.wedge_base.specs.Names.{same, most_parts}
 use Rattle.wedge_base.specs.Sheets.{Draft, empty_draft, takes_tag, takes_fd, with_tag, with_fd, first_excess}
 use Rattle.wedge_base.specs.Streams.{most_fds}
 use Rattle.wedge_base.specs.declared.cells.LivesAsk.TheVariants as lives_ask
@@ -16,6 +17,9 @@ use Rattle.wedge_base.specs.declared.events.SlotWant.TheVariants as slot_want
 use Rattle.wedge_base.specs.declared.rights.Denial.{Denial}
 use Rattle.wedge_base.specs.declared.rights.Denial.TheVariants as denial
 use Rattle.wedge_base.specs.declared.rights.FdBits.{FdBits}
+use Rattle.wedge_base.specs.declared.image.FileEntry.{FileEntry}
+use Rattle.wedge_base.specs.declared.rights.StreamKind.{StreamKind}
+use Rattle.wedge_base.specs.declared.rights.StreamKind.TheVariants as kind
 use Rattle.wedge_base.specs.declared.rights.Right.{Right}
 use Rattle.wedge_base.specs.declared.rights.Right.TheVariants as right
 use Rattle.wedge_base.specs.declared.rights.Code.TheVariants as code
@@ -26,6 +30,8 @@ use Rattle.image_form.specs.Rules.{begins_at}
 use Rattle.rv_hart.specs.Local.{reg}
 use Rattle.sthread_life.specs.Actors.{ActorState, right_of, bits_of, slot_held, answers, refuses, denies, ends, wants, spends}
 use Rattle.sthread_life.specs.Children.{is_child}
+use Rattle.sthread_life.specs.Opening.{FileOpening}
+use Rattle.sthread_life.specs.declared.phase.Phase.TheVariants as phase
 use Rattle.sthread_life.specs.Private.{fits_read, fits_write, buffer}
 
 -- the arguments of a call, and its number
@@ -71,6 +77,48 @@ abbrev pub fd_close : ActorState → ActorState
 fd_close a =
     if nat_le most_fds (a0 a) then refuses a code.NoSuch
     else wants a (want.Fd (a0 a) (stream_ask.Close (bits_of a (a0 a))))
+
+-- ---- files
+
+-- the path that a buffer holds, under the root directory of its actor; none where the buffer does not fit or holds no path
+abbrev pub path_in : Image → ActorState → ℕ → ℕ → Option (List ℕ)
+path_in i a pointer n = if fits_read i a pointer n then resolve a.sheet.root (buffer i a pointer n) else None
+
+-- the file of a path
+abbrev pub file_at : Image → List ℕ → Option FileEntry
+file_at i path = find (λ f. same f.path path) i.files
+
+-- the bits that an argument asks for: 1 to read, 2 to append
+abbrev pub mode_asked : ℕ → Option FdBits
+mode_asked n =
+    if n == 1 then Some read_bit
+    else if n == 2 then Some append_bit
+    else None
+
+-- a source is opened to be read, and an append stream to be appended to
+abbrev pub suits : StreamKind → FdBits → Bool
+suits kind.Source b = b.read
+suits kind.Append b = b.append
+
+-- a file as it is opened: a number is claimed for its descriptor first, and then its stream is opened
+abbrev pub opening_of : List ℕ → FileEntry → FdBits → FileOpening
+opening_of path f b = record { path = path; kind = f.kind; bytes = f.content; bits = b; number = None }
+
+-- file_open: pointer, length, bits
+abbrev pub open_file : ActorState → List ℕ → FdBits → Option FileEntry → ActorState
+open_file a path b None = refuses a code.NoSuch
+open_file a path b (Some f) =
+    if not (may_open a.sheet.user f b) then denies a (denial.File path)
+    else if not (suits f.kind b) then refuses a code.Bad
+    else record a { phase = phase.OpeningFile (opening_of path f b) }
+
+abbrev pub open_path : Image → ActorState → Option FdBits → Option (List ℕ) → ActorState
+open_path i a None path = refuses a code.Bad
+open_path i a (Some b) None = refuses a code.Bad
+open_path i a (Some b) (Some path) = if nat_lt a.fuel (a1 a) then refuses a code.FuelShort else open_file a path b (file_at i path)
+
+abbrev pub file_open : Image → ActorState → ActorState
+file_open i a = open_path i a (mode_asked (a2 a)) (path_in i a (a0 a) (a1 a))
 
 -- ---- sthreads
 
@@ -205,10 +253,6 @@ set_user a (Some d) = answers (with_draft a (a0 a) (with_user d (a1 a))) 0
 abbrev pub sc_user : ActorState → ActorState
 sc_user a = set_user a (slice_get a.drafts (a0 a))
 
--- the path that a buffer holds, under the root directory of its actor; none where the buffer does not fit or holds no path
-abbrev pub path_in : Image → ActorState → ℕ → ℕ → Option (List ℕ)
-path_in i a pointer n = if fits_read i a pointer n then resolve a.sheet.root (buffer i a pointer n) else None
-
 -- sc_root: draft, pointer, length. Each byte of the path takes a unit of fuel.
 abbrev pub put_root : ActorState → Draft → Option (List ℕ) → ActorState
 put_root a d None = refuses a code.Bad
@@ -246,4 +290,5 @@ serves i a n =
     else if n == service_number service.FdRead then fd_read a
     else if n == service_number service.FdAppend then fd_append i a
     else if n == service_number service.FdClose then fd_close a
+    else if n == service_number service.FileOpen then file_open i a
     else draft_call i a n

@@ -6,7 +6,6 @@ use Rattle.std.specs.Option.{option_or}
 use Rattle.cow_pages.specs.Copies.{Copies, copy_at}
 use Rattle.cow_pages.specs.Listed.{bytes_listed}
 use Rattle.cow_pages.specs.PrivateMemory.{PrivateMemory}
-use Rattle.wedge_base.specs.Images.{Image}
 use Rattle.wedge_base.specs.Maps.{Map}
 use Rattle.wedge_base.specs.Pages.{PageAt, pages_of}
 use Rattle.wedge_base.specs.Sheets.{granted, empty_draft}

@@ -35,6 +35,7 @@ end_of (phase.Within q) = None
 end_of (phase.Starting p) = None
 end_of (phase.Opening slot tag) = None
 end_of (phase.Releasing slot) = None
+end_of (phase.OpeningFile o) = None
 end_of (phase.Ending e) = Some e
 end_of (phase.Ended e) = Some e
 

@@ -1,6 +1,6 @@
 -- Starts, joins and ends among actors, read off the registers, the drafts and the child: a second statement, beside the step.
 use Rattle.std.specs.Prelude.{◌≡◌, ℕ, ◌+◌, ◌-◌, true, List, [], ◌∷◌, ◌++◌, replicate, slice_get, slice_set, Option, Some, None, IsSomeAnd}
-use Rattle.wedge_base.specs.Sheets.{Made, Draft, nothing_made, made_tag, first_excess, granted}
+use Rattle.wedge_base.specs.Sheets.{Made, Draft, nothing_made, made_tag, made_fd, first_excess, granted}
 use Rattle.wedge_base.specs.declared.rights.End.{End}
 use Rattle.wedge_base.specs.declared.events.Event.{Event}
 use Rattle.wedge_base.specs.declared.events.Event.TheVariants as event
@@ -8,9 +8,11 @@ use Rattle.wedge_base.specs.declared.cells.SlotAsk.{SlotAsk}
 use Rattle.wedge_base.specs.declared.cells.SlotAsk.TheVariants as slot_ask
 use Rattle.wedge_base.specs.declared.cells.SlotReply.{SlotReply}
 use Rattle.wedge_base.specs.declared.cells.SlotReply.TheVariants as slot_reply
+use Rattle.wedge_base.specs.declared.cells.StreamReply.TheVariants as stream_reply
 use Rattle.grant_sheet.specs.Granting.{IsWithin}
 use Rattle.rv_hart.specs.declared.Hart.{Hart}
 use Rattle.rv_hart.specs.Local.{reg}
+use Rattle.sthread_life.specs.declared.files.StreamLabel.{StreamLabel}
 use Rattle.sthread_life.specs.declared.phase.Phase.{Phase}
 use Rattle.sthread_life.specs.declared.phase.Phase.TheVariants as phase
 use Rattle.sthread_life.specs.Actors.{ActorState}
@@ -25,7 +27,7 @@ use Rattle.sthread_life.specs.Worlds.{WorldState, actor_named, put_actor}
 
 -- an actor that has done nothing
 abbrev pub IsFresh : ActorState → Type 0
-IsFresh c = (c.made ≡ nothing_made) × (c.drafts ≡ []) × (c.denials ≡ []) × (c.starts ≡ 0) × (c.unjoined ≡ []) × (c.phase ≡ phase.Running)
+IsFresh c = (c.made ≡ nothing_made) × (c.drafts ≡ []) × (c.denials ≡ []) × (c.starts ≡ 0) × (c.unjoined ≡ []) × (c.phase ≡ phase.Running) × (c.labels ≡ [])
 
 -- A child as it begins, by the call of the actor that starts it: the number of a draft, the entry, the argument and the fuel. Its
 -- sheet is what the draft gives, and is within what its starter holds; its memory is the one that was prepared, with every copy.
@@ -88,16 +90,32 @@ pub record IsJoined (old : WorldState) (a : ActorState) (k : ℕ) (e : End) (fue
 
 -- ---- anything else
 
--- what an actor has made once an event took place: one tag more where it opened one
+-- what an actor has made once an event took place: one tag more where it opened one, and one descriptor more, with the bits that it
+-- asked for, where it opened a file
 abbrev pub made_in : Made → ℕ → SlotReply → SlotAsk → Made
 made_in m slot slot_reply.Opened (slot_ask.Open tag pages) = made_tag m tag slot
 made_in m slot r q = m
 
-abbrev pub made_by : Made → Option Event → Made
-made_by m (Some (event.Slot slot q r)) = made_in m slot r q
-made_by m e = m
+abbrev pub made_under : Made → Phase → ℕ → Made
+made_under m (phase.OpeningFile o) fd = made_fd m fd o.bits
+made_under m p fd = m
 
--- Nothing else changes another actor, nor what an actor may do and whom it started, but that it has made a tag that it opened.
+abbrev pub made_by : ActorState → Option Event → Made
+made_by a (Some (event.Slot slot q r)) = made_in a.made slot r q
+made_by a (Some (event.Fd fd q stream_reply.Opened)) = made_under a.made a.phase fd
+made_by a e = a.made
+
+-- the paths of the files that it opened, with one more where it opened a file
+abbrev pub labelled_under : List StreamLabel → Phase → ℕ → List StreamLabel
+labelled_under ls (phase.OpeningFile o) fd = ls ++ record { number = fd; path = o.path } ∷ []
+labelled_under ls p fd = ls
+
+abbrev pub labels_by : ActorState → Option Event → List StreamLabel
+labels_by a (Some (event.Fd fd q stream_reply.Opened)) = labelled_under a.labels a.phase fd
+labels_by a e = a.labels
+
+-- Nothing else changes another actor, nor what an actor may do and whom it started, but that it has made a tag or a descriptor that
+-- it opened.
 -- A child whose memory is prepared is started next, and who ends has joined all its children.
 pub record ActsAlone (old : WorldState) (a : ActorState) (e : Option Event) (new : WorldState) : Type 0 where
   pub after : ActorState
@@ -105,7 +123,8 @@ pub record ActsAlone (old : WorldState) (a : ActorState) (e : Option Event) (new
   pub name : after.name ≡ a.name
   pub compartment : after.compartment ≡ a.compartment
   pub sheet : after.sheet ≡ a.sheet
-  pub made : after.made ≡ made_by a.made e
+  pub made : after.made ≡ made_by a e
+  pub labels : after.labels ≡ labels_by a e
   pub starts : after.starts ≡ a.starts
   pub unjoined : after.unjoined ≡ a.unjoined
   pub starting : (p : Preparation) → a.phase ≡ phase.Starting p → p.left ≡ [] → ⊥

@@ -63,12 +63,17 @@ TakesItsUnits old t new = (a : ActorState) → actor_named old.actors t.actor �
 abbrev pub unit_work : ℕ
 unit_work = 5 + most_grants
 
+abbrev pub opening_work : Option ℕ → ℕ
+opening_work None = 7
+opening_work (Some fd) = 6
+
 abbrev pub phase_work : Phase → ℕ
 phase_work phase.Running = 2
 phase_work (phase.Within q) = 7 + most_grants
 phase_work (phase.Starting p) = 6 + length p.left
 phase_work (phase.Opening slot tag) = 6
 phase_work (phase.Releasing slot) = 6
+phase_work (phase.OpeningFile o) = opening_work o.number
 phase_work (phase.Ending e) = 1
 phase_work (phase.Ended e) = 0
 

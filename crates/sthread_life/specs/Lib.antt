@@ -2,6 +2,7 @@ pub mod Children
 pub mod Copying
 pub mod Actors
 pub mod Private
+pub mod Opening
 pub mod Calls
 pub mod Local
 pub mod Taking
@@ -14,6 +15,7 @@ pub mod Ends
 pub mod Refusals
 pub mod Paying
 pub mod Families
+pub mod FileCalls
 pub mod TagCalls
 pub mod ChildCopies
 pub mod CopiesGranted

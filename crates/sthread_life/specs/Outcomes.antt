@@ -1,5 +1,5 @@
 -- What a run ends with: a line for each actor that has ended, and the bytes of each append stream.
-use Rattle.std.specs.Prelude.{ℕ, ◌+◌, List, [], ◌∷◌, Option, Some, None, slice_get, unwrap_or, option_map, if◌then◌else◌}
+use Rattle.std.specs.Prelude.{ℕ, ◌+◌, ◌==◌, List, [], ◌∷◌, ◌++◌, Option, Some, None, slice_get, unwrap_or, option_map, if◌then◌else◌}
 use Rattle.std.specs.Ordering.{nat_cmp, is_lt}
 use Rattle.std.specs.Cmp.Lexicographic.{slice_cmp}
 use Rattle.wedge_base.specs.Images.{Image, procedure_name}
@@ -10,6 +10,7 @@ use Rattle.wedge_base.specs.declared.rights.End.{End}
 use Rattle.wedge_base.specs.declared.outcome.ActorLine.{ActorLine}
 use Rattle.wedge_base.specs.declared.outcome.StreamLine.{StreamLine}
 use Rattle.wedge_base.specs.declared.outcome.Outcome.{Outcome}
+use Rattle.sthread_life.specs.declared.files.StreamLabel.{StreamLabel}
 use Rattle.sthread_life.specs.declared.phase.Phase.{Phase}
 use Rattle.sthread_life.specs.declared.phase.Phase.TheVariants as phase
 use Rattle.sthread_life.specs.Actors.{ActorState}
@@ -32,22 +33,30 @@ abbrev pub lines_of : Image → List ActorState → List ActorLine
 lines_of i [] = []
 lines_of i (a ∷ as_) = with_actor i a a.phase (lines_of i as_)
 
--- the name under which a descriptor was declared
-abbrev pub label_of : Image → ℕ → List ℕ
-label_of i n = unwrap_or (option_map (λ f. f.name) (slice_get i.fds n)) []
+-- the name under which a descriptor was declared, or else the path under which an actor opened it
+abbrev pub labels_of : List ActorState → List StreamLabel
+labels_of [] = []
+labels_of (a ∷ as_) = a.labels ++ labels_of as_
+
+abbrev pub path_of : List StreamLabel → ℕ → List ℕ
+path_of [] n = []
+path_of (l ∷ ls) n = if l.number == n then l.path else path_of ls n
+
+abbrev pub label_of : Image → List StreamLabel → ℕ → List ℕ
+label_of i labels n = unwrap_or (option_map (λ f. f.name) (slice_get i.fds n)) (path_of labels n)
 
 -- an append stream has a line, a source none, and what was never opened none
-abbrev pub with_kind : Image → ℕ → Stream → StreamKind → List StreamLine → List StreamLine
-with_kind i n s kind.Append ls = record { number = n; label = label_of i n; bytes = s.bytes } ∷ ls
-with_kind i n s kind.Source ls = ls
+abbrev pub with_kind : Image → List StreamLabel → ℕ → Stream → StreamKind → List StreamLine → List StreamLine
+with_kind i labels n s kind.Append ls = record { number = n; label = label_of i labels n; bytes = s.bytes } ∷ ls
+with_kind i labels n s kind.Source ls = ls
 
-abbrev pub with_stream : Image → ℕ → Option Stream → List StreamLine → List StreamLine
-with_stream i n None ls = ls
-with_stream i n (Some s) ls = with_kind i n s s.kind ls
+abbrev pub with_stream : Image → List StreamLabel → ℕ → Option Stream → List StreamLine → List StreamLine
+with_stream i labels n None ls = ls
+with_stream i labels n (Some s) ls = with_kind i labels n s s.kind ls
 
-abbrev pub streams_of : Image → ℕ → List (Option Stream) → List StreamLine
-streams_of i n [] = []
-streams_of i n (s ∷ ss) = with_stream i n s (streams_of i (n + 1) ss)
+abbrev pub streams_of : Image → List StreamLabel → ℕ → List (Option Stream) → List StreamLine
+streams_of i labels n [] = []
+streams_of i labels n (s ∷ ss) = with_stream i labels n s (streams_of i labels (n + 1) ss)
 
 abbrev pub outcome_of : WorldState → Outcome
-outcome_of w = record { actors = lines_of w.image w.actors; streams = streams_of w.image 0 w.cells.streams }
+outcome_of w = record { actors = lines_of w.image w.actors; streams = streams_of w.image (labels_of w.actors) 0 w.cells.streams }

@@ -1,7 +1,8 @@
 -- What each moment costs its actor in fuel, read off the text, the registers and the reply: a second statement, beside the
 -- step. An instruction costs a unit, where there is one to take, and the path
 -- of a root directory one more for each byte of it; a read costs a unit for each byte that it gave, and an
--- append that took place one for each byte of its length, the call's third argument; nothing else costs anything. A start gives fuel to the child, as the call's fourth
+-- append that took place one for each byte of its length, the call's third argument, and a file
+-- that was opened one for each byte of its path's text, the second argument; nothing else costs anything. A start gives fuel to the child, as the call's fourth
 -- argument says, and a join brings back what the child has left.
 use Rattle.std.specs.Prelude.{◌≡◌, ◌+◌, ◌==◌, ℕ, zero, suc, List, length, slice_get, Option, Some, None, IsSomeAnd, if◌then◌else◌}
 use Rattle.wedge_base.specs.Images.{Image, fetch}
@@ -49,6 +50,7 @@ cost_at i a = cost_of_word i a (fetch i a.hart.pc) a.fuel
 abbrev pub cost_by : ActorState → Event → ℕ
 cost_by a (event.Fd fd (stream_ask.Read bits count) (stream_reply.Given bytes)) = length bytes
 cost_by a (event.Fd fd (stream_ask.Append bits bytes) stream_reply.Appended) = reg a.hart.regs 12
+cost_by a (event.Fd fd (stream_ask.Open k bytes) stream_reply.Opened) = reg a.hart.regs 11
 cost_by a e = 0
 
 abbrev pub cost : Image → ActorState → Option Event → ℕ

@@ -18,6 +18,9 @@ use Rattle.wedge_base.specs.declared.cells.SlotReply.{SlotReply}
 use Rattle.wedge_base.specs.declared.cells.SlotReply.TheVariants as slot_reply
 use Rattle.wedge_base.specs.declared.cells.StreamReply.{StreamReply}
 use Rattle.wedge_base.specs.declared.cells.StreamReply.TheVariants as stream_reply
+use Rattle.wedge_base.specs.Files.{may_open}
+use Rattle.wedge_base.specs.declared.image.FileEntry.{FileEntry}
+use Rattle.wedge_base.specs.declared.rights.FdBits.{FdBits}
 use Rattle.wedge_base.specs.declared.rights.Right.TheVariants as right
 use Rattle.wedge_base.specs.declared.rights.Denial.{Denial}
 use Rattle.rv_isa.specs.declared.Instr.{Instr}
@@ -31,8 +34,8 @@ use Rattle.sthread_life.specs.Actors.{ActorState, bits_of, slot_held}
 use Rattle.sthread_life.specs.Cells.{Cells, slot_in, stream_in}
 use Rattle.sthread_life.specs.Children.{is_child}
 use Rattle.sthread_life.specs.Worlds.{WorldState}
-use Rattle.sthread_life.specs.Requests.{bytes_at, path_at, is_room}
-use Rattle.sthread_life.specs.Allowed.{may_use, is_source, answered}
+use Rattle.sthread_life.specs.Requests.{bytes_at, path_at, is_room, bits_to_open, file_of}
+use Rattle.sthread_life.specs.Allowed.{may_use, is_source, fits_kind, answered}
 use Rattle.sthread_life.specs.Moments.{with_actor}
 
 abbrev pub fuel_short : ℕ
@@ -66,6 +69,17 @@ read_refusal a fd n fits = if fits then transfer_refusal a fd n else Some bad
 abbrev pub append_refusal : ActorState → ℕ → ℕ → Option (List ℕ) → Option ℕ
 append_refusal a fd n None = Some bad
 append_refusal a fd n (Some bytes) = transfer_refusal a fd n
+
+-- file_open: bits that are neither 1 nor 2, a buffer that does not fit, or that holds no path; more bytes than there is fuel; no
+-- such file; and, where its user may open it so, a file of the other kind
+abbrev pub file_refusal : ActorState → FdBits → Option FileEntry → Option ℕ
+file_refusal a b None = Some no_such
+file_refusal a b (Some f) = if may_open a.sheet.user f b && not (fits_kind f.kind b) then Some bad else None
+
+abbrev pub open_refusal : Image → ActorState → ℕ → Option FdBits → Option (List ℕ) → Option ℕ
+open_refusal i a n None path = Some bad
+open_refusal i a n (Some b) None = Some bad
+open_refusal i a n (Some b) (Some path) = if nat_le n a.fuel then file_refusal a b (file_of i path) else Some fuel_short
 
 -- sthread_create: no such draft; no procedure at the entry; and where every grant of the draft may be given, a name that has 32
 -- parts already, or less fuel than the child is to have
@@ -144,6 +158,7 @@ call_refusal i a regs n =
     else if n == 15 then read_refusal a (reg regs 10) (reg regs 12) (is_room a (reg regs 11) (reg regs 12))
     else if n == 16 then append_refusal a (reg regs 10) (reg regs 12) (bytes_at i a (reg regs 11) (reg regs 12))
     else if n == 17 then number_refusal (reg regs 10)
+    else if n == 18 then open_refusal i a (reg regs 11) (bits_to_open (reg regs 12)) (path_at i a (reg regs 10) (reg regs 11))
     else draft_refusal i a regs n
 
 abbrev pub need_refusal : Image → ActorState → Need → Option ℕ
@@ -186,7 +201,7 @@ stream_close_refusal s = live_refusal (λ x. None) s
 abbrev pub life_refusal : ℕ → Option ℕ
 life_refusal lives = if nat_lt lives 256 then None else Some full
 
--- tag_new: no number is left, or no slot, neither one that was released nor one that was never used
+-- tag_new, and file_open likewise: no number is left, or no slot, neither one that was released nor one that was never used
 abbrev pub is_left : Directory → List ℕ → Bool
 is_left d [] = nat_lt d.unused d.places
 is_left d (p ∷ ps) = true
@@ -269,6 +284,7 @@ stream_refuses r = false
 
 abbrev pub is_refusal : Event → Bool
 is_refusal (event.Slots q directory_reply.Full) = true
+is_refusal (event.Fds q directory_reply.Full) = true
 is_refusal (event.Slot slot q r) = slot_refuses r
 is_refusal (event.Fd fd q r) = stream_refuses r
 is_refusal (event.Lives q lives_reply.Full) = true
@@ -279,8 +295,18 @@ pub record RefusesAt (old : WorldState) (a : ActorState) (e : Event) (new : Worl
   pub refused : (code : ℕ) → refusal_after old.image old.cells a ≡ Some code → new ≡ with_actor old (refused a code)
   pub passed : refusal_after old.image old.cells a ≡ None → is_refusal e ≡ false
 
+-- file_open: no number is left for the descriptor; its stream is opened without fail
+pub record RefusesNumber (old : WorldState) (a : ActorState) (e : Event) (new : WorldState) : Type 0 where
+  pub refused : (code : ℕ) → slots_refusal old.cells.numbers ≡ Some code → new ≡ with_actor old (refused a code)
+  pub passed : slots_refusal old.cells.numbers ≡ None → is_refusal e ≡ false
+
+abbrev pub RefusesOpening : WorldState → ActorState → Option ℕ → Event → WorldState → Type 0
+RefusesOpening old a None e new = RefusesNumber old a e new
+RefusesOpening old a (Some fd) e new = is_refusal e ≡ false
+
 abbrev pub RefusesAfter : WorldState → ActorState → Phase → Event → WorldState → Type 0
 RefusesAfter old a (phase.Within q) e new = RefusesAt old a e new
+RefusesAfter old a (phase.OpeningFile o) e new = RefusesOpening old a o.number e new
 RefusesAfter old a p e new = is_refusal e ≡ false
 
 -- a call is refused with the code of its row

@@ -1,17 +1,20 @@
 -- The requests that a sheet may forbid, and which of them an instruction makes: read off its word, the
 -- registers, private memory and what lives in the cells. Nothing here calls the step, so that what the step
 -- makes of a request is a theorem.
-use Rattle.std.specs.Prelude.{ℕ, ◌%◌, ◌==◌, Bool, not, ◌&&◌, List, [], length, slice_get, Option, Some, None, is_some, option_map, option_and_then, nat_le, nat_lt, ◌||◌, if◌then◌else◌}
+use Rattle.std.specs.Prelude.{ℕ, ◌%◌, ◌==◌, Bool, true, false, not, ◌&&◌, List, [], length, slice_get, find, Option, Some, None, is_some, option_map, option_and_then, nat_le, nat_lt, ◌||◌, if◌then◌else◌}
 use Rattle.std.specs.List.{list_any}
 use Rattle.cow_pages.specs.Copies.{copy_at}
 use Rattle.wedge_base.specs.Memory.{range_at, read_range}
 use Rattle.wedge_base.specs.Images.{Image, fetch, in_text, read_text, slot_of}
+use Rattle.wedge_base.specs.Names.{same}
 use Rattle.wedge_base.specs.Paths.{resolve}
 use Rattle.wedge_base.specs.Sheets.{Draft}
 use Rattle.wedge_base.specs.Slots.{Segment}
 use Rattle.wedge_base.specs.Streams.{Stream, most_fds}
 use Rattle.wedge_base.specs.declared.address.Place.{Place}
+use Rattle.wedge_base.specs.declared.image.FileEntry.{FileEntry}
 use Rattle.wedge_base.specs.declared.image.MemoryRange.{MemoryRange}
+use Rattle.wedge_base.specs.declared.rights.FdBits.{FdBits}
 use Rattle.rv_isa.specs.declared.Instr.{Instr}
 use Rattle.rv_isa.specs.Table.{decode}
 use Rattle.rv_hart.specs.declared.Need.{Need}
@@ -27,7 +30,7 @@ pub record Access : Type 0 where
   pub living : Segment
 
 -- a request that a sheet may forbid: to load into a register, with a sign or without, to store a value, to
--- read so many bytes of a live stream, to append bytes to one, to close one, to start a child with the sheet of a draft, to delete a tag, to place a block of so many
+-- read so many bytes of a live stream, to append bytes to one, to close one, to open the file of a path with bits, to start a child with the sheet of a draft, to delete a tag, to place a block of so many
 -- bytes in a tag, and to free the block at a place of a tag that lives there
 pub data Request : Type 0 where
   Loads : Access → (rd : ℕ) → (is_signed : Bool) → Request
@@ -35,6 +38,7 @@ pub data Request : Type 0 where
   Reads : (fd : ℕ) → Stream → (count : ℕ) → Request
   Appends : (fd : ℕ) → Stream → (bytes : List ℕ) → Request
   Closes : (fd : ℕ) → Stream → Request
+  Opens : (path : List ℕ) → FileEntry → FdBits → Request
   Creates : Draft → Request
   Deletes : (tag : ℕ) → Request
   Allots : (tag size : ℕ) → Request
@@ -93,6 +97,21 @@ append_of c a fd n (Some bytes) = if nat_le n a.fuel && nat_lt fd most_fds then 
 abbrev pub close_of : Cells → ℕ → Option Request
 close_of c fd = if nat_lt fd most_fds then in_stream (Closes fd) (stream_in c fd) else None
 
+-- file_open: the bits are 1 to read or 2 to append, the buffer holds a path, the fuel is enough, and there is such a file
+abbrev pub bits_to_open : ℕ → Option FdBits
+bits_to_open n =
+    if n == 1 then Some (record { read = true; append = false })
+    else if n == 2 then Some (record { read = false; append = true })
+    else None
+
+abbrev pub file_of : Image → List ℕ → Option FileEntry
+file_of i path = find (λ f. same f.path path) i.files
+
+abbrev pub open_of : Image → ActorState → ℕ → Option FdBits → Option (List ℕ) → Option Request
+open_of i a n None path = None
+open_of i a n (Some b) None = None
+open_of i a n (Some b) (Some path) = if nat_le n a.fuel then option_map (λ f. Opens path f b) (file_of i path) else None
+
 -- sthread_create: there is such a draft, and a procedure at the entry
 abbrev pub create_of : Image → ℕ → Option Draft → Option Request
 create_of i entry None = None
@@ -117,6 +136,7 @@ call_request i c a regs n =
     else if n == 15 then read_of c a (reg regs 10) (reg regs 11) (reg regs 12)
     else if n == 16 then append_of c a (reg regs 10) (reg regs 12) (bytes_at i a (reg regs 11) (reg regs 12))
     else if n == 17 then close_of c (reg regs 10)
+    else if n == 18 then open_of i a (reg regs 11) (bits_to_open (reg regs 12)) (path_at i a (reg regs 10) (reg regs 11))
     else None
 
 abbrev pub needed_request : Image → Cells → ActorState → ℕ → Need → Option Request

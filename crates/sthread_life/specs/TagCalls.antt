@@ -10,6 +10,7 @@ use Rattle.wedge_base.specs.declared.cells.DirectoryAsk.TheVariants as directory
 use Rattle.wedge_base.specs.declared.cells.DirectoryReply.TheVariants as directory_reply
 use Rattle.wedge_base.specs.declared.cells.SlotAsk.TheVariants as slot_ask
 use Rattle.wedge_base.specs.declared.cells.SlotReply.TheVariants as slot_reply
+use Rattle.wedge_base.specs.declared.cells.StreamAsk.TheVariants as stream_ask
 use Rattle.wedge_base.specs.declared.events.Event.{Event}
 use Rattle.wedge_base.specs.declared.events.Event.TheVariants as event
 use Rattle.wedge_base.specs.declared.events.Want.{Want}
@@ -26,6 +27,7 @@ use Rattle.sthread_life.specs.Actors.{ActorState, right_of}
 use Rattle.sthread_life.specs.Allowed.{answered}
 use Rattle.sthread_life.specs.Children.{is_child}
 use Rattle.sthread_life.specs.Families.{answered_twice}
+use Rattle.sthread_life.specs.FileCalls.{OpensAt}
 use Rattle.sthread_life.specs.Moments.{with_actor}
 use Rattle.sthread_life.specs.Worlds.{WorldState, put_actor}
 
@@ -90,9 +92,11 @@ ReleasesSlot old a slot e new =
     (e ≡ event.Slots (directory_ask.Release slot) directory_reply.Released)
     × (new.actors ≡ put_actor old.actors (record a { hart = answered a 0 0; phase = phase.Running }))
 
--- an event that opens a tag, or claims or releases a slot
+-- an event that opens a tag or a stream, or claims a slot or a number, or releases one
 abbrev pub is_making : Event → Bool
 is_making (event.Slots q r) = true
+is_making (event.Fds q r) = true
+is_making (event.Fd fd (stream_ask.Open k bytes) r) = true
 is_making (event.Slot slot (slot_ask.Open tag pages) r) = true
 is_making e = false
 
@@ -100,10 +104,11 @@ abbrev pub MakesAt : WorldState → ActorState → Phase → Event → WorldStat
 MakesAt old a (phase.Within (want.Slots q)) e new = ClaimsSlot old a e new
 MakesAt old a (phase.Opening slot tag) e new = OpensTag old a slot tag e new
 MakesAt old a (phase.Releasing slot) e new = ReleasesSlot old a slot e new
+MakesAt old a (phase.OpeningFile o) e new = OpensAt old a o o.number e new
 MakesAt old a p e new = is_making e ≡ false
 
--- a call that no sheet may forbid comes to its event, and tags are made by a claim and an opening, and their slots released,
--- by the actor whose call it is
+-- a call that no sheet may forbid comes to its event; tags are made by a claim and an opening, and their slots released, by the
+-- actor whose call it is, and so are the descriptors of files
 abbrev pub MakesTags : WorldState → ActorState → Option Event → WorldState → Type 0
 MakesTags old a None new = ComesWith old a a.fuel new
 MakesTags old a (Some e) new = MakesAt old a a.phase e new

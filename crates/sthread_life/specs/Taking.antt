@@ -1,11 +1,11 @@
 -- The actor's part of a shared event: what it wants and asks, and what the reply makes of it.
-use Rattle.std.specs.Prelude.{ℕ, ◌+◌, ◌-◌, List, [], ◌∷◌, length, slice_get, Option, Some, None, option_map, option_and_then, unwrap_or}
+use Rattle.std.specs.Prelude.{ℕ, ◌+◌, ◌-◌, List, [], ◌∷◌, ◌++◌, length, slice_get, Option, Some, None, option_map, option_and_then, unwrap_or}
 use Rattle.cow_pages.specs.Copies.{without_copy}
 use Rattle.cow_pages.specs.Listed.{bytes_listed}
 use Rattle.cow_pages.specs.PrivateMemory.{PrivateMemory, no_memory}
 use Rattle.wedge_base.specs.Images.{Image, fetch, address_of}
 use Rattle.wedge_base.specs.Memory.{write_at}
-use Rattle.wedge_base.specs.Sheets.{Draft, empty_draft, nothing_made, granted, made_tag}
+use Rattle.wedge_base.specs.Sheets.{Draft, empty_draft, nothing_made, granted, made_tag, made_fd}
 use Rattle.wedge_base.specs.Wants.{asked_with}
 use Rattle.wedge_base.specs.declared.rights.Right.{Right}
 use Rattle.wedge_base.specs.declared.rights.Denial.TheVariants as denial
@@ -27,6 +27,7 @@ use Rattle.wedge_base.specs.declared.cells.SlotAsk.{SlotAsk}
 use Rattle.wedge_base.specs.declared.cells.SlotAsk.TheVariants as slot_ask
 use Rattle.wedge_base.specs.declared.cells.SlotReply.{SlotReply}
 use Rattle.wedge_base.specs.declared.cells.SlotReply.TheVariants as slot_reply
+use Rattle.wedge_base.specs.declared.cells.StreamAsk.TheVariants as stream_ask
 use Rattle.wedge_base.specs.declared.cells.StreamReply.{StreamReply}
 use Rattle.wedge_base.specs.declared.cells.StreamReply.TheVariants as stream_reply
 use Rattle.wedge_base.specs.declared.cells.LivesAsk.{LivesAsk}
@@ -38,13 +39,14 @@ use Rattle.rv_isa.specs.Table.{decode}
 use Rattle.rv_hart.specs.declared.Need.{Need}
 use Rattle.rv_hart.specs.declared.Need.TheVariants as need
 use Rattle.rv_hart.specs.Local.{local, put}
+use Rattle.sthread_life.specs.Opening.{FileOpening}
 use Rattle.sthread_life.specs.declared.phase.Phase.{Phase}
 use Rattle.sthread_life.specs.declared.phase.Phase.TheVariants as phase
 use Rattle.sthread_life.specs.Actors.{ActorState, pristine, opening_hart, right_of, answers, answers_more, refuses, notes, denies, ends, spends}
 use Rattle.sthread_life.specs.Private.{has_loaded, has_stored}
 use Rattle.sthread_life.specs.Calls.{a0, a1, a2, a3}
 use Rattle.sthread_life.specs.Children.{Children, least_child, with_child, without_child, child_name}
-use Rattle.sthread_life.specs.Copying.{Preparation, copy_grants, copied_from, prepared, behind_first}
+use Rattle.sthread_life.specs.Copying.{copy_grants, copied_from, prepared, behind_first}
 use Rattle.sthread_life.specs.declared.copy_grant.CopyGrant.{CopyGrant}
 
 -- the number of the next actor that it starts
@@ -64,12 +66,18 @@ abbrev pub starting_want : ActorState → List CopyGrant → Want
 starting_want a [] = want.Start (child_name a.name (next_start a))
 starting_want a (g ∷ gs) = want.Slot g.slot (slot_want.Snap g.tag)
 
+-- an actor that opens a file asks for a number for its descriptor, and then opens the stream behind it
+abbrev pub opening_want : FileOpening → Option ℕ → Want
+opening_want o None = want.Fds directory_ask.Claim
+opening_want o (Some fd) = want.Fd fd (stream_ask.Open o.kind o.bytes)
+
 -- what an actor wants, if it wants an event
 abbrev pub wanted_at : ActorState → Phase → Option Want
 wanted_at a phase.Running = None
 wanted_at a (phase.Within w) = Some w
 wanted_at a (phase.Starting p) = Some (starting_want a p.left)
 wanted_at a (phase.Opening slot tag) = Some (want.Slot slot (slot_want.Open tag (a0 a)))
+wanted_at a (phase.OpeningFile o) = Some (opening_want o o.number)
 wanted_at a (phase.Releasing slot) = Some (want.Slots (directory_ask.Release slot))
 wanted_at a (phase.Ending e) = Some (ending_want a.unjoined e)
 wanted_at a (phase.Ended e) = None
@@ -140,6 +148,25 @@ takes_place a directory_ask.Claim (directory_reply.Claimed slot tag) = record a 
 takes_place a directory_ask.Claim directory_reply.Full = refuses a code.Full
 takes_place a directory_ask.Claim directory_reply.Released = runs a
 
+-- a number that is claimed is for the descriptor of the file that is being opened
+abbrev pub has_number : ActorState → Phase → ℕ → ActorState
+has_number a (phase.OpeningFile o) fd = record a { phase = phase.OpeningFile (record o { number = Some fd }) }
+has_number a p fd = runs a
+
+abbrev pub takes_number : ActorState → DirectoryAsk → DirectoryReply → ActorState
+takes_number a (directory_ask.Release place) r = runs a
+takes_number a directory_ask.Claim (directory_reply.Claimed fd number) = has_number a a.phase fd
+takes_number a directory_ask.Claim directory_reply.Full = refuses a code.Full
+takes_number a directory_ask.Claim directory_reply.Released = runs a
+
+-- The stream of a file is opened: its actor has the bits that it asked for on the descriptor, has opened it under that path, pays a
+-- unit of fuel for each byte of the path's text, and is answered the number.
+abbrev pub has_opened_file : ActorState → Phase → ℕ → ActorState
+has_opened_file a (phase.OpeningFile o) fd =
+    let labels = a.labels ++ record { number = fd; path = o.path } ∷ [] in
+    answers (spends (record a { made = made_fd a.made fd o.bits; labels = labels }) (a1 a)) fd
+has_opened_file a p fd = runs a
+
 -- a read writes the bytes that it was given into the buffer of its call, takes a unit of fuel for each, and answers how many they are
 abbrev pub has_read : ActorState → List ℕ → ActorState
 has_read a bytes =
@@ -154,7 +181,7 @@ takes_stream a fd stream_reply.Appended = answers (spends a (a2 a)) (a2 a)
 takes_stream a fd stream_reply.NoSuch = refuses a code.NoSuch
 takes_stream a fd (stream_reply.Denied wants) = denies a (denial.Fd fd wants)
 takes_stream a fd stream_reply.Bad = refuses a code.Bad
-takes_stream a fd r = runs a
+takes_stream a fd stream_reply.Opened = has_opened_file a a.phase fd
 
 -- the draft of a number, which a start has found before
 abbrev pub draft_at : List Draft → ℕ → Draft
@@ -204,6 +231,7 @@ has_joined a k e fuel = answered_end (record a { fuel = a.fuel + fuel; unjoined 
 unfoldable pub takes : Image → ActorState → Event → ActorState
 takes i a (event.Slots q r) = takes_place a q r
 takes i a (event.Slot slot q r) = takes_slot i a slot q r
+takes i a (event.Fds q r) = takes_number a q r
 takes i a (event.Fd fd q r) = takes_stream a fd r
 takes i a (event.Lives q r) = takes_lives i a q r
 takes i a (event.Start child) = has_started a
@@ -225,6 +253,7 @@ child_of i a name = record {
   compartment = a1 a;
   sheet = granted a.sheet a.made (draft_at a.drafts (a0 a));
   made = nothing_made;
+  labels = [];
   drafts = [];
   hart = record (opening_hart (a1 a)) { regs = put (opening_hart (a1 a)).regs 10 (a2 a) };
   memory = memory_made i a.phase;

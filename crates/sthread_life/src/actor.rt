@@ -15,6 +15,7 @@ ghost use Rattle.sthread_life.specs.Local.{has_ended, end_reached};
 ghost use Rattle.sthread_life.specs.Taking.{pair, asks};
 
 use crate::copy_grant::is_copy_alone;
+use crate::files::StreamLabel;
 use crate::phase::Phase;
 use crate::unjoined::Children;
 use cow_pages::{Pages, PrivateView};
@@ -41,6 +42,8 @@ pub struct Actor {
     pub(crate) compartment: u32,
     pub(crate) sheet: Sheet,
     pub(crate) made: Made,
+    /// The paths of the files that it opened.
+    pub(crate) labels: Items<StreamLabel>,
     pub(crate) drafts: Vec<Draft>,
     pub(crate) hart: Hart,
     pub(crate) fuel: u32,
@@ -66,6 +69,7 @@ impl Model for Actor {
       compartment = a.compartment;
       sheet = a.sheet;
       made = a.made;
+      labels = a.labels;
       drafts = a.drafts.items;
       hart = a.hart;
       fuel = a.fuel;
@@ -111,6 +115,7 @@ impl Actor {
             compartment: image.entry(),
             sheet: root_sheet(alloc, image)?,
             made: Made::new(alloc),
+            labels: Items::new(Vec::new(alloc)),
             drafts: Vec::new(alloc),
             hart,
             fuel: image.fuel(),
@@ -155,6 +160,13 @@ impl Actor {
         ensures { result.now ≡ self.now.denials }
     {
         &self.denials
+    }
+
+    /// Returns the paths of the files that it opened, with the numbers of their descriptors, in order.
+    pub fn labels(&self) -> &Items<StreamLabel>
+        ensures { result.now ≡ self.now.labels }
+    {
+        &self.labels
     }
 
     /// Returns what it is at.

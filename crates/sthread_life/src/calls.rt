@@ -56,6 +56,8 @@ impl Actor {
             self.fd_append(image, memory)?;
         } else if number == Service::FdClose.number() {
             self.fd_close();
+        } else if number == Service::FileOpen.number() {
+            self.file_open(image, memory)?;
         } else {
             self.draft_call(image, memory, number)?;
         }

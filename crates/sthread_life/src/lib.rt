@@ -7,6 +7,8 @@ mod actor;
 mod calls;
 mod copy_grant;
 mod drafting;
+mod file_open;
+mod files;
 mod laws;
 mod lives;
 mod local;
@@ -21,6 +23,7 @@ mod unjoined;
 
 pub use actor::Actor;
 pub use copy_grant::CopyGrant;
+pub use files::{FileOpening, StreamLabel};
 pub use laws::{
     actors_walk, cells_open_by_their_rules, copies_are_granted, fuel_is_kept, moments_are_lawful,
     names_are_distinct, rights_are_within_the_roots, runs_write_their_own, slots_are_occupied,

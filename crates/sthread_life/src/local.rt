@@ -107,6 +107,7 @@ impl Actor {
             Phase::Starting(preparation) => Ok(Next::Shared(self.starting_want(preparation)?)),
             Phase::Opening { slot, tag } => Ok(Next::Shared(self.opening_want(*slot, *tag))),
             Phase::Releasing { slot } => Ok(Next::Shared(releasing_want(*slot))),
+            Phase::OpeningFile(opening) => Ok(Next::Shared(opening.want()?)),
             Phase::Ending(end) => Ok(Next::Shared(self.ending_want(*end))),
             Phase::Ended(end) => Ok(Next::Ended(*end)),
             Phase::Running => unreachable!(),

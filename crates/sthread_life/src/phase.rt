@@ -1,5 +1,6 @@
 //! What an actor is at.
 
+use crate::files::FileOpening;
 use crate::preparation::Preparation;
 use wedge_base::{End, Slot, TagNo, Want};
 
@@ -17,6 +18,8 @@ pub enum Phase {
     Opening { slot: Slot, tag: TagNo },
     /// The tag that lived in a slot is closed, and it wants to release the slot.
     Releasing { slot: Slot },
+    /// It opens a file: it wants a number for the descriptor, and then to open the stream behind it.
+    OpeningFile(FileOpening),
     /// Its end is decided: it joins the children that it has not joined, and wants the event that ends it.
     Ending(End),
     /// It has ended.

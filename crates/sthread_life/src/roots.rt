@@ -55,7 +55,7 @@ impl Actor {
     }
 
     /// The path that a buffer holds, under the actor's root directory; none where the buffer does not fit or holds no path.
-    fn path_in(
+    pub(crate) fn path_in(
         &self,
         image: &Image,
         memory: &PrivateView,

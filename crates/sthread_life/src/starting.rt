@@ -214,6 +214,7 @@ impl Actor {
             compartment: entry,
             sheet,
             made: Made::new(alloc),
+            labels: Items::new(Vec::new(alloc)),
             drafts: Vec::new(alloc),
             hart,
             fuel: self.hart.reg(A3),

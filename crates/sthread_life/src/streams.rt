@@ -1,6 +1,6 @@
 //! Service calls on streams: to read one, to append to one, and to close one.
 
-ghost use Rattle.std.specs.Prelude.{◌≡◌, ◌≤◌, length, IfOk, OnOk, true};
+ghost use Rattle.std.specs.Prelude.{◌≡◌, ◌<◌, ◌≤◌, length, IfOk, OnOk, true};
 ghost use Rattle.cow_pages.specs.PrivateMemory.{PrivateMemory};
 ghost use Rattle.sthread_life.specs.declared.phase.Phase.TheVariants as phase;
 ghost use Rattle.sthread_life.specs.Actors.{ActorState, whole};
@@ -8,7 +8,9 @@ ghost use Rattle.sthread_life.specs.Between.{IsInBounds, GivesWithin};
 ghost use Rattle.sthread_life.specs.Calls as calls;
 ghost use Rattle.sthread_life.specs.Private as private;
 ghost use Rattle.sthread_life.specs.Taking as taking;
+ghost use Rattle.wedge_base.specs.Streams.{most_fds};
 ghost use Rattle.wedge_base.specs.declared.events.Event.{Event as AnEvent};
+ghost use Rattle.wedge_base.specs.declared.events.Want.TheVariants as want;
 
 use crate::actor::Actor;
 use crate::calls::{A0, A1, A2};
@@ -37,7 +39,7 @@ impl Actor {
         } else {
             let bits = bits_on(&self.sheet, &self.made, fd);
             let ask = StreamAsk::Read { bits, count };
-            self.phase = Phase::Within(Want::Fd { fd, ask });
+            self.want_stream(fd, ask);
         }
     }
 
@@ -59,7 +61,7 @@ impl Actor {
             let bytes = self.buffer(image, memory, pointer, length)?;
             let bits = bits_on(&self.sheet, &self.made, fd);
             let ask = StreamAsk::Append { bits, bytes };
-            self.phase = Phase::Within(Want::Fd { fd, ask });
+            self.want_stream(fd, ask);
         }
         Ok(())
     }
@@ -74,8 +76,17 @@ impl Actor {
         } else {
             let bits = bits_on(&self.sheet, &self.made, fd);
             let ask = StreamAsk::Close { bits };
-            self.phase = Phase::Within(Want::Fd { fd, ask });
+            self.want_stream(fd, ask);
         }
+    }
+
+    /// It wants an ask of a stream.
+    #[tactic(auto, using(crate::proofs::StreamFits::stream_fits))]
+    fn want_stream(&mut self, fd: FdNo, ask: StreamAsk)
+        requires { fd < most_fds }
+        ensures { self.new ≡ record self.old { phase = phase.Within (want.Fd fd ask) } }
+    {
+        self.phase = Phase::Within(Want::Fd { fd, ask });
     }
 
     /// Whether a buffer that is read fits.
@@ -142,7 +153,7 @@ impl Actor {
                 self.refuse(Code::Denied);
             }
             StreamReply::Bad => self.refuse(Code::Bad),
-            StreamReply::Opened => self.phase = Phase::Running,
+            StreamReply::Opened => self.take_opened_file(fd)?,
         }
         Ok(())
     }

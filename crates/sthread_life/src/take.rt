@@ -75,6 +75,10 @@ impl Actor {
                 self.take_place(*ask, *reply);
                 Ok(None)
             }
+            Event::Fds { ask, reply } => {
+                self.take_number(*ask, *reply);
+                Ok(None)
+            }
             Event::Fd { fd, ask, reply } => {
                 self.take_stream(memory, *fd, ask, reply)?;
                 Ok(None)

@@ -12,6 +12,7 @@ returns c =
       compartment = w.compartment;
       sheet = w.sheet;
       made = w.made;
+      labels = w.labels;
       drafts = w.drafts.items;
       hart = w.hart;
       fuel = w.fuel;

@@ -15,6 +15,7 @@ returns-in-Err-Full c = λ m.
       compartment = w.compartment;
       sheet = w.sheet;
       made = w.made;
+      labels = w.labels;
       drafts = w.drafts.items;
       hart = w.hart;
       fuel = w.fuel;

@@ -1,4 +1,4 @@
-use Rattle.std.proofs.Common.{◌≡◌, Some, ap, ◌∙◌}
+use Rattle.std.proofs.Common.{Some, ap, ◌∙◌}
 use Rattle.cow_pages.specs.PrivateMemory.{no_memory}
 use Rattle.sthread_life.specs.Actors.{ActorRecord, whole}
 use Rattle.sthread_life.specs.Taking.{has_started}
