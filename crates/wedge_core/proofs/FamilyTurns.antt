@@ -97,6 +97,7 @@ joins_at k c (phase.Within q) e at comes = absurd cc
 joins_at k c (phase.Starting pre) e at comes = absurd cc
 joins_at k c (phase.Opening slot tag) e at comes = absurd cc
 joins_at k c (phase.Releasing slot) e at comes = absurd cc
+joins_at k c (phase.OpeningFile o) e at comes = absurd cc
 joins_at k c (phase.Ending x) e at comes = absurd cc
 joins_at k c (phase.Ended x) e at comes = record { end = x; is = sym (one_of comes); ended = ap has_ended at }
   where

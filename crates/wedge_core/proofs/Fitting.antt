@@ -39,12 +39,13 @@ asks_fit c a b (want.Slot slot (slot_want.Close tag)) h k = (h, tt)
 asks_fit c a b (want.Slot slot (slot_want.Smalloc tag size)) h k = (h.0, h.1)
 asks_fit c a b (want.Slot slot (slot_want.Sfree offset)) h k = (h.0, (h.1, pair_names (slot_in c slot) a))
 asks_fit c a b (want.Slot slot (slot_want.Snap tag)) h k = (h, tt)
-asks_fit c a b (want.Fd fd (stream_ask.Open kind bytes)) h k = absurd h
+asks_fit c a b (want.Fd fd (stream_ask.Open kind bytes)) h k = h
 asks_fit c a b (want.Fd fd (stream_ask.Read bits count)) h k = h
 asks_fit c a b (want.Fd fd (stream_ask.Append bits bytes)) h k = h
 asks_fit c a b (want.Fd fd (stream_ask.Close bits)) h k = h
 asks_fit c a b (want.Lives q) h k = tt
 asks_fit c a b (want.Slots q) h k = tt
+asks_fit c a b (want.Fds q) h k = tt
 asks_fit c a b (want.Start child) h k = absurd k
 asks_fit c a b (want.Join child) h k = absurd k
 asks_fit c a b q h k = absurd h
@@ -56,7 +57,7 @@ event_suits c a (want.Slots (directory_ask.Release place)) l e h k comes =
     let is : event.Slots (directory_ask.Release place) (directory_reply c.places (directory_ask.Release place)) ≡ e = cc in
     subst (SuitsActor a) is tt
 event_suits c a (want.Slot slot q) l e h k comes = let is : event.Slot slot (slot_ask_with q (pair a l)) (slot_reply (slot_in c slot) (slot_ask_with q (pair a l))) ≡ e = cc in subst (SuitsActor a) is tt
-event_suits c a (want.Fds q) l e h k comes = absurd h
+event_suits c a (want.Fds q) l e h k comes = let is : event.Fds q (directory_reply c.numbers q) ≡ e = cc in subst (SuitsActor a) is tt
 event_suits c a (want.Fd fd q) l e h k comes = let is : event.Fd fd q (stream_reply (stream_in c fd) q) ≡ e = cc in subst (SuitsActor a) is tt
 event_suits c a (want.Lives lives_ask.Claim) l e h k comes = let is : event.Lives lives_ask.Claim (lives_reply c.lives lives_ask.Claim) ≡ e = cc in subst (SuitsActor a) is h
 event_suits c a (want.Lives (lives_ask.Release x)) l e h k comes = let is : event.Lives (lives_ask.Release x) (lives_reply c.lives (lives_ask.Release x)) ≡ e = cc in subst (SuitsActor a) is tt

@@ -33,6 +33,7 @@ one_more : (i : Image) (a : ActorState) (p : Phase) (ls : List ActorLine) → wi
 one_more i a phase.Running ls = ap (sorted line_before) (sym (append-nil ls))
 one_more i a (phase.Starting pre) ls = ap (sorted line_before) (sym (append-nil ls))
 one_more i a (phase.Opening slot tag) ls = ap (sorted line_before) (sym (append-nil ls))
+one_more i a (phase.OpeningFile o) ls = ap (sorted line_before) (sym (append-nil ls))
 one_more i a (phase.Releasing slot) ls = ap (sorted line_before) (sym (append-nil ls))
 one_more i a (phase.Within q) ls = ap (sorted line_before) (sym (append-nil ls))
 one_more i a (phase.Ending e) ls = ap (sorted line_before) (sym (append-nil ls))

@@ -13,8 +13,9 @@ use Rattle.sthread_life.specs.Actors.{ActorState, root}
 use Rattle.sthread_life.specs.Children.{Children, fuel_given, is_child, child_name}
 use Rattle.sthread_life.specs.FamilyTrees.{Holds, AllBehind}
 use Rattle.sthread_life.specs.Local.{rest, has_ended}
+use Rattle.sthread_life.specs.Opening.{FileOpening}
 use Rattle.sthread_life.specs.Names.{IsNew, AreDistinct}
-use Rattle.sthread_life.specs.Taking.{starting_want, wanted_at, ending_want}
+use Rattle.sthread_life.specs.Taking.{starting_want, opening_want, wanted_at, ending_want}
 use Rattle.sthread_life.specs.Worlds.{WorldState, opening, actor_named, put_actor, Runs, is_ended}
 use Rattle.sthread_life.proofs.FamilyKept.{found_apart}
 use Rattle.sthread_life.proofs.FamilyRuns.{run_family}
@@ -153,12 +154,17 @@ starting_joins : (b : ActorState) (gs : List CopyGrant) (k : ℕ) → Some (star
 starting_joins b [] k is = cc
 starting_joins b (g ∷ gs) k is = cc
 
+opening_joins : (o : FileOpening) (n : Option ℕ) (k : ℕ) → Some (opening_want o n) ≡ Some (want.Join k) → ⊥
+opening_joins o None k is = cc
+opening_joins o (Some fd) k is = cc
+
 waits_for : (i : Image) (b : ActorState) (p : Phase) (k : ℕ) → ReadsAs i b p → wanted_at b p ≡ Some (want.Join k) → is_child b.unjoined k ≡ true
 waits_for i b phase.Running k reads wants = absurd cc
 waits_for i b (phase.Within q) k reads wants = let is : q ≡ want.Join k = cc in subst (λ x. IsWanted (LoadsAt i b.hart reads.0 reads.1) b x) is reads.3
 waits_for i b (phase.Starting pre) k reads wants = absurd (starting_joins b pre.left k wants)
 waits_for i b (phase.Opening slot tag) k reads wants = absurd cc
 waits_for i b (phase.Releasing slot) k reads wants = absurd cc
+waits_for i b (phase.OpeningFile o) k reads wants = absurd (opening_joins o o.number k wants)
 waits_for i b (phase.Ending x) k reads wants = ending_listed b.unjoined x k cc
 waits_for i b (phase.Ended x) k reads wants = absurd cc
 

@@ -1,5 +1,5 @@
--- Events of the directory, of slots and of streams are in bounds.
-use Rattle.std.proofs.Common.{◌≡◌, ℕ, zero, suc, ◌+◌, ◌/◌, ◌<◌, ◌≤◌, ◌==◌, Bool, true, false, List, [], ◌∷◌, ◌++◌, length, drop, refl, sym, ◌∙◌, arith}
+-- Events of the directories, of slots and of streams are in bounds.
+use Rattle.std.proofs.Common.{◌≡◌, ℕ, zero, suc, ◌+◌, ◌/◌, ◌<◌, ◌≤◌, ◌==◌, Bool, true, false, List, [], ◌∷◌, length, drop, refl, sym, ◌∙◌, arith}
 use Rattle.std.proofs.lemmas.List.{length-append, length-take}
 use Rattle.std.proofs.lemmas.Bool.Decides.{nat_tests}
 use Rattle.std.specs.Prelude.{Option, Some, None, IfSome, not, nat_lt, nat_le, is_some, slice_range, if◌then◌else◌}
@@ -13,7 +13,7 @@ use Rattle.wedge_base.specs.declared.cells.DirectoryAsk.{DirectoryAsk}
 use Rattle.wedge_base.specs.declared.cells.DirectoryAsk.TheVariants as directory_ask
 use Rattle.wedge_base.specs.declared.cells.DirectoryReply.{DirectoryReply}
 use Rattle.wedge_base.specs.declared.cells.DirectoryReply.TheVariants as directory_reply_
-use Rattle.wedge_base.specs.Streams.{Stream, closing_bit, read_reply, append_reply, live_reply, dead_reply, stream_reply}
+use Rattle.wedge_base.specs.Streams.{Stream, most_fds, closing_bit, read_reply, append_reply, live_reply, dead_reply, stream_reply}
 use Rattle.wedge_base.specs.declared.cells.StreamAsk.{StreamAsk}
 use Rattle.wedge_base.specs.declared.cells.StreamAsk.TheVariants as stream_ask
 use Rattle.wedge_base.specs.declared.cells.StreamReply.TheVariants as stream_reply_
@@ -30,18 +30,22 @@ use Rattle.wedge_base.specs.Pages.{page_of, pages_before, pages_of}
 use Rattle.sthread_life.specs.Between.{GivesBelow, IsInBounds}
 use Rattle.sthread_life.proofs.Directing.{claimed_inside}
 
--- ---- the directory
+-- ---- the directories
+
+-- a place that is claimed is below the limit of its directory
+claimed_below : (limit : ℕ) (d : Directory) (q : DirectoryAsk) (place number : ℕ) → GivesBelow limit d → directory_reply_.Claimed place number ≡ directory_reply d q → place < limit
+claimed_below limit d directory_ask.Claim place number below is = claimed_inside limit d place number below (sym is)
+claimed_below limit d (directory_ask.Release released) place number below is = absurd cc
 
 pub place_in_bounds : (d : Directory) (q : DirectoryAsk) (r : DirectoryReply) → GivesBelow slots d → r ≡ directory_reply d q → IsInBounds (event.Slots q r)
-place_in_bounds d q r below is = by_ask q r is
-  where
-    by_ask : (q : DirectoryAsk) (r : DirectoryReply) → r ≡ directory_reply d q → IsInBounds (event.Slots q r)
-    by_ask directory_ask.Claim (directory_reply_.Claimed slot tag) is = claimed_inside slots d slot tag below (sym is)
-    by_ask directory_ask.Claim directory_reply_.Full is = tt
-    by_ask directory_ask.Claim directory_reply_.Released is = tt
-    by_ask (directory_ask.Release place) (directory_reply_.Claimed slot tag) is = absurd cc
-    by_ask (directory_ask.Release place) directory_reply_.Full is = tt
-    by_ask (directory_ask.Release place) directory_reply_.Released is = tt
+place_in_bounds d q (directory_reply_.Claimed slot tag) below is = claimed_below slots d q slot tag below is
+place_in_bounds d q directory_reply_.Full below is = tt
+place_in_bounds d q directory_reply_.Released below is = tt
+
+pub number_in_bounds : (d : Directory) (q : DirectoryAsk) (r : DirectoryReply) → GivesBelow most_fds d → r ≡ directory_reply d q → IsInBounds (event.Fds q r)
+number_in_bounds d q (directory_reply_.Claimed fd number) below is = claimed_below most_fds d q fd number below is
+number_in_bounds d q directory_reply_.Full below is = tt
+number_in_bounds d q directory_reply_.Released below is = tt
 
 -- ---- a block that is placed
 

@@ -72,6 +72,7 @@ ended_wants a (phase.Within q) e = cc
 ended_wants a (phase.Starting pre) e = cc
 ended_wants a (phase.Opening slot tag) e = cc
 ended_wants a (phase.Releasing slot) e = cc
+ended_wants a (phase.OpeningFile o) e = cc
 ended_wants a (phase.Ending x) e = cc
 ended_wants a (phase.Ended x) e = refl
 
@@ -105,6 +106,7 @@ no_event k (Some c) e = by_phase c.phase e
     by_phase (phase.Starting pre) e = refl
     by_phase (phase.Opening slot tag) e = refl
     by_phase (phase.Releasing slot) e = refl
+    by_phase (phase.OpeningFile o) e = refl
     by_phase (phase.Ending x) e = refl
     by_phase (phase.Ended x) e = absurd cc
 

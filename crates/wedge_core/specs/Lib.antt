@@ -2,5 +2,4 @@ pub mod Places
 pub mod Progress
 pub mod Serial
 pub mod Turning
-pub mod Built
 pub mod Replay

@@ -61,6 +61,7 @@ impl Model for Cells {
       slots : length c.slots.items ≡ most_slots;
       streams : length c.streams.items ≡ most_fds;
       places : GivesBelow most_slots c.places;
+      numbers : GivesBelow most_fds c.numbers;
     } };
 }
 
@@ -140,7 +141,7 @@ impl Cells {
                 Ok(Event::Slots { ask, reply })
             }
             Ask::Fds(ask) => {
-                let reply = self.numbers.act_once(&ask)?;
+                let reply = ask_numbers(&mut self.numbers, ask)?;
                 Ok(Event::Fds { ask, reply })
             }
             Ask::Gate { gate, ask } => {
@@ -197,6 +198,19 @@ fn ask_places(places: &mut Directory, ask: DirectoryAsk) -> Result<DirectoryRepl
     ensures err { OnErr result (places.new ≡ places.old) }
 {
     places.act_once(&ask)
+}
+
+/// Asks the directory of descriptors.
+#[tactic(auto, using(crate::proofs::Placing::number_in_bounds, sthread_life::proofs::Directing::next_sound))]
+fn ask_numbers(numbers: &mut Directory, ask: DirectoryAsk) -> Result<DirectoryReply, NoMemory>
+    requires { GivesBelow most_fds numbers.old }
+    ensures is { IfOk result (λ r. r ≡ directory_reply numbers.old ask) }
+    ensures after { OnOk result (numbers.new ≡ directory_next numbers.old ask) }
+    ensures below { GivesBelow most_fds numbers.new }
+    ensures bounds { IfOk result (λ r. IsInBounds (AnEvent.Fds ask r)) }
+    ensures err { OnErr result (numbers.new ≡ numbers.old) }
+{
+    numbers.act_once(&ask)
 }
 
 /// Asks a slot.

@@ -1,13 +1,15 @@
 //! What a run ends with.
 
-ghost use Rattle.std.specs.Prelude.{◌≡◌, ◌≤◌, ◌++◌, [], true, false, length, unwrap_or, option_map, IfOk, OnOk};
+ghost use Rattle.std.specs.Prelude.{◌≡◌, ◌≤◌, ◌++◌, List, [], true, false, length, unwrap_or, option_map, IfOk, OnOk};
 ghost use Rattle.cow_pages.specs.PrivateMemory.{no_memory};
 ghost use Rattle.sthread_life.specs.Worlds.{is_whole};
 ghost use Rattle.wedge_base.specs.Streams.{most_fds};
 ghost use Rattle.std.specs.Ordering.{nat_cmp, is_lt};
 ghost use Rattle.std.specs.Cmp.Lexicographic.{slice_cmp};
 ghost use Rattle.sthread_life.specs.Actors.{whole};
+ghost use Rattle.std.specs.Option.{option_copied};
 ghost use Rattle.sthread_life.specs.Outcomes as outcomes;
+ghost use Rattle.sthread_life.specs.declared.files.StreamLabel.{StreamLabel as ALabel};
 
 use crate::residents::Resident;
 use crate::world::World;
@@ -15,9 +17,10 @@ use fd_table::Stream;
 use image_form::Image;
 use std::alloc::Global;
 use std::cmp::Ordering;
-use sthread_life::{Actor, Phase};
+use sthread_life::{Actor, Phase, StreamLabel};
 use wedge_base::{
-    ActorLine, Bytes, End, FdNo, Items, NoMemory, Outcome, StreamKind, StreamLine, copy_denials,
+    ActorLine, Bytes, End, FdNo, Items, NoMemory, Outcome, PathText, StreamKind, StreamLine,
+    copy_denials,
 };
 
 /// The outcome of a world whose root has ended: a line for each actor, and one for each append stream.
@@ -27,8 +30,9 @@ pub fn outcome(alloc: Global, world: &World<'_>) -> Result<Outcome, NoMemory>
     ensures { IfOk result (λ o. o ≡ outcomes.outcome_of world.now.state) }
 {
     let image = world.program.image();
-    let actors = actor_lines(alloc, image, world.residents.as_slice())?;
-    let streams = stream_lines(alloc, image, world.cells.streams())?;
+    let residents = world.residents.as_slice();
+    let actors = actor_lines(alloc, image, residents)?;
+    let streams = stream_lines(alloc, image, residents, world.cells.streams())?;
     Ok(Outcome {
         actors: Items::new(actors),
         streams: Items::new(streams),
@@ -98,15 +102,16 @@ fn by_name(line: &ActorLine, other: &ActorLine) -> Ordering
 fn stream_lines(
     alloc: Global,
     image: &Image,
+    residents: &[Resident],
     streams: &[Stream],
 ) -> Result<Vec<StreamLine>, NoMemory>
     requires { length streams.now ≤ most_fds }
-    ensures { IfOk result (λ v. v.items ≡ outcomes.streams_of image.now 0 streams.now) }
+    ensures { IfOk result (λ v. v.items ≡ outcomes.streams_of image.now (outcomes.labels_of residents.now) 0 streams.now) }
 {
     let mut lines = Vec::new(alloc);
     let mut number = 0u32;
     for stream in streams {
-        add_stream(alloc, image, number, stream, &mut lines)?;
+        add_stream(alloc, image, residents, number, stream, &mut lines)?;
         number += 1;
     }
     Ok(lines)
@@ -116,17 +121,19 @@ fn stream_lines(
 fn add_stream(
     alloc: Global,
     image: &Image,
+    residents: &[Resident],
     number: u32,
     stream: &Stream,
     lines: &mut Vec<StreamLine>,
 ) -> Result<(), NoMemory>
     ensures { OnOk result (lines.new.items
-        ≡ lines.old.items ++ outcomes.with_stream image.now number stream.now []) }
+        ≡ lines.old.items ++ outcomes.with_stream image.now (outcomes.labels_of residents.now)
+        number stream.now []) }
 {
     match stream.kind() {
         None | Some(StreamKind::Source) => Ok(()),
         Some(StreamKind::Append) => {
-            lines.push(stream_line(alloc, image, number, stream)?)?;
+            lines.push(stream_line(alloc, image, residents, number, stream)?)?;
             Ok(())
         }
     }
@@ -136,28 +143,60 @@ fn add_stream(
 fn stream_line(
     alloc: Global,
     image: &Image,
+    residents: &[Resident],
     number: u32,
     stream: &Stream,
 ) -> Result<StreamLine, NoMemory>
     ensures { IfOk result (λ l. l ≡ record {
       number = number;
-      label = outcomes.label_of image.now number;
+      label = outcomes.label_of image.now (outcomes.labels_of residents.now) number;
       bytes = unwrap_or (option_map (λ s. s.bytes) stream.now) [];
     }) }
 {
     Ok(StreamLine {
         number: FdNo(number),
-        label: label_of(alloc, image, number)?,
+        label: label_of(alloc, image, residents, number)?,
         bytes: Bytes::from_slice(alloc, stream.bytes())?,
     })
 }
 
-/// The name under which a descriptor was declared.
-fn label_of(alloc: Global, image: &Image, number: u32) -> Result<Bytes, NoMemory>
-    ensures { IfOk result (λ b. b ≡ outcomes.label_of image.now number) }
+/// The name under which a descriptor was declared, or else the path under which an actor opened it.
+fn label_of(
+    alloc: Global,
+    image: &Image,
+    residents: &[Resident],
+    number: u32,
+) -> Result<Bytes, NoMemory>
+    ensures { IfOk result (λ b. b
+        ≡ outcomes.label_of image.now (outcomes.labels_of residents.now) number) }
 {
     match image.fds().get(number as usize) {
         Some(fd) => Ok(fd.name.clone()?),
-        None => Ok(Items::new(Vec::new(alloc))),
+        None => opened_path(alloc, residents, number),
     }
+}
+
+/// The path under which an actor opened a descriptor; empty if none did.
+fn opened_path(alloc: Global, residents: &[Resident], number: u32) -> Result<Bytes, NoMemory>
+    ensures { IfOk result (λ b. b ≡ outcomes.path_of (outcomes.labels_of residents.now) number) }
+{
+    for resident in residents {
+        if let Some(path) = path_among(resident.actor.labels().as_slice(), number) {
+            return Ok(Bytes::from_slice(alloc, path.as_slice())?);
+        }
+    }
+    Ok(Items::new(Vec::new(alloc)))
+}
+
+/// The path of a number among labels.
+fn path_among(labels: &[StreamLabel], number: u32) -> Option<&PathText>
+    ensures { (others : List ALabel) → outcomes.path_of (labels.now ++ others) number
+        ≡ unwrap_or (option_copied result) (outcomes.path_of others number) }
+{
+    for label in labels {
+        if label.number.0 == number {
+            return Some(&label.path);
+        }
+    }
+    None
 }

@@ -1,7 +1,6 @@
 //! The core: a world of actors and cells, its turns, and complete runs of it on one thread.
 #![tactic(auto)]
 
-mod built;
 mod cells;
 mod ending;
 mod error;
@@ -14,7 +13,6 @@ mod tests;
 mod turns;
 mod world;
 
-pub use built::is_built;
 pub use cells::Cells;
 pub use ending::outcome;
 pub use error::{NoTurn, ReplayFault, Why};

@@ -3,4 +3,4 @@ use Rattle.sthread_life.specs.Outcomes as outcomes
 use Rattle.wedge_core.proofs.ending.stream_lines.Given as goal
 
 abbrev pub invariant-loop-stream : goal.invariant-loop-stream
-invariant-loop-stream l = (l.number ≡ l.stream-index) × (l.lines.items ++ outcomes.streams_of l.image l.number (drop l.stream-index l.streams) ≡ outcomes.streams_of l.image 0 l.streams)
+invariant-loop-stream l = (l.number ≡ l.stream-index) × (l.lines.items ++ outcomes.streams_of l.image (outcomes.labels_of l.residents) l.number (drop l.stream-index l.streams) ≡ outcomes.streams_of l.image (outcomes.labels_of l.residents) 0 l.streams)
