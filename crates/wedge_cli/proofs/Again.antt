@@ -13,7 +13,7 @@ use Rattle.wedge_core.specs.Replay.{replayed, names_of}
 use Rattle.wedge_core.specs.Serial.{IsWholeRun}
 use Rattle.wedge_core.proofs.Replays.{journals_replay}
 use Rattle.wedge_cli.specs.declared.loading.FileKind.TheVariants as kind
-use Rattle.wedge_cli.specs.Loading.{run_image_of, most_of}
+use Rattle.wedge_cli.specs.Loading.{image_of, most_of}
 use Rattle.wedge_cli.specs.Replaying.{replay_text, replay_of, schedule_by, replay_report}
 use Rattle.wedge_cli.proofs.Replays.{text_within}
 
@@ -22,7 +22,7 @@ actors_are : (entries : List LogEntry) → actors_of entries ≡ names_of (turns
 actors_are [] = refl
 actors_are (e ∷ es) = ap (λ names. e.actor ∷ names) (actors_are es)
 
-pub schedule_replays : (i : Image) (bytes schedule : List ℕ) (entries : List LogEntry) (outcome : Outcome) → Encodes i bytes → run_image_of bytes ≡ Ok i → IsWholeRun i entries outcome
+pub schedule_replays : (i : Image) (bytes schedule : List ℕ) (entries : List LogEntry) (outcome : Outcome) → Encodes i bytes → image_of bytes ≡ Ok i → IsWholeRun i entries outcome
     → names_in schedule ≡ Ok (actors_of entries) → length schedule ≤ most_of kind.Schedule → replay_text bytes schedule ≡ Ok (report_of outcome)
 schedule_replays i bytes schedule entries outcome encoded accepted whole read short =
     let within : length bytes ≤ most_of kind.Image = omega (arith, ap length encoded.encoded, encoded.valid.small) in

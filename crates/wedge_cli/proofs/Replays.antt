@@ -1,6 +1,6 @@
 -- The answer of a replay, from what was read and done.
-use Rattle.std.proofs.Common.{◌≡◌, ℕ, ◌<◌, ◌≤◌, inl, inr, Bool, true, false, List, length, refl, sym, ap, subst, ◌∙◌, arith}
-use Rattle.std.specs.Prelude.{Option, Result, Ok, Err, nat_lt, if◌then◌else◌}
+use Rattle.std.proofs.Common.{◌≡◌, ℕ, ◌<◌, ◌≤◌, inl, inr, true, false, List, length, refl, sym, ap, subst, ◌∙◌, arith}
+use Rattle.std.specs.Prelude.{Option, Result, Ok, Err, nat_lt}
 use Rattle.std.proofs.lemmas.Bool.{le-ltb, lt-ltb}
 use Rattle.host_io.specs.Exposed.{WhereExposed}
 use Rattle.wedge_base.specs.Images.{Image}
@@ -16,15 +16,15 @@ use Rattle.wedge_cli.specs.declared.refusal.Refusal.TheVariants as refusal
 use Rattle.wedge_cli.specs.declared.refusal.PartRefusal.{PartRefusal}
 use Rattle.wedge_cli.specs.declared.refusal.ScheduleRefusal.{ScheduleRefusal}
 use Rattle.wedge_cli.specs.declared.refusal.ScheduleRefusal.TheVariants as schedule
-use Rattle.wedge_cli.specs.Loading.{run_image_of, run_image_by, most_of, too_long, IsRefusalOf, IsUnread}
+use Rattle.wedge_cli.specs.Loading.{image_of, image_by, most_of, too_long, IsRefusalOf, IsUnread}
 use Rattle.wedge_cli.specs.Replaying.{replay_text, replay_of, schedule_by, replay_report, IsRefusalIn}
 use Rattle.wedge_cli.specs.Causes.{IsReplayAnswer, IsReplayRefused}
-use Rattle.wedge_cli.proofs.TooLong.{long_run_image}
+use Rattle.wedge_cli.proofs.TooLong.{long_image}
 
 -- ---- the text
 
 -- of files that are not too long
-pub text_within : (a b : List ℕ) → length a ≤ most_of kind.Image → length b ≤ most_of kind.Schedule → replay_text a b ≡ replay_of (run_image_of a) (schedule_by (names_in b))
+pub text_within : (a b : List ℕ) → length a ≤ most_of kind.Image → length b ≤ most_of kind.Schedule → replay_text a b ≡ replay_of (image_of a) (schedule_by (names_in b))
 unfolding replay_text
 text_within a b la lb =
     let short_a : nat_lt (most_of kind.Image) (length a) ≡ false = le-ltb (most_of kind.Image) (length a) la in
@@ -50,7 +50,6 @@ pub image_refused : (m : Result Image Refusal) (n : Result (List (List ℕ)) Ref
 image_refused m n refusal.NoMemory h = tt
 image_refused m n (refusal.Read file) h = absurd h
 image_refused m n (refusal.Image fault) h = ap (λ x. replay_of x n) h
-image_refused m n refusal.Unbuilt h = ap (λ x. replay_of x n) h
 image_refused m n (refusal.Partition p) h = ap (λ x. replay_of x n) h
 image_refused m n (refusal.Schedule s) h = absurd h
 image_refused m n (refusal.Trace fault) h = absurd h
@@ -60,7 +59,6 @@ pub names_refused : (m : Result Image Refusal) (i : Image) (n : Result (List (Li
 names_refused m i n refusal.NoMemory is h = tt
 names_refused m i n (refusal.Read file) is h = absurd h
 names_refused m i n (refusal.Image fault) is h = ap (λ x. replay_of x n) is ∙ ap (λ x. replay_of (Ok i) x) h
-names_refused m i n refusal.Unbuilt is h = ap (λ x. replay_of x n) is ∙ ap (λ x. replay_of (Ok i) x) h
 names_refused m i n (refusal.Partition p) is h = ap (λ x. replay_of x n) is ∙ ap (λ x. replay_of (Ok i) x) h
 names_refused m i n (refusal.Schedule s) is h = ap (λ x. replay_of x n) is ∙ ap (λ x. replay_of (Ok i) x) h
 names_refused m i n (refusal.Trace fault) is h = absurd h
@@ -78,12 +76,8 @@ image_cause (Err why) n r unlike e = let is : why ≡ r = cc in ap (λ x. Err x)
 image_cause (Ok i) (Err at) r unlike e = absurd (unlike (schedule.Form at) (let is : refusal.Schedule (schedule.Form at) ≡ r = cc in sym is))
 image_cause (Ok i) (Ok names) r unlike e = absurd (report_cause (replayed (opening i) 1 names) r unlike e)
 
-choice_cause : (i : Image) (p : PartRefusal) (b : Bool) → (let meant : Result Image Refusal = if b then Ok i else Err refusal.Unbuilt in meant ≡ Err (refusal.Partition p)) → ⊥
-choice_cause i p true e = cc
-choice_cause i p false e = cc
-
-no_partition_by : (m : Result Image Fault) (p : PartRefusal) → run_image_by m ≡ Err (refusal.Partition p) → ⊥
-no_partition_by (Ok i) p e = choice_cause i p _ e
+no_partition_by : (m : Result Image Fault) (p : PartRefusal) → image_by m ≡ Err (refusal.Partition p) → ⊥
+no_partition_by (Ok i) p e = cc
 no_partition_by (Err f) p e = cc
 
 -- ---- the causes of a refused replay
@@ -95,9 +89,8 @@ first_unread image schedule files before after refusal.NoMemory h = tt
 first_unread image schedule files before after (refusal.Read file) h = inl h
 first_unread image schedule files before after (refusal.Image fault) h = (
   λ a b image_is schedule_is. long_first a b (h.longer a image_is) ∙ ap (λ r. Err r) (sym h.is),
-  λ a image_is. long_run_image a (h.longer a image_is) ∙ ap (λ r. Err r) (sym h.is),
+  λ a image_is. long_image a (h.longer a image_is) ∙ ap (λ r. Err r) (sym h.is),
 )
-first_unread image schedule files before after refusal.Unbuilt h = absurd h
 first_unread image schedule files before after (refusal.Partition p) h = let e = h.is in absurd cc
 first_unread image schedule files before after (refusal.Schedule s) h = let e = h.is in absurd cc
 first_unread image schedule files before after (refusal.Trace fault) h = let e = h.is in absurd cc
@@ -112,7 +105,6 @@ second_unread image schedule files before after middle bytes (refusal.Read file)
     let rose = h.rose in
     inr (record { named = h.named; rose = omega arith }, λ b exposed. subst (λ x. length x ≤ most_of kind.Image) (same b exposed) within)
 second_unread image schedule files before after middle bytes (refusal.Image fault) low same within h = let e = h.is in absurd cc
-second_unread image schedule files before after middle bytes refusal.Unbuilt low same within h = absurd h
 second_unread image schedule files before after middle bytes (refusal.Partition p) low same within h = let e = h.is in absurd cc
 second_unread image schedule files before after middle bytes (refusal.Schedule s) low same within h = λ a b image_is schedule_is.
     long_second a b (subst (λ x. length x ≤ most_of kind.Image) (same a image_is) within) (h.longer b schedule_is) ∙ ap (λ r. Err r) (sym h.is)
@@ -127,9 +119,9 @@ answered image schedule files bytes names answer same same_names h = λ a b imag
 
 image_meant : (files_image : Option (List ℕ)) (bytes names : List ℕ) (r : Refusal) → ((s : ScheduleRefusal) → r ≡ refusal.Schedule s → ⊥)
     → WhereExposed files_image (λ b. bytes ≡ b) → length bytes ≤ most_of kind.Image → length names ≤ most_of kind.Schedule → replay_text bytes names ≡ Err r
-    → WhereExposed files_image (λ b. run_image_of b ≡ Err r)
+    → WhereExposed files_image (λ b. image_of b ≡ Err r)
 image_meant files_image bytes names r unlike same within within_names h = λ b exposed.
-    subst (λ x. run_image_of x ≡ Err r) (same b exposed) (image_cause (run_image_of bytes) (names_in names) r unlike (sym (text_within bytes names within within_names) ∙ h))
+    subst (λ x. image_of x ≡ Err r) (same b exposed) (image_cause (image_of bytes) (names_in names) r unlike (sym (text_within bytes names within within_names) ∙ h))
 
 pub both_read : (image schedule : List ℕ) (files : List ℕ → Option (List ℕ)) (before after : List ℕ → ℕ) (bytes names : List ℕ) (r : Refusal)
     → WhereExposed (files image) (λ b. bytes ≡ b) → WhereExposed (files schedule) (λ b. names ≡ b)
@@ -141,12 +133,8 @@ both_read image schedule files before after bytes names (refusal.Image fault) sa
   answered image schedule files bytes names (Err (refusal.Image fault)) same same_names h,
   image_meant (files image) bytes names (refusal.Image fault) (λ s e. cc) same within within_names h,
 )
-both_read image schedule files before after bytes names refusal.Unbuilt same same_names within within_names h = (
-  answered image schedule files bytes names (Err refusal.Unbuilt) same same_names h,
-  image_meant (files image) bytes names refusal.Unbuilt (λ s e. cc) same within within_names h,
-)
 both_read image schedule files before after bytes names (refusal.Partition p) same same_names within within_names h =
-    no_partition_by (reading bytes) p (image_cause (run_image_of bytes) (names_in names) (refusal.Partition p) (λ s e. cc) (sym (text_within bytes names within within_names) ∙ h))
+    no_partition_by (reading bytes) p (image_cause (image_of bytes) (names_in names) (refusal.Partition p) (λ s e. cc) (sym (text_within bytes names within within_names) ∙ h))
 both_read image schedule files before after bytes names (refusal.Schedule s) same same_names within within_names h =
     answered image schedule files bytes names (Err (refusal.Schedule s)) same same_names h
 both_read image schedule files before after bytes names (refusal.Trace fault) same same_names within within_names h = absurd h

@@ -10,7 +10,7 @@ use Rattle.wedge_cli.specs.declared.refusal.Refusal.{Refusal}
 use Rattle.wedge_cli.specs.declared.refusal.Refusal.TheVariants as refusal
 use Rattle.wedge_cli.specs.declared.writing.Text.{Text}
 use Rattle.wedge_cli.specs.Lines.{line, usage_line, refusal_text, status_of}
-use Rattle.wedge_cli.specs.Loading.{run_image_of, image_of, built_of, IsRefusedBy}
+use Rattle.wedge_cli.specs.Loading.{image_of, built_of, IsRefusedBy}
 use Rattle.wedge_cli.specs.Replaying.{replay_text}
 use Rattle.wedge_cli.specs.Words.{Asked, Run, Show, Build, Replay, Derive, Analyze}
 use Rattle.image_form.specs.Rules.{Encodes}
@@ -54,7 +54,6 @@ other_than : (r : Refusal) (n : ℕ) → (n ≡ 0) ⊎ (n ≡ 2) ⊎ (n ≡ 5) �
 other_than refusal.NoMemory n h e = absurd (omega arith)
 other_than (refusal.Read file) n h e = absurd (omega arith)
 other_than (refusal.Image fault) n h e = absurd (omega arith)
-other_than refusal.Unbuilt n h e = absurd (omega arith)
 other_than (refusal.Partition p) n h e = absurd (omega arith)
 other_than (refusal.Schedule s) n h e = absurd (omega arith)
 other_than (refusal.Trace fault) n h e = absurd (omega arith)
@@ -71,18 +70,16 @@ unfit_by : (meant : List ℕ → Result Image Refusal) (name : List ℕ) (conten
 unfit_by meant name content before after refusal.NoMemory h e = absurd (omega arith)
 unfit_by meant name content before after (refusal.Read file) h e = absurd (omega arith)
 unfit_by meant name content before after (refusal.Image fault) h e = λ bytes exposed. is_err_of (meant bytes) (refusal.Image fault) (h bytes exposed)
-unfit_by meant name content before after refusal.Unbuilt h e = λ bytes exposed. is_err_of (meant bytes) refusal.Unbuilt (h bytes exposed)
 unfit_by meant name content before after (refusal.Partition p) h e = λ bytes exposed. is_err_of (meant bytes) (refusal.Partition p) (h bytes exposed)
 unfit_by meant name content before after (refusal.Schedule s) h e = absurd h
 unfit_by meant name content before after (refusal.Trace fault) h e = absurd h
 unfit_by meant name content before after (refusal.NoSuchName item) h e = absurd h
 
 unfit_replay : (image schedule : List ℕ) (files : List ℕ → Option (List ℕ)) (before after : List ℕ → ℕ) (r : Refusal)
-    → IsReplayRefused image schedule files before after r → status_of r ≡ 3 → WhereExposed (files image) (λ bytes. IsErr (run_image_of bytes))
+    → IsReplayRefused image schedule files before after r → status_of r ≡ 3 → WhereExposed (files image) (λ bytes. IsErr (image_of bytes))
 unfit_replay image schedule files before after refusal.NoMemory h e = absurd (omega arith)
 unfit_replay image schedule files before after (refusal.Read file) h e = absurd (omega arith)
-unfit_replay image schedule files before after (refusal.Image fault) h e = λ bytes exposed. is_err_of (run_image_of bytes) (refusal.Image fault) (h.1 bytes exposed)
-unfit_replay image schedule files before after refusal.Unbuilt h e = λ bytes exposed. is_err_of (run_image_of bytes) refusal.Unbuilt (h.1 bytes exposed)
+unfit_replay image schedule files before after (refusal.Image fault) h e = λ bytes exposed. is_err_of (image_of bytes) (refusal.Image fault) (h.1 bytes exposed)
 unfit_replay image schedule files before after (refusal.Partition p) h e = absurd h
 unfit_replay image schedule files before after (refusal.Schedule s) h e = absurd (omega arith)
 unfit_replay image schedule files before after (refusal.Trace fault) h e = absurd h
@@ -93,7 +90,6 @@ unfit_trace : (trace : List ℕ) (content : Option (List ℕ)) (before after : �
 unfit_trace trace content before after refusal.NoMemory h e = absurd (omega arith)
 unfit_trace trace content before after (refusal.Read file) h e = absurd (omega arith)
 unfit_trace trace content before after (refusal.Image fault) h e = absurd h
-unfit_trace trace content before after refusal.Unbuilt h e = absurd h
 unfit_trace trace content before after (refusal.Partition p) h e = absurd h
 unfit_trace trace content before after (refusal.Schedule s) h e = absurd h
 unfit_trace trace content before after (refusal.Trace fault) h e = absurd (omega arith)
@@ -104,14 +100,13 @@ unfit_query : (query : Query) (name trace : List ℕ) (content : Option (List �
 unfit_query query name trace content before after refusal.NoMemory h e = absurd (omega arith)
 unfit_query query name trace content before after (refusal.Read file) h e = absurd (omega arith)
 unfit_query query name trace content before after (refusal.Image fault) h e = absurd h
-unfit_query query name trace content before after refusal.Unbuilt h e = absurd h
 unfit_query query name trace content before after (refusal.Partition p) h e = absurd h
 unfit_query query name trace content before after (refusal.Schedule s) h e = absurd h
 unfit_query query name trace content before after (refusal.Trace fault) h e = absurd (omega arith)
 unfit_query query name trace content before after (refusal.NoSuchName item) h e = absurd (omega arith)
 
 unfit : (a : Asked) (files : List ℕ → Option (List ℕ)) (before after : List ℕ → ℕ) (r : Refusal) → IsRefused a files before after r → status_of r ≡ 3 → IsUnfit a files
-unfit (Run image flag) files before after r h e = unfit_by run_image_of image (files image) (before image) (after image) r h e
+unfit (Run image flag) files before after r h e = unfit_by image_of image (files image) (before image) (after image) r h e
 unfit (Show image) files before after r h e = unfit_by image_of image (files image) (before image) (after image) r h e
 unfit (Build part) files before after r h e = unfit_by built_of part (files part) (before part) (after part) r h e
 unfit (Replay image schedule) files before after r h e = unfit_replay image schedule files before after r h e
@@ -135,7 +130,6 @@ unread_by : (meant : List ℕ → Result Image Refusal) (name : List ℕ) (conte
 unread_by meant name content before after refusal.NoMemory h e = absurd (omega arith)
 unread_by meant name content before after (refusal.Read file) h e = h.rose
 unread_by meant name content before after (refusal.Image fault) h e = absurd (omega arith)
-unread_by meant name content before after refusal.Unbuilt h e = absurd (omega arith)
 unread_by meant name content before after (refusal.Partition p) h e = absurd (omega arith)
 unread_by meant name content before after (refusal.Schedule s) h e = absurd h
 unread_by meant name content before after (refusal.Trace fault) h e = absurd h
@@ -147,7 +141,6 @@ unread_replay image schedule files before after refusal.NoMemory h e = absurd (o
 unread_replay image schedule files before after (refusal.Read file) (inl h) e = inl h.rose
 unread_replay image schedule files before after (refusal.Read file) (inr h) e = inr h.0.rose
 unread_replay image schedule files before after (refusal.Image fault) h e = absurd (omega arith)
-unread_replay image schedule files before after refusal.Unbuilt h e = absurd (omega arith)
 unread_replay image schedule files before after (refusal.Partition p) h e = absurd (omega arith)
 unread_replay image schedule files before after (refusal.Schedule s) h e = absurd (omega arith)
 unread_replay image schedule files before after (refusal.Trace fault) h e = absurd h
@@ -158,7 +151,6 @@ unread_trace : (trace : List ℕ) (content : Option (List ℕ)) (before after : 
 unread_trace trace content before after refusal.NoMemory h e = absurd (omega arith)
 unread_trace trace content before after (refusal.Read file) h e = h.rose
 unread_trace trace content before after (refusal.Image fault) h e = absurd h
-unread_trace trace content before after refusal.Unbuilt h e = absurd h
 unread_trace trace content before after (refusal.Partition p) h e = absurd h
 unread_trace trace content before after (refusal.Schedule s) h e = absurd h
 unread_trace trace content before after (refusal.Trace fault) h e = absurd (omega arith)
@@ -169,14 +161,13 @@ unread_query : (query : Query) (name trace : List ℕ) (content : Option (List �
 unread_query query name trace content before after refusal.NoMemory h e = absurd (omega arith)
 unread_query query name trace content before after (refusal.Read file) h e = h.rose
 unread_query query name trace content before after (refusal.Image fault) h e = absurd h
-unread_query query name trace content before after refusal.Unbuilt h e = absurd h
 unread_query query name trace content before after (refusal.Partition p) h e = absurd h
 unread_query query name trace content before after (refusal.Schedule s) h e = absurd h
 unread_query query name trace content before after (refusal.Trace fault) h e = absurd (omega arith)
 unread_query query name trace content before after (refusal.NoSuchName item) h e = absurd (omega arith)
 
 unread : (a : Asked) (files : List ℕ → Option (List ℕ)) (before after : List ℕ → ℕ) (r : Refusal) → IsRefused a files before after r → status_of r ≡ 4 → IsUnreadable a before after
-unread (Run image flag) files before after r h e = unread_by run_image_of image (files image) (before image) (after image) r h e
+unread (Run image flag) files before after r h e = unread_by image_of image (files image) (before image) (after image) r h e
 unread (Show image) files before after r h e = unread_by image_of image (files image) (before image) (after image) r h e
 unread (Build part) files before after r h e = unread_by built_of part (files part) (before part) (after part) r h e
 unread (Replay image schedule) files before after r h e = unread_replay image schedule files before after r h e
@@ -200,7 +191,6 @@ rejected_by : (meant : List ℕ → Result Image Refusal) (name : List ℕ) (con
 rejected_by meant name content before after refusal.NoMemory h e = omega arith
 rejected_by meant name content before after (refusal.Read file) h e = omega arith
 rejected_by meant name content before after (refusal.Image fault) h e = omega arith
-rejected_by meant name content before after refusal.Unbuilt h e = omega arith
 rejected_by meant name content before after (refusal.Partition p) h e = omega arith
 rejected_by meant name content before after (refusal.Schedule s) h e = h
 rejected_by meant name content before after (refusal.Trace fault) h e = h
@@ -211,7 +201,6 @@ rejected_replay : (image schedule : List ℕ) (files : List ℕ → Option (List
 rejected_replay image schedule files before after refusal.NoMemory h e = absurd (omega arith)
 rejected_replay image schedule files before after (refusal.Read file) h e = absurd (omega arith)
 rejected_replay image schedule files before after (refusal.Image fault) h e = absurd (omega arith)
-rejected_replay image schedule files before after refusal.Unbuilt h e = absurd (omega arith)
 rejected_replay image schedule files before after (refusal.Partition p) h e = absurd h
 rejected_replay image schedule files before after (refusal.Schedule s) h e = (s, h)
 rejected_replay image schedule files before after (refusal.Trace fault) h e = absurd h
@@ -222,7 +211,6 @@ rejected_trace : (trace : List ℕ) (content : Option (List ℕ)) (before after 
 rejected_trace trace content before after refusal.NoMemory h e = absurd (omega arith)
 rejected_trace trace content before after (refusal.Read file) h e = absurd (omega arith)
 rejected_trace trace content before after (refusal.Image fault) h e = absurd h
-rejected_trace trace content before after refusal.Unbuilt h e = absurd h
 rejected_trace trace content before after (refusal.Partition p) h e = absurd h
 rejected_trace trace content before after (refusal.Schedule s) h e = absurd h
 rejected_trace trace content before after (refusal.Trace fault) h e = (fault, h)
@@ -233,14 +221,13 @@ rejected_query : (query : Query) (name trace : List ℕ) (content : Option (List
 rejected_query query name trace content before after refusal.NoMemory h e = absurd (omega arith)
 rejected_query query name trace content before after (refusal.Read file) h e = absurd (omega arith)
 rejected_query query name trace content before after (refusal.Image fault) h e = absurd h
-rejected_query query name trace content before after refusal.Unbuilt h e = absurd h
 rejected_query query name trace content before after (refusal.Partition p) h e = absurd h
 rejected_query query name trace content before after (refusal.Schedule s) h e = absurd h
 rejected_query query name trace content before after (refusal.Trace fault) h e = (fault, h)
 rejected_query query name trace content before after (refusal.NoSuchName item) h e = absurd (omega arith)
 
 rejected : (a : Asked) (files : List ℕ → Option (List ℕ)) (before after : List ℕ → ℕ) (r : Refusal) → IsRefused a files before after r → status_of r ≡ 8 → IsRejected a files
-rejected (Run image flag) files before after r h e = rejected_by run_image_of image (files image) (before image) (after image) r h e
+rejected (Run image flag) files before after r h e = rejected_by image_of image (files image) (before image) (after image) r h e
 rejected (Show image) files before after r h e = rejected_by image_of image (files image) (before image) (after image) r h e
 rejected (Build part) files before after r h e = rejected_by built_of part (files part) (before part) (after part) r h e
 rejected (Replay image schedule) files before after r h e = rejected_replay image schedule files before after r h e
@@ -265,7 +252,6 @@ known_by : (meant : List ℕ → Result Image Refusal) (name : List ℕ) (conten
 known_by meant name content before after refusal.NoMemory h e = omega arith
 known_by meant name content before after (refusal.Read file) h e = omega arith
 known_by meant name content before after (refusal.Image fault) h e = omega arith
-known_by meant name content before after refusal.Unbuilt h e = omega arith
 known_by meant name content before after (refusal.Partition p) h e = omega arith
 known_by meant name content before after (refusal.Schedule s) h e = h
 known_by meant name content before after (refusal.Trace fault) h e = h
@@ -276,7 +262,6 @@ known_replay : (image schedule : List ℕ) (files : List ℕ → Option (List �
 known_replay image schedule files before after refusal.NoMemory h e = omega arith
 known_replay image schedule files before after (refusal.Read file) h e = omega arith
 known_replay image schedule files before after (refusal.Image fault) h e = omega arith
-known_replay image schedule files before after refusal.Unbuilt h e = omega arith
 known_replay image schedule files before after (refusal.Partition p) h e = h
 known_replay image schedule files before after (refusal.Schedule s) h e = omega arith
 known_replay image schedule files before after (refusal.Trace fault) h e = h
@@ -287,7 +272,6 @@ known_trace : (trace : List ℕ) (content : Option (List ℕ)) (before after : �
 known_trace trace content before after refusal.NoMemory h e = omega arith
 known_trace trace content before after (refusal.Read file) h e = omega arith
 known_trace trace content before after (refusal.Image fault) h e = h
-known_trace trace content before after refusal.Unbuilt h e = h
 known_trace trace content before after (refusal.Partition p) h e = h
 known_trace trace content before after (refusal.Schedule s) h e = h
 known_trace trace content before after (refusal.Trace fault) h e = omega arith
@@ -298,14 +282,13 @@ unknown_query : (query : Query) (name trace : List ℕ) (content : Option (List 
 unknown_query query name trace content before after refusal.NoMemory h e = absurd (omega arith)
 unknown_query query name trace content before after (refusal.Read file) h e = absurd (omega arith)
 unknown_query query name trace content before after (refusal.Image fault) h e = absurd h
-unknown_query query name trace content before after refusal.Unbuilt h e = absurd h
 unknown_query query name trace content before after (refusal.Partition p) h e = absurd h
 unknown_query query name trace content before after (refusal.Schedule s) h e = absurd h
 unknown_query query name trace content before after (refusal.Trace fault) h e = absurd (omega arith)
 unknown_query query name trace content before after (refusal.NoSuchName item) h e = h.1
 
 unknown : (a : Asked) (files : List ℕ → Option (List ℕ)) (before after : List ℕ → ℕ) (r : Refusal) → IsRefused a files before after r → status_of r ≡ 9 → IsUnknown a files
-unknown (Run image flag) files before after r h e = known_by run_image_of image (files image) (before image) (after image) r h e
+unknown (Run image flag) files before after r h e = known_by image_of image (files image) (before image) (after image) r h e
 unknown (Show image) files before after r h e = known_by image_of image (files image) (before image) (after image) r h e
 unknown (Build part) files before after r h e = known_by built_of part (files part) (before part) (after part) r h e
 unknown (Replay image schedule) files before after r h e = known_replay image schedule files before after r h e
@@ -410,7 +393,7 @@ run_done image bytes ended before after (inr d) exposed is = done_0 image bytes 
 -- ---- a run with its schedule and the status 0
 
 scheduled : (i : Image) (kept : Option Journal) (texts : List Text) (bytes : List ℕ) (s u : Sinks)
-    → Encodes i bytes → run_image_of bytes ≡ Ok i → IsReported i Schedule kept texts → AreTaken texts s u → IsScheduleDone bytes kept s u
+    → Encodes i bytes → image_of bytes ≡ Ok i → IsReported i Schedule kept texts → AreTaken texts s u → IsScheduleDone bytes kept s u
 scheduled i None texts bytes s u encoded accepted r taken = absurd r
 scheduled i (Some journal) texts bytes s u encoded accepted r taken =
     let schedule = schedule_of (actors_of journal.entries) in
@@ -449,7 +432,6 @@ replay_refusal : (image schedule bytes names : List ℕ) (files : List ℕ → O
 replay_refusal image schedule bytes names files before after refusal.NoMemory h image_is schedule_is = inl (inr (inr refl))
 replay_refusal image schedule bytes names files before after (refusal.Read file) h image_is schedule_is = inl (inl refl)
 replay_refusal image schedule bytes names files before after (refusal.Image fault) h image_is schedule_is = inr (h.0 bytes names image_is schedule_is)
-replay_refusal image schedule bytes names files before after refusal.Unbuilt h image_is schedule_is = inr (h.0 bytes names image_is schedule_is)
 replay_refusal image schedule bytes names files before after (refusal.Partition p) h image_is schedule_is = absurd h
 replay_refusal image schedule bytes names files before after (refusal.Schedule s) h image_is schedule_is = inr (h bytes names image_is schedule_is)
 replay_refusal image schedule bytes names files before after (refusal.Trace fault) h image_is schedule_is = absurd h
@@ -538,7 +520,6 @@ derive_refusal : (trace bytes : List ℕ) (content : Option (List ℕ)) (before 
 derive_refusal trace bytes content before after refusal.NoMemory h exposed = inl (inr (inr refl))
 derive_refusal trace bytes content before after (refusal.Read file) h exposed = inl (inl refl)
 derive_refusal trace bytes content before after (refusal.Image fault) h exposed = absurd h
-derive_refusal trace bytes content before after refusal.Unbuilt h exposed = absurd h
 derive_refusal trace bytes content before after (refusal.Partition p) h exposed = absurd h
 derive_refusal trace bytes content before after (refusal.Schedule s) h exposed = absurd h
 derive_refusal trace bytes content before after (refusal.Trace fault) h exposed =
@@ -558,7 +539,6 @@ query_refusal : (query : Query) (name trace bytes : List ℕ) (content : Option 
 query_refusal query name trace bytes content before after refusal.NoMemory h exposed = inl (inr (inr refl))
 query_refusal query name trace bytes content before after (refusal.Read file) h exposed = inl (inl refl)
 query_refusal query name trace bytes content before after (refusal.Image fault) h exposed = absurd h
-query_refusal query name trace bytes content before after refusal.Unbuilt h exposed = absurd h
 query_refusal query name trace bytes content before after (refusal.Partition p) h exposed = absurd h
 query_refusal query name trace bytes content before after (refusal.Schedule s) h exposed = absurd h
 query_refusal query name trace bytes content before after (refusal.Trace fault) h exposed =

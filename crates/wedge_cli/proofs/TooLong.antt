@@ -12,16 +12,12 @@ use Rattle.wedge_cli.specs.declared.loading.FileKind.TheVariants as kind
 use Rattle.wedge_cli.specs.declared.refusal.ScheduleRefusal.{ScheduleRefusal}
 use Rattle.wedge_cli.specs.declared.refusal.Refusal.{Refusal}
 use Rattle.wedge_cli.specs.declared.refusal.Refusal.TheVariants as refusal
-use Rattle.wedge_cli.specs.Loading.{image_of, run_image_of, built_of, most_of, most_partition, too_long, IsRefusalOf, IsUnread, IsRefusedBy}
+use Rattle.wedge_cli.specs.Loading.{image_of, built_of, most_of, most_partition, too_long, IsRefusalOf, IsUnread, IsRefusedBy}
 
 -- files of too many bytes are refused
 pub long_image : (bytes : List ℕ) → most_of kind.Image < length bytes → image_of bytes ≡ Err (too_long kind.Image)
 unfolding reading
 long_image bytes lt = let long : nat_le (length bytes) most_bytes ≡ false = lt-leb (length bytes) most_bytes lt in rw long refl
-
-pub long_run_image : (bytes : List ℕ) → most_of kind.Image < length bytes → run_image_of bytes ≡ Err (too_long kind.Image)
-unfolding reading
-long_run_image bytes lt = let long : nat_le (length bytes) most_bytes ≡ false = lt-leb (length bytes) most_bytes lt in rw long refl
 
 pub long_built : (bytes : List ℕ) → most_of kind.Partition < length bytes → built_of bytes ≡ Err (too_long kind.Partition)
 unfolding built_of
@@ -49,7 +45,6 @@ pub unread_by : (meant : List ℕ → Result Image Refusal) (k : FileKind) (name
 unread_by meant k name content before after refusal.NoMemory long unlike no_trace h = tt
 unread_by meant k name content before after (refusal.Read file) long unlike no_trace h = h
 unread_by meant k name content before after (refusal.Image fault) long unlike no_trace h = λ bytes exposed. long bytes (h.longer bytes exposed) ∙ ap (λ r. Err r) (sym h.is)
-unread_by meant k name content before after refusal.Unbuilt long unlike no_trace h = absurd h
 unread_by meant k name content before after (refusal.Partition p) long unlike no_trace h = λ bytes exposed. long bytes (h.longer bytes exposed) ∙ ap (λ r. Err r) (sym h.is)
 unread_by meant k name content before after (refusal.Schedule s) long unlike no_trace h = unlike s h.is
 unread_by meant k name content before after (refusal.Trace fault) long unlike no_trace h = no_trace fault h.is
@@ -61,7 +56,6 @@ refused_by : (meant : List ℕ → Result Image Refusal) (name : List ℕ) (cont
 refused_by meant name content before after bytes refusal.NoMemory same h = tt
 refused_by meant name content before after bytes (refusal.Read file) same h = absurd h
 refused_by meant name content before after bytes (refusal.Image fault) same h = λ b exposed. ap meant (sym (same b exposed)) ∙ h
-refused_by meant name content before after bytes refusal.Unbuilt same h = λ b exposed. ap meant (sym (same b exposed)) ∙ h
 refused_by meant name content before after bytes (refusal.Partition p) same h = λ b exposed. ap meant (sym (same b exposed)) ∙ h
 refused_by meant name content before after bytes (refusal.Schedule s) same h = absurd h
 refused_by meant name content before after bytes (refusal.Trace fault) same h = absurd h

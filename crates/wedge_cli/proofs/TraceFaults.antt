@@ -38,7 +38,6 @@ pub unread_trace : (name : List ℕ) (content : Option (List ℕ)) (before after
 unread_trace name content before after refusal.NoMemory h = tt
 unread_trace name content before after (refusal.Read file) h = h
 unread_trace name content before after (refusal.Image fault) h = let e = h.is in absurd cc
-unread_trace name content before after refusal.Unbuilt h = absurd h
 unread_trace name content before after (refusal.Partition p) h = let e = h.is in absurd cc
 unread_trace name content before after (refusal.Schedule s) h = let e = h.is in absurd cc
 unread_trace name content before after (refusal.Trace fault) h =
@@ -51,7 +50,6 @@ pub query_unread : (query : Query) (asked name : List ℕ) (content : Option (Li
 query_unread query asked name content before after refusal.NoMemory h = tt
 query_unread query asked name content before after (refusal.Read file) h = h
 query_unread query asked name content before after (refusal.Image fault) h = h
-query_unread query asked name content before after refusal.Unbuilt h = h
 query_unread query asked name content before after (refusal.Partition p) h = h
 query_unread query asked name content before after (refusal.Schedule s) h = h
 query_unread query asked name content before after (refusal.Trace fault) h = h

@@ -10,7 +10,7 @@ use Rattle.wedge_cli.specs.Outside.{Device, Outside}
 use Rattle.wedge_cli.specs.Lines.{line, usage_line, refusal_text, status_of}
 use Rattle.wedge_cli.specs.declared.loading.FileKind.TheVariants as kind
 use Rattle.wedge_cli.specs.declared.refusal.ScheduleRefusal.{ScheduleRefusal}
-use Rattle.wedge_cli.specs.Loading.{image_of, run_image_of, built_of, most_of, IsReadFault, IsRefusedBy}
+use Rattle.wedge_cli.specs.Loading.{image_of, built_of, most_of, IsReadFault, IsRefusedBy}
 use Rattle.trace_form.specs.declared.fault.TraceFault.{TraceFault}
 use Rattle.wedge_cli.specs.Replaying.{replay_text}
 use Rattle.wedge_cli.specs.Traces.{trace_fault, IsUnknownIn, IsTraceRefused, IsQueryRefused}
@@ -34,9 +34,7 @@ abbrev pub IsReplayRefused : List ℕ → List ℕ → (List ℕ → Option (Lis
 IsReplayRefused image schedule files before after refusal.NoMemory = Unit {0}
 IsReplayRefused image schedule files before after (refusal.Read file) = IsReplayFault image schedule files before after file
 IsReplayRefused image schedule files before after (refusal.Image fault) =
-    IsReplayAnswer image schedule files (Err (refusal.Image fault)) × WhereExposed (files image) (λ bytes. run_image_of bytes ≡ Err (refusal.Image fault))
-IsReplayRefused image schedule files before after refusal.Unbuilt =
-    IsReplayAnswer image schedule files (Err refusal.Unbuilt) × WhereExposed (files image) (λ bytes. run_image_of bytes ≡ Err refusal.Unbuilt)
+    IsReplayAnswer image schedule files (Err (refusal.Image fault)) × WhereExposed (files image) (λ bytes. image_of bytes ≡ Err (refusal.Image fault))
 IsReplayRefused image schedule files before after (refusal.Partition p) = ⊥
 IsReplayRefused image schedule files before after (refusal.Schedule s) = IsReplayAnswer image schedule files (Err (refusal.Schedule s))
 IsReplayRefused image schedule files before after (refusal.Trace fault) = ⊥
@@ -44,7 +42,7 @@ IsReplayRefused image schedule files before after (refusal.NoSuchName item) = �
 
 -- why a command is not done, of the files and of their counts of failed reads before and after
 abbrev pub IsRefused : Asked → (List ℕ → Option (List ℕ)) → (List ℕ → ℕ) → (List ℕ → ℕ) → Refusal → Type 0
-IsRefused (Run image flag) files before after why = IsRefusedBy run_image_of image (files image) (before image) (after image) why
+IsRefused (Run image flag) files before after why = IsRefusedBy image_of image (files image) (before image) (after image) why
 IsRefused (Show image) files before after why = IsRefusedBy image_of image (files image) (before image) (after image) why
 IsRefused (Build part) files before after why = IsRefusedBy built_of part (files part) (before part) (after part) why
 IsRefused (Replay image schedule) files before after why = IsReplayRefused image schedule files before after why
@@ -53,10 +51,10 @@ IsRefused (Analyze trace query name) files before after why = IsQueryRefused que
 
 -- its image or its partition is refused
 abbrev pub IsUnfit : Asked → (List ℕ → Option (List ℕ)) → Type 0
-IsUnfit (Run image flag) files = WhereExposed (files image) (λ bytes. IsErr (run_image_of bytes))
+IsUnfit (Run image flag) files = WhereExposed (files image) (λ bytes. IsErr (image_of bytes))
 IsUnfit (Show image) files = WhereExposed (files image) (λ bytes. IsErr (image_of bytes))
 IsUnfit (Build part) files = WhereExposed (files part) (λ bytes. IsErr (built_of bytes))
-IsUnfit (Replay image schedule) files = WhereExposed (files image) (λ bytes. IsErr (run_image_of bytes))
+IsUnfit (Replay image schedule) files = WhereExposed (files image) (λ bytes. IsErr (image_of bytes))
 IsUnfit (Derive trace) files = ⊥
 IsUnfit (Analyze trace query name) files = ⊥
 

@@ -21,7 +21,7 @@ use Rattle.wedge_cli.specs.declared.writing.Text.{Text}
 use Rattle.wedge_cli.specs.Outside.{Device, Sinks, Takes, Fails, Tried}
 use Rattle.wedge_cli.specs.Lines.{line, write_fault_line, refusal_text, status_of}
 use Rattle.wedge_cli.specs.Listing.{listing}
-use Rattle.wedge_cli.specs.Loading.{image_of, run_image_of, built_of, most_of}
+use Rattle.wedge_cli.specs.Loading.{image_of, built_of, most_of}
 use Rattle.wedge_cli.specs.Replaying.{replay_text}
 use Rattle.wedge_cli.specs.Traces.{derive_text, analyze_text}
 use Rattle.wedge_cli.specs.Words.{Asked, Run, Show, Build, Replay, Derive, Analyze}
@@ -66,7 +66,7 @@ IsReported i flag (Some journal) texts = IsReportOf i flag journal texts
 pub record IsRun (flag : RunFlag) (content : Option (List ℕ)) (kept : Option Journal) (texts : List Text) : Type 0 where
   pub image : Image
   pub encoded : WhereExposed content (λ bytes. Encodes image bytes)
-  pub accepted : WhereExposed content (λ bytes. run_image_of bytes ≡ Ok image)
+  pub accepted : WhereExposed content (λ bytes. image_of bytes ≡ Ok image)
   pub reported : IsReported image flag kept texts
 
 pub record IsShown (content : Option (List ℕ)) (kept : Option Journal) (texts : List Text) : Type 0 where

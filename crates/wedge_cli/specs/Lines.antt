@@ -62,7 +62,6 @@ abbrev pub refusal_text : Refusal → List ℕ
 refusal_text refusal.NoMemory = codes "out of memory"
 refusal_text (refusal.Read file) = codes "read fault: " ++ file
 refusal_text (refusal.Image fault) = refused_at fault.at (image.word fault.why)
-refusal_text refusal.Unbuilt = refused_at 0 (codes "unbuilt")
 refusal_text (refusal.Partition p) = codes "partition refused: " ++ part_text p
 refusal_text (refusal.Schedule s) = schedule_text s
 refusal_text (refusal.Trace fault) = trace_fault_text fault
@@ -72,7 +71,6 @@ abbrev pub status_of : Refusal → ℕ
 status_of refusal.NoMemory = 6
 status_of (refusal.Read file) = 4
 status_of (refusal.Image fault) = 3
-status_of refusal.Unbuilt = 3
 status_of (refusal.Partition p) = 3
 status_of (refusal.Schedule s) = 8
 status_of (refusal.Trace fault) = 8

@@ -11,7 +11,6 @@ use Rattle.part_toml.specs.Faults.{Refusal as Meant}
 use Rattle.part_toml.specs.Partition.{partition}
 use Rattle.trace_form.specs.declared.fault.TraceFault.{TraceFault}
 use Rattle.trace_form.specs.declared.fault.Why.TheVariants as trace_why
-use Rattle.wedge_core.specs.Built.{is_built}
 use Rattle.wedge_cli.specs.declared.loading.FileKind.{FileKind}
 use Rattle.wedge_cli.specs.declared.loading.FileKind.TheVariants as kind
 use Rattle.wedge_cli.specs.declared.refusal.Refusal.{Refusal}
@@ -29,14 +28,6 @@ image_by (Err fault) = Err (refusal.Image fault)
 
 abbrev pub image_of : List ℕ → Result Image Refusal
 image_of bytes = image_by (reading bytes)
-
--- the same, where the machine runs it today
-abbrev pub run_image_by : Result Image Fault → Result Image Refusal
-run_image_by (Ok i) = if is_built i then Ok i else Err refusal.Unbuilt
-run_image_by (Err fault) = Err (refusal.Image fault)
-
-abbrev pub run_image_of : List ℕ → Result Image Refusal
-run_image_of bytes = run_image_by (reading bytes)
 
 -- the most bytes of a partition's file
 abbrev pub most_partition : ℕ
@@ -58,7 +49,6 @@ abbrev pub IsRefusalOf : Result Image Refusal → Refusal → Type 0
 IsRefusalOf meant refusal.NoMemory = Unit {0}
 IsRefusalOf meant (refusal.Read file) = ⊥
 IsRefusalOf meant (refusal.Image fault) = meant ≡ Err (refusal.Image fault)
-IsRefusalOf meant refusal.Unbuilt = meant ≡ Err refusal.Unbuilt
 IsRefusalOf meant (refusal.Partition p) = meant ≡ Err (refusal.Partition p)
 IsRefusalOf meant (refusal.Schedule s) = ⊥
 IsRefusalOf meant (refusal.Trace fault) = ⊥
@@ -105,7 +95,6 @@ abbrev pub IsUnread : FileKind → List ℕ → Option (List ℕ) → ℕ → �
 IsUnread k name content before after refusal.NoMemory = Unit {0}
 IsUnread k name content before after (refusal.Read file) = IsReadFault name before after file
 IsUnread k name content before after (refusal.Image fault) = IsTooLong k content (refusal.Image fault)
-IsUnread k name content before after refusal.Unbuilt = ⊥
 IsUnread k name content before after (refusal.Partition p) = IsTooLong k content (refusal.Partition p)
 IsUnread k name content before after (refusal.Schedule s) = IsTooLong k content (refusal.Schedule s)
 IsUnread k name content before after (refusal.Trace fault) = IsTooLong k content (refusal.Trace fault)
@@ -116,7 +105,6 @@ abbrev pub IsRefusedBy : (List ℕ → Result Image Refusal) → List ℕ → Op
 IsRefusedBy meant name content before after refusal.NoMemory = Unit {0}
 IsRefusedBy meant name content before after (refusal.Read file) = IsReadFault name before after file
 IsRefusedBy meant name content before after (refusal.Image fault) = WhereExposed content (λ bytes. meant bytes ≡ Err (refusal.Image fault))
-IsRefusedBy meant name content before after refusal.Unbuilt = WhereExposed content (λ bytes. meant bytes ≡ Err refusal.Unbuilt)
 IsRefusedBy meant name content before after (refusal.Partition p) = WhereExposed content (λ bytes. meant bytes ≡ Err (refusal.Partition p))
 IsRefusedBy meant name content before after (refusal.Schedule s) = ⊥
 IsRefusedBy meant name content before after (refusal.Trace fault) = ⊥

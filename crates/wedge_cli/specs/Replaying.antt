@@ -11,7 +11,7 @@ use Rattle.wedge_cli.specs.declared.loading.FileKind.TheVariants as kind
 use Rattle.wedge_cli.specs.declared.refusal.Refusal.{Refusal}
 use Rattle.wedge_cli.specs.declared.refusal.Refusal.TheVariants as refusal
 use Rattle.wedge_cli.specs.declared.refusal.ScheduleRefusal.TheVariants as schedule
-use Rattle.wedge_cli.specs.Loading.{run_image_of, most_of, too_long}
+use Rattle.wedge_cli.specs.Loading.{image_of, most_of, too_long}
 
 -- the report of the state that a schedule leads to
 abbrev pub replay_report : Result WorldState (ℕ × Why) → Result (List ℕ) Refusal
@@ -34,14 +34,13 @@ unfoldable pub replay_text : List ℕ → List ℕ → Result (List ℕ) Refusal
 replay_text image names =
     if nat_lt (most_of kind.Image) (length image) then Err (too_long kind.Image)
     else if nat_lt (most_of kind.Schedule) (length names) then Err (too_long kind.Schedule)
-    else replay_of (run_image_of image) (schedule_by (names_in names))
+    else replay_of (image_of image) (schedule_by (names_in names))
 
 -- what is meant is this refusal, unless memory ran out
 abbrev pub IsRefusalIn : {X : Type 0} → Result X Refusal → Refusal → Type 0
 IsRefusalIn meant refusal.NoMemory = Unit {0}
 IsRefusalIn meant (refusal.Read file) = ⊥
 IsRefusalIn meant (refusal.Image fault) = meant ≡ Err (refusal.Image fault)
-IsRefusalIn meant refusal.Unbuilt = meant ≡ Err refusal.Unbuilt
 IsRefusalIn meant (refusal.Partition p) = meant ≡ Err (refusal.Partition p)
 IsRefusalIn meant (refusal.Schedule s) = meant ≡ Err (refusal.Schedule s)
 IsRefusalIn meant (refusal.Trace fault) = ⊥

@@ -59,7 +59,6 @@ abbrev pub IsTraceRefused : List ℕ → Option (List ℕ) → ℕ → ℕ → R
 IsTraceRefused trace content before after refusal.NoMemory = Unit {0}
 IsTraceRefused trace content before after (refusal.Read file) = IsReadFault trace before after file
 IsTraceRefused trace content before after (refusal.Image fault) = ⊥
-IsTraceRefused trace content before after refusal.Unbuilt = ⊥
 IsTraceRefused trace content before after (refusal.Partition p) = ⊥
 IsTraceRefused trace content before after (refusal.Schedule s) = ⊥
 IsTraceRefused trace content before after (refusal.Trace fault) =
@@ -71,7 +70,6 @@ abbrev pub IsQueryRefused : Query → List ℕ → List ℕ → Option (List ℕ
 IsQueryRefused query name trace content before after refusal.NoMemory = Unit {0}
 IsQueryRefused query name trace content before after (refusal.Read file) = IsReadFault trace before after file
 IsQueryRefused query name trace content before after (refusal.Image fault) = ⊥
-IsQueryRefused query name trace content before after refusal.Unbuilt = ⊥
 IsQueryRefused query name trace content before after (refusal.Partition p) = ⊥
 IsQueryRefused query name trace content before after (refusal.Schedule s) = ⊥
 IsQueryRefused query name trace content before after (refusal.Trace fault) =

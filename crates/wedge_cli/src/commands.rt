@@ -2,12 +2,12 @@
 
 ghost use Rattle.std.specs.Prelude.{◌≡◌, ◌≤◌, ℕ, List, Some, None, IfOk, IfErr};
 ghost use Rattle.wedge_cli.specs.Words as asking;
-ghost use Rattle.wedge_cli.specs.Loading.{IsRefusedBy, image_of, run_image_of, built_of};
+ghost use Rattle.wedge_cli.specs.Loading.{IsRefusedBy, image_of, built_of};
 ghost use Rattle.wedge_cli.specs.Causes.{IsReplayRefused, IsRefused};
 ghost use Rattle.wedge_cli.specs.Ended.{on_out, on_both, IsReported, IsRun, IsShown, IsBuilt, IsReplayed, IsTraceAnswer, IsMade};
 ghost use Rattle.wedge_cli.specs.Traces.{derive_text, analyze_text, IsTraceRefused, IsQueryRefused};
 
-use crate::loading::{FileKind, load_built, load_image, load_run, read_file};
+use crate::loading::{FileKind, load_built, load_image, read_file};
 use crate::refusal::Refusal;
 use crate::replaying::replay_text;
 use crate::show::listing;
@@ -48,12 +48,12 @@ pub(crate) fn prepare<F: Files>(
 /// Runs an image.
 fn run<F: Files>(alloc: Global, files: &mut F, name: &str, flag: RunFlag) -> Result<Ready, Refusal>
     ensures made { IfOk result (λ r. IsRun flag (F.content files.old name.now) r.journal r.texts.items) }
-    ensures refused { IfErr result (IsRefusedBy run_image_of name.now (F.content files.old name.now)
+    ensures refused { IfErr result (IsRefusedBy image_of name.now (F.content files.old name.now)
         (F.faults files.old name.now) (F.faults files.new name.now)) }
     ensures content { (other : List ℕ) → F.content files.new other ≡ F.content files.old other }
     ensures rises { (other : List ℕ) → F.faults files.old other ≤ F.faults files.new other }
 {
-    let image = load_run(alloc, files, name)?;
+    let image = load_image(alloc, files, name)?;
     let ready = run_image(alloc, &image, flag)?;
     Ok(ready)
 }

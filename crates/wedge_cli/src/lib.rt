@@ -6,6 +6,8 @@ mod build_tests;
 mod commands;
 #[cfg(test)]
 mod copy_tests;
+#[cfg(test)]
+mod file_tests;
 mod headings;
 #[cfg(test)]
 mod interleaving_tests;

@@ -1,7 +1,7 @@
 //! From the name of a file to the image that is run, listed or written.
 
 ghost use Rattle.std.specs.Prelude.{◌≡◌, ◌≤◌, ◌<◌, ℕ, List, length, vec_len, IfOk, IfErr, Ok};
-ghost use Rattle.wedge_cli.specs.Loading.{IsUnread, IsRefusedBy, IsRefusalOf, image_of, run_image_of, built_of, most_of, most_partition, too_long};
+ghost use Rattle.wedge_cli.specs.Loading.{IsUnread, IsRefusedBy, IsRefusalOf, image_of, built_of, most_of, most_partition, too_long};
 ghost use Rattle.host_io.specs.Exposed.{WhereExposed};
 ghost use Rattle.image_form.specs.Rules.{Encodes};
 ghost use Rattle.part_toml.specs.Partition.{partition};
@@ -13,7 +13,6 @@ use part_toml::read_partition;
 use std::alloc::Global;
 use trace_form::TraceFault;
 use wedge_base::Bytes;
-use wedge_core::is_built;
 
 /// The most bytes of an image's file.
 const MOST_BYTES: u64 = 16_777_216;
@@ -112,21 +111,6 @@ pub(crate) fn load_image<F: Files>(
     image_of(alloc, bytes.as_slice())
 }
 
-/// The image of a file, where the machine runs it today.
-pub(crate) fn load_run<F: Files>(alloc: Global, files: &mut F, name: &str) -> Result<Image, Refusal>
-    ensures encoded { IfOk result (λ i. WhereExposed (F.content files.old name.now)
-        (λ bytes. Encodes i bytes)) }
-    ensures accepted { IfOk result (λ i. WhereExposed (F.content files.old name.now)
-        (λ bytes. run_image_of bytes ≡ Ok i)) }
-    ensures refused { IfErr result (IsRefusedBy run_image_of name.now (F.content files.old name.now)
-        (F.faults files.old name.now) (F.faults files.new name.now)) }
-    ensures content { (other : List ℕ) → F.content files.new other ≡ F.content files.old other }
-    ensures rises { (other : List ℕ) → F.faults files.old other ≤ F.faults files.new other }
-{
-    let bytes = read_file(alloc, files, FileKind::Image, name)?;
-    run_image_of(alloc, bytes.as_slice())
-}
-
 /// The image of a partition's file.
 pub(crate) fn load_built<F: Files>(
     alloc: Global,
@@ -147,26 +131,13 @@ pub(crate) fn load_built<F: Files>(
 }
 
 /// The image that bytes encode.
-fn image_of(alloc: Global, bytes: &[u8]) -> Result<Image, Refusal>
+pub(crate) fn image_of(alloc: Global, bytes: &[u8]) -> Result<Image, Refusal>
     ensures encoded { IfOk result (λ i. Encodes i bytes.now) }
     ensures accepted { IfOk result (λ i. image_of bytes.now ≡ Ok i) }
     ensures refused { IfErr result (IsRefusalOf (image_of bytes.now)) }
 {
     match read_image(alloc, bytes) {
         Ok(image) => Ok(image),
-        Err(error) => Err(refused(error)),
-    }
-}
-
-/// The image that bytes encode, where the machine runs it today.
-pub(crate) fn run_image_of(alloc: Global, bytes: &[u8]) -> Result<Image, Refusal>
-    ensures encoded { IfOk result (λ i. Encodes i bytes.now) }
-    ensures accepted { IfOk result (λ i. run_image_of bytes.now ≡ Ok i) }
-    ensures refused { IfErr result (IsRefusalOf (run_image_of bytes.now)) }
-{
-    match read_image(alloc, bytes) {
-        Ok(image) if is_built(&image) => Ok(image),
-        Ok(_) => Err(Refusal::Unbuilt),
         Err(error) => Err(refused(error)),
     }
 }

@@ -20,8 +20,6 @@ pub enum Refusal {
     Read { file: Bytes },
     /// The bytes of the image's file are no image: the first fault.
     Image(Fault),
-    /// It is an image of a kind that the machine does not run yet.
-    Unbuilt,
     /// The bytes of the partition's file are no partition.
     Partition(PartRefusal),
     /// The bytes of the schedule's file are no schedule of a complete run of the image.

@@ -8,7 +8,7 @@ ghost use Rattle.wedge_cli.specs.Loading.{most_of};
 ghost use Rattle.wedge_cli.specs.Replaying as replays;
 ghost use Rattle.wedge_cli.specs.Replaying.{schedule_by, replay_report, IsRefusalIn};
 
-use crate::loading::{FileKind, run_image_of};
+use crate::loading::{FileKind, image_of};
 use crate::refusal::{Refusal, refused_form, refused_replay};
 use image_form::Image;
 use report_text::{read_schedule, report};
@@ -25,7 +25,7 @@ pub(crate) fn replay_text(alloc: Global, image: &[u8], schedule: &[u8]) -> Resul
     ensures text { IfOk result (λ v. replays.replay_text image.now schedule.now ≡ Ok v.items) }
     ensures rejected { IfErr result (IsRefusalIn (replays.replay_text image.now schedule.now)) }
 {
-    let image = run_image_of(alloc, image)?;
+    let image = image_of(alloc, image)?;
     let names = schedule_of(alloc, schedule)?;
     report_of(alloc, &image, names.as_slice())
 }

@@ -164,7 +164,7 @@ fn status_of(refusal: &Refusal) -> u8
     match refusal {
         Refusal::NoMemory => NO_MEMORY,
         Refusal::Read { .. } => READ_FAULT,
-        Refusal::Image(_) | Refusal::Unbuilt | Refusal::Partition(_) => REFUSED,
+        Refusal::Image(_) | Refusal::Partition(_) => REFUSED,
         Refusal::Schedule(_) | Refusal::Trace(_) => REJECTED,
         Refusal::NoSuchName { .. } => NO_SUCH_NAME,
     }

@@ -12,17 +12,18 @@ use std::thread::Threads;
 /// No right on the tag `box`, and data with a path.
 static PATH: &str = "none\"\n[[data]]\nname = \"path\"\nbase = 131072\ntext = \"/box/a/../b";
 
-/// A partition with these keys and this text, whose root takes its turns in the order of a schedule and gives a report.
+/// A partition with these keys, this text, and these tables behind the right on the tag, whose root takes its turns in the order of a schedule and gives a report.
 #[derive(Clone, Copy)]
-struct Owned<'a> {
-    keys: &'a str,
-    text: &'a str,
-    schedule: &'a str,
-    report: &'a str,
+pub(crate) struct Owned<'a> {
+    pub keys: &'a str,
+    pub tables: &'a str,
+    pub text: &'a str,
+    pub schedule: &'a str,
+    pub report: &'a str,
 }
 
 /// A run of the partition's image gives the schedule and the report, and so does a replay.
-fn runs<R: Threads + Wait + Abort + Sync>(
+pub(crate) fn runs<R: Threads + Wait + Abort + Sync>(
     rt: &R,
     alloc: Global,
     owned: Owned<'_>,
@@ -54,7 +55,7 @@ fn image<R: Threads + Wait + Abort + Sync>(
     built(
         rt,
         alloc,
-        partition_as(alloc, owned.keys, owned.text, PATH)?,
+        partition_as(alloc, owned.keys, owned.text, owned.tables)?,
     )
 }
 
@@ -128,6 +129,7 @@ svc exit
 fn a_child_keeps_its_user_and_its_directory(rt: HostRuntime) -> Result<(), Fail> {
     let owned = Owned {
         keys: "fuel = 1000\nuser = 0\nroot = \"/\"\n",
+        tables: PATH,
         text: GIVEN_UP,
         schedule: "0\n0\n0.1\n0.1\n0.1.1\n0.1\n0.1\n0\n0\n",
         report: "actor 0 main exited 577 pc 00010058 fuel 869\n\
@@ -172,6 +174,7 @@ svc exit
 fn the_root_is_any_user(rt: HostRuntime) -> Result<(), Fail> {
     let owned = Owned {
         keys: "fuel = 1000\nuser = 7\nroot = \"/box\"\n",
+        tables: PATH,
         text: NOBODY,
         schedule: "0\n0\n0.1\n0\n0\n",
         report: "actor 0 main exited 8 pc 0001006c fuel 969\n\
@@ -250,6 +253,7 @@ svc exit
 fn calls_on_users_and_directories_answer_their_codes(rt: HostRuntime) -> Result<(), Fail> {
     let owned = Owned {
         keys: "fuel = 1000\nuser = 0\nroot = \"/\"\n",
+        tables: PATH,
         text: CODES,
         schedule: "0\n",
         report: "actor 0 main exited 94563760 pc 000100b0 fuel 906\nstream 0 out \"\"\n",
@@ -257,6 +261,7 @@ fn calls_on_users_and_directories_answer_their_codes(rt: HostRuntime) -> Result<
     runs(&rt, rt.alloc(), owned)?;
     let short = Owned {
         keys: "fuel = 17\nuser = 0\nroot = \"/\"\n",
+        tables: PATH,
         text: ELEVEN,
         report: "actor 0 main exited 3 pc 00010024 fuel 7\nstream 0 out \"\"\n",
         ..owned
@@ -264,6 +269,7 @@ fn calls_on_users_and_directories_answer_their_codes(rt: HostRuntime) -> Result<
     runs(&rt, rt.alloc(), short)?;
     let enough = Owned {
         keys: "fuel = 18\nuser = 0\nroot = \"/\"\n",
+        tables: PATH,
         text: ELEVEN,
         report: "actor 0 main fuel-out pc 0001001c fuel 0\nstream 0 out \"\"\n",
         ..owned
