@@ -26,7 +26,7 @@ struct Example {
     wanted: &'static str,
 }
 
-static EXAMPLES: [Example; 21] = [
+static EXAMPLES: [Example; 24] = [
     Example {
         name: "hello.toml",
         built: true,
@@ -146,6 +146,30 @@ static EXAMPLES: [Example; 21] = [
         words: &["replay", "image", "schedule"],
         schedule: Some("form.schedule"),
         wanted: "form.report",
+    },
+    Example {
+        name: "files.toml",
+        built: true,
+        title: "run",
+        words: &["run", "image"],
+        schedule: None,
+        wanted: "files.report",
+    },
+    Example {
+        name: "files.toml",
+        built: true,
+        title: "run --schedule",
+        words: &["run", "image", "--schedule"],
+        schedule: None,
+        wanted: "files.schedule",
+    },
+    Example {
+        name: "files.toml",
+        built: true,
+        title: "replay",
+        words: &["replay", "image", "schedule"],
+        schedule: Some("files.schedule"),
+        wanted: "files.report",
     },
     Example {
         name: "ok.wedge",
