@@ -20,8 +20,8 @@ use Rattle.sthread_life.specs.declared.files.StreamLabel.{StreamLabel}
 use Rattle.sthread_life.specs.declared.phase.Phase.{Phase}
 use Rattle.sthread_life.specs.declared.phase.Phase.TheVariants as phase
 
--- an actor: its sheet, what it made, the paths of the files that it opened, its drafts, its registers and private memory, its fuel, its denials, how many actors it
--- started and those of them that it has not joined, and what it is at
+-- an actor: its sheet, what it made, the paths of the files that it opened, its drafts, its registers and private
+-- memory, its fuel, its denials, how many actors it started and those of them that it has not joined, and what it is at
 pub record ActorState : Type 0 where
   pub name : List ℕ
   pub compartment : ℕ

@@ -65,12 +65,12 @@ lacks a (Deletes tag) = if has a.made.tags tag then None else Some (denial.NotMa
 lacks a (Allots tag size) = if may_use a tag right.ReadWrite then None else Some (denial.Tag tag right.ReadWrite)
 lacks a (Frees p g) = if may_use a g.tag right.ReadWrite then None else Some (denial.Tag g.tag right.ReadWrite)
 
--- whether one that is allowed is refused for a cause that comes after the denial: a stream or a file is of the other kind; a name has at
--- most 32 parts, and a child is given no more fuel than there is; no block begins at the place
 -- a source is opened to be read, and an append stream to be appended to
 abbrev pub fits_kind : StreamKind → FdBits → Bool
 fits_kind k b = if is_source k then b.read else b.append
 
+-- whether one that is allowed is refused for a cause that comes after the denial: a stream or a file is of the other
+-- kind; a name has at most 32 parts, and a child is given no more fuel than there is; no block begins at the place
 abbrev pub is_refused : ActorState → Request → Bool
 is_refused a (Loads x rd s) = false
 is_refused a (Stores x value) = false
@@ -98,7 +98,8 @@ is_checked_at_event (Frees p g) = true
 
 -- What a request leaves that is done: its event, and its actor at the next word, with what was loaded or
 -- with the call's answer and code 0. One that is checked in its instruction has come to its event: a child's starter to the
--- claim of a life, a file to the claim of a number for its descriptor, a tag that is to be deleted to its close, and a block to the slot in which the tag was opened.
+-- claim of a life, a file to the claim of a number for its descriptor, a tag that is to be deleted to its close, and a
+-- block to the slot in which the tag was opened.
 abbrev pub next_word : ActorState → ℕ
 next_word a = (a.hart.pc + 4) % 2 ^ 32
 

@@ -73,11 +73,11 @@ HoldsInSlots sheet made = AllByRecursion (λ e. e.1.slot < slots) sheet.tags × 
 abbrev pub GivesBelow : ℕ → Directory → Type 0
 GivesBelow limit d = (d.places ≤ limit) × (d.unused ≤ limit) × AllByRecursion (λ p. p < limit) d.released
 
--- What an actor may want: the claim of a slot for a tag of so many pages, the opening of a tag there, its close and the release
--- of its slot; an aligned access inside the window of a slot, a block in a tag, one to be freed, and a copy of a tag; a number for a descriptor, and the opening, a read, an
--- append and a close of its stream,
--- a life for a child and the start of its next child where it is ready for that, the join of a child, and its end. Each further
--- call is one more case.
+-- What an actor may want: the claim of a slot for a tag of so many pages, the opening of a tag there, its close and the
+-- release of its slot; an aligned access inside the window of a slot, a block in a tag, one to be freed, and a copy of a
+-- tag; a number for a descriptor, and the opening, a read, an append and a close of its stream; a life for a child and
+-- the start of its next child where it is ready for that, the join of a child, and its end. Each further call is one
+-- more case.
 abbrev pub WantFitsWhere : Type 0 → Type 0 → (List ℕ → Type 0) → (ℕ → Type 0) → Want → Type 0
 WantFitsWhere P R S J (want.Slots directory_ask.Claim) = P
 WantFitsWhere P R S J (want.Slots (directory_ask.Release slot)) = slot < slots
@@ -126,8 +126,9 @@ abbrev pub GivesWithin : StreamAsk → List ℕ → Type 0
 GivesWithin (stream_ask.Read bits count) bytes = length bytes ≤ count
 GivesWithin q bytes = ⊥
 
--- An event is in bounds: its slot is there, a number for a descriptor is below 1,024, a block begins inside the slot's window, a copy has as many pages as a tag may have, and
--- a stream gives no more bytes than were asked for. This is a property of the event alone.
+-- An event is in bounds: its slot is there, a number for a descriptor is below 1,024, a block begins inside the slot's
+-- window, a copy has as many pages as a tag may have, and a stream gives no more bytes than were asked for. This is a
+-- property of the event alone.
 abbrev pub IsInBounds : Event → Type 0
 IsInBounds (event.Slots q (directory_reply.Claimed slot tag)) = slot < slots
 IsInBounds (event.Fds q (directory_reply.Claimed fd number)) = fd < most_fds

@@ -1,9 +1,9 @@
 -- What each moment costs its actor in fuel, read off the text, the registers and the reply: a second statement, beside the
--- step. An instruction costs a unit, where there is one to take, and the path
--- of a root directory one more for each byte of it; a read costs a unit for each byte that it gave, and an
--- append that took place one for each byte of its length, the call's third argument, and a file
--- that was opened one for each byte of its path's text, the second argument; nothing else costs anything. A start gives fuel to the child, as the call's fourth
--- argument says, and a join brings back what the child has left.
+-- step. An instruction costs a unit, where there is one to take, and the path of a root directory one more for each byte
+-- of it; a read costs a unit for each byte that it gave, an append that took place one for each byte of its length, the
+-- call's third argument, and a file that was opened one for each byte of its path's text, the second argument; nothing
+-- else costs anything. A start gives fuel to the child, as the call's fourth argument says, and a join brings back what
+-- the child has left.
 use Rattle.std.specs.Prelude.{◌≡◌, ◌+◌, ◌==◌, ℕ, zero, suc, List, length, slice_get, Option, Some, None, IsSomeAnd, if◌then◌else◌}
 use Rattle.wedge_base.specs.Images.{Image, fetch}
 use Rattle.wedge_base.specs.declared.events.Event.{Event}

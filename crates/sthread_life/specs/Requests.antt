@@ -29,9 +29,10 @@ pub record Access : Type 0 where
   pub width : ℕ
   pub living : Segment
 
--- a request that a sheet may forbid: to load into a register, with a sign or without, to store a value, to
--- read so many bytes of a live stream, to append bytes to one, to close one, to open the file of a path with bits, to start a child with the sheet of a draft, to delete a tag, to place a block of so many
--- bytes in a tag, and to free the block at a place of a tag that lives there
+-- a request that a sheet may forbid: to load into a register, with a sign or without, to store a value, to read so many
+-- bytes of a live stream, to append bytes to one, to close one, to open the file of a path with bits, to start a child
+-- with the sheet of a draft, to delete a tag, to place a block of so many bytes in a tag, and to free the block at a
+-- place of a tag that lives there
 pub data Request : Type 0 where
   Loads : Access → (rd : ℕ) → (is_signed : Bool) → Request
   Stores : Access → (value : ℕ) → Request
