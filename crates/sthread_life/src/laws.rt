@@ -42,8 +42,9 @@ pub fn actors_walk()
 {}
 
 /// In every run the fuel of the actors that are not joined yet is in sum that of the image, less exactly the units that the
-/// turns took: a unit for each instruction, and one for each byte that was read or appended and of the path of a root directory. A start gives fuel to a child, and a
-/// join brings back what is left, so neither changes the sum.
+/// turns took: a unit for each instruction, and one for each byte that was read or appended, and of the path of a root
+/// directory or of a file that was opened. A start gives fuel to a child, and a join brings back what is left, so neither
+/// changes the sum.
 /// So every run ends: 1,029 turns for each unit of fuel, and two, are more than it can have.
 pub fn fuel_is_kept()
     ensures sum { FuelIsKept }
