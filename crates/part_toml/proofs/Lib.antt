@@ -1,5 +1,5 @@
+pub mod Large
 pub mod Least
 pub mod Lists
 pub mod Placed
-pub mod Sorted
 pub mod Told

@@ -60,6 +60,7 @@ unknown fs ms = filter (λ n. not (is_known fs n)) (keys ms)
 -- others at most one
 abbrev pub is_content_wrong : Part → Bool → Bool → Bool
 is_content_wrong part.Top text hex = false
+is_content_wrong part.Joined text hex = false
 is_content_wrong part.Data text hex = (text && hex) || (not text && not hex)
 is_content_wrong p text hex = text && hex
 
@@ -96,10 +97,10 @@ abbrev pub tables_fault : Part → List Members → Option Refusal
 tables_fault p [] = None
 tables_fault p (ms ∷ rest) = option_or (table_fault p ms) (tables_fault p rest)
 
--- the top table, and then each array of tables
-unfoldable pub document_fault : Members → Option Refusal
-document_fault ms =
-    option_or (table_fault part.Top ms) (
+-- the top table, of a kind, and then each array of tables
+unfoldable pub document_fault : Part → Members → Option Refusal
+document_fault top ms =
+    option_or (table_fault top ms) (
     option_or (tables_fault part.Data (tables_at key.Data ms)) (
     option_or (tables_fault part.Tag (tables_at key.Tag ms)) (
     option_or (tables_fault part.Fd (tables_at key.Fd ms)) (

@@ -20,6 +20,9 @@ fields part.Top =
     must key.Fuel kind.Number ∷ must key.User kind.Number ∷ must key.Entry kind.Text
     ∷ must key.Root kind.Text ∷ must key.Text kind.Text ∷ may key.Base kind.Number
     ∷ may key.Data kind.Tables ∷ may key.Tag kind.Tables ∷ may key.Fd kind.Tables ∷ may key.File kind.Tables ∷ []
+fields part.Joined =
+    must key.Fuel kind.Number ∷ must key.User kind.Number ∷ must key.Root kind.Text
+    ∷ may key.Tag kind.Tables ∷ may key.Fd kind.Tables ∷ may key.File kind.Tables ∷ []
 fields part.Data =
     must key.Name kind.Text ∷ must key.Base kind.Number ∷ may key.Text kind.Text ∷ may key.Hex kind.Hex ∷ []
 fields part.Tag =
@@ -57,6 +60,7 @@ name_of key.Mode = codes "mode"
 -- what stands before a key's name in a refusal
 abbrev pub prefix : Part → List ℕ
 prefix part.Top = []
+prefix part.Joined = []
 prefix part.Data = codes "data."
 prefix part.Tag = codes "tag."
 prefix part.Fd = codes "fd."

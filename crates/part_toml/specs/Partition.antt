@@ -13,11 +13,13 @@ use Rattle.rv_asm.specs.declared.fault.Why.TheVariants as why
 use Rattle.part_toml.specs.declared.fault.PartFault.{PartFault}
 use Rattle.part_toml.specs.declared.fault.PartFault.TheVariants as fault
 use Rattle.part_toml.specs.declared.keys.Key.TheVariants as key
+use Rattle.part_toml.specs.declared.keys.Part.TheVariants as part
 use Rattle.part_toml.specs.Values.{number_at, text_at}
 use Rattle.part_toml.specs.Faults.{Refusal, Toml, Key, Kind, Asm, document_fault}
 use Rattle.part_toml.specs.Faults.{Image as ImageRefusal}
-use Rattle.part_toml.specs.Sorting.{sorted}
-use Rattle.part_toml.specs.Parts.{ranges, tags, fds, files, equates, address_of, procedure_before}
+use Rattle.stable_sort.specs.Sorting.{sorted}
+use Rattle.stable_sort.specs.ByName.{procedure_before}
+use Rattle.part_toml.specs.Parts.{ranges, tags, fds, files, equates, address_of}
 
 -- ---- the steps
 
@@ -71,7 +73,7 @@ image_of ms a entry = record {
 
 unfoldable pub partition_of : Members → Result Image Refusal
 partition_of ms =
-    unless (document_fault ms) (
+    unless (document_fault part.Top ms) (
     text_of ms >>= λ a.
     or_no_label (address_of (text_at key.Entry ms) a.procedures) >>= λ entry.
     by_image (reading (encoding (image_of ms a entry))))

@@ -9,12 +9,12 @@ use Rattle.wedge_base.specs.declared.image.FdEntry.{FdEntry}
 use Rattle.wedge_base.specs.declared.image.FileEntry.{FileEntry}
 use Rattle.wedge_base.specs.declared.rights.StreamKind.{StreamKind}
 use Rattle.wedge_base.specs.declared.rights.StreamKind.TheVariants as stream
-use Rattle.image_form.specs.Forms.{is_below}
 use Rattle.rv_asm.specs.declared.assembled.Equate.{Equate}
 use Rattle.part_toml.specs.declared.entries.NamedRange.{NamedRange}
 use Rattle.part_toml.specs.declared.keys.Key.TheVariants as key
 use Rattle.part_toml.specs.Values.{has, number_at, text_at, tables_at, right_named, stream_named, bits_named, bits, bytes_of}
-use Rattle.part_toml.specs.Sorting.{sorted}
+use Rattle.stable_sort.specs.Sorting.{sorted}
+use Rattle.stable_sort.specs.ByName.{tag_before, fd_before, file_before}
 
 -- ---- the entries that tables name
 
@@ -62,18 +62,6 @@ file_of ms = record {
 
 abbrev pub range_before : NamedRange → NamedRange → Bool
 range_before a b = nat_lt a.range.base b.range.base
-
-abbrev pub tag_before : TagEntry → TagEntry → Bool
-tag_before a b = is_below a.name b.name
-
-abbrev pub fd_before : FdEntry → FdEntry → Bool
-fd_before a b = is_below a.name b.name
-
-abbrev pub file_before : FileEntry → FileEntry → Bool
-file_before a b = is_below a.path b.path
-
-abbrev pub procedure_before : Procedure → Procedure → Bool
-procedure_before a b = is_below a.name b.name
 
 unfoldable pub ranges : Members → List NamedRange
 ranges ms = sorted range_before (map range_of (tables_at key.Data ms))

@@ -20,7 +20,7 @@ use wedge_base::{Bytes, Items, NoMemory};
 
 /// How two texts stand in byte order.
 #[tactic(auto, unfolding(image_form::specs::Forms::is_below))]
-pub(crate) fn byte_order(a: &[u8], b: &[u8]) -> Ordering
+fn byte_order(a: &[u8], b: &[u8]) -> Ordering
     ensures { is_lt result ≡ forms.is_below a.now b.now }
 {
     a.cmp(b)
@@ -96,7 +96,7 @@ fn is_content_wrong(part: Part, text: bool, hex: bool) -> bool
     ensures { result ≡ faults.is_content_wrong part text hex }
 {
     match part {
-        Part::Top => false,
+        Part::Top | Part::Joined => false,
         Part::Data => text == hex,
         _ => text && hex,
     }
@@ -178,12 +178,12 @@ fn check_array(alloc: Global, part: Part, top: &Table, key: Key) -> Result<(), P
     check_all(alloc, part, &tables)
 }
 
-/// Refuses a document whose top table, or one of whose other tables, is invalid.
+/// Refuses a document whose top table, of a kind, or one of whose other tables, is invalid.
 #[tactic(auto, unfolding(crate::specs::Faults::document_fault))]
-pub(crate) fn check_document(alloc: Global, top: &Table) -> Result<(), PartFault>
-    ensures { Finds result (faults.document_fault (table_view top.now)) }
+pub(crate) fn check_document(alloc: Global, part: Part, top: &Table) -> Result<(), PartFault>
+    ensures { Finds result (faults.document_fault part (table_view top.now)) }
 {
-    check_table(alloc, Part::Top, top)?;
+    check_table(alloc, part, top)?;
     check_array(alloc, Part::Data, top, Key::Data)?;
     check_array(alloc, Part::Tag, top, Key::Tag)?;
     check_array(alloc, Part::Fd, top, Key::Fd)?;

@@ -3,21 +3,19 @@
 ghost use Rattle.std.specs.Prelude.{◌≡◌, map, IfOk};
 ghost use Rattle.toml.specs.View.{table_view};
 ghost use Rattle.part_toml.specs.Parts as parts;
-ghost use Rattle.part_toml.specs.Sorting as sorting;
 ghost use Rattle.part_toml.specs.Values as values;
 ghost use Rattle.part_toml.specs.Views.{AreEntries};
+ghost use Rattle.stable_sort.specs.Sorting as sorting;
 
-use crate::checking::byte_order;
 use crate::keys::Key;
-use crate::sorting::{Ranked, sort};
 use crate::tables::{has, number_at, tables_at, text_at};
 use crate::values::{bits_named, bytes_of, right_named, stream_named};
+use stable_sort::{Sortable, sort};
 use std::alloc::Global;
 use std::cmp::Ordering;
 use toml::Table;
 use wedge_base::{
-    Bytes, FdBits, FdEntry, FileEntry, Items, MemoryRange, NoMemory, Procedure, StreamKind,
-    TagEntry,
+    Bytes, FdBits, FdEntry, FileEntry, Items, MemoryRange, NoMemory, StreamKind, TagEntry,
 };
 
 /// A range of memory, and the name that the text may use for where it begins.
@@ -37,7 +35,7 @@ pub(crate) struct Entries {
 }
 
 /// What a table names.
-pub(crate) trait Entry: Ranked {
+pub(crate) trait Entry: Sortable {
     ghost use Rattle.std.specs.Prelude.{◌≡◌, IfOk};
     ghost use Rattle.toml.specs.Data.{Members};
     ghost use Rattle.toml.specs.View.{table_view};
@@ -124,13 +122,13 @@ pub(crate) fn all_entries(alloc: Global, top: &Table) -> Result<Entries, NoMemor
     })
 }
 
-impl Ranked for NamedRange {
+impl Sortable for NamedRange {
     ghost use Rattle.part_toml.specs.Parts.{range_before};
     ghost use Rattle.part_toml.specs.Orders.{range_order};
 
     ghost comes_before = { range_before };
 
-    fn rank(&self, other: &NamedRange) -> Ordering {
+    fn compare(&self, other: &NamedRange) -> Ordering {
         self.range.base.cmp(&other.range.base)
     }
 
@@ -154,19 +152,6 @@ impl Entry for NamedRange {
     }
 }
 
-impl Ranked for TagEntry {
-    ghost use Rattle.part_toml.specs.Parts.{tag_before};
-    ghost use Rattle.part_toml.specs.Orders.{tag_order};
-
-    ghost comes_before = { tag_before };
-
-    fn rank(&self, other: &TagEntry) -> Ordering {
-        byte_order(self.name.as_slice(), other.name.as_slice())
-    }
-
-    ghost is_order = { tag_order };
-}
-
 impl Entry for TagEntry {
     ghost use Rattle.part_toml.specs.Parts.{tag_of};
 
@@ -182,19 +167,6 @@ impl Entry for TagEntry {
             content,
         })
     }
-}
-
-impl Ranked for FdEntry {
-    ghost use Rattle.part_toml.specs.Parts.{fd_before};
-    ghost use Rattle.part_toml.specs.Orders.{fd_order};
-
-    ghost comes_before = { fd_before };
-
-    fn rank(&self, other: &FdEntry) -> Ordering {
-        byte_order(self.name.as_slice(), other.name.as_slice())
-    }
-
-    ghost is_order = { fd_order };
 }
 
 impl Entry for FdEntry {
@@ -219,19 +191,6 @@ const NO_BITS: FdBits = FdBits {
     append: false,
 };
 
-impl Ranked for FileEntry {
-    ghost use Rattle.part_toml.specs.Parts.{file_before};
-    ghost use Rattle.part_toml.specs.Orders.{file_order};
-
-    ghost comes_before = { file_before };
-
-    fn rank(&self, other: &FileEntry) -> Ordering {
-        byte_order(self.path.as_slice(), other.path.as_slice())
-    }
-
-    ghost is_order = { file_order };
-}
-
 impl Entry for FileEntry {
     ghost use Rattle.part_toml.specs.Parts.{file_of};
 
@@ -248,17 +207,4 @@ impl Entry for FileEntry {
             content,
         })
     }
-}
-
-impl Ranked for Procedure {
-    ghost use Rattle.part_toml.specs.Parts.{procedure_before};
-    ghost use Rattle.part_toml.specs.Orders.{procedure_order};
-
-    ghost comes_before = { procedure_before };
-
-    fn rank(&self, other: &Procedure) -> Ordering {
-        byte_order(self.name.as_slice(), other.name.as_slice())
-    }
-
-    ghost is_order = { procedure_order };
 }

@@ -7,6 +7,8 @@ ghost use Rattle.part_toml.specs.Keys as keys;
 #[derive(Clone, Copy, Debug, PartialEq, Eq)]
 pub(crate) enum Part {
     Top,
+    /// The top table of a partition that a program is joined to.
+    Joined,
     Data,
     Tag,
     Fd,
@@ -100,6 +102,39 @@ static TOP: [Field; 10] = [
         key: Key::Data,
         kind: Kind::Tables,
         required: false,
+    },
+    Field {
+        key: Key::Tag,
+        kind: Kind::Tables,
+        required: false,
+    },
+    Field {
+        key: Key::Fd,
+        kind: Kind::Tables,
+        required: false,
+    },
+    Field {
+        key: Key::File,
+        kind: Kind::Tables,
+        required: false,
+    },
+];
+
+static JOINED: [Field; 6] = [
+    Field {
+        key: Key::Fuel,
+        kind: Kind::Number,
+        required: true,
+    },
+    Field {
+        key: Key::User,
+        kind: Kind::Number,
+        required: true,
+    },
+    Field {
+        key: Key::Root,
+        kind: Kind::Text,
+        required: true,
     },
     Field {
         key: Key::Tag,
@@ -237,6 +272,7 @@ impl Part {
     {
         match self {
             Part::Top => &TOP,
+            Part::Joined => &JOINED,
             Part::Data => &DATA,
             Part::Tag => &TAG,
             Part::Fd => &FD,
@@ -249,7 +285,7 @@ impl Part {
         ensures { result.now ≡ keys.prefix self }
     {
         match self {
-            Part::Top => "",
+            Part::Top | Part::Joined => "",
             Part::Data => "data.",
             Part::Tag => "tag.",
             Part::Fd => "fd.",

@@ -5,13 +5,14 @@ mod checking;
 mod entries;
 mod equates;
 mod fault;
+mod joining;
 mod keys;
 mod reading;
-mod sorting;
 mod tables;
 #[cfg(test)]
 mod tests;
 mod values;
 
 pub use fault::PartFault;
+pub use joining::read_partition_with;
 pub use reading::read_partition;

@@ -15,11 +15,11 @@ use crate::checking::check_document;
 use crate::entries::{Entries, NamedRange, all_entries, copy_at};
 use crate::equates::equates;
 use crate::fault::PartFault;
-use crate::keys::Key;
-use crate::sorting::sort;
+use crate::keys::{Key, Part};
 use crate::tables::{number_at, text_at};
 use image_form::{Image, ImageParts, finish_image};
 use rv_asm::{Assembled, Why, assemble};
+use stable_sort::sort;
 use std::alloc::Global;
 use toml::Table;
 use wedge_base::{Items, MemoryRange, NoMemory, Procedure};
@@ -112,7 +112,7 @@ fn finish(
 fn read_table(alloc: Global, top: &Table) -> Result<Image, PartFault>
     ensures { IsAnswer result (partition.partition_of (table_view top.now)) }
 {
-    check_document(alloc, top)?;
+    check_document(alloc, Part::Top, top)?;
     let entries = all_entries(alloc, top)?;
     let text = text_of(alloc, top, &entries)?;
     let name = text_at(top, Key::Entry).as_bytes();

@@ -6,11 +6,11 @@ use Rattle.std.specs.Cmp.{IsStrictWeakOrder}
 use Rattle.std.specs.List.Sorted.{ties, IsSortedBy, IsStableBy}
 use Rattle.std.proofs.lemmas.List.Sorted.{sorted_far}
 use Rattle.std.proofs.lemmas.List.Elements.{filter-append}
-use Rattle.part_toml.specs.Sorting.{put, sorted_onto, sorted}
+use Rattle.stable_sort.specs.Sorting.{put, sorted_onto, sorted}
 
 module _ {X : Type 0} (lt : X → X → Bool) (o : IsStrictWeakOrder lt) where
   -- no item of a list is less than x
-  abbrev IsLow : X → List X → Type 0
+  abbrev pub IsLow : X → List X → Type 0
   IsLow x [] = Unit {0}
   IsLow x (y ∷ ys) = (lt y x ≡ false) × IsLow x ys
 
@@ -154,7 +154,7 @@ module _ {X : Type 0} (lt : X → X → Bool) (o : IsStrictWeakOrder lt) where
   ties_put t x [] u = refl
   ties_put t x (y ∷ ys) u = ties_put_at t x y ys u.0 (ties_put t x ys u.1) (lt x y) refl
 
-  rises_onto : (done xs : List X) → Rises done → Rises (sorted_onto lt done xs)
+  pub rises_onto : (done xs : List X) → Rises done → Rises (sorted_onto lt done xs)
   rises_onto done [] u = u
   rises_onto done (x ∷ xs) u = rises_onto (put lt x done) xs (rises_put x done u)
 

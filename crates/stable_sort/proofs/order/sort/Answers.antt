@@ -1,11 +1,11 @@
 use Rattle.std.proofs.Common.{rules}
 use Rattle.std.proofs.lemmas.List.Sorted.{answers_always}
-use Rattle.part_toml.proofs.Sorted.{is_sorted}
-use Rattle.part_toml.proofs.sorting.sort.Goals as goal
+use Rattle.stable_sort.proofs.Sorted.{is_sorted}
+use Rattle.stable_sort.proofs.order.sort.Goals as goal
 
 pub returns : goal.returns
 returns g c =
-    let before = g.T.Ranked.comes_before in
-    let order = g.met.T.Ranked.is_order in
+    let before = g.T.Sortable.comes_before in
+    let order = g.met.T.Sortable.is_order in
     let compares = answers_always _ _ _ (λ f a r q k. search rules) in
     is_sorted before order c.args.items.now.items _ (c.in_ok-sort_by.ensures.sorted before order compares) (c.in_ok-sort_by.ensures.stable before order compares)

@@ -1,0 +1,13 @@
+pub mod Fields
+pub mod Steps
+pub mod Headers
+pub mod Checks
+pub mod Symbols
+pub mod Loads
+pub mod Orders
+pub mod Procedures
+pub mod Program
+pub mod Reading
+pub mod Words
+pub mod Views
+pub mod Laws

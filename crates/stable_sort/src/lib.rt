@@ -1,0 +1,9 @@
+//! A stable sort, and the order of what an image lists by name.
+#![tactic(auto)]
+
+mod entries;
+mod order;
+#[cfg(test)]
+mod tests;
+
+pub use order::{Sortable, sort};
