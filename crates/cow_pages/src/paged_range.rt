@@ -6,7 +6,7 @@ ghost use Rattle.wedge_base.specs.Images.{page};
 ghost use Rattle.wedge_base.specs.Memory.{lies_in, read_range, write_range};
 
 use crate::pages::Pages;
-use std::alloc::Global;
+use std::alloc::{AllocError, Global};
 use std::marker::Model;
 use wedge_base::{Bytes, NoMemory, PAGE};
 
@@ -28,6 +28,14 @@ impl Model for PagedRange {
     ghost view = { λ r. record { base = r.base; bytes = take r.size r.pages } };
 
     ghost invariant = { λ r. (r.base % 4 ≡ 0) × (r.size ≤ length r.pages) };
+}
+
+impl Clone for PagedRange {
+    ghost is_clone = { λ r s. s ≡ r };
+
+    fn clone(&self) -> Result<PagedRange, AllocError> {
+        self.snapshot().map_err(|_| AllocError)
+    }
 }
 
 impl PagedRange {

@@ -9,7 +9,7 @@ ghost use Rattle.cow_pages.specs.Listed.{bytes_listed};
 ghost use Rattle.cow_pages.specs.SharedPages.{HaveLength, contents, bytes_in, zero_padded, page_from};
 
 use crate::page_list::{list_of, pages_in};
-use std::alloc::Global;
+use std::alloc::{AllocError, Global};
 use std::marker::Model;
 use std::sync::Arc;
 use wedge_base::{Bytes, NoMemory, PAGE, Page, PageList};
@@ -35,6 +35,14 @@ impl Model for Pages {
 
     ghost invariant = { λ s. let pages = s.pages.items
         in HaveLength page (contents pages) × (length pages < 2 ^ 32) };
+}
+
+impl Clone for Pages {
+    ghost is_clone = { λ p q. q ≡ p };
+
+    fn clone(&self) -> Result<Pages, AllocError> {
+        self.snapshot().map_err(|_| AllocError)
+    }
 }
 
 impl Pages {

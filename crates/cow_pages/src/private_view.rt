@@ -58,6 +58,16 @@ impl PrivateView {
         })
     }
 
+    /// Equal private memory, in pages that both hold.
+    pub fn snapshot(&self) -> Result<PrivateView, NoMemory>
+        ensures { IfOk result (λ v. v ≡ self.now) }
+    {
+        Ok(PrivateView {
+            ranges: self.ranges.clone()?,
+            copies: self.copies.clone()?,
+        })
+    }
+
     /// Frees it: no range and no copy is left.
     pub fn clear(&mut self)
         ensures { self.new ≡ no_memory }

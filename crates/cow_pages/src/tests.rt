@@ -224,3 +224,27 @@ fn the_copies_of_an_actor(rt: HostRuntime) -> Result<(), Fail> {
     assert!(rt; view.copy_at(Slot(2)).is_none());
     Ok(())
 }
+
+/// A snapshot begins with the ranges and the copies of its source, and neither of the two has what is stored into the other.
+#[test]
+fn a_snapshot_of_an_actors_memory(rt: HostRuntime) -> Result<(), Fail> {
+    let first = Place {
+        slot: Slot(3),
+        offset: 0,
+    };
+    let mut view = PrivateView::new(rt.alloc(), &[])?;
+    view.put_copy(Slot(3), Pages::new(rt.alloc(), &[6], 1)?)?;
+    assert_eq!(rt; view.store(0x2000_0000, 4, 7)?, true);
+    let mut snapshot = view.snapshot()?;
+    assert_eq!(rt; view.store(0x2000_0000, 4, 8)?, true);
+    assert_eq!(rt; view.store(0x2000_0004, 4, 1)?, true);
+    assert_eq!(rt; snapshot.store_copy(first, 1, 9)?, Some(true));
+    assert_eq!(rt; snapshot.load(0x2000_0000, 4), Some(7));
+    assert_eq!(rt; snapshot.load(0x2000_0004, 4), Some(0));
+    assert_eq!(rt; view.load(0x2000_0000, 4), Some(8));
+    assert_eq!(rt;
+        (snapshot.load_copy(first, 4), view.load_copy(first, 4)),
+        (Some(Some(9)), Some(Some(6)))
+    );
+    Ok(())
+}

@@ -25,13 +25,13 @@ use Rattle.wedge_base.specs.declared.rights.End.{End}
 use Rattle.sthread_life.specs.declared.phase.Phase.{Phase}
 use Rattle.sthread_life.specs.declared.phase.Phase.TheVariants as phase
 use Rattle.sthread_life.specs.Actors.{ActorState, answers, answers_more, spends}
-use Rattle.sthread_life.specs.Calls.{a1}
+use Rattle.sthread_life.specs.Calls.{a1, a0, draft_at, new_gate, has_gate, makes_or_waits, making}
 use Rattle.sthread_life.specs.Opening.{FileOpening}
-use Rattle.wedge_base.specs.Sheets.{made_fd}
+use Rattle.wedge_base.specs.Sheets.{made_fd, Draft}
 use Rattle.sthread_life.specs.Between.{IsBetween}
 use Rattle.sthread_life.specs.Children.{without_child, child_name}
 use Rattle.sthread_life.specs.Local.{rest, end_reached}
-use Rattle.sthread_life.specs.Taking.{wanted, pair, runs, loads_by, loads_at, has_snapped, has_number, has_opened_file, end_value, end_number, answered_end, takes}
+use Rattle.sthread_life.specs.Taking.{wanted, pair, runs, loads_by, loads_at, has_snapped, has_number, has_opened_file, end_value, end_number, answered_end, takes, copied_on}
 use Rattle.sthread_life.specs.Copying.{Preparation}
 use Rattle.cow_pages.specs.Listed.{bytes_listed}
 use Rattle.wedge_base.specs.Directories.{directory_reply}
@@ -43,6 +43,8 @@ use Rattle.wedge_base.specs.Wants.{slot_ask_with}
 use Rattle.wedge_base.specs.declared.rights.End.TheVariants as end_
 use Rattle.sthread_life.specs.Cells.{Cells, slot_in, stream_in, kept_in, tag_in}
 use Rattle.sthread_life.specs.Worlds.{WorldState, actor_named, join_event, event_at, happened, wanting, turn_with, turn_of, Taken}
+use Rattle.callgate.specs.declared.gate.Gate.{Gate}
+use Rattle.sthread_life.specs.declared.copy_grant.CopyGrant.{CopyGrant}
 
 -- a load that has its value leaves the actor running
 loaded_by : (ins : Instr) (n : Need) (a : ActorState) (value : ℕ) → a.phase ≡ phase.Running → (loads_by ins n a value).phase ≡ phase.Running
@@ -62,6 +64,7 @@ pub joined_is : (Q : ActorState → Type 0) (a : ActorState) (p : Phase) (e : En
 joined_is Q a phase.Running e own other = other
 joined_is Q a (phase.Within q) e own other = other
 joined_is Q a (phase.Starting pre) e own other = other
+joined_is Q a (phase.MakingGate pre) e own other = other
 joined_is Q a (phase.Opening slot tag) e own other = other
 joined_is Q a (phase.Releasing slot) e own other = other
 joined_is Q a (phase.OpeningFile o) e own other = other
@@ -73,6 +76,7 @@ pub numbered_is : (Q : ActorState → Type 0) (a : ActorState) (p : Phase) (fd :
 numbered_is Q a phase.Running fd other on = other
 numbered_is Q a (phase.Within q) fd other on = other
 numbered_is Q a (phase.Starting pre) fd other on = other
+numbered_is Q a (phase.MakingGate pre) fd other on = other
 numbered_is Q a (phase.Opening s tag) fd other on = other
 numbered_is Q a (phase.Releasing s) fd other on = other
 numbered_is Q a (phase.OpeningFile o) fd other on = on o
@@ -87,38 +91,62 @@ pub opened_is : (Q : ActorState → Type 0) (a : ActorState) (p : Phase) (fd : �
 opened_is Q a phase.Running fd other on = other
 opened_is Q a (phase.Within q) fd other on = other
 opened_is Q a (phase.Starting pre) fd other on = other
+opened_is Q a (phase.MakingGate pre) fd other on = other
 opened_is Q a (phase.Opening s tag) fd other on = other
 opened_is Q a (phase.Releasing s) fd other on = other
 opened_is Q a (phase.OpeningFile o) fd other on = on o
 opened_is Q a (phase.Ending x) fd other on = other
 opened_is Q a (phase.Ended x) fd other on = other
 
--- what the copy of a tag leaves of an actor: one that prepares a child goes on with that, and any other runs
-pub snapped_is : (Q : ActorState → Type 0) (a : ActorState) (p : Phase) (slot : ℕ) (bytes : Option (List ℕ)) → Q (runs a) → ((x : Preparation) → Q (record a { phase = phase.Starting x })) → Q (has_snapped a p slot bytes)
-snapped_is Q a phase.Running slot bytes other on = other
-snapped_is Q a (phase.Within q) slot bytes other on = other
-snapped_is Q a (phase.Starting pre) slot bytes other on = on _
-snapped_is Q a (phase.Opening s tag) slot bytes other on = other
-snapped_is Q a (phase.Releasing s) slot bytes other on = other
-snapped_is Q a (phase.OpeningFile o) slot bytes other on = other
-snapped_is Q a (phase.Ending x) slot bytes other on = other
-snapped_is Q a (phase.Ended x) slot bytes other on = other
+-- what the copy of a tag leaves of an actor: one that prepares a child goes on with that, one that makes a gate likewise or has made it,
+-- and any other runs
+pub made_is : (Q : ActorState → Type 0) (a : ActorState) (d : Draft) (p : Preparation) → ((x : Preparation) → Q (record a { phase = phase.MakingGate x })) → ((g : Gate) → Q (has_gate a g)) → Q (making a d p)
+made_is Q a d p waits made = by_left p.left
+  where
+    by_left : (gs : List CopyGrant) → Q (makes_or_waits a d p gs)
+    by_left [] = made (new_gate a d p.memory)
+    by_left (g ∷ gs) = waits p
 
--- an actor that prepares a child; and one that does so or is between instructions
+pub snapped_is : (Q : ActorState → Type 0) (a : ActorState) (p : Phase) (slot : ℕ) (bytes : Option (List ℕ)) → Q (runs a) → ((x : Preparation) → Q (record a { phase = phase.Starting x })) → ((x : Preparation) → Q (record a { phase = phase.MakingGate x })) → ((g : Gate) → Q (has_gate a g)) → Q (has_snapped a p slot bytes)
+snapped_is Q a phase.Running slot bytes other on waits made = other
+snapped_is Q a (phase.Within q) slot bytes other on waits made = other
+snapped_is Q a (phase.Starting pre) slot bytes other on waits made = on _
+snapped_is Q a (phase.MakingGate pre) slot bytes other on waits made = made_is Q a (draft_at a.drafts (a0 a)) (copied_on a pre slot bytes) waits made
+snapped_is Q a (phase.Opening s tag) slot bytes other on waits made = other
+snapped_is Q a (phase.Releasing s) slot bytes other on waits made = other
+snapped_is Q a (phase.OpeningFile o) slot bytes other on waits made = other
+snapped_is Q a (phase.Ending x) slot bytes other on waits made = other
+snapped_is Q a (phase.Ended x) slot bytes other on waits made = other
+
+-- an actor that prepares a child; and one that does so, makes a gate or is between instructions
 abbrev pub IsPreparing : Phase → Type 0
 IsPreparing phase.Running = ⊥
 IsPreparing (phase.Within q) = ⊥
 IsPreparing (phase.Starting pre) = Unit {0}
+IsPreparing (phase.MakingGate pre) = ⊥
 IsPreparing (phase.Opening slot tag) = ⊥
 IsPreparing (phase.Releasing slot) = ⊥
 IsPreparing (phase.OpeningFile o) = ⊥
 IsPreparing (phase.Ending e) = ⊥
 IsPreparing (phase.Ended e) = ⊥
 
+-- an actor that makes a gate
+abbrev pub IsMaking : Phase → Type 0
+IsMaking phase.Running = ⊥
+IsMaking (phase.Within q) = ⊥
+IsMaking (phase.Starting pre) = ⊥
+IsMaking (phase.MakingGate pre) = Unit {0}
+IsMaking (phase.Opening slot tag) = ⊥
+IsMaking (phase.Releasing slot) = ⊥
+IsMaking (phase.OpeningFile o) = ⊥
+IsMaking (phase.Ending e) = ⊥
+IsMaking (phase.Ended e) = ⊥
+
 abbrev pub MayPrepare : Phase → Type 0
 MayPrepare phase.Running = Unit {0}
 MayPrepare (phase.Within q) = ⊥
 MayPrepare (phase.Starting pre) = Unit {0}
+MayPrepare (phase.MakingGate pre) = Unit {0}
 MayPrepare (phase.Opening slot tag) = ⊥
 MayPrepare (phase.Releasing slot) = ⊥
 MayPrepare (phase.OpeningFile o) = ⊥
@@ -130,6 +158,7 @@ abbrev pub MayNumber : ℕ → Phase → Type 0
 MayNumber fd phase.Running = Unit {0}
 MayNumber fd (phase.Within q) = ⊥
 MayNumber fd (phase.Starting pre) = ⊥
+MayNumber fd (phase.MakingGate pre) = ⊥
 MayNumber fd (phase.Opening slot tag) = ⊥
 MayNumber fd (phase.Releasing slot) = ⊥
 MayNumber fd (phase.OpeningFile o) = o.number ≡ Some fd
@@ -152,6 +181,7 @@ joined_between : (a : ActorState) (p : Phase) (e : End) → a.phase ≡ p → Is
 joined_between a phase.Running e is = tt
 joined_between a (phase.Within q) e is = tt
 joined_between a (phase.Starting pre) e is = tt
+joined_between a (phase.MakingGate pre) e is = tt
 joined_between a (phase.Opening slot tag) e is = tt
 joined_between a (phase.Releasing slot) e is = tt
 joined_between a (phase.OpeningFile o) e is = tt
@@ -166,8 +196,8 @@ takes_between i a (event.Slots directory_ask.Claim (directory_reply.Claimed plac
 takes_between i a (event.Slots directory_ask.Claim directory_reply.Full) = tt
 takes_between i a (event.Slots directory_ask.Claim directory_reply.Released) = tt
 takes_between i a (event.Slot slot q slot_reply.Closed) = refl
-takes_between i a (event.Slot slot q (slot_reply.Snapped pages)) = snapped_is (λ x. MayPrepare x.phase) a a.phase slot (Some (bytes_listed pages)) tt (λ x. tt)
-takes_between i a (event.Slot slot q slot_reply.Gone) = snapped_is (λ x. MayPrepare x.phase) a a.phase slot None tt (λ x. tt)
+takes_between i a (event.Slot slot q (slot_reply.Snapped pages)) = snapped_is (λ x. MayPrepare x.phase) a a.phase slot (Some (bytes_listed pages)) tt (λ x. tt) (λ x. tt) (λ g. tt)
+takes_between i a (event.Slot slot q slot_reply.Gone) = snapped_is (λ x. MayPrepare x.phase) a a.phase slot None tt (λ x. tt) (λ x. tt) (λ g. tt)
 takes_between i a (event.Slot slot (slot_ask.Sfree offset live) (slot_reply.Denied tag wants)) = tt
 takes_between i a (event.Slot slot (slot_ask.Open tag pages) slot_reply.Opened) = tt
 takes_between i a (event.Slot slot q r) = tt
@@ -209,8 +239,8 @@ takes_name i b (event.Slots (directory_ask.Release place) r) = refl
 takes_name i b (event.Slots directory_ask.Claim (directory_reply.Claimed place number)) = refl
 takes_name i b (event.Slots directory_ask.Claim directory_reply.Full) = refl
 takes_name i b (event.Slots directory_ask.Claim directory_reply.Released) = refl
-takes_name i b (event.Slot slot q (slot_reply.Snapped pages)) = snapped_is (λ x. x.name ≡ b.name) b b.phase slot (Some (bytes_listed pages)) refl (λ x. refl)
-takes_name i b (event.Slot slot q slot_reply.Gone) = snapped_is (λ x. x.name ≡ b.name) b b.phase slot None refl (λ x. refl)
+takes_name i b (event.Slot slot q (slot_reply.Snapped pages)) = snapped_is (λ x. x.name ≡ b.name) b b.phase slot (Some (bytes_listed pages)) refl (λ x. refl) (λ x. refl) (λ g. refl)
+takes_name i b (event.Slot slot q slot_reply.Gone) = snapped_is (λ x. x.name ≡ b.name) b b.phase slot None refl (λ x. refl) (λ x. refl) (λ g. refl)
 takes_name i b (event.Slot slot (slot_ask.Sfree offset live) (slot_reply.Denied tag wants)) = refl
 takes_name i b (event.Slot slot (slot_ask.Open tag pages) slot_reply.Opened) = refl
 takes_name i b (event.Slot slot q r) = refl

@@ -43,7 +43,7 @@ use Rattle.sthread_life.proofs.Directing.{claimed_number, next_number}
 use Rattle.sthread_life.proofs.Meeting.{IsRequest}
 use Rattle.sthread_life.proofs.Families.{MadeBy, MadeNothing, MadeTag, MadeFd, takes_made, takes_sheet, happens_made, child_begins}
 use Rattle.sthread_life.proofs.FamilyRuns.{Acts, ActsAlone, Starts, Joins, acts, one_begins, kept_at_rest}
-use Rattle.sthread_life.proofs.Happening.{Happens, Requested, Joined, Snaps, Started, Opens, Releases, Numbers, OpensFile, LastJoined, Ended, happens_claim, happens_number, opens_by_claim}
+use Rattle.sthread_life.proofs.Happening.{Happens, Requested, Joined, Snaps, GateSnaps, Started, Opens, Releases, Numbers, OpensFile, LastJoined, Ended, happens_claim, happens_number, opens_by_claim}
 use Rattle.sthread_life.proofs.Named.{found_name, same_equal, same_self}
 use Rattle.sthread_life.proofs.Resting.{rest-name, rest-uncalm}
 use Rattle.sthread_life.proofs.Settling.{AllReady, turn_happens, turn_ready, opening_ready}
@@ -229,6 +229,7 @@ cells_above : (n : ℕ) (w : WorldState) (b : ActorState) (e : Event) → Happen
 cells_above n w b e (Requested r) h = subst (λ y. GivesAbove n (cells_after w.cells y).numbers) (sym r.is) (request_above n _ w.cells b r.want r.own h)
 cells_above n w b e (Joined j) h = subst (λ y. GivesAbove n (cells_after w.cells y).numbers) (sym j.join.is) h
 cells_above n w b e (Snaps s) h = subst (λ y. GivesAbove n (cells_after w.cells y).numbers) (sym s.is) h
+cells_above n w b e (GateSnaps s) h = subst (λ y. GivesAbove n (cells_after w.cells y).numbers) (sym s.is) h
 cells_above n w b e (Started s) h = subst (λ y. GivesAbove n (cells_after w.cells y).numbers) (sym s.is) h
 cells_above n w b e (Opens o) h = subst (λ y. GivesAbove n (cells_after w.cells y).numbers) (sym o.is) h
 cells_above n w b e (Releases r) h = subst (λ y. GivesAbove n (cells_after w.cells y).numbers) (sym r.is) h

@@ -29,7 +29,7 @@ use Rattle.sthread_life.specs.Cells.{Cells, slot_in, stream_in, kept_in, cells_a
 use Rattle.sthread_life.specs.Worlds.{WorldState, turn_of, Runs}
 use Rattle.sthread_life.specs.CellHistories.{after_turns, Occupant, occupant, occupant_in, occupant_by, occupant_after_event, Mode, mode, mode_in, mode_by, mode_after_event, places_after_event, numbers_after_event, lives_after_event, kept_after_event, CellsFollow}
 use Rattle.sthread_life.proofs.Between.{event_for, turn_parts}
-use Rattle.sthread_life.proofs.Happening.{Happens, Requested, Joined, Snaps, Started, Opens, Releases, Numbers, OpensFile, LastJoined, Ended}
+use Rattle.sthread_life.proofs.Happening.{Happens, Requested, Joined, Snaps, GateSnaps, Started, Opens, Releases, Numbers, OpensFile, LastJoined, Ended}
 use Rattle.sthread_life.proofs.Settling.{AreCells, AllReady, turn_happens, turn_ready}
 use Rattle.sthread_life.proofs.Meeting.{IsRequest}
 use Rattle.sthread_life.proofs.StreamCalls.{read_cases, append_cases, close_cases, unopened_stays, IsStreamRequest}
@@ -197,6 +197,11 @@ event_changes w b e cells (Requested r) = subst (λ y. IsChanged w.cells y (cell
 event_changes w b e cells (Joined j) =
     subst (λ y. IsChanged w.cells y (cells_after w.cells y)) (sym j.join.is) (record { occupants = λ slot. refl; modes = λ fd. refl; places = refl; numbers = refl; lives = refl; gates = λ id. refl })
 event_changes w b e cells (Snaps s) =
+    let ask = slot_ask.Snap s.grant.tag in
+    let g = slot_in w.cells s.grant.slot in
+    subst (λ y. IsChanged w.cells y (cells_after w.cells y)) (sym s.is)
+    (slot_changes w.cells s.grant.slot ask (λ none. none) (snap_shows s.grant.tag g (slot_reply_of g ask)))
+event_changes w b e cells (GateSnaps s) =
     let ask = slot_ask.Snap s.grant.tag in
     let g = slot_in w.cells s.grant.slot in
     subst (λ y. IsChanged w.cells y (cells_after w.cells y)) (sym s.is)

@@ -7,7 +7,7 @@ use Rattle.wedge_base.specs.Bytes.{number_of}
 use Rattle.wedge_base.specs.Images.{Image, fetch, in_text, read_text, slot_of}
 use Rattle.wedge_base.specs.Memory.{range_at}
 use Rattle.wedge_base.specs.Names.{most_parts}
-use Rattle.wedge_base.specs.Sheets.{Draft, empty_draft, takes_tag, takes_fd, with_tag, with_fd, first_excess}
+use Rattle.wedge_base.specs.Sheets.{Draft, empty_draft, takes_tag, takes_fd, takes_gate, with_tag, with_fd, with_gate, first_excess}
 use Rattle.wedge_base.specs.Maps.{has}
 use Rattle.wedge_base.specs.Rights.{at_least}
 use Rattle.wedge_base.specs.declared.rights.Denial.{Denial}
@@ -43,11 +43,13 @@ use Rattle.sthread_life.specs.Private.{loads, stores, load_bytes, load_copy, loa
 use Rattle.sthread_life.specs.Children.{is_child, without_child}
 use Rattle.sthread_life.proofs.Between.{joined_is, numbered_is, opened_is, snapped_is}
 use Rattle.sthread_life.proofs.Buffers.{path_is}
-use Rattle.sthread_life.specs.Calls.{serves, exit, is_procedure, create, create_with, create_checked, join, are_pages, tag_new, tag_delete, smalloc, free_at, sfree, fd_read, fd_append, fd_close, draft_call, sc_new, sc_mem_add, sc_fd_add, with_draft, add_right, add_right_to, add_bits, add_bits_to, bits, a0, a1, a2, a3, a7, set_user, sc_user, path_in, set_root, sc_root, file_at, mode_asked, suits, open_file, open_path, file_open}
+use Rattle.sthread_life.specs.Calls.{serves, exit, is_procedure, create, create_with, create_checked, join, are_pages, tag_new, tag_delete, smalloc, free_at, sfree, fd_read, fd_append, fd_close, draft_call, sc_new, sc_mem_add, sc_fd_add, sc_cgate_add, add_gate_to, with_draft, add_right, add_right_to, add_bits, add_bits_to, bits, a0, a1, a2, a3, a7, set_user, sc_user, path_in, set_root, sc_root, file_at, mode_asked, suits, open_file, open_path, file_open, makes_or_waits, may_be_gate, make_checked, make_with, cgate_make}
 use Rattle.sthread_life.specs.Drafting.{right_of_number, bits_of_number, edited, with_new, drafts_by_call, drafts_by_need, drafts_by_instr, drafts_by_fuel, drafts_by_word, drafts_after}
 use Rattle.sthread_life.specs.Local.{needed, executed, fuelled, fetched, step}
-use Rattle.sthread_life.specs.Refusals.{full, bad, right_refusal, bits_refusal, fuel_short, user_refusal, root_refusal}
+use Rattle.sthread_life.specs.Refusals.{full, bad, right_refusal, bits_refusal, gate_refusal, fuel_short, user_refusal, root_refusal}
 use Rattle.sthread_life.specs.Taking.{runs, loads_by, loads_at, takes}
+use Rattle.sthread_life.specs.Copying.{Preparation}
+use Rattle.sthread_life.specs.declared.copy_grant.CopyGrant.{CopyGrant}
 
 -- ---- what leaves them as they are
 
@@ -125,6 +127,18 @@ create_stays i a (Some d) = stays_if a (refuses a code.Bad) _ (not (is_procedure
     checked_stays (Some d) = refl
     checked_stays None = stays_if a (refuses a code.Deep) _ (nat_le most_parts (length a.name)) refl (stays_if a (refuses a code.FuelShort) _ (nat_lt a.fuel (a3 a)) refl refl)
 
+made_stays : (a : ActorState) (d : Draft) (p : Preparation) (gs : List CopyGrant) → Stays a (makes_or_waits a d p gs)
+made_stays a d p [] = refl
+made_stays a d p (g ∷ gs) = refl
+
+make_stays : (i : Image) (a : ActorState) (d : Option Draft) → Stays a (make_with i a d)
+make_stays i a None = refl
+make_stays i a (Some d) = stays_if a (refuses a code.Bad) _ (not (may_be_gate i a d)) refl (checked_stays (first_excess a.sheet a.made d))
+  where
+    checked_stays : (o : Option Denial) → Stays a (make_checked i a d o)
+    checked_stays (Some x) = refl
+    checked_stays None = made_stays a d _ _
+
 join_stays : (a : ActorState) → Stays a (join a)
 join_stays a = stays_if a _ (refuses a code.NoSuch) (is_child a.unjoined (a0 a)) refl refl
 
@@ -181,6 +195,16 @@ bits_to_edits : (a : ActorState) (d : Option Draft) → (add_bits_to a d).drafts
 bits_to_edits a None = refl
 bits_to_edits a (Some d) = bits_edits a d (a2 a == 1) (a2 a == 2) (a2 a == 3) (one_not_two (a2 a))
 
+entry_edits : (i : Image) (a : ActorState) (d : Draft) (p : Bool)
+    → (if not p then refuses a code.Bad else if takes_gate d (a1 a) then answers (with_draft a (a0 a) (with_gate d (a1 a))) 0 else refuses a code.Full).drafts
+    ≡ edited a.drafts (a0 a) (if not p then Some bad else if takes_gate d (a1 a) then None else Some full) (λ x. with_gate x (a1 a)) (Some d)
+entry_edits i a d false = refl
+entry_edits i a d true = put_edits a d (with_gate d (a1 a)) (λ x. with_gate x (a1 a)) (takes_gate d (a1 a)) refl
+
+gate_edits : (i : Image) (a : ActorState) (d : Option Draft) → (add_gate_to i a d).drafts ≡ edited a.drafts (a0 a) (gate_refusal i (a1 a) d) (λ x. with_gate x (a1 a)) d
+gate_edits i a None = refl
+gate_edits i a (Some d) = entry_edits i a d (is_procedure i (a1 a))
+
 user_edits : (a : ActorState) (d : Option Draft) → (set_user a d).drafts ≡ edited a.drafts (a0 a) (user_refusal d) (λ x. record x { user = Some (a1 a) }) d
 user_edits a None = refl
 user_edits a (Some d) = refl
@@ -208,8 +232,9 @@ draft_edits i a n =
     same_if (n == 7) (sc_new a) _ _ _ (new_edits a (length a.drafts) (nat_le 64 (length a.drafts)) (not_over (length a.drafts)))
     (same_if (n == 8) (sc_mem_add a) _ _ _ (right_to_edits a found)
     (same_if (n == 9) (sc_fd_add a) _ _ _ (bits_to_edits a found)
+    (same_if (n == 10) (sc_cgate_add i a) _ _ _ (gate_edits i a found)
     (same_if (n == 11) (sc_user a) _ _ _ (user_edits a found)
-    (same_if (n == 12) (sc_root i a) _ _ _ (subst (λ told. EditsRoot a (path_in i a (a1 a) (a2 a)) told found) (sym (path_is i a (a1 a) (a2 a))) (root_edits a (path_in i a (a1 a) (a2 a)) found)) refl))))
+    (same_if (n == 12) (sc_root i a) _ _ _ (subst (λ told. EditsRoot a (path_in i a (a1 a) (a2 a)) told found) (sym (path_is i a (a1 a) (a2 a))) (root_edits a (path_in i a (a1 a) (a2 a)) found)) refl)))))
   where
     not_over : (n : ℕ) → nat_lt n 64 ≡ not (nat_le 64 n)
     not_over n = grind (arith, nat_tests)
@@ -237,6 +262,8 @@ call_edits i a n =
     (λ e. smalloc_stays a ∙ subst (λ m. a.drafts ≡ drafts_by_call i a a.hart.regs m) (sym (eqb-true n 5 e)) refl)
     (λ _. picked (λ x. x.drafts ≡ drafts_by_call i a a.hart.regs n) (n == 6) (sfree a) _
     (λ e. free_stays a (slot_of (a0 a)) ∙ subst (λ m. a.drafts ≡ drafts_by_call i a a.hart.regs m) (sym (eqb-true n 6 e)) refl)
+    (λ _. picked (λ x. x.drafts ≡ drafts_by_call i a a.hart.regs n) (n == 13) (cgate_make i a) _
+    (λ e. make_stays i a (slice_get a.drafts (a0 a)) ∙ subst (λ m. a.drafts ≡ drafts_by_call i a a.hart.regs m) (sym (eqb-true n 13 e)) refl)
     (λ _. picked (λ x. x.drafts ≡ drafts_by_call i a a.hart.regs n) (n == 15) (fd_read a) _
     (λ e. read_stays a ∙ subst (λ m. a.drafts ≡ drafts_by_call i a a.hart.regs m) (sym (eqb-true n 15 e)) refl)
     (λ _. picked (λ x. x.drafts ≡ drafts_by_call i a a.hart.regs n) (n == 16) (fd_append i a) _
@@ -245,7 +272,7 @@ call_edits i a n =
     (λ e. stays_if a (refuses a code.NoSuch) _ (nat_le most_fds (a0 a)) refl refl ∙ subst (λ m. a.drafts ≡ drafts_by_call i a a.hart.regs m) (sym (eqb-true n 17 e)) refl)
     (λ _. picked (λ x. x.drafts ≡ drafts_by_call i a a.hart.regs n) (n == 18) (file_open i a) _
     (λ e. open_stays i a (mode_asked (a2 a)) (path_in i a (a0 a) (a1 a)) ∙ subst (λ m. a.drafts ≡ drafts_by_call i a a.hart.regs m) (sym (eqb-true n 18 e)) refl)
-    (λ _. draft_edits i a n)))))))))))
+    (λ _. draft_edits i a n))))))))))))
 
 -- ---- an instruction
 
@@ -296,8 +323,8 @@ event_edits i a (event.Slots (directory_ask.Release place) r) = refl
 event_edits i a (event.Slots directory_ask.Claim (directory_reply.Claimed place number)) = refl
 event_edits i a (event.Slots directory_ask.Claim directory_reply.Full) = refl
 event_edits i a (event.Slots directory_ask.Claim directory_reply.Released) = refl
-event_edits i a (event.Slot slot q (slot_reply.Snapped pages)) = snapped_is (λ x. x.drafts ≡ a.drafts) a a.phase slot (Some (bytes_listed pages)) refl (λ x. refl)
-event_edits i a (event.Slot slot q slot_reply.Gone) = snapped_is (λ x. x.drafts ≡ a.drafts) a a.phase slot None refl (λ x. refl)
+event_edits i a (event.Slot slot q (slot_reply.Snapped pages)) = snapped_is (λ x. x.drafts ≡ a.drafts) a a.phase slot (Some (bytes_listed pages)) refl (λ x. refl) (λ x. refl) (λ g. refl)
+event_edits i a (event.Slot slot q slot_reply.Gone) = snapped_is (λ x. x.drafts ≡ a.drafts) a a.phase slot None refl (λ x. refl) (λ x. refl) (λ g. refl)
 event_edits i a (event.Slot slot (slot_ask.Sfree offset live) (slot_reply.Denied tag wants)) = refl
 event_edits i a (event.Slot slot (slot_ask.Open tag pages) slot_reply.Opened) = refl
 event_edits i a (event.Slot slot q r) = refl

@@ -1,16 +1,18 @@
 -- In every run each draft of an actor has at most 1,024 grants, so a child has at most as many copies.
-use Rattle.std.proofs.Common.{◌≡◌, ℕ, zero, suc, ◌+◌, ◌≤◌, Bool, true, false, not, List, [], ◌∷◌, ◌++◌, length, refl, sym, ap, subst, ◌∙◌, arith}
+use Rattle.std.proofs.Common.{◌≡◌, ℕ, zero, suc, ◌+◌, ◌≤◌, Bool, true, false, not, List, [], ◌∷◌, ◌++◌, length, refl, sym, ap, subst, ◌∙◌, arith, ◌<◌}
 use Rattle.std.proofs.lemmas.Bool.Decides.{nat_tests}
 use Rattle.std.proofs.lemmas.List.{length-map}
 use Rattle.std.proofs.Math.Dec.{T}
-use Rattle.std.specs.List.{AllByRecursion}
-use Rattle.std.specs.Ordering.{nat_cmp}
+use Rattle.std.specs.List.{AllByRecursion, list_any}
+use Rattle.std.specs.Ordering.{nat_cmp, is_eq}
+use Rattle.std.specs.declared.cmp.Ordering.{Ordering}
+use Rattle.std.specs.declared.cmp.Ordering.TheVariants.{Less, Equal, Greater}
 use Rattle.std.specs.Cmp.{nat_cmp_total}
-use Rattle.std.specs.FinMap.Entries.{is_sorted, is_sorted-put, length-put}
+use Rattle.std.specs.FinMap.Entries.{by_order, is_sorted, is_sorted-put, length-put}
 use Rattle.std.specs.Prelude.{Option, Some, None, ◌==◌, ◌||◌, slice_get, slice_set, unwrap_or, if◌then◌else◌}
 use Rattle.wedge_base.specs.Images.{Image, fetch}
-use Rattle.wedge_base.specs.Maps.{Map, has, with}
-use Rattle.wedge_base.specs.Sheets.{Draft, is_copy, empty_draft, grants, granted, tag_granted, most_grants, is_full, takes_tag, takes_fd, with_tag, with_fd}
+use Rattle.wedge_base.specs.Maps.{Map, has, with, with_number, is_among, AreRising}
+use Rattle.wedge_base.specs.Sheets.{Draft, is_copy, empty_draft, grants, granted, tag_granted, most_grants, is_full, takes_tag, takes_fd, takes_gate, with_tag, with_fd, with_gate}
 use Rattle.wedge_base.specs.declared.events.Event.{Event}
 use Rattle.wedge_base.specs.declared.rights.FdBits.{FdBits}
 use Rattle.wedge_base.specs.declared.rights.Grant.{Grant}
@@ -22,13 +24,13 @@ use Rattle.rv_hart.specs.declared.Need.TheVariants as need
 use Rattle.rv_hart.specs.Local.{local, reg}
 use Rattle.sthread_life.specs.declared.copy_grant.CopyGrant.{CopyGrant}
 use Rattle.sthread_life.specs.Actors.{ActorState}
-use Rattle.sthread_life.specs.Calls.{a0}
+use Rattle.sthread_life.specs.Calls.{a0, draft_at}
 use Rattle.sthread_life.specs.Copying.{copy_grants}
 use Rattle.sthread_life.specs.Drafting.{edited, with_new, right_of_number, bits_of_number, drafts_by_call, drafts_by_need, drafts_by_instr, drafts_by_fuel, drafts_by_word}
 use Rattle.sthread_life.specs.Local.{is_running, step, run_local, rest}
-use Rattle.sthread_life.specs.Refusals.{bad, full, new_refusal, right_refusal, bits_refusal, user_refusal, root_refusal}
+use Rattle.sthread_life.specs.Refusals.{bad, full, new_refusal, right_refusal, bits_refusal, gate_refusal, user_refusal, root_refusal}
 use Rattle.sthread_life.specs.Requests.{path_at}
-use Rattle.sthread_life.specs.Taking.{draft_at, copies_asked, takes}
+use Rattle.sthread_life.specs.Taking.{copies_asked, takes}
 use Rattle.sthread_life.proofs.DraftEdits.{step_edits, event_edits}
 use Rattle.sthread_life.proofs.Resting.{stays, goes_on}
 
@@ -37,12 +39,13 @@ pub record IsFew (d : Draft) : Type 0 where
   pub few : grants d ≤ most_grants
   pub tags : T (is_sorted nat_cmp d.tags)
   pub fds : T (is_sorted nat_cmp d.fds)
+  pub gates : AreRising 0 d.gates
 
 abbrev pub AreFew : List Draft → Type 0
 AreFew ds = AllByRecursion IsFew ds
 
 empty_few : IsFew empty_draft
-empty_few = record { few = omega arith; tags = tt; fds = tt }
+empty_few = record { few = omega arith; tags = tt; fds = tt; gates = tt }
 
 -- ---- one grant more
 
@@ -54,13 +57,55 @@ tag_few : (d : Draft) (tag : ℕ) (r : Right) → takes_tag d tag ≡ true → I
 tag_few d tag r taken f =
     let inside : length d.tags ≤ grants d = omega arith in
     let all = room d (has d.tags tag) (length (with d.tags tag r)) (length d.tags) taken f.few (length-put nat_cmp nat_cmp_total tag r d.tags f.tags) inside in
-    record { few = omega (arith, all); tags = is_sorted-put nat_cmp nat_cmp_total tag r d.tags f.tags; fds = f.fds }
+    record { few = omega (arith, all); tags = is_sorted-put nat_cmp nat_cmp_total tag r d.tags f.tags; fds = f.fds; gates = f.gates }
 
 fd_few : (d : Draft) (fd : ℕ) (b : FdBits) → takes_fd d fd ≡ true → IsFew d → IsFew (with_fd d fd b)
 fd_few d fd b taken f =
     let inside : length d.fds ≤ grants d = omega arith in
     let all = room d (has d.fds fd) (length (with d.fds fd b)) (length d.fds) taken f.few (length-put nat_cmp nat_cmp_total fd b d.fds f.fds) inside in
-    record { few = omega (arith, all); tags = f.tags; fds = is_sorted-put nat_cmp nat_cmp_total fd b d.fds f.fds }
+    record { few = omega (arith, all); tags = f.tags; fds = is_sorted-put nat_cmp nat_cmp_total fd b d.fds f.fds; gates = f.gates }
+
+-- an entry more: entries rise strictly, so that each is there once
+above_all : (low k : ℕ) (ns : List ℕ) → AreRising low ns → k < low → is_among ns k ≡ false
+above_all low k [] rising below = refl
+above_all low k (n ∷ ns) rising below = by_ordering (nat_cmp k n) refl (above_all (n + 1) k ns rising.1 (omega (arith, rising.0, below)))
+  where
+    by_ordering : (o : Ordering) → nat_cmp k n ≡ o → is_among ns k ≡ false → (is_eq o || is_among ns k) ≡ false
+    by_ordering Less e others = others
+    by_ordering Equal e others = let same : k ≡ n = grind (arith, e) in absurd (omega (arith, same, rising.0, below))
+    by_ordering Greater e others = others
+
+entries_counted : (low k : ℕ) (ns : List ℕ) → AreRising low ns → length (with_number ns k) ≡ (if is_among ns k then length ns else suc (length ns))
+entries_counted low k [] rising = refl
+entries_counted low k (n ∷ ns) rising = by_ordering (nat_cmp k n) refl (is_among ns k) refl (entries_counted (n + 1) k ns rising.1)
+  where
+    by_ordering : (o : Ordering) → nat_cmp k n ≡ o → (t : Bool) → is_among ns k ≡ t → length (with_number ns k) ≡ (if is_among ns k then length ns else suc (length ns))
+        → length (by_order o (k ∷ n ∷ ns) (n ∷ ns) (n ∷ with_number ns k)) ≡ (if is_eq o || is_among ns k then suc (length ns) else suc (suc (length ns)))
+    by_ordering Less e t is later =
+        let below : k < n + 1 = grind (arith, e) in
+        ap (λ u. if u then suc (length ns) else suc (suc (length ns))) (sym (above_all (n + 1) k ns rising.1 below))
+    by_ordering Equal e t is later = refl
+    by_ordering Greater e true is later = rw is (ap suc (later ∙ ap (λ u. if u then length ns else suc (length ns)) is))
+    by_ordering Greater e false is later = rw is (ap suc (later ∙ ap (λ u. if u then length ns else suc (length ns)) is))
+
+entries_rise : (low k : ℕ) (ns : List ℕ) → low ≤ k → AreRising low ns → AreRising low (with_number ns k)
+entries_rise low k [] from rising = (from, tt)
+entries_rise low k (n ∷ ns) from rising = by_ordering (nat_cmp k n) refl (entries_rise (n + 1) k ns)
+  where
+    by_ordering : (o : Ordering) → nat_cmp k n ≡ o → (n + 1 ≤ k → AreRising (n + 1) ns → AreRising (n + 1) (with_number ns k))
+        → AreRising low (by_order o (k ∷ n ∷ ns) (n ∷ ns) (n ∷ with_number ns k))
+    by_ordering Less e later = (from, (grind (arith, e), rising.1))
+    by_ordering Equal e later = rising
+    by_ordering Greater e later = (rising.0, later (grind (arith, e)) rising.1)
+
+one_more : (n : ℕ) → suc n ≡ n + 1
+one_more n = omega arith
+
+gate_few : (d : Draft) (entry : ℕ) → takes_gate d entry ≡ true → IsFew d → IsFew (with_gate d entry)
+gate_few d entry taken f =
+    let inside : length d.gates ≤ grants d = omega arith in
+    let all = room d (is_among d.gates entry) (length (with_number d.gates entry)) (length d.gates) taken f.few (entries_counted 0 entry d.gates f.gates ∙ ap (λ n. if is_among d.gates entry then length d.gates else n) (one_more (length d.gates))) inside in
+    record { few = omega (arith, all); tags = f.tags; fds = f.fds; gates = entries_rise 0 entry d.gates (omega arith) f.gates }
 
 -- ---- the calls on drafts
 
@@ -107,16 +152,24 @@ bits_allowed fd n d e = by_tests ((n == 1) || ((n == 2) || (n == 3))) (takes_fd 
     by_tests true true f = refl
     by_tests true false f = absurd cc
 
+gate_allowed : (i : Image) (entry : ℕ) (d : Draft) → gate_refusal i entry (Some d) ≡ None → takes_gate d entry ≡ true
+gate_allowed i entry d e = by_tests (list_any (λ p. p.address == entry) i.procedures) (takes_gate d entry) e
+  where
+    by_tests : (t u : Bool) → refused_by t u ≡ None → u ≡ true
+    by_tests false u f = absurd cc
+    by_tests true true f = refl
+    by_tests true false f = absurd cc
+
 few_if : (t : Bool) (x y : List Draft) → AreFew x → AreFew y → AreFew (if t then x else y)
 few_if true x y h k = h
 few_if false x y h k = k
 
 -- another user or another root directory is no grant
 user_few : (d : Draft) (user : Option ℕ) → IsFew d → IsFew (record d { user = user })
-user_few d user f = record { few = f.few; tags = f.tags; fds = f.fds }
+user_few d user f = record { few = f.few; tags = f.tags; fds = f.fds; gates = f.gates }
 
 root_few : (d : Draft) (root : Option (List ℕ)) → IsFew d → IsFew (record d { root = root })
-root_few d root f = record { few = f.few; tags = f.tags; fds = f.fds }
+root_few d root f = record { few = f.few; tags = f.tags; fds = f.fds; gates = f.gates }
 
 call_few : (i : Image) (a : ActorState) (regs : List ℕ) (n : ℕ) → AreFew a.drafts → AreFew (drafts_by_call i a regs n)
 call_few i a regs n all =
@@ -127,9 +180,11 @@ call_few i a regs n all =
     (λ d there told. tag_few d (reg regs 11) (right_of_number (reg regs 12)) (right_allowed (reg regs 11) (reg regs 12) d (ap (right_refusal (reg regs 11) (reg regs 12)) (sym there) ∙ told)) (get_few ds (reg regs 10) d all there)) all)
     (few_if (n == 9) _ _ (edited_few ds (reg regs 10) (bits_refusal (reg regs 11) (reg regs 12) found) _ found
     (λ d there told. fd_few d (reg regs 11) (bits_of_number (reg regs 12)) (bits_allowed (reg regs 11) (reg regs 12) d (ap (bits_refusal (reg regs 11) (reg regs 12)) (sym there) ∙ told)) (get_few ds (reg regs 10) d all there)) all)
+    (few_if (n == 10) _ _ (edited_few ds (reg regs 10) (gate_refusal i (reg regs 11) found) _ found
+    (λ d there told. gate_few d (reg regs 11) (gate_allowed i (reg regs 11) d (ap (gate_refusal i (reg regs 11)) (sym there) ∙ told)) (get_few ds (reg regs 10) d all there)) all)
     (few_if (n == 11) _ _ (edited_few ds (reg regs 10) (user_refusal found) _ found (λ d there told. user_few d (Some (reg regs 11)) (get_few ds (reg regs 10) d all there)) all)
     (few_if (n == 12) _ ds (edited_few ds (reg regs 10) (root_refusal a (reg regs 12) (path_at i a (reg regs 11) (reg regs 12)) found) _ found
-    (λ d there told. root_few d (path_at i a (reg regs 11) (reg regs 12)) (get_few ds (reg regs 10) d all there)) all) all))))
+    (λ d there told. root_few d (path_at i a (reg regs 11) (reg regs 12)) (get_few ds (reg regs 10) d all there)) all) all)))))
 
 need_few : (i : Image) (a : ActorState) (n : Need) → AreFew a.drafts → AreFew (drafts_by_need i a n)
 need_few i a need.Call all = call_few i a a.hart.regs (reg a.hart.regs 17) all

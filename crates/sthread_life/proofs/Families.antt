@@ -33,8 +33,8 @@ use Rattle.rv_hart.specs.Local.{local}
 use Rattle.sthread_life.specs.declared.files.StreamLabel.{StreamLabel}
 use Rattle.sthread_life.specs.declared.phase.Phase.{Phase}
 use Rattle.sthread_life.specs.declared.phase.Phase.TheVariants as phase
-use Rattle.sthread_life.specs.Actors.{ActorState}
-use Rattle.sthread_life.specs.Calls.{a0}
+use Rattle.sthread_life.specs.Actors.{ActorState, but_gates}
+use Rattle.sthread_life.specs.Calls.{a0, draft_at}
 use Rattle.sthread_life.specs.Cells.{Cells}
 use Rattle.sthread_life.specs.Children.{Children, is_number, fuel_given, is_child, without_child, child_name}
 use Rattle.sthread_life.specs.Ends.{is_end_event}
@@ -44,10 +44,10 @@ use Rattle.sthread_life.specs.Moments.{with_actor}
 use Rattle.cow_pages.specs.Listed.{bytes_listed}
 use Rattle.sthread_life.specs.Copying.{Preparation}
 use Rattle.sthread_life.specs.declared.copy_grant.CopyGrant.{CopyGrant}
-use Rattle.sthread_life.specs.Taking.{runs, loads_by, loads_at, next_start, draft_at, takes, child_of, memory_made, has_opened_file}
+use Rattle.sthread_life.specs.Taking.{runs, loads_by, loads_at, next_start, takes, child_of, memory_made, has_opened_file}
 use Rattle.sthread_life.specs.Worlds.{WorldState, actor_named, put_actor, happened}
 use Rattle.sthread_life.proofs.Between.{event_for, IsJoin, joined_is, numbered_is, snapped_is, takes_name}
-use Rattle.sthread_life.proofs.Happening.{AtOpen, AtFile, Happens, Requested, Joined, Snaps, Started, Opens, Releases, Numbers, OpensFile, LastJoined, Ended, joined_at}
+use Rattle.sthread_life.proofs.Happening.{AtOpen, AtFile, Happens, Requested, Joined, Snaps, GateSnaps, Started, Opens, Releases, Numbers, OpensFile, LastJoined, Ended, joined_at}
 use Rattle.sthread_life.proofs.Meeting.{IsRequest, IsStartable}
 use Rattle.sthread_life.proofs.Named.{put_put, named_put_other}
 use Rattle.sthread_life.proofs.Resting.{steps_step}
@@ -57,7 +57,7 @@ use Rattle.sthread_life.proofs.Resting.{steps_step}
 pub record IsSameWith (made_ : Made) (labels_ : List StreamLabel) (a x : ActorState) : Type 0 where
   pub compartment : x.compartment ≡ a.compartment
   pub sheet : x.sheet ≡ a.sheet
-  pub made : x.made ≡ made_
+  pub made : but_gates x.made ≡ but_gates made_
   pub labels : x.labels ≡ labels_
   pub starts : x.starts ≡ a.starts
   pub unjoined : x.unjoined ≡ a.unjoined
@@ -82,6 +82,7 @@ opened_same : (a : ActorState) (p : Phase) (fd : ℕ) → IsSameWith (made_under
 opened_same a phase.Running fd = record { compartment = refl; sheet = refl; made = refl; labels = refl; starts = refl; unjoined = refl }
 opened_same a (phase.Within q) fd = record { compartment = refl; sheet = refl; made = refl; labels = refl; starts = refl; unjoined = refl }
 opened_same a (phase.Starting pre) fd = record { compartment = refl; sheet = refl; made = refl; labels = refl; starts = refl; unjoined = refl }
+opened_same a (phase.MakingGate pre) fd = record { compartment = refl; sheet = refl; made = refl; labels = refl; starts = refl; unjoined = refl }
 opened_same a (phase.Opening slot tag) fd = record { compartment = refl; sheet = refl; made = refl; labels = refl; starts = refl; unjoined = refl }
 opened_same a (phase.Releasing slot) fd = record { compartment = refl; sheet = refl; made = refl; labels = refl; starts = refl; unjoined = refl }
 opened_same a (phase.OpeningFile o) fd = record { compartment = refl; sheet = refl; made = refl; labels = refl; starts = refl; unjoined = refl }
@@ -104,9 +105,9 @@ takes_same i a (event.Slots directory_ask.Claim (directory_reply.Claimed place n
 takes_same i a (event.Slots directory_ask.Claim directory_reply.Full) h = record { compartment = refl; sheet = refl; made = refl; labels = refl; starts = refl; unjoined = refl }
 takes_same i a (event.Slots directory_ask.Claim directory_reply.Released) h = record { compartment = refl; sheet = refl; made = refl; labels = refl; starts = refl; unjoined = refl }
 takes_same i a (event.Slot slot q (slot_reply.Snapped pages)) h =
-    snapped_is (IsSame (Some (event.Slot slot q (slot_reply.Snapped pages))) a) a a.phase slot (Some (bytes_listed pages)) (record { compartment = refl; sheet = refl; made = refl; labels = refl; starts = refl; unjoined = refl }) (λ x. record { compartment = refl; sheet = refl; made = refl; labels = refl; starts = refl; unjoined = refl })
+    snapped_is (IsSame (Some (event.Slot slot q (slot_reply.Snapped pages))) a) a a.phase slot (Some (bytes_listed pages)) (record { compartment = refl; sheet = refl; made = refl; labels = refl; starts = refl; unjoined = refl }) (λ x. record { compartment = refl; sheet = refl; made = refl; labels = refl; starts = refl; unjoined = refl }) (λ x. record { compartment = refl; sheet = refl; made = refl; labels = refl; starts = refl; unjoined = refl }) (λ g. record { compartment = refl; sheet = refl; made = refl; labels = refl; starts = refl; unjoined = refl })
 takes_same i a (event.Slot slot q slot_reply.Gone) h =
-    snapped_is (IsSame (Some (event.Slot slot q slot_reply.Gone)) a) a a.phase slot None (record { compartment = refl; sheet = refl; made = refl; labels = refl; starts = refl; unjoined = refl }) (λ x. record { compartment = refl; sheet = refl; made = refl; labels = refl; starts = refl; unjoined = refl })
+    snapped_is (IsSame (Some (event.Slot slot q slot_reply.Gone)) a) a a.phase slot None (record { compartment = refl; sheet = refl; made = refl; labels = refl; starts = refl; unjoined = refl }) (λ x. record { compartment = refl; sheet = refl; made = refl; labels = refl; starts = refl; unjoined = refl }) (λ x. record { compartment = refl; sheet = refl; made = refl; labels = refl; starts = refl; unjoined = refl }) (λ g. record { compartment = refl; sheet = refl; made = refl; labels = refl; starts = refl; unjoined = refl })
 takes_same i a (event.Slot slot (slot_ask.Sfree offset live) (slot_reply.Denied tag wants)) h = record { compartment = refl; sheet = refl; made = refl; labels = refl; starts = refl; unjoined = refl }
 takes_same i a (event.Slot slot (slot_ask.Open tag pages) slot_reply.Opened) h = record { compartment = refl; sheet = refl; made = refl; labels = refl; starts = refl; unjoined = refl }
 takes_same i a (event.Slot slot q r) h = record { compartment = refl; sheet = refl; made = refl; labels = refl; starts = refl; unjoined = refl }
@@ -197,10 +198,10 @@ want_family w b N (want.Lives lives_ask.Claim) own at = alone w b _ tt refl (not
 want_family w b N q own at = absurd own
 
 -- an event makes a tag of its actor's only where it opens one
-pub takes_made : (i : Image) (a : ActorState) (e : Event) → (takes i a e).made ≡ made_by a (Some e)
+pub takes_made : (i : Image) (a : ActorState) (e : Event) → but_gates (takes i a e).made ≡ but_gates (made_by a (Some e))
 unfolding takes
 takes_made i a (event.Start child) = refl
-takes_made i a (event.Join k x fuel) = joined_is (λ y. y.made ≡ a.made) (record a { fuel = a.fuel + fuel; unjoined = without_child a.unjoined k }) a.phase x refl refl
+takes_made i a (event.Join k x fuel) = joined_is (λ y. but_gates y.made ≡ but_gates a.made) (record a { fuel = a.fuel + fuel; unjoined = without_child a.unjoined k }) a.phase x refl refl
 takes_made i a (event.Slots q r) = (takes_same i a (event.Slots q r) tt).made
 takes_made i a (event.Slot slot q r) = (takes_same i a (event.Slot slot q r) tt).made
 takes_made i a (event.Fds q r) = (takes_same i a (event.Fds q r) tt).made
@@ -269,6 +270,7 @@ pub happens_made : (w : WorldState) (b : ActorState) (e : Event) → Happens w b
 happens_made w b e (Requested r) = MadeNothing (ap (λ y. made_by b (Some y)) r.is ∙ want_made _ w.cells b r.want r.own r.at)
 happens_made w b e (Joined j) = MadeNothing (ap (λ y. made_by b (Some y)) j.join.is)
 happens_made w b e (Snaps s) = MadeNothing (ap (λ y. made_by b (Some y)) s.is ∙ made_same b.made s.grant.slot _ _ tt)
+happens_made w b e (GateSnaps s) = MadeNothing (ap (λ y. made_by b (Some y)) s.is ∙ made_same b.made s.grant.slot _ _ tt)
 happens_made w b e (Started s) = MadeNothing (ap (λ y. made_by b (Some y)) s.is)
 happens_made w b e (Opens o) = MadeTag o
 happens_made w b e (Releases r) = MadeNothing (ap (λ y. made_by b (Some y)) r.is)
@@ -297,6 +299,7 @@ child_begins i b p at complete ready =
       complete = complete;
       memory = ap (memory_made i) at;
       fuel = refl;
+      gates = refl;
       fresh = (refl, refl, refl, refl, refl, refl, refl);
     }
 
@@ -320,6 +323,7 @@ ended_so : (p : Phase) (x : End) → end_reached p ≡ Some x → p ≡ phase.En
 ended_so phase.Running x e = absurd cc
 ended_so (phase.Within q) x e = absurd cc
 ended_so (phase.Starting pre) x e = absurd cc
+ended_so (phase.MakingGate pre) x e = absurd cc
 ended_so (phase.Opening slot tag) x e = absurd cc
 ended_so (phase.Releasing slot) x e = absurd cc
 ended_so (phase.OpeningFile o) x e = absurd cc
@@ -336,6 +340,7 @@ unfolding takes
 joins_as i b phase.Running k x fuel at = joined_at b phase.Running x k fuel at
 joins_as i b (phase.Within q) k x fuel at = joined_at b (phase.Within q) x k fuel at
 joins_as i b (phase.Starting pre) k x fuel at = joined_at b (phase.Starting pre) x k fuel at
+joins_as i b (phase.MakingGate pre) k x fuel at = joined_at b (phase.MakingGate pre) x k fuel at
 joins_as i b (phase.Opening slot tag) k x fuel at = joined_at b (phase.Opening slot tag) x k fuel at
 joins_as i b (phase.Releasing slot) k x fuel at = joined_at b (phase.Releasing slot) x k fuel at
 joins_as i b (phase.OpeningFile o) k x fuel at = joined_at b (phase.OpeningFile o) x k fuel at
@@ -373,6 +378,9 @@ event_family w b e (Started s) = subst (λ y. KeepsFamily (with_actor w b) b (So
 event_family w b e (Snaps s) =
     subst (λ y. KeepsFamily (with_actor w b) b (Some y) (after w b y)) (sym s.is)
     (alone w b (event.Slot s.grant.slot (slot_ask.Snap s.grant.tag) _) tt refl (λ p h complete. still_left s.preparation p s.grant s.others s.left (sym s.at ∙ h) complete) (λ h. absurd cc))
+event_family w b e (GateSnaps s) =
+    subst (λ y. KeepsFamily (with_actor w b) b (Some y) (after w b y)) (sym s.is)
+    (alone w b (event.Slot s.grant.slot (slot_ask.Snap s.grant.tag) _) tt refl (λ p h complete. let g : phase.MakingGate s.preparation ≡ phase.Starting p = sym s.at ∙ h in absurd cc) (λ h. absurd cc))
 event_family w b e (LastJoined j) =
     join_family w b j.first.0 e j.join (subst (λ p. IsFirst p b.unjoined j.first.0) (sym j.at) (subst (λ cs. IsFirst (phase.Ending j.end_) cs j.first.0) (sym j.left) refl))
     (subst (λ cs. is_child cs j.first.0 ≡ true) (sym j.left) (first_child j.first j.others))

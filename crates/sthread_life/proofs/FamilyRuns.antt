@@ -16,7 +16,7 @@ use Rattle.wedge_base.specs.declared.cells.DirectoryAsk.TheVariants as directory
 use Rattle.wedge_base.specs.declared.cells.LivesAsk.TheVariants as lives_ask
 use Rattle.sthread_life.specs.declared.phase.Phase.{Phase}
 use Rattle.sthread_life.specs.declared.phase.Phase.TheVariants as phase
-use Rattle.sthread_life.specs.Actors.{ActorState, root, right_of, bits_of}
+use Rattle.sthread_life.specs.Actors.{ActorState, root, right_of, bits_of, but_gates}
 use Rattle.sthread_life.specs.Cells.{Cells}
 use Rattle.sthread_life.specs.Children.{is_child, with_child, without_child, child_name}
 use Rattle.sthread_life.specs.Fuel.{is_unjoined, fuel_in, fuel_of, units_of, units_of_turn, TakesItsUnits}
@@ -31,7 +31,7 @@ use Rattle.sthread_life.proofs.Families.{IsOfOne, takes_same, first_child}
 use Rattle.sthread_life.specs.FamilyTrees.{IsOfTree, Family}
 use Rattle.sthread_life.proofs.FamilyKept.{family_alone, JoinsChild, family_joined, StartsChild, family_started}
 use Rattle.sthread_life.proofs.FuelSums.{sum_alone, sum_joined, sum_started}
-use Rattle.sthread_life.proofs.Happening.{Happens, Requested, Joined, Snaps, Started, Opens, Releases, Numbers, OpensFile, LastJoined, Ended, AtStart}
+use Rattle.sthread_life.proofs.Happening.{Happens, Requested, Joined, Snaps, GateSnaps, Started, Opens, Releases, Numbers, OpensFile, LastJoined, Ended, AtStart}
 use Rattle.sthread_life.proofs.Meeting.{IsRequest}
 use Rattle.sthread_life.proofs.Named.{found_name, same_equal}
 use Rattle.sthread_life.proofs.Paying.{step_pays, event_pays}
@@ -47,7 +47,7 @@ pub record IsKept (a b : ActorState) : Type 0 where
   pub starts : b.starts ≡ a.starts
   pub unjoined : b.unjoined ≡ a.unjoined
   pub sheet : b.sheet ≡ a.sheet
-  pub made : b.made ≡ a.made
+  pub made : but_gates b.made ≡ but_gates a.made
 
 pub kept_at_rest : (i : Image) (a : ActorState) (t : Bool) → is_running a.phase ≡ t → IsKept a (rest i a)
 kept_at_rest i a true e =
@@ -119,6 +119,7 @@ pub acts : (w : WorldState) (b : ActorState) (e : Event) → Happens w b e → A
 acts w b e (Requested r) = ActsAlone (subst IsOfOne (sym r.is) (request_of_one _ w.cells b r.want r.own))
 acts w b e (Joined j) = Joins j.number j.listed j.join
 acts w b e (Snaps s) = ActsAlone (subst IsOfOne (sym s.is) tt)
+acts w b e (GateSnaps s) = ActsAlone (subst IsOfOne (sym s.is) tt)
 acts w b e (Started s) = Starts s
 acts w b e (LastJoined j) = Joins j.first.0 (subst (λ cs. is_child cs j.first.0 ≡ true) (sym j.left) (first_is_child j.first j.others)) j.join
 acts w b e (Opens o) = ActsAlone (subst IsOfOne (sym o.is) tt)
@@ -131,6 +132,7 @@ pub lives : (w : WorldState) (b : ActorState) (e : Event) → Happens w b e → 
 lives w b e (Requested r) = ap has_ended r.at
 lives w b e (Joined j) = ap has_ended j.at
 lives w b e (Snaps s) = ap has_ended s.at
+lives w b e (GateSnaps s) = ap has_ended s.at
 lives w b e (Started s) = ap has_ended s.at
 lives w b e (LastJoined j) = ap has_ended j.at
 lives w b e (Opens o) = ap has_ended o.at
@@ -151,6 +153,7 @@ ended_reached : (p : Phase) (x : End) → end_reached p ≡ Some x → has_ended
 ended_reached phase.Running x e = absurd cc
 ended_reached (phase.Within q) x e = absurd cc
 ended_reached (phase.Starting pre) x e = absurd cc
+ended_reached (phase.MakingGate pre) x e = absurd cc
 ended_reached (phase.Opening slot tag) x e = absurd cc
 ended_reached (phase.Releasing slot) x e = absurd cc
 ended_reached (phase.OpeningFile o) x e = absurd cc

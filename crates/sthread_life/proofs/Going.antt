@@ -1,5 +1,5 @@
 -- How an actor goes on: after an instruction that needs something, and after an event.
-use Rattle.std.proofs.Common.{◌≡◌, ℕ, zero, suc, ◌-◌, Bool, true, false, List, refl, sym, ap, subst, ◌∙◌, arith}
+use Rattle.std.proofs.Common.{◌≡◌, ℕ, zero, suc, ◌-◌, Bool, true, false, List, refl, sym, ap, subst, ◌∙◌, arith, ◌∷◌, []}
 use Rattle.std.specs.Prelude.{Option, Some, None, option_and_then, IsSomeAnd, not, ◌==◌, nat_lt, nat_le, if◌then◌else◌, length, slice_get}
 use Rattle.wedge_base.specs.Images.{Image, fetch, in_text, read_text, slot_of}
 use Rattle.wedge_base.specs.Bytes.{number_of}
@@ -24,7 +24,7 @@ use Rattle.sthread_life.specs.Actors.{ActorState, right_of, denies, ends, refuse
 use Rattle.cow_pages.specs.Copies.{copy_at, holds_copy, read_copy}
 use Rattle.sthread_life.specs.Private.{loads, stores, load_bytes, load_copy, load_window, load_range, store_copy, store_window, store_range, has_loaded, fits_read, fits_write}
 use Rattle.wedge_base.specs.Names.{most_parts}
-use Rattle.wedge_base.specs.Sheets.{Draft, takes_tag, takes_fd, first_excess}
+use Rattle.wedge_base.specs.Sheets.{Draft, takes_tag, takes_fd, takes_gate, first_excess}
 use Rattle.wedge_base.specs.Maps.{has}
 use Rattle.wedge_base.specs.Rights.{at_least}
 use Rattle.wedge_base.specs.declared.rights.Denial.{Denial}
@@ -33,13 +33,15 @@ use Rattle.wedge_base.specs.declared.rights.Right.TheVariants as right
 use Rattle.wedge_base.specs.declared.rights.FdBits.{FdBits}
 use Rattle.wedge_base.specs.declared.rights.Right.{Right}
 use Rattle.sthread_life.specs.Children.{is_child}
-use Rattle.sthread_life.specs.Calls.{serves, exit, is_procedure, create, create_with, create_checked, create_allowed, join, are_pages, tag_new, tag_delete, smalloc, free_at, sfree, fd_read, fd_append, fd_close, most_drafts, sc_new, right_asked, bits_asked, add_right, add_right_to, sc_mem_add, add_bits, add_bits_to, sc_fd_add, draft_call, a0, a1, a2, a3, a7, set_user, sc_user, path_in, put_root, set_root, sc_root, file_at, mode_asked, suits, open_file, open_path, file_open}
+use Rattle.sthread_life.specs.Calls.{serves, exit, is_procedure, create, create_with, create_checked, create_allowed, join, are_pages, tag_new, tag_delete, smalloc, free_at, sfree, fd_read, fd_append, fd_close, most_drafts, sc_new, right_asked, bits_asked, add_right, add_right_to, sc_mem_add, add_bits, add_bits_to, sc_fd_add, add_gate_to, sc_cgate_add, draft_call, a0, a1, a2, a3, a7, set_user, sc_user, path_in, put_root, set_root, sc_root, file_at, mode_asked, suits, open_file, open_path, file_open, makes_or_waits, may_be_gate, make_checked, make_with, cgate_make}
 use Rattle.sthread_life.specs.Local.{needed, executed, fuelled, fetched, step, is_running}
 use Rattle.sthread_life.specs.Worlds.{WorldState, actor_named, put_actor}
 use Rattle.sthread_life.specs.Moments.{with_actor}
 use Rattle.sthread_life.specs.Allowed.{next_word}
 use Rattle.sthread_life.specs.Ends.{GoesTo, NeedGoesOn, WordGoesOn, GoesOn}
 use Rattle.sthread_life.proofs.Named.{put_put, named_put}
+use Rattle.sthread_life.specs.Copying.{Preparation}
+use Rattle.sthread_life.specs.declared.copy_grant.CopyGrant.{CopyGrant}
 
 -- if it runs it is at the next word, and if not its hart is as it was
 abbrev pub IsNext : Hart → ActorState → Type 0
@@ -119,6 +121,12 @@ next_bits_to : (a : ActorState) (d : Option Draft) → IsNext a.hart (add_bits_t
 next_bits_to a None = (λ e. refl, λ e. absurd cc)
 next_bits_to a (Some d) = next_bits a d (bits_asked (a2 a))
 
+next_gate : (i : Image) (a : ActorState) (d : Option Draft) → IsNext a.hart (add_gate_to i a d)
+next_gate i a None = (λ e. refl, λ e. absurd cc)
+next_gate i a (Some d) =
+    next_if a.hart (refuses a code.Bad) _ (not (is_procedure i (a1 a))) (λ e. refl, λ e. absurd cc)
+    (next_if a.hart _ (refuses a code.Full) (takes_gate d (a1 a)) (λ e. refl, λ e. absurd cc) (λ e. refl, λ e. absurd cc))
+
 next_user : (a : ActorState) (d : Option Draft) → IsNext a.hart (set_user a d)
 next_user a None = (λ e. refl, λ e. absurd cc)
 next_user a (Some d) = (λ e. refl, λ e. absurd cc)
@@ -136,8 +144,21 @@ next_draft i a n =
     next_if a.hart (sc_new a) _ (n == 7) (next_if a.hart (refuses a code.Full) _ (nat_le most_drafts (length a.drafts)) (λ e. refl, λ e. absurd cc) (λ e. refl, λ e. absurd cc))
     (next_if a.hart (sc_mem_add a) _ (n == 8) (next_right_to a (slice_get a.drafts (a0 a)))
     (next_if a.hart (sc_fd_add a) _ (n == 9) (next_bits_to a (slice_get a.drafts (a0 a)))
+    (next_if a.hart (sc_cgate_add i a) _ (n == 10) (next_gate i a (slice_get a.drafts (a0 a)))
     (next_if a.hart (sc_user a) _ (n == 11) (next_user a (slice_get a.drafts (a0 a)))
-    (next_if a.hart (sc_root i a) _ (n == 12) (next_root a (path_in i a (a1 a) (a2 a)) (slice_get a.drafts (a0 a))) (λ e. refl, λ e. absurd cc)))))
+    (next_if a.hart (sc_root i a) _ (n == 12) (next_root a (path_in i a (a1 a) (a2 a)) (slice_get a.drafts (a0 a))) (λ e. refl, λ e. absurd cc))))))
+
+next_made : (a : ActorState) (d : Draft) (p : Preparation) (gs : List CopyGrant) → IsNext a.hart (makes_or_waits a d p gs)
+next_made a d p [] = (λ e. refl, λ e. absurd cc)
+next_made a d p (g ∷ gs) = (λ e. absurd cc, λ e. refl)
+
+next_make_checked : (i : Image) (a : ActorState) (d : Draft) (o : Option Denial) → IsNext a.hart (make_checked i a d o)
+next_make_checked i a d (Some x) = (λ e. refl, λ e. absurd cc)
+next_make_checked i a d None = next_made a d _ _
+
+next_make : (i : Image) (a : ActorState) (d : Option Draft) → IsNext a.hart (make_with i a d)
+next_make i a None = (λ e. refl, λ e. absurd cc)
+next_make i a (Some d) = next_if a.hart (refuses a code.Bad) _ (not (may_be_gate i a d)) (λ e. refl, λ e. absurd cc) (next_make_checked i a d (first_excess a.sheet a.made d))
 
 next_allowed : (a : ActorState) → IsNext a.hart (create_allowed a)
 next_allowed a =
@@ -185,10 +206,11 @@ next_call i a n =
     (next_if a.hart (tag_delete a) _ (n == 4) (next_if a.hart _ (denies a (denial.NotMaker (a0 a))) (has a.made.tags (a0 a)) (λ e. absurd cc, λ e. refl) (λ e. refl, λ e. absurd cc))
     (next_if a.hart (smalloc a) _ (n == 5) (next_smalloc a)
     (next_if a.hart (sfree a) _ (n == 6) (next_free a (slot_of (a0 a)))
+    (next_if a.hart (cgate_make i a) _ (n == 13) (next_make i a (slice_get a.drafts (a0 a)))
     (next_if a.hart (fd_read a) _ (n == 15) (next_read a)
     (next_if a.hart (fd_append i a) _ (n == 16) (next_append i a)
     (next_if a.hart (fd_close a) _ (n == 17) (next_if a.hart (refuses a code.NoSuch) _ (nat_le most_fds (a0 a)) (λ e. refl, λ e. absurd cc) (λ e. absurd cc, λ e. refl))
-    (next_if a.hart (file_open i a) _ (n == 18) (next_open i a (mode_asked (a2 a)) (path_in i a (a0 a) (a1 a))) (next_draft i a n)))))))))))
+    (next_if a.hart (file_open i a) _ (n == 18) (next_open i a (mode_asked (a2 a)) (path_in i a (a0 a) (a1 a))) (next_draft i a n))))))))))))
 
 -- the actor that was put is at the next word if it runs
 pub put_next : (w : WorldState) (b x a : ActorState) → actor_named w.actors b.name ≡ Some a → x.name ≡ b.name → IsNext b.hart x

@@ -36,7 +36,7 @@ use Rattle.rv_hart.specs.Local.{local}
 use Rattle.sthread_life.specs.declared.copy_grant.CopyGrant.{CopyGrant}
 use Rattle.sthread_life.specs.declared.phase.Phase.TheVariants as phase
 use Rattle.sthread_life.specs.Actors.{ActorState, pristine, root}
-use Rattle.sthread_life.specs.Calls.{a0}
+use Rattle.sthread_life.specs.Calls.{a0, draft_at}
 use Rattle.sthread_life.specs.Cells.{slot_in}
 use Rattle.sthread_life.specs.Children.{child_name}
 use Rattle.sthread_life.specs.CopiesGranted.{grants_copy, AreGranted, HasItsCopiesGranted}
@@ -44,13 +44,13 @@ use Rattle.sthread_life.specs.Copying.{Preparation, with_declared, copy_grants, 
 use Rattle.sthread_life.specs.Laws.{CopiesAreGranted}
 use Rattle.sthread_life.specs.Local.{is_running, step, run_local, rest}
 use Rattle.sthread_life.specs.Remembering.{copied_bytes, Elsewhere, copy_target, target_among, LoadGives, StoreWrites, NeedRemembers, InstrRemembers, WordRemembers, memory_in, memory_after}
-use Rattle.sthread_life.specs.Taking.{draft_at, copies_asked, has_snapped, next_start, takes, memory_made, child_of, begun}
+use Rattle.sthread_life.specs.Taking.{copies_asked, has_snapped, next_start, takes, memory_made, child_of, begun}
 use Rattle.sthread_life.specs.Worlds.{WorldState, opening, actor_named, put_actor, with_begun, turn_of, Runs}
-use Rattle.sthread_life.proofs.Between.{IsPreparing, takes_name, snapped_is, turn_parts}
+use Rattle.sthread_life.proofs.Between.{IsPreparing, takes_name, turn_parts}
 use Rattle.sthread_life.proofs.ByNumber.{same_number, number_itself, found_with, found_elsewhere, found_gone}
 use Rattle.sthread_life.proofs.Families.{takes_sheet}
 use Rattle.sthread_life.proofs.FamilyRuns.{Acts, ActsAlone, Starts, Joins, acts, one_begins}
-use Rattle.sthread_life.proofs.Happening.{Happens, snap_cases, Requested, Joined, Snaps, Started, Opens, Releases, Numbers, OpensFile, LastJoined, Ended}
+use Rattle.sthread_life.proofs.Happening.{Happens, snap_cases, Requested, Joined, Snaps, GateSnaps, Started, Opens, Releases, Numbers, OpensFile, LastJoined, Ended}
 use Rattle.sthread_life.proofs.Keeping.{step_remembers, event_copies}
 use Rattle.sthread_life.proofs.Named.{found_name}
 use Rattle.sthread_life.proofs.Preparing.{was_preparing}
@@ -264,8 +264,8 @@ snapped_granted b old p slot o at h here is =
     behind [] all = tt
     behind (g ∷ left) all = all.1
 
-same_child : (b : ActorState) (slot : ℕ) (o : Option (List ℕ)) → child_grants (has_snapped b b.phase slot o) ≡ child_grants b
-same_child b slot o = snapped_is (λ x. child_grants x ≡ child_grants b) b b.phase slot o refl (λ x. refl)
+same_child : (b : ActorState) (p : Preparation) (slot : ℕ) (o : Option (List ℕ)) → b.phase ≡ phase.Starting p → child_grants (has_snapped b b.phase slot o) ≡ child_grants b
+same_child b p slot o at = ap (λ ph. child_grants (has_snapped b ph slot o)) at
 
 -- a child is prepared by the claim of a life, where none was before
 by_cause : (w : WorldState) (b : ActorState) (e : Event) (p : Preparation) → (takes w.image b e).phase ≡ phase.Starting p → (e ≡ event.Lives lives_ask.Claim lives_reply.Claimed) ⊎ IsPreparing b.phase
@@ -284,7 +284,7 @@ snap_granted i b old slot tag g at h here p =
     (λ pages. by_pages (Some (bytes_listed pages))) (by_pages None)
   where
     by_pages : (o : Option (List ℕ)) → (has_snapped b b.phase slot o).phase ≡ phase.Starting p → IsGranted (child_grants (has_snapped b b.phase slot o)) p
-    by_pages o is = subst (λ gs. IsGranted gs p) (sym (same_child b slot o)) (snapped_granted b old p slot o at h here is)
+    by_pages o is = subst (λ gs. IsGranted gs p) (sym (same_child b old slot o at)) (snapped_granted b old p slot o at h here is)
 
 -- a child starts: none is prepared then
 started_calm : (i : Image) (b : ActorState) (name : List ℕ) (p : Preparation) → (takes i b (event.Start name)).phase ≡ phase.Starting p → ⊥
@@ -301,6 +301,7 @@ event_granted w b e (Snaps s) h p is =
 event_granted w b e (Started s) h p is = absurd (started_calm w.image b (child_name b.name (next_start b)) p (ap (λ y. (takes w.image b y).phase) (sym s.is) ∙ is))
 event_granted w b e (Requested r) h p is = by_cause w b e p is (was_preparing w.image b e (subst IsPreparing (sym is) tt)) (λ k. subst IsPreparing r.at k)
 event_granted w b e (Joined j) h p is = by_cause w b e p is (was_preparing w.image b e (subst IsPreparing (sym is) tt)) (λ k. subst IsPreparing j.at k)
+event_granted w b e (GateSnaps s) h p is = by_cause w b e p is (was_preparing w.image b e (subst IsPreparing (sym is) tt)) (λ k. subst IsPreparing s.at k)
 event_granted w b e (Opens o) h p is = by_cause w b e p is (was_preparing w.image b e (subst IsPreparing (sym is) tt)) (λ k. subst IsPreparing o.at k)
 event_granted w b e (Releases r) h p is = by_cause w b e p is (was_preparing w.image b e (subst IsPreparing (sym is) tt)) (λ k. subst IsPreparing r.at k)
 event_granted w b e (Numbers n) h p is = by_cause w b e p is (was_preparing w.image b e (subst IsPreparing (sym is) tt)) (λ k. subst IsPreparing n.at k)

@@ -22,7 +22,7 @@ use Rattle.sthread_life.specs.declared.phase.Phase.{Phase}
 use Rattle.sthread_life.specs.declared.phase.Phase.TheVariants as phase
 use Rattle.sthread_life.specs.Actors.{ActorState}
 use Rattle.sthread_life.specs.Between.{IsBetween, GivesBelow}
-use Rattle.sthread_life.specs.Calls.{a0, a1}
+use Rattle.sthread_life.specs.Calls.{a0, a1, draft_at}
 use Rattle.sthread_life.specs.Cells.{Cells, slot_in, stream_in}
 use Rattle.sthread_life.specs.Children.{Children, is_child, without_child, child_name}
 use Rattle.sthread_life.specs.Refusals.{refusal_after}
@@ -35,11 +35,12 @@ use Rattle.wedge_base.specs.declared.cells.StreamReply.TheVariants as stream_rep
 use Rattle.wedge_base.specs.declared.rights.StreamKind.{StreamKind}
 use Rattle.sthread_life.specs.declared.copy_grant.CopyGrant.{CopyGrant}
 use Rattle.cow_pages.specs.Listed.{bytes_listed}
-use Rattle.sthread_life.specs.Taking.{next_start, starting_want, ending_want, wanted, wanted_at, has_snapped, opening_want, answered_end, takes}
+use Rattle.sthread_life.specs.Taking.{next_start, starting_want, ending_want, wanted, wanted_at, has_snapped, opening_want, answered_end, takes, making_want, copied_on}
 use Rattle.sthread_life.specs.Worlds.{WorldState, event_at}
-use Rattle.sthread_life.proofs.Between.{event_for, IsJoin, ComesOf, comes_of, Leaves, IsPreparing, MayPrepare, MayNumber, numbered_is, takes_between}
+use Rattle.sthread_life.proofs.Between.{event_for, IsJoin, ComesOf, comes_of, Leaves, IsPreparing, MayPrepare, MayNumber, numbered_is, takes_between, IsMaking, made_is}
 use Rattle.sthread_life.proofs.Directing.{claimed_inside}
 use Rattle.sthread_life.proofs.Meeting.{request_for, refusal_for, slots_in, fds_in, NumberIn, AsksForPages, IsRequest, IsWanted, IsStartable, startable_at, ReadsAs, LoadsAt}
+use Rattle.sthread_life.proofs.MakingGates.{IsMakeable, takes_granting}
 
 -- the event of a request
 pub record AtRequest (w : WorldState) (b : ActorState) (e : Event) : Type 0 where
@@ -69,6 +70,16 @@ pub record AtSnap (w : WorldState) (b : ActorState) (e : Event) : Type 0 where
   pub at : b.phase ≡ phase.Starting preparation
   pub left : preparation.left ≡ grant ∷ others
   pub ready : IsStartable b
+  pub is : e ≡ event.Slot grant.slot (slot_ask.Snap grant.tag) (slot_reply_of (slot_in w.cells grant.slot) (slot_ask.Snap grant.tag))
+
+-- the copy of a tag for a gate that is made
+pub record AtGateSnap (w : WorldState) (b : ActorState) (e : Event) : Type 0 where
+  pub preparation : Preparation
+  pub grant : CopyGrant
+  pub others : List CopyGrant
+  pub at : b.phase ≡ phase.MakingGate preparation
+  pub left : preparation.left ≡ grant ∷ others
+  pub granting : IsMakeable b preparation
   pub is : e ≡ event.Slot grant.slot (slot_ask.Snap grant.tag) (slot_reply_of (slot_in w.cells grant.slot) (slot_ask.Snap grant.tag))
 
 -- the start of a child that is prepared
@@ -132,6 +143,7 @@ pub data Happens (w : WorldState) (b : ActorState) (e : Event) : Type 0 where
   Requested : AtRequest w b e → Happens w b e
   Joined : AtJoin w b e → Happens w b e
   Snaps : AtSnap w b e → Happens w b e
+  GateSnaps : AtGateSnap w b e → Happens w b e
   Started : AtStart b e → Happens w b e
   Opens : AtOpen w b e → Happens w b e
   Releases : AtRelease b e → Happens w b e
@@ -190,6 +202,12 @@ module _ (w : WorldState) (b : ActorState) (e : Event) where
   preparing pre (g ∷ gs) q at left is ready comes =
       Snaps (record { preparation = pre; grant = g; others = gs; at = at; left = left; ready = ready; is = subst (λ y. ComesOf w b y e) (sym is) comes })
 
+  making_at : (pre : Preparation) (gs : List CopyGrant) (q : Want) → b.phase ≡ phase.MakingGate pre → pre.left ≡ gs → making_want gs ≡ Some q → IsMakeable b pre → ComesOf w b q e → Happens w b e
+  making_at pre [] q at left is granting comes = absurd cc
+  making_at pre (g ∷ gs) q at left is granting comes =
+      let same : want.Slot g.slot (slot_want.Snap g.tag) ≡ q = cc in
+      GateSnaps (record { preparation = pre; grant = g; others = gs; at = at; left = left; granting = granting; is = subst (λ y. ComesOf w b y e) (sym same) comes })
+
   opening_at : (o : FileOpening) (n : Option ℕ) (q : Want) → b.phase ≡ phase.OpeningFile o → o.number ≡ n → opening_want o n ≡ q → (a1 b ≤ b.fuel) × NumberIn w.image n → ComesOf w b q e → Happens w b e
   opening_at o None q at none is reads comes = Numbers (record { opening = o; at = at; none = none; paid = reads.0; is = subst (λ y. ComesOf w b y e) (sym is) comes })
   opening_at o (Some fd) q at some is reads comes =
@@ -202,6 +220,7 @@ module _ (w : WorldState) (b : ActorState) (e : Event) where
       let is : x ≡ q = cc in
       within x reads.0 reads.1 at reads.2 reads.3 reads.4 (subst (λ y. ComesOf w b y e) (sym is) comes)
   by_phase (phase.Starting pre) q at reads wants comes = let is : starting_want b pre.left ≡ q = cc in preparing pre pre.left q at refl is reads comes
+  by_phase (phase.MakingGate pre) q at reads wants comes = making_at pre pre.left q at refl wants reads comes
   by_phase (phase.Opening slot tag) q at reads wants comes =
       let is : want.Slot slot (slot_want.Open tag (a0 b)) ≡ q = cc in
       let same : e ≡ event_for w.cells b (want.Slot slot (slot_want.Open tag (a0 b))) = subst (λ y. ComesOf w b y e) (sym is) comes in
@@ -222,26 +241,29 @@ between_reads : (i : Image) (x : ActorState) (p : Phase) → IsBetween p → Rea
 between_reads i x phase.Running h = tt
 between_reads i x (phase.Within q) h = absurd h
 between_reads i x (phase.Starting pre) h = absurd h
+between_reads i x (phase.MakingGate pre) h = absurd h
 between_reads i x (phase.Opening slot tag) h = absurd h
 between_reads i x (phase.Releasing slot) h = absurd h
 between_reads i x (phase.OpeningFile o) h = absurd h
 between_reads i x (phase.Ending e) h = tt
 between_reads i x (phase.Ended e) h = tt
 
-preparing_reads : (i : Image) (x : ActorState) (p : Phase) → MayPrepare p → (IsPreparing p → IsStartable x) → ReadsAs i x p
-preparing_reads i x phase.Running h ready = tt
-preparing_reads i x (phase.Within q) h ready = absurd h
-preparing_reads i x (phase.Starting pre) h ready = ready tt
-preparing_reads i x (phase.Opening slot tag) h ready = absurd h
-preparing_reads i x (phase.Releasing slot) h ready = absurd h
-preparing_reads i x (phase.OpeningFile o) h ready = absurd h
-preparing_reads i x (phase.Ending e) h ready = tt
-preparing_reads i x (phase.Ended e) h ready = tt
+preparing_reads : (i : Image) (x : ActorState) (p : Phase) → MayPrepare p → (IsPreparing p → IsStartable x) → ((y : Preparation) → p ≡ phase.MakingGate y → IsMakeable x y) → ReadsAs i x p
+preparing_reads i x phase.Running h ready granting = tt
+preparing_reads i x (phase.Within q) h ready granting = absurd h
+preparing_reads i x (phase.Starting pre) h ready granting = ready tt
+preparing_reads i x (phase.MakingGate pre) h ready granting = granting pre refl
+preparing_reads i x (phase.Opening slot tag) h ready granting = absurd h
+preparing_reads i x (phase.Releasing slot) h ready granting = absurd h
+preparing_reads i x (phase.OpeningFile o) h ready granting = absurd h
+preparing_reads i x (phase.Ending e) h ready granting = tt
+preparing_reads i x (phase.Ended e) h ready granting = tt
 
 pub may_prepare : (p : Phase) → IsPreparing p → MayPrepare p
 may_prepare phase.Running h = absurd h
 may_prepare (phase.Within q) h = absurd h
 may_prepare (phase.Starting pre) h = tt
+may_prepare (phase.MakingGate pre) h = absurd h
 may_prepare (phase.Opening slot tag) h = absurd h
 may_prepare (phase.Releasing slot) h = absurd h
 may_prepare (phase.OpeningFile o) h = absurd h
@@ -252,34 +274,36 @@ numbered_reads : (i : Image) (x : ActorState) (fd : ℕ) (p : Phase) → MayNumb
 numbered_reads i x fd phase.Running h paid = tt
 numbered_reads i x fd (phase.Within q) h paid = absurd h
 numbered_reads i x fd (phase.Starting pre) h paid = absurd h
+numbered_reads i x fd (phase.MakingGate pre) h paid = absurd h
 numbered_reads i x fd (phase.Opening slot tag) h paid = absurd h
 numbered_reads i x fd (phase.Releasing slot) h paid = absurd h
 numbered_reads i x fd (phase.OpeningFile o) h paid = (paid.0, subst (NumberIn i) (sym h) paid.1)
 numbered_reads i x fd (phase.Ending e) h paid = absurd h
 numbered_reads i x fd (phase.Ended e) h paid = absurd h
 
--- one that leaves its phase between instructions is in nothing more; one that prepares a child may start it, one that
+-- one that leaves its phase between instructions is in nothing more; one that prepares a child may start it, one that makes a gate may
+-- give it its sheet, one that
 -- claimed a slot may open a tag there, and one that claimed a number may open the stream of its file
-leaves_reads : (i : Image) (x : ActorState) (e : Event) (p : Phase) → Leaves e p → (IsPreparing p → IsStartable x)
+leaves_reads : (i : Image) (x : ActorState) (e : Event) (p : Phase) → Leaves e p → (IsPreparing p → IsStartable x) → ((y : Preparation) → p ≡ phase.MakingGate y → IsMakeable x y)
     → ((slot tag : ℕ) → e ≡ event.Slots directory_ask.Claim (directory_reply.Claimed slot tag) → (slot < slots_in i) × AsksForPages x)
     → ((fd number : ℕ) → e ≡ event.Fds directory_ask.Claim (directory_reply.Claimed fd number) → (a1 x ≤ x.fuel) × (fd < fds_in i)) → ReadsAs i x p
-leaves_reads i x (event.Lives lives_ask.Claim lives_reply.Claimed) p h ready opens numbers = preparing_reads i x p (may_prepare p h) ready
-leaves_reads i x (event.Lives lives_ask.Claim lives_reply.Full) p h ready opens numbers = between_reads i x p h
-leaves_reads i x (event.Lives lives_ask.Claim lives_reply.Released) p h ready opens numbers = between_reads i x p h
-leaves_reads i x (event.Lives (lives_ask.Release end) r) p h ready opens numbers = between_reads i x p h
-leaves_reads i x (event.Slots directory_ask.Claim (directory_reply.Claimed slot tag)) p h ready opens numbers = subst (ReadsAs i x) (sym h) (opens slot tag refl)
-leaves_reads i x (event.Slots directory_ask.Claim directory_reply.Full) p h ready opens numbers = between_reads i x p h
-leaves_reads i x (event.Slots directory_ask.Claim directory_reply.Released) p h ready opens numbers = between_reads i x p h
-leaves_reads i x (event.Slots (directory_ask.Release slot) r) p h ready opens numbers = between_reads i x p h
-leaves_reads i x (event.Fds directory_ask.Claim (directory_reply.Claimed fd number)) p h ready opens numbers = numbered_reads i x fd p h (numbers fd number refl)
-leaves_reads i x (event.Fds directory_ask.Claim directory_reply.Full) p h ready opens numbers = between_reads i x p h
-leaves_reads i x (event.Fds directory_ask.Claim directory_reply.Released) p h ready opens numbers = between_reads i x p h
-leaves_reads i x (event.Fds (directory_ask.Release place) r) p h ready opens numbers = between_reads i x p h
-leaves_reads i x (event.Slot slot q slot_reply.Closed) p h ready opens numbers = subst (ReadsAs i x) (sym h) tt
-leaves_reads i x (event.Slot slot q (slot_reply.Snapped pages)) p h ready opens numbers = preparing_reads i x p h ready
-leaves_reads i x (event.Slot slot q slot_reply.Gone) p h ready opens numbers = preparing_reads i x p h ready
-leaves_reads i x (event.Slot slot q r) p h ready opens numbers = between_reads i x p h
-leaves_reads i x e p h ready opens numbers = between_reads i x p h
+leaves_reads i x (event.Lives lives_ask.Claim lives_reply.Claimed) p h ready granting opens numbers = preparing_reads i x p (may_prepare p h) ready granting
+leaves_reads i x (event.Lives lives_ask.Claim lives_reply.Full) p h ready granting opens numbers = between_reads i x p h
+leaves_reads i x (event.Lives lives_ask.Claim lives_reply.Released) p h ready granting opens numbers = between_reads i x p h
+leaves_reads i x (event.Lives (lives_ask.Release end) r) p h ready granting opens numbers = between_reads i x p h
+leaves_reads i x (event.Slots directory_ask.Claim (directory_reply.Claimed slot tag)) p h ready granting opens numbers = subst (ReadsAs i x) (sym h) (opens slot tag refl)
+leaves_reads i x (event.Slots directory_ask.Claim directory_reply.Full) p h ready granting opens numbers = between_reads i x p h
+leaves_reads i x (event.Slots directory_ask.Claim directory_reply.Released) p h ready granting opens numbers = between_reads i x p h
+leaves_reads i x (event.Slots (directory_ask.Release slot) r) p h ready granting opens numbers = between_reads i x p h
+leaves_reads i x (event.Fds directory_ask.Claim (directory_reply.Claimed fd number)) p h ready granting opens numbers = numbered_reads i x fd p h (numbers fd number refl)
+leaves_reads i x (event.Fds directory_ask.Claim directory_reply.Full) p h ready granting opens numbers = between_reads i x p h
+leaves_reads i x (event.Fds directory_ask.Claim directory_reply.Released) p h ready granting opens numbers = between_reads i x p h
+leaves_reads i x (event.Fds (directory_ask.Release place) r) p h ready granting opens numbers = between_reads i x p h
+leaves_reads i x (event.Slot slot q slot_reply.Closed) p h ready granting opens numbers = subst (ReadsAs i x) (sym h) tt
+leaves_reads i x (event.Slot slot q (slot_reply.Snapped pages)) p h ready granting opens numbers = preparing_reads i x p h ready granting
+leaves_reads i x (event.Slot slot q slot_reply.Gone) p h ready granting opens numbers = preparing_reads i x p h ready granting
+leaves_reads i x (event.Slot slot q r) p h ready granting opens numbers = between_reads i x p h
+leaves_reads i x e p h ready granting opens numbers = between_reads i x p h
 
 -- an actor is about to open a tag only once it claimed the slot for it
 pub opens_by_claim : (e : Event) (p : Phase) (slot tag : ℕ) → Leaves e p → p ≡ phase.Opening slot tag → e ≡ event.Slots directory_ask.Claim (directory_reply.Claimed slot tag)
@@ -317,6 +341,7 @@ happens_ready : (w : WorldState) (b : ActorState) (e : Event) → Happens w b e 
 happens_ready w b e (Requested r) is = claims_ready w.image b r.want w.cells _ r.own (sym r.is ∙ is)
 happens_ready w b e (Joined j) is = let f = sym j.join.is ∙ is in absurd cc
 happens_ready w b e (Snaps s) is = s.ready
+happens_ready w b e (GateSnaps s) is = let f = sym s.is ∙ is in absurd cc
 happens_ready w b e (Started s) is = s.ready
 happens_ready w b e (Opens o) is = let f = sym o.is ∙ is in absurd cc
 happens_ready w b e (Releases r) is = let f = sym r.is ∙ is in absurd cc
@@ -330,6 +355,7 @@ happens_preparing : (w : WorldState) (b : ActorState) (e : Event) → Happens w 
 happens_preparing w b e (Requested r) h = absurd (subst IsPreparing r.at h)
 happens_preparing w b e (Joined j) h = absurd (subst IsPreparing j.at h)
 happens_preparing w b e (Snaps s) h = s.ready
+happens_preparing w b e (GateSnaps s) h = absurd (subst IsPreparing s.at h)
 happens_preparing w b e (Started s) h = s.ready
 happens_preparing w b e (Opens o) h = absurd (subst IsPreparing o.at h)
 happens_preparing w b e (Releases r) h = absurd (subst IsPreparing r.at h)
@@ -342,6 +368,7 @@ pub no_preparing : {X : Type 0} (p : Phase) → IsBetween p → IsPreparing p �
 no_preparing phase.Running h k = absurd k
 no_preparing (phase.Within q) h k = absurd h
 no_preparing (phase.Starting pre) h k = absurd h
+no_preparing (phase.MakingGate pre) h k = absurd h
 no_preparing (phase.Opening slot tag) h k = absurd h
 no_preparing (phase.Releasing slot) h k = absurd h
 no_preparing (phase.OpeningFile o) h k = absurd h
@@ -352,6 +379,7 @@ snapped_startable : (b : ActorState) (p : Phase) (slot : ℕ) (bytes : Option (L
 snapped_startable b phase.Running slot bytes at ready k = absurd k
 snapped_startable b (phase.Within q) slot bytes at ready k = absurd k
 snapped_startable b (phase.Starting pre) slot bytes at ready k = startable_at b _ (ready (subst IsPreparing (sym at) tt))
+snapped_startable b (phase.MakingGate pre) slot bytes at ready k = absurd (made_is (λ x. IsPreparing x.phase → ⊥) b (draft_at b.drafts (a0 b)) (copied_on b pre slot bytes) (λ x y. y) (λ g y. y) k)
 snapped_startable b (phase.Opening s tag) slot bytes at ready k = absurd k
 snapped_startable b (phase.Releasing s) slot bytes at ready k = absurd k
 snapped_startable b (phase.OpeningFile o) slot bytes at ready k = absurd k
@@ -378,6 +406,20 @@ takes_startable i b (event.Fds (directory_ask.Release place) r) first ready k = 
 takes_startable i b (event.Slot slot q r) first ready k = no_preparing (takes i b (event.Slot slot q r)).phase (takes_between i b (event.Slot slot q r)) k
 takes_startable i b e first ready k = no_preparing (takes i b e).phase (takes_between i b e) k
 
+-- whoever makes a gate may give it its sheet
+happens_making : (w : WorldState) (b : ActorState) (e : Event) → Happens w b e → (x : Preparation) → b.phase ≡ phase.MakingGate x → IsMakeable b x
+happens_making w b e (GateSnaps s) x at = let both : phase.MakingGate s.preparation ≡ phase.MakingGate x = sym s.at ∙ at in let same : s.preparation ≡ x = cc in subst (IsMakeable b) same s.granting
+happens_making w b e (Requested r) x at = absurd (subst IsMaking (sym at ∙ r.at) tt)
+happens_making w b e (Joined j) x at = absurd (subst IsMaking (sym at ∙ j.at) tt)
+happens_making w b e (Snaps s) x at = absurd (subst IsMaking (sym at ∙ s.at) tt)
+happens_making w b e (Started s) x at = absurd (subst IsMaking (sym at ∙ s.at) tt)
+happens_making w b e (Opens o) x at = absurd (subst IsMaking (sym at ∙ o.at) tt)
+happens_making w b e (Releases r) x at = absurd (subst IsMaking (sym at ∙ r.at) tt)
+happens_making w b e (Numbers n) x at = absurd (subst IsMaking (sym at ∙ n.at) tt)
+happens_making w b e (OpensFile f) x at = absurd (subst IsMaking (sym at ∙ f.at) tt)
+happens_making w b e (LastJoined j) x at = absurd (subst IsMaking (sym at ∙ j.at) tt)
+happens_making w b e (Ended f) x at = absurd (subst IsMaking (sym at ∙ f.at) tt)
+
 -- a slot is claimed by an actor that asks for pages that a tag may have, and is one of the directory's
 claims_slot : (b : ActorState) (x : Want) (c : Cells) (N : ℕ → Type 0) (slot tag : ℕ) → IsRequest N b x → event_for c b x ≡ event.Slots directory_ask.Claim (directory_reply.Claimed slot tag)
     → AsksForPages b × (directory_reply_of c.places directory_ask.Claim ≡ directory_reply.Claimed slot tag)
@@ -393,6 +435,7 @@ pub happens_claim : (w : WorldState) (b : ActorState) (e : Event) (slot tag : �
 happens_claim w b e slot tag (Requested r) is = claims_slot b r.want w.cells _ slot tag r.own (sym r.is ∙ is)
 happens_claim w b e slot tag (Joined j) is = let f = sym j.join.is ∙ is in absurd cc
 happens_claim w b e slot tag (Snaps s) is = let f = sym s.is ∙ is in absurd cc
+happens_claim w b e slot tag (GateSnaps s) is = let f = sym s.is ∙ is in absurd cc
 happens_claim w b e slot tag (Started s) is = let f = sym s.is ∙ is in absurd cc
 happens_claim w b e slot tag (Opens o) is = let f = sym o.is ∙ is in absurd cc
 happens_claim w b e slot tag (Releases r) is = let f = sym r.is ∙ is in absurd cc
@@ -418,6 +461,7 @@ pub happens_number : (w : WorldState) (b : ActorState) (e : Event) (fd number : 
 happens_number w b e fd number (Requested r) is = absurd (no_claim r.want _ b w.cells fd number r.own (sym r.is ∙ is))
 happens_number w b e fd number (Joined j) is = let f = sym j.join.is ∙ is in absurd cc
 happens_number w b e fd number (Snaps s) is = let f = sym s.is ∙ is in absurd cc
+happens_number w b e fd number (GateSnaps s) is = let f = sym s.is ∙ is in absurd cc
 happens_number w b e fd number (Started s) is = let f = sym s.is ∙ is in absurd cc
 happens_number w b e fd number (Opens o) is = let f = sym o.is ∙ is in absurd cc
 happens_number w b e fd number (Releases r) is = let f = sym r.is ∙ is in absurd cc
@@ -435,6 +479,7 @@ pub takes_reads : (w : WorldState) (b : ActorState) (e : Event) → GivesBelow (
     → Happens w b e → ReadsAs w.image (takes w.image b e) (takes w.image b e).phase
 takes_reads w b e sound numbers h =
     leaves_reads w.image (takes w.image b e) e (takes w.image b e).phase (takes_between w.image b e) (takes_startable w.image b e (happens_ready w b e h) (happens_preparing w b e h))
+    (takes_granting w.image b e (happens_making w b e h))
     (λ slot tag is. let c = happens_claim w b e slot tag h is in (claimed_inside (slots_in w.image) w.cells.places slot tag sound c.1, claimed_pages w.image b e slot tag is c.0))
     (λ fd number is. let c = happens_number w b e fd number h is in (numbered_pays w.image b e fd number is c.0, claimed_inside (fds_in w.image) w.cells.numbers fd number numbers c.1))
 

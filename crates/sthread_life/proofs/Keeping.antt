@@ -1,5 +1,5 @@
 -- Private memory over an instruction and over an event.
-use Rattle.std.proofs.Common.{◌≡◌, ℕ, zero, suc, ◌+◌, ◌-◌, Bool, true, false, List, refl, sym, ap, subst, ◌∙◌, arith}
+use Rattle.std.proofs.Common.{◌≡◌, ℕ, zero, suc, ◌+◌, ◌-◌, Bool, true, false, List, refl, sym, ap, subst, ◌∙◌, arith, ◌∷◌, []}
 use Rattle.std.specs.Prelude.{Option, Some, None, option_map, option_and_then, not, ◌&&◌, ◌==◌, nat_lt, nat_le, if◌then◌else◌, length, slice_get, slice_range}
 use Rattle.wedge_base.specs.Bytes.{number_of, bytes_of, written}
 use Rattle.wedge_base.specs.Images.{Image, fetch, read_text, slot_of}
@@ -36,7 +36,7 @@ use Rattle.cow_pages.specs.PrivateMemory.{PrivateMemory}
 use Rattle.std.specs.Option.{option_or}
 use Rattle.sthread_life.specs.Private.{load_bytes, load_copy, load_window, load_range, store_copy, store_window, store_range, has_loaded, has_stored, with_bytes, fits_read, fits_write}
 use Rattle.wedge_base.specs.Names.{most_parts}
-use Rattle.wedge_base.specs.Sheets.{Draft, takes_tag, takes_fd, first_excess}
+use Rattle.wedge_base.specs.Sheets.{Draft, takes_tag, takes_fd, takes_gate, first_excess}
 use Rattle.wedge_base.specs.Maps.{has}
 use Rattle.wedge_base.specs.Rights.{at_least}
 use Rattle.wedge_base.specs.declared.rights.Denial.{Denial}
@@ -47,18 +47,20 @@ use Rattle.wedge_base.specs.declared.rights.Right.{Right}
 use Rattle.wedge_base.specs.declared.rights.Right.TheVariants as right
 use Rattle.sthread_life.specs.Children.{is_child, without_child}
 use Rattle.sthread_life.proofs.Between.{event_for, joined_is, numbered_is, opened_is, snapped_is}
-use Rattle.sthread_life.proofs.Happening.{Happens, Requested, Joined, Snaps, Started, Opens, Releases, Numbers, OpensFile, LastJoined, Ended}
+use Rattle.sthread_life.proofs.Happening.{Happens, Requested, Joined, Snaps, GateSnaps, Started, Opens, Releases, Numbers, OpensFile, LastJoined, Ended}
 use Rattle.sthread_life.proofs.Meeting.{IsRequest}
 use Rattle.sthread_life.proofs.StreamCalls.{IsStreamRequest, append_cases, close_cases}
 use Rattle.sthread_life.proofs.Reading.{read_remembers}
 use Rattle.sthread_life.specs.Cells.{Cells, stream_in}
 use Rattle.sthread_life.specs.Worlds.{WorldState}
 use Rattle.sthread_life.proofs.WritingCopies.{copied_there}
-use Rattle.sthread_life.specs.Calls.{serves, exit, is_procedure, create, create_with, create_checked, join, are_pages, tag_new, tag_delete, smalloc, free_at, sfree, fd_read, fd_append, fd_close, most_drafts, sc_new, right_asked, bits_asked, add_right, add_right_to, sc_mem_add, add_bits, add_bits_to, sc_fd_add, draft_call, a0, a1, a2, a3, a7, set_user, sc_user, path_in, put_root, set_root, sc_root, file_at, mode_asked, suits, open_file, open_path, file_open}
+use Rattle.sthread_life.specs.Calls.{serves, exit, is_procedure, create, create_with, create_checked, join, are_pages, tag_new, tag_delete, smalloc, free_at, sfree, fd_read, fd_append, fd_close, most_drafts, sc_new, right_asked, bits_asked, add_right, add_right_to, sc_mem_add, add_bits, add_bits_to, sc_fd_add, add_gate_to, sc_cgate_add, draft_call, a0, a1, a2, a3, a7, set_user, sc_user, path_in, put_root, set_root, sc_root, file_at, mode_asked, suits, open_file, open_path, file_open, makes_or_waits, may_be_gate, make_checked, make_with, cgate_make}
 use Rattle.sthread_life.specs.Local.{needed, executed, fuelled, fetched, step}
 use Rattle.sthread_life.specs.Taking.{runs, loads_by, loads_at, takes}
 use Rattle.sthread_life.specs.Remembering.{copied_bytes, copy_target, target_among, Elsewhere, LoadGives, StoreWrites, NeedRemembers, InstrRemembers, WordRemembers, EventRemembers, memory_after}
 use Rattle.sthread_life.proofs.WritingRanges.{length-bytes_of, written_at}
+use Rattle.sthread_life.specs.Copying.{Preparation}
+use Rattle.sthread_life.specs.declared.copy_grant.CopyGrant.{CopyGrant}
 
 -- what keeps private memory
 abbrev Keeps : ActorState → ActorState → Type 0
@@ -146,6 +148,10 @@ bits_to_keep : (a : ActorState) (d : Option Draft) → Keeps a (add_bits_to a d)
 bits_to_keep a None = refl
 bits_to_keep a (Some d) = bits_keep a d (bits_asked (a2 a))
 
+gate_keeps : (i : Image) (a : ActorState) (d : Option Draft) → Keeps a (add_gate_to i a d)
+gate_keeps i a None = refl
+gate_keeps i a (Some d) = keeps_if a (refuses a code.Bad) _ (not (is_procedure i (a1 a))) refl (keeps_if a _ (refuses a code.Full) (takes_gate d (a1 a)) refl refl)
+
 user_keeps : (a : ActorState) (d : Option Draft) → Keeps a (set_user a d)
 user_keeps a None = refl
 user_keeps a (Some d) = refl
@@ -163,8 +169,21 @@ draft_keeps i a n =
     keeps_if a (sc_new a) _ (n == 7) (keeps_if a (refuses a code.Full) _ (nat_le most_drafts (length a.drafts)) refl refl)
     (keeps_if a (sc_mem_add a) _ (n == 8) (right_to_keeps a (slice_get a.drafts (a0 a)))
     (keeps_if a (sc_fd_add a) _ (n == 9) (bits_to_keep a (slice_get a.drafts (a0 a)))
+    (keeps_if a (sc_cgate_add i a) _ (n == 10) (gate_keeps i a (slice_get a.drafts (a0 a)))
     (keeps_if a (sc_user a) _ (n == 11) (user_keeps a (slice_get a.drafts (a0 a)))
-    (keeps_if a (sc_root i a) _ (n == 12) (root_keeps a (path_in i a (a1 a) (a2 a)) (slice_get a.drafts (a0 a))) refl))))
+    (keeps_if a (sc_root i a) _ (n == 12) (root_keeps a (path_in i a (a1 a) (a2 a)) (slice_get a.drafts (a0 a))) refl)))))
+
+made_keeps : (a : ActorState) (d : Draft) (p : Preparation) (gs : List CopyGrant) → Keeps a (makes_or_waits a d p gs)
+made_keeps a d p [] = refl
+made_keeps a d p (g ∷ gs) = refl
+
+make_checked_keeps : (i : Image) (a : ActorState) (d : Draft) (o : Option Denial) → Keeps a (make_checked i a d o)
+make_checked_keeps i a d (Some x) = refl
+make_checked_keeps i a d None = made_keeps a d _ _
+
+make_keeps : (i : Image) (a : ActorState) (d : Option Draft) → Keeps a (make_with i a d)
+make_keeps i a None = refl
+make_keeps i a (Some d) = keeps_if a (refuses a code.Bad) _ (not (may_be_gate i a d)) refl (make_checked_keeps i a d (first_excess a.sheet a.made d))
 
 create_keeps : (i : Image) (a : ActorState) (d : Option Draft) → Keeps a (create_with i a d)
 create_keeps i a None = refl
@@ -203,10 +222,11 @@ call_keeps i a n =
     (keeps_if a (tag_delete a) _ (n == 4) (keeps_if a _ (denies a (denial.NotMaker (a0 a))) (has a.made.tags (a0 a)) refl refl)
     (keeps_if a (smalloc a) _ (n == 5) (smalloc_keeps a)
     (keeps_if a (sfree a) _ (n == 6) (free_keeps a (slot_of (a0 a)))
+    (keeps_if a (cgate_make i a) _ (n == 13) (make_keeps i a (slice_get a.drafts (a0 a)))
     (keeps_if a (fd_read a) _ (n == 15) (read_keeps a)
     (keeps_if a (fd_append i a) _ (n == 16) (append_keeps i a)
     (keeps_if a (fd_close a) _ (n == 17) (keeps_if a (refuses a code.NoSuch) _ (nat_le most_fds (a0 a)) refl refl)
-    (keeps_if a (file_open i a) _ (n == 18) (open_keeps i a (mode_asked (a2 a)) (path_in i a (a0 a) (a1 a))) (draft_keeps i a n)))))))))))
+    (keeps_if a (file_open i a) _ (n == 18) (open_keeps i a (mode_asked (a2 a)) (path_in i a (a0 a) (a1 a))) (draft_keeps i a n))))))))))))
 
 -- an instruction
 need_remembers : (i : Image) (ins : Instr) (a : ActorState) (h : Hart) (n : Need) → NeedRemembers i ins.rd a n (needed i ins a h n)
@@ -255,8 +275,8 @@ memory_is i a (event.Slots (directory_ask.Release place) r) k = refl
 memory_is i a (event.Slots directory_ask.Claim (directory_reply.Claimed place number)) k = refl
 memory_is i a (event.Slots directory_ask.Claim directory_reply.Full) k = refl
 memory_is i a (event.Slots directory_ask.Claim directory_reply.Released) k = refl
-memory_is i a (event.Slot slot q (slot_reply.Snapped pages)) k = snapped_is (λ x. x.memory ≡ a.memory) a a.phase slot (Some (bytes_listed pages)) refl (λ x. refl)
-memory_is i a (event.Slot slot q slot_reply.Gone) k = snapped_is (λ x. x.memory ≡ a.memory) a a.phase slot None refl (λ x. refl)
+memory_is i a (event.Slot slot q (slot_reply.Snapped pages)) k = snapped_is (λ x. x.memory ≡ a.memory) a a.phase slot (Some (bytes_listed pages)) refl (λ x. refl) (λ x. refl) (λ g. refl)
+memory_is i a (event.Slot slot q slot_reply.Gone) k = snapped_is (λ x. x.memory ≡ a.memory) a a.phase slot None refl (λ x. refl) (λ x. refl) (λ g. refl)
 memory_is i a (event.Slot slot (slot_ask.Sfree offset live) (slot_reply.Denied tag wants)) k = refl
 memory_is i a (event.Slot slot (slot_ask.Open tag pages) slot_reply.Opened) k = refl
 memory_is i a (event.Slot slot q r) k = refl
@@ -331,6 +351,7 @@ pub event_remembers : (w : WorldState) (b : ActorState) (e : Event) → Happens 
 event_remembers w b e (Requested r) = subst (λ y. EventRemembers b y (takes w.image b y)) (sym r.is) (want_remembers w.image w.cells b _ r.want r.own)
 event_remembers w b e (Joined j) = gift_free w.image b e j.join.is tt
 event_remembers w b e (Snaps s) = gift_free w.image b e s.is tt
+event_remembers w b e (GateSnaps s) = gift_free w.image b e s.is tt
 event_remembers w b e (Started s) = gift_free w.image b e s.is tt
 event_remembers w b e (Opens o) = gift_free w.image b e o.is tt
 event_remembers w b e (Releases r) = gift_free w.image b e r.is tt

@@ -11,6 +11,7 @@ pub mod Buffers
 pub mod StreamFits
 pub mod StreamCalls
 pub mod FilesAscend
+pub mod MakingGates
 pub mod Meeting
 pub mod Happening
 pub mod Settling
@@ -22,11 +23,13 @@ pub mod DraftEdits
 pub mod DraftsFit
 pub mod Dropping
 pub mod PutBack
+pub mod GatesMade
 pub mod Preparing
 pub mod GrantedCopies
 pub mod Creating
 pub mod Reading
 pub mod Keeping
+pub mod GateMoments
 pub mod Checking
 pub mod TagMoments
 pub mod StreamMoments

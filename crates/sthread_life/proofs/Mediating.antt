@@ -1,5 +1,5 @@
 -- Each moment of a run: each request is mediated, and each end has its cause.
-use Rattle.std.proofs.Common.{◌≡◌, ◌+◌, ℕ, zero, suc, Bool, true, false, List, [], ◌∷◌, refl, sym, ap, subst, ◌∙◌}
+use Rattle.std.proofs.Common.{◌≡◌, ◌+◌, ℕ, zero, suc, Bool, true, false, List, [], ◌∷◌, refl, sym, ap, subst, ◌∙◌, inl, inr}
 use Rattle.wedge_base.specs.Lives.{most_lives, lives_next}
 use Rattle.std.specs.Prelude.{Option, Some, None, nat_lt, IsSomeAnd, option_map, not, ◌+◌, slice_get, slice_set, slice_range, option_and_then, if◌then◌else◌}
 use Rattle.wedge_base.specs.Bytes.{number_of}
@@ -23,7 +23,7 @@ use Rattle.wedge_base.specs.declared.cells.Live.{Live}
 use Rattle.wedge_base.specs.declared.cells.LivesAsk.TheVariants as lives_ask
 use Rattle.wedge_base.specs.declared.cells.LivesReply.TheVariants as lives_reply
 use Rattle.wedge_base.specs.declared.rights.End.{End}
-use Rattle.wedge_base.specs.Sheets.{Draft}
+use Rattle.wedge_base.specs.Sheets.{Draft, first_excess}
 use Rattle.wedge_base.specs.declared.cells.SlotAsk.{SlotAsk}
 use Rattle.wedge_base.specs.declared.cells.SlotAsk.TheVariants as slot_ask
 use Rattle.wedge_base.specs.declared.cells.SlotReply.{SlotReply}
@@ -40,7 +40,7 @@ use Rattle.rv_hart.specs.Local.{local, put, extended}
 use Rattle.sthread_life.specs.declared.phase.Phase.{Phase}
 use Rattle.sthread_life.specs.declared.phase.Phase.TheVariants as phase
 use Rattle.sthread_life.specs.Actors.{ActorState, ends, refuses}
-use Rattle.sthread_life.specs.Calls.{a0}
+use Rattle.sthread_life.specs.Calls.{a0, draft_at}
 use Rattle.sthread_life.specs.Private.{has_stored}
 use Rattle.sthread_life.specs.Local.{step, rest, has_ended, is_running, run_local}
 use Rattle.sthread_life.specs.Children.{without_child}
@@ -48,11 +48,11 @@ use Rattle.cow_pages.specs.Listed.{bytes_listed}
 use Rattle.sthread_life.specs.ChildCopies.{NotPreparing, PreparesBy}
 use Rattle.sthread_life.specs.Copying.{Preparation}
 use Rattle.sthread_life.proofs.Preparing.{step_unprepared, event_prepares}
-use Rattle.sthread_life.specs.Taking.{pair, runs, loads_by, loads_at, has_snapped, answered_end, has_started, takes_lives, takes, child_of, begun}
+use Rattle.sthread_life.specs.Taking.{pair, runs, loads_by, loads_at, has_snapped, answered_end, has_started, takes_lives, takes, child_of, begun, copied_on}
 use Rattle.sthread_life.specs.Cells.{Cells, held, slot_in, stream_in, cells_after}
 use Rattle.sthread_life.specs.Worlds.{WorldState, opening, actor_named, put_actor, with_begun, turn_of, Runs}
-use Rattle.sthread_life.specs.Requests.{Access, Request, Loads, Stores, Reads, Appends, Closes, Opens, Creates, Deletes, Allots, Frees, request_at, in_tag}
-use Rattle.sthread_life.specs.Allowed.{may_use, lacks, is_refused, next_word, IsDone, denied}
+use Rattle.sthread_life.specs.Requests.{Access, Request, Loads, Stores, Reads, Appends, Closes, Opens, Creates, Deletes, Allots, Frees, request_at, in_tag, Makes}
+use Rattle.sthread_life.specs.Allowed.{may_use, lacks, is_refused, next_word, IsDone, denied, HasBegunGate}
 use Rattle.sthread_life.specs.Moments.{EachMoment, TurnHas, with_actor, is_use, slot_used, NothingDenied, IsChecked, ComesToEvent, IsMet, IsAnswered, MeetsWith, AnswersAt}
 use Rattle.sthread_life.specs.Ends.{GoesTo, is_end_event, end_of, end_at, end_by, reply_end}
 use Rattle.sthread_life.specs.Refusals.{full, RefusesIn, RefusesAfter, slot_refuses, is_refusal, refused}
@@ -66,25 +66,28 @@ use Rattle.sthread_life.proofs.FileMoments.{number_denials, file_denials, number
 use Rattle.sthread_life.proofs.Named.{found_name, put_put, named_begun, begun_noted}
 use Rattle.sthread_life.proofs.Keeping.{step_remembers, event_remembers}
 use Rattle.sthread_life.proofs.Settling.{AllReady, turn_happens, turn_ready, opening_ready}
-use Rattle.sthread_life.proofs.Meeting.{phase_for, request_for, refusal_for, IsRequest, IsStartable, IsCheckedNow, MetBy, InstrLoads, NeedLoads, LoadsAt, stuck, step_comes}
+use Rattle.sthread_life.proofs.Meeting.{phase_for, request_for, refusal_for, IsRequest, IsStartable, IsCheckedNow, MetBy, InstrLoads, NeedLoads, LoadsAt, stuck, step_comes, DoneNow}
 use Rattle.sthread_life.specs.Paying.{cost_at, cost_by, given_by, brought_by}
 use Rattle.sthread_life.proofs.Paying.{step_pays, event_pays}
 use Rattle.sthread_life.specs.Drafting.{drafts_after}
 use Rattle.sthread_life.proofs.DraftEdits.{step_edits, event_edits}
 use Rattle.sthread_life.proofs.Going.{IsNext, step_goes}
 use Rattle.sthread_life.proofs.Resting.{steps_step, stays, goes_on, running_is, rest-stops}
-use Rattle.sthread_life.proofs.Between.{event_for, IsJoin, joined_is, opened_is, snapped_is, takes_name, turn_parts, loaded_runs}
-use Rattle.sthread_life.proofs.Happening.{Happens, snap_cases, Requested, Joined, Snaps, Started, Opens as OpensTag, Releases, Numbers, OpensFile, LastJoined, Ended, joined_at}
+use Rattle.sthread_life.proofs.Between.{event_for, IsJoin, joined_is, opened_is, snapped_is, takes_name, turn_parts, loaded_runs, made_is}
+use Rattle.sthread_life.proofs.Happening.{Happens, snap_cases, Requested, Joined, Snaps, GateSnaps, Started, Opens as OpensTag, Releases, Numbers, OpensFile, LastJoined, Ended, joined_at}
 use Rattle.sthread_life.proofs.Families.{step_family, event_family}
+use Rattle.sthread_life.specs.GateCalls.{InstrMakesGates, EventMakesGates}
+use Rattle.sthread_life.proofs.GateMoments.{step_makes_gates, event_makes_gates}
+use Rattle.sthread_life.proofs.MakingGates.{longer}
 
 -- ---- an instruction
 
 -- a request that is checked at once
 checked_now : (w : WorldState) (b p x a : ActorState) (r : Request) → actor_named w.actors b.name ≡ Some a → p.name ≡ b.name → p.denials ≡ b.denials → x.name ≡ b.name → p.phase ≡ phase.Running
     → ((o : Option ActorState) → IsDone p r None o → o ≡ Some (record p { phase = phase_for p r })) → ((o : Option ActorState) → o ≡ Some (record p { phase = phase_for p r }) → IsDone p r None o)
-    → (phase_for p r ≡ phase.Running → ⊥) → ((y : Denial) → (denied p r y).phase ≡ phase.Running) → ((y : Denial) → (denied p r y).name ≡ p.name) → IsCheckedNow p r x
+    → (phase_for p r ≡ phase.Running → ⊥) → ((y : Denial) → (denied p r y).phase ≡ phase.Running) → ((y : Denial) → (denied p r y).name ≡ p.name) → (DoneNow p r x → x ≡ record p { phase = phase_for p r }) → IsCheckedNow p r x
     → IsChecked (with_actor w b) p r None (with_actor w x)
-checked_now w b p x a r named pn pd xn run from to moves runs_on same_name now = by_denial (lacks p r) refl (is_refused p r) refl
+checked_now w b p x a r named pn pd xn run from to moves runs_on same_name out now = by_denial (lacks p r) refl (is_refused p r) refl
   where
     found : actor_named (put_actor w.actors x) p.name ≡ Some x
     found = subst (λ m. actor_named (put_actor w.actors x) m ≡ Some x) (sym pn) (put_there w b x a named xn)
@@ -102,11 +105,38 @@ checked_now w b p x a r named pn pd xn run from to moves runs_on same_name now =
     by_denial (Some y) lack t refused =
         checked_denied (with_actor w b) p r None (with_actor w x) y lack (λ e. not_within (denied_runs y (now.denied y lack)) (sym found ∙ from _ e)) (put_again_at (denied p r y) (same_name y ∙ pn) (now.denied y lack))
     by_denial None lack false refused =
-        let is = now.done lack refused in
+        let is = out (now.done lack refused) in
         checked_allowed (with_actor w b) p r None (with_actor w x) false lack refused (λ e. refl, λ e. to _ (found ∙ ap Some is)) (kept w w.cells b x xn (ap (λ (z : ActorState). z.denials) is ∙ pd)) (λ z. absurd cc)
     by_denial None lack true refused =
         let is = now.refused lack refused in
         checked_allowed (with_actor w b) p r None (with_actor w x) true lack refused (λ e. absurd (not_within is.0 (sym found ∙ from _ e)), λ e. absurd cc) (kept w w.cells b x xn (is.1 ∙ pd)) (λ z. refl)
+
+-- the call that makes a gate
+begun_quiet : (p x : ActorState) (d : Draft) → HasBegunGate p d x → x.denials ≡ p.denials
+begun_quiet p x d (inl (g, of, is)) = ap (λ (y : ActorState). y.denials) is
+begun_quiet p x d (inr (q, is)) = ap (λ (y : ActorState). y.denials) is
+
+checked_make : (w : WorldState) (b p x a : ActorState) (d : Draft) → actor_named w.actors b.name ≡ Some a → p.name ≡ b.name → p.denials ≡ b.denials → x.name ≡ b.name → IsCheckedNow p (Makes d) x
+    → IsChecked (with_actor w b) p (Makes d) None (with_actor w x)
+checked_make w b p x a d named pn pd xn now = by_denial (first_excess p.sheet p.made d) refl
+  where
+    found : actor_named (put_actor w.actors x) p.name ≡ Some x
+    found = subst (λ m. actor_named (put_actor w.actors x) m ≡ Some x) (sym pn) (put_there w b x a named xn)
+
+    put_again_at : (y : ActorState) → y.name ≡ b.name → x ≡ y → with_actor w x ≡ with_actor (with_actor w b) y
+    put_again_at y yn is = ap (with_actor w) is ∙ ap (λ (as_ : List ActorState). record w { actors = as_ }) (sym (put_put w.actors b y yn))
+
+    undone : (y : Denial) → x ≡ denied p (Makes d) y → IsSomeAnd (actor_named (put_actor w.actors x) p.name) (HasBegunGate p d) → ⊥
+    undone y is e =
+        let begun_so : HasBegunGate p d x = subst (λ o. IsSomeAnd o (HasBegunGate p d)) found e in
+        longer p.denials _ (sym (ap (λ (z : ActorState). z.denials) is) ∙ begun_quiet p x d begun_so)
+
+    by_denial : (o : Option Denial) → first_excess p.sheet p.made d ≡ o → IsChecked (with_actor w b) p (Makes d) None (with_actor w x)
+    by_denial (Some y) lack =
+        checked_denied (with_actor w b) p (Makes d) None (with_actor w x) y lack (λ e. undone y (now.denied y lack) e.1) (put_again_at (denied p (Makes d) y) pn (now.denied y lack))
+    by_denial None lack =
+        let is = now.done lack refl in
+        checked_allowed (with_actor w b) p (Makes d) None (with_actor w x) false lack refl (λ e. refl, λ e. (refl, subst (λ o. IsSomeAnd o (HasBegunGate p d)) (sym found) is)) (kept w w.cells b x xn (begun_quiet p x d is ∙ pd)) (λ z. absurd cc)
 
 comes_there : (w : WorldState) (b p x : ActorState) → p.name ≡ b.name → (q : Want) × (x ≡ record p { phase = phase.Within q }) → ComesToEvent (with_actor w b) p (with_actor w x)
 comes_there w b p x pn q = (q.0, ap (with_actor w) q.1 ∙ ap (λ (as_ : List ActorState). record w { actors = as_ }) (sym (put_put w.actors b (record p { phase = phase.Within q.0 }) pn)))
@@ -117,10 +147,11 @@ met_by w b p x a (Stores y value) named pn pd xn run m = comes_there w b p x pn 
 met_by w b p x a (Reads fd s n) named pn pd xn run m = comes_there w b p x pn m
 met_by w b p x a (Appends fd s bytes) named pn pd xn run m = comes_there w b p x pn m
 met_by w b p x a (Closes fd s) named pn pd xn run m = comes_there w b p x pn m
-met_by w b p x a (Opens path f c) named pn pd xn run m = checked_now w b p x a (Opens path f c) named pn pd xn run (λ o e. e.1) (λ o e. (refl, e)) (λ e. absurd cc) (λ y. refl) (λ y. refl) m
-met_by w b p x a (Creates d) named pn pd xn run m = checked_now w b p x a (Creates d) named pn pd xn run (λ o e. e.1) (λ o e. (refl, e)) (λ e. absurd cc) (λ y. refl) (λ y. refl) m
-met_by w b p x a (Deletes tag) named pn pd xn run m = checked_now w b p x a (Deletes tag) named pn pd xn run (λ o e. e.1) (λ o e. (refl, e)) (λ e. absurd cc) (λ y. refl) (λ y. refl) m
-met_by w b p x a (Allots tag size) named pn pd xn run m = checked_now w b p x a (Allots tag size) named pn pd xn run (λ o e. e.1) (λ o e. (refl, e)) (λ e. absurd cc) (λ y. refl) (λ y. refl) m
+met_by w b p x a (Opens path f c) named pn pd xn run m = checked_now w b p x a (Opens path f c) named pn pd xn run (λ o e. e.1) (λ o e. (refl, e)) (λ e. absurd cc) (λ y. refl) (λ y. refl) (λ e. e) m
+met_by w b p x a (Creates d) named pn pd xn run m = checked_now w b p x a (Creates d) named pn pd xn run (λ o e. e.1) (λ o e. (refl, e)) (λ e. absurd cc) (λ y. refl) (λ y. refl) (λ e. e) m
+met_by w b p x a (Makes d) named pn pd xn run m = checked_make w b p x a d named pn pd xn m
+met_by w b p x a (Deletes tag) named pn pd xn run m = checked_now w b p x a (Deletes tag) named pn pd xn run (λ o e. e.1) (λ o e. (refl, e)) (λ e. absurd cc) (λ y. refl) (λ y. refl) (λ e. e) m
+met_by w b p x a (Allots tag size) named pn pd xn run m = checked_now w b p x a (Allots tag size) named pn pd xn run (λ o e. e.1) (λ o e. (refl, e)) (λ e. absurd cc) (λ y. refl) (λ y. refl) (λ e. e) m
 met_by w b p x a (Frees q g) named pn pd xn run m = comes_there w b p x pn m
 
 met_as : (w : WorldState) (b p x a : ActorState) (o : Option Request) → actor_named w.actors b.name ≡ Some a → p.name ≡ b.name → p.denials ≡ b.denials → x.name ≡ b.name → p.phase ≡ phase.Running
@@ -297,7 +328,7 @@ snap_denials : (i : Image) (b : ActorState) (slot tag : ℕ) (g : Option Segment
 unfolding takes
 snap_denials i b slot tag g =
     snap_cases (λ r. (takes i b (event.Slot slot (slot_ask.Snap tag) r)).denials ≡ b.denials) g tag
-    (λ pages. snapped_is (λ x. x.denials ≡ b.denials) b b.phase slot (Some (bytes_listed pages)) refl (λ x. refl)) (snapped_is (λ x. x.denials ≡ b.denials) b b.phase slot None refl (λ x. refl))
+    (λ pages. snapped_is (λ x. x.denials ≡ b.denials) b b.phase slot (Some (bytes_listed pages)) refl (λ x. refl) (λ x. refl) (λ g. refl)) (snapped_is (λ x. x.denials ≡ b.denials) b b.phase slot None refl (λ x. refl) (λ x. refl) (λ g. refl))
 
 snap_unasked : (w : WorldState) (b : ActorState) (slot tag : ℕ) (g : Option Segment)
     → NothingDenied (with_actor w b) (after w b (event.Slot slot (slot_ask.Snap tag) (slot_reply_of g (slot_ask.Snap tag)))) × (is_use (event.Slot slot (slot_ask.Snap tag) (slot_reply_of g (slot_ask.Snap tag))) ≡ false)
@@ -315,6 +346,9 @@ answered_at w b a e named (Joined j) =
     subst (λ ph. AnswersAt (with_actor w b) b ph e (after w b e)) (sym j.at)
     (subst (λ o. IsAnswered (with_actor w b) b e o (after w b e)) (sym (j.asked w.cells)) (join_unasked w b j.number e j.join))
 answered_at w b a e named (Snaps s) =
+    subst (λ ph. AnswersAt (with_actor w b) b ph e (after w b e)) (sym s.at)
+    (subst (λ y. NothingDenied (with_actor w b) (after w b y) × (is_use y ≡ false)) (sym s.is) (snap_unasked w b s.grant.slot s.grant.tag (slot_in w.cells s.grant.slot)))
+answered_at w b a e named (GateSnaps s) =
     subst (λ ph. AnswersAt (with_actor w b) b ph e (after w b e)) (sym s.at)
     (subst (λ y. NothingDenied (with_actor w b) (after w b y) × (is_use y ≡ false)) (sym s.is) (snap_unasked w b s.grant.slot s.grant.tag (slot_in w.cells s.grant.slot)))
 answered_at w b a e named (Started s) =
@@ -347,8 +381,8 @@ unfolding takes
 slot_end i b slot q (slot_reply.Loaded value) =
     let ins = option_and_then decode (fetch i b.hart.pc) in
     (ap end_of (loaded_runs (runs b) ins value refl), (loads_keep (runs b) ins value).0)
-slot_end i b slot q (slot_reply.Snapped pages) = snapped_is (λ x. (end_of x.phase ≡ None) × (x.name ≡ b.name)) b b.phase slot (Some (bytes_listed pages)) (refl, refl) (λ x. (refl, refl))
-slot_end i b slot q slot_reply.Gone = snapped_is (λ x. (end_of x.phase ≡ None) × (x.name ≡ b.name)) b b.phase slot None (refl, refl) (λ x. (refl, refl))
+slot_end i b slot q (slot_reply.Snapped pages) = snapped_is (λ x. (end_of x.phase ≡ None) × (x.name ≡ b.name)) b b.phase slot (Some (bytes_listed pages)) (refl, refl) (λ x. (refl, refl)) (λ x. (refl, refl)) (λ g. (refl, refl))
+slot_end i b slot q slot_reply.Gone = snapped_is (λ x. (end_of x.phase ≡ None) × (x.name ≡ b.name)) b b.phase slot None (refl, refl) (λ x. (refl, refl)) (λ x. (refl, refl)) (λ g. (refl, refl))
 slot_end i b slot (slot_ask.Sfree offset live) (slot_reply.Denied tag wants) = (refl, refl)
 slot_end i b slot (slot_ask.Open tag pages) slot_reply.Opened = (refl, refl)
 slot_end i b slot q r = (refl, refl)
@@ -393,6 +427,7 @@ unfolding takes
 join_end i b phase.Running k x fuel at live = ap (λ (y : ActorState). end_of y.phase) (joined_at b phase.Running x k fuel at)
 join_end i b (phase.Within q) k x fuel at live = ap (λ (y : ActorState). end_of y.phase) (joined_at b (phase.Within q) x k fuel at)
 join_end i b (phase.Starting pre) k x fuel at live = ap (λ (y : ActorState). end_of y.phase) (joined_at b (phase.Starting pre) x k fuel at)
+join_end i b (phase.MakingGate pre) k x fuel at live = ap (λ (y : ActorState). end_of y.phase) (joined_at b (phase.MakingGate pre) x k fuel at)
 join_end i b (phase.Opening slot tag) k x fuel at live = ap (λ (y : ActorState). end_of y.phase) (joined_at b (phase.Opening slot tag) x k fuel at)
 join_end i b (phase.Releasing slot) k x fuel at live = ap (λ (y : ActorState). end_of y.phase) (joined_at b (phase.Releasing slot) x k fuel at)
 join_end i b (phase.OpeningFile o) k x fuel at live = ap (λ (y : ActorState). end_of y.phase) (joined_at b (phase.OpeningFile o) x k fuel at)
@@ -405,6 +440,9 @@ start_end i b pre child = unfold takes in refl
 snap_end : (i : Image) (b : ActorState) (pre : Preparation) (slot tag : ℕ) (r : SlotReply) → EndsBy i b (phase.Starting pre) (event.Slot slot (slot_ask.Snap tag) r)
 snap_end i b pre slot tag r = (slot_end i b slot (slot_ask.Snap tag) r).0
 
+gate_snap_end : (i : Image) (b : ActorState) (pre : Preparation) (slot tag : ℕ) (r : SlotReply) → EndsBy i b (phase.MakingGate pre) (event.Slot slot (slot_ask.Snap tag) r)
+gate_snap_end i b pre slot tag r = (slot_end i b slot (slot_ask.Snap tag) r).0
+
 released_end : (i : Image) (b : ActorState) (slot : ℕ) → EndsBy i b (phase.Releasing slot) (event.Slots (directory_ask.Release slot) directory_reply.Released)
 released_end i b slot = unfold takes in refl
 
@@ -415,6 +453,7 @@ ends_by : (w : WorldState) (b : ActorState) (e : Event) → Happens w b e → En
 ends_by w b e (Requested r) = subst (λ p. EndsBy w.image b p e) (sym r.at) (subst (EndsBy w.image b (phase.Within r.want)) (sym r.is) (want_end w b _ r.want r.own))
 ends_by w b e (Joined j) = subst (λ p. EndsBy w.image b p e) (sym j.at) (subst (EndsBy w.image b (phase.Within (want.Join j.number))) (sym j.join.is) (join_end w.image b _ j.number j.join.how j.join.child.fuel j.at refl))
 ends_by w b e (Snaps s) = subst (λ p. EndsBy w.image b p e) (sym s.at) (subst (EndsBy w.image b (phase.Starting s.preparation)) (sym s.is) (snap_end w.image b s.preparation s.grant.slot s.grant.tag _))
+ends_by w b e (GateSnaps s) = subst (λ p. EndsBy w.image b p e) (sym s.at) (subst (EndsBy w.image b (phase.MakingGate s.preparation)) (sym s.is) (gate_snap_end w.image b s.preparation s.grant.slot s.grant.tag _))
 ends_by w b e (Started s) = subst (λ p. EndsBy w.image b p e) (sym s.at) (subst (EndsBy w.image b (phase.Starting s.preparation)) (sym s.is) (start_end w.image b s.preparation _))
 ends_by w b e (OpensTag o) = subst (λ p. EndsBy w.image b p e) (sym o.at) (subst (EndsBy w.image b (phase.Opening o.slot o.tag)) (sym o.is) (slot_end w.image b o.slot (slot_ask.Open o.tag (a0 b)) slot_reply.Opened).0)
 ends_by w b e (Releases r) = subst (λ p. EndsBy w.image b p e) (sym r.at) (subst (EndsBy w.image b (phase.Releasing r.slot)) (sym r.is) (released_end w.image b r.slot))
@@ -465,6 +504,7 @@ unfolding takes
 join_next i b phase.Running k x fuel at = subst (IsNext b.hart) (sym (joined_at b phase.Running x k fuel at)) (λ e. refl, λ e. absurd cc)
 join_next i b (phase.Within q) k x fuel at = subst (IsNext b.hart) (sym (joined_at b (phase.Within q) x k fuel at)) (λ e. refl, λ e. absurd cc)
 join_next i b (phase.Starting pre) k x fuel at = subst (IsNext b.hart) (sym (joined_at b (phase.Starting pre) x k fuel at)) (λ e. refl, λ e. absurd cc)
+join_next i b (phase.MakingGate pre) k x fuel at = subst (IsNext b.hart) (sym (joined_at b (phase.MakingGate pre) x k fuel at)) (λ e. refl, λ e. absurd cc)
 join_next i b (phase.Opening slot tag) k x fuel at = subst (IsNext b.hart) (sym (joined_at b (phase.Opening slot tag) x k fuel at)) (λ e. refl, λ e. absurd cc)
 join_next i b (phase.Releasing slot) k x fuel at = subst (IsNext b.hart) (sym (joined_at b (phase.Releasing slot) x k fuel at)) (λ e. refl, λ e. absurd cc)
 join_next i b (phase.OpeningFile o) k x fuel at = subst (IsNext b.hart) (sym (joined_at b (phase.OpeningFile o) x k fuel at)) (λ e. refl, λ e. absurd cc)
@@ -479,6 +519,14 @@ snap_next i b pre slot tag g at = snap_cases (λ r. IsNext b.hart (takes i b (ev
     goes_on : (o : Option (List ℕ)) → IsNext b.hart (has_snapped b b.phase slot o)
     goes_on o = subst (λ p. IsNext b.hart (has_snapped b p slot o)) (sym at) (λ e. absurd cc, λ e. refl)
 
+gate_snap_next : (i : Image) (b : ActorState) (pre : Preparation) (slot tag : ℕ) (g : Option Segment) → b.phase ≡ phase.MakingGate pre → IsNext b.hart (takes i b (event.Slot slot (slot_ask.Snap tag) (slot_reply_of g (slot_ask.Snap tag))))
+unfolding takes
+gate_snap_next i b pre slot tag g at = snap_cases (λ r. IsNext b.hart (takes i b (event.Slot slot (slot_ask.Snap tag) r))) g tag (λ pages. goes_on (Some (bytes_listed pages))) (goes_on None)
+  where
+    goes_on : (o : Option (List ℕ)) → IsNext b.hart (has_snapped b b.phase slot o)
+    goes_on o = subst (λ p. IsNext b.hart (has_snapped b p slot o)) (sym at)
+        (made_is (λ x. IsNext b.hart x) b (draft_at b.drafts (a0 b)) (copied_on b pre slot o) (λ x. (λ e. absurd cc, λ e. refl)) (λ g. (λ e. refl, λ e. absurd cc)))
+
 start_next : (i : Image) (b : ActorState) (child : List ℕ) → IsNext b.hart (takes i b (event.Start child))
 start_next i b child = unfold takes in (λ e. refl, λ e. absurd cc)
 
@@ -489,6 +537,7 @@ next_by : (w : WorldState) (b : ActorState) (e : Event) → Happens w b e → Is
 next_by w b e (Requested r) = subst (λ y. IsNext b.hart (takes w.image b y)) (sym r.is) (want_next w b r.rd r.is_signed r.want r.own)
 next_by w b e (Joined j) = subst (λ y. IsNext b.hart (takes w.image b y)) (sym j.join.is) (join_next w.image b _ j.number j.join.how j.join.child.fuel j.at)
 next_by w b e (Snaps s) = subst (λ y. IsNext b.hart (takes w.image b y)) (sym s.is) (snap_next w.image b s.preparation s.grant.slot s.grant.tag (slot_in w.cells s.grant.slot) s.at)
+next_by w b e (GateSnaps s) = subst (λ y. IsNext b.hart (takes w.image b y)) (sym s.is) (gate_snap_next w.image b s.preparation s.grant.slot s.grant.tag (slot_in w.cells s.grant.slot) s.at)
 next_by w b e (Started s) = subst (λ y. IsNext b.hart (takes w.image b y)) (sym s.is) (start_next w.image b _)
 next_by w b e (OpensTag o) = subst (λ y. IsNext b.hart (takes w.image b y)) (sym o.is) (opened_next w.image b o.slot o.tag (a0 b))
 next_by w b e (Releases r) = subst (λ y. IsNext b.hart (takes w.image b y)) (sym r.is) (released_next w.image b r.slot)
@@ -502,6 +551,7 @@ joined_live : (a : ActorState) (p : Phase) (x : End) → a.phase ≡ p → has_e
 joined_live a phase.Running x at = refl
 joined_live a (phase.Within q) x at = refl
 joined_live a (phase.Starting pre) x at = refl
+joined_live a (phase.MakingGate pre) x at = refl
 joined_live a (phase.Opening slot tag) x at = refl
 joined_live a (phase.Releasing slot) x at = refl
 joined_live a (phase.OpeningFile o) x at = refl
@@ -515,8 +565,8 @@ reached i b (event.Slots (directory_ask.Release place) r) = refl
 reached i b (event.Slots directory_ask.Claim (directory_reply.Claimed place number)) = refl
 reached i b (event.Slots directory_ask.Claim directory_reply.Full) = refl
 reached i b (event.Slots directory_ask.Claim directory_reply.Released) = refl
-reached i b (event.Slot slot q (slot_reply.Snapped pages)) = snapped_is (λ x. has_ended x.phase ≡ false) b b.phase slot (Some (bytes_listed pages)) refl (λ x. refl)
-reached i b (event.Slot slot q slot_reply.Gone) = snapped_is (λ x. has_ended x.phase ≡ false) b b.phase slot None refl (λ x. refl)
+reached i b (event.Slot slot q (slot_reply.Snapped pages)) = snapped_is (λ x. has_ended x.phase ≡ false) b b.phase slot (Some (bytes_listed pages)) refl (λ x. refl) (λ x. refl) (λ g. refl)
+reached i b (event.Slot slot q slot_reply.Gone) = snapped_is (λ x. has_ended x.phase ≡ false) b b.phase slot None refl (λ x. refl) (λ x. refl) (λ g. refl)
 reached i b (event.Slot slot (slot_ask.Sfree offset live) (slot_reply.Denied tag wants)) = refl
 reached i b (event.Slot slot (slot_ask.Open tag pages) slot_reply.Opened) = refl
 reached i b (event.Slot slot q r) = refl
@@ -611,6 +661,8 @@ refuses_after w b e (Joined j) =
     (record { refused = λ code told. let f : None ≡ Some code = sym (j.later w.cells) ∙ told in absurd cc; passed = λ told. ap is_refusal j.join.is })
 refuses_after w b e (Snaps s) =
     subst (λ ph. RefusesAfter (with_actor w b) b ph e (after w b e)) (sym s.at) (ap is_refusal s.is ∙ snap_cases (λ r. slot_refuses r ≡ false) (slot_in w.cells s.grant.slot) s.grant.tag (λ pages. refl) refl)
+refuses_after w b e (GateSnaps s) =
+    subst (λ ph. RefusesAfter (with_actor w b) b ph e (after w b e)) (sym s.at) (ap is_refusal s.is ∙ snap_cases (λ r. slot_refuses r ≡ false) (slot_in w.cells s.grant.slot) s.grant.tag (λ pages. refl) refl)
 refuses_after w b e (Started s) = subst (λ ph. RefusesAfter (with_actor w b) b ph e (after w b e)) (sym s.at) (ap is_refusal s.is)
 refuses_after w b e (OpensTag o) = subst (λ ph. RefusesAfter (with_actor w b) b ph e (after w b e)) (sym o.at) (ap is_refusal o.is)
 refuses_after w b e (Releases r) = subst (λ ph. RefusesAfter (with_actor w b) b ph e (after w b e)) (sym r.at) (ap is_refusal r.is)
@@ -632,6 +684,8 @@ event_makes w b e (Started s) =
     subst (λ ph. MakesAt (with_actor w b) b ph e (after w b e)) (sym s.at) (subst (λ y. MakesAt (with_actor w b) b (phase.Starting s.preparation) y (after w b y)) (sym s.is) refl)
 event_makes w b e (Snaps s) =
     subst (λ ph. MakesAt (with_actor w b) b ph e (after w b e)) (sym s.at) (subst (λ y. MakesAt (with_actor w b) b (phase.Starting s.preparation) y (after w b y)) (sym s.is) refl)
+event_makes w b e (GateSnaps s) =
+    subst (λ ph. MakesAt (with_actor w b) b ph e (after w b e)) (sym s.at) (subst (λ y. MakesAt (with_actor w b) b (phase.MakingGate s.preparation) y (after w b y)) (sym s.is) refl)
 event_makes w b e (OpensTag o) =
     subst (λ ph. MakesAt (with_actor w b) b ph e (after w b e)) (sym o.at) (subst (λ y. MakesAt (with_actor w b) b (phase.Opening o.slot o.tag) y (after w b y)) (sym o.is) (open_makes w b o.slot o.tag))
 event_makes w b e (Releases r) =
@@ -695,6 +749,7 @@ turn_lawful w t new all e =
       family = step_family w b run;
       makes = step_makes w b _ refl run;
       copies = put_such (λ y. NotPreparing y.phase) w b x a named name (step_unprepared w.image b run);
+      gates = put_such (InstrMakesGates (with_actor w b) b b.fuel) w b x a named name (step_makes_gates (with_actor w b) b run);
     })
     (λ a b e named h. record {
       mediated = answered_at w b a e named h;
@@ -707,6 +762,7 @@ turn_lawful w t new all e =
       family = event_family w b e h;
       makes = event_makes w b e h;
       copies = done_such (PreparesBy (with_actor w b) b b.phase e) w b a e named (event_prepares w b e h);
+      gates = done_such (EventMakesGates (with_actor w b) b b.phase e) w b a e named (event_makes_gates w b e h);
     })
 
 each_lawful : (old : WorldState) (turns : List Turn) (new : WorldState) → AllReady old → Runs old turns new → EachMoment IsLawful old turns

@@ -1,8 +1,8 @@
 -- What an instruction comes to: the request that it makes, its end, and the code with which it is refused.
-use Rattle.std.proofs.Common.{◌≡◌, ℕ, zero, suc, ◌+◌, ◌-◌, ◌≤◌, ◌<◌, Bool, true, false, true≢false, List, [], refl, sym, ap, subst, ◌∙◌, arith}
+use Rattle.std.proofs.Common.{◌≡◌, ℕ, zero, suc, ◌+◌, ◌-◌, ◌≤◌, ◌<◌, Bool, true, false, true≢false, List, [], refl, sym, ap, subst, ◌∙◌, arith, inl, inr}
 use Rattle.std.proofs.lemmas.Bool.{eqb-true}
 use Rattle.std.proofs.lemmas.Bool.Decides.{nat_tests}
-use Rattle.std.specs.Prelude.{Option, Some, None, is_some, option_map, option_and_then, not, ◌&&◌, ◌||◌, ◌==◌, nat_lt, nat_le, if◌then◌else◌, ◌∷◌, ◌++◌, length, slice_get, slice_range}
+use Rattle.std.specs.Prelude.{Option, Some, None, is_some, option_map, option_and_then, not, ◌&&◌, ◌||◌, ◌==◌, nat_lt, nat_le, if◌then◌else◌, ◌∷◌, ◌++◌, length, slice_get, slice_range, is_none, unwrap_or}
 use Rattle.wedge_base.specs.Images.{Image, fetch, read_text, slot_of, slots as most_slots}
 use Rattle.wedge_base.specs.Maps.{has}
 use Rattle.wedge_base.specs.Bytes.{number_of}
@@ -33,26 +33,33 @@ use Rattle.wedge_base.specs.declared.image.FileEntry.{FileEntry}
 use Rattle.wedge_base.specs.declared.rights.FdBits.{FdBits}
 use Rattle.wedge_base.specs.declared.rights.StreamKind.{StreamKind}
 use Rattle.wedge_base.specs.declared.rights.StreamKind.TheVariants as kind
-use Rattle.sthread_life.specs.Actors.{ActorState, answers, bits_of, slot_held, code_number, denies, ends, refuses, wants, spends}
+use Rattle.sthread_life.specs.Actors.{ActorState, answers, bits_of, slot_held, code_number, denies, ends, refuses, wants, spends, pristine}
 use Rattle.cow_pages.specs.Copies.{copy_at, holds_copy}
 use Rattle.sthread_life.specs.Private.{load_bytes, load_copy, load_window, load_range, store_copy, store_window, store_range, has_loaded, fits_read, fits_write, buffer}
-use Rattle.wedge_base.specs.Sheets.{Draft, empty_draft, takes_tag, takes_fd, first_excess}
+use Rattle.wedge_base.specs.Sheets.{Draft, empty_draft, takes_tag, takes_fd, takes_gate, with_gate, first_excess, granted}
 use Rattle.wedge_base.specs.Slots.{Segment}
 use Rattle.wedge_base.specs.declared.rights.Denial.{Denial}
 use Rattle.wedge_base.specs.declared.rights.Denial.TheVariants as denial
 use Rattle.wedge_base.specs.declared.cells.LivesAsk.TheVariants as lives_ask
 use Rattle.wedge_base.specs.declared.rights.Right.TheVariants as right
 use Rattle.sthread_life.proofs.Buffers.{buffer_is, path_is}
-use Rattle.sthread_life.specs.Calls.{serves, is_procedure, create_with, create_checked, create_allowed, are_pages, free_at, fd_read, fd_append, fd_close, sc_new, add_right, add_right_to, sc_mem_add, add_bits, add_bits_to, sc_fd_add, bits, a0, a1, a2, a3, a7, set_user, sc_user, path_in, set_root, sc_root, draft_call, file_at, mode_asked, suits, open_file, open_path, file_open}
+use Rattle.sthread_life.specs.Calls.{serves, is_procedure, create_with, create_checked, create_allowed, are_pages, free_at, fd_read, fd_append, fd_close, sc_new, add_right, add_right_to, sc_mem_add, add_bits, add_bits_to, sc_fd_add, add_gate_to, sc_cgate_add, with_draft, bits, a0, a1, a2, a3, a7, set_user, sc_user, path_in, set_root, sc_root, draft_call, file_at, mode_asked, suits, open_file, open_path, file_open, a4, new_gate, has_gate, makes_or_waits, may_be_gate, make_checked, make_with}
 use Rattle.sthread_life.specs.Local.{needed, executed, fuelled, fetched, step, is_running, run_local, rest}
 use Rattle.sthread_life.proofs.Resting.{stays, goes_on, running_is}
 use Rattle.sthread_life.proofs.StreamCalls.{stream_request, stream_refusal, IsStreamRequest, request_at_phase, refusal_at_phase, stream_event}
 use Rattle.sthread_life.specs.Cells.{Cells, slot_in, stream_in}
-use Rattle.sthread_life.specs.Refusals.{fuel_short, full, deep, no_such, bad, start_refusal, create_refusal, pages_refusal, address_refusal, life_refusal, slots_refusal, close_refusal, place_refusal, block_refusal, free_refusal, call_refusal, call_refusal_after, right_refusal, bits_refusal, number_refusal, read_refusal, append_refusal, need_refusal, instr_refusal, word_refusal, refusal_at, read_refusal_after, append_refusal_after, stream_close_refusal, need_refusal_after, instr_refusal_after, word_refusal_after, refusal_after, refused, user_refusal, root_refusal, draft_refusal, file_refusal, open_refusal}
-use Rattle.sthread_life.specs.Requests.{Access, Request, Loads, Stores, Reads, Appends, Closes, Creates, Deletes, Allots, Frees, create_of, in_tag, in_window, bytes_at, in_stream, is_room, read_of, append_of, close_of, free_of, call_request, needed_request, instr_request, word_request, request_at, Opens, bits_to_open, file_of, path_at, open_of}
-use Rattle.sthread_life.specs.Allowed.{may_use, lacks, is_refused, is_checked_at_event, denied as denied_of, fits_kind, opened_as}
+use Rattle.sthread_life.specs.Refusals.{fuel_short, full, deep, no_such, bad, start_refusal, create_refusal, pages_refusal, address_refusal, life_refusal, slots_refusal, close_refusal, place_refusal, block_refusal, free_refusal, call_refusal, call_refusal_after, right_refusal, bits_refusal, gate_refusal, number_refusal, read_refusal, append_refusal, need_refusal, instr_refusal, word_refusal, refusal_at, read_refusal_after, append_refusal_after, stream_close_refusal, need_refusal_after, instr_refusal_after, word_refusal_after, refusal_after, refused, user_refusal, root_refusal, draft_refusal, file_refusal, open_refusal, make_refusal}
+use Rattle.sthread_life.specs.Requests.{Access, Request, Loads, Stores, Reads, Appends, Closes, Creates, Deletes, Allots, Frees, create_of, in_tag, in_window, bytes_at, in_stream, is_room, read_of, append_of, close_of, free_of, call_request, needed_request, instr_request, word_request, request_at, Opens, bits_to_open, file_of, path_at, open_of, Makes, suits_gate, make_of}
+use Rattle.sthread_life.specs.Allowed.{may_use, lacks, is_refused, is_checked_at_event, denied as denied_of, fits_kind, opened_as, HasBegunGate}
 use Rattle.sthread_life.specs.Children.{is_child}
 use Rattle.sthread_life.specs.Ends.{end_of, copy_end, window_end, needed_end, instr_end, fuel_end, word_end, end_at}
+use Rattle.sthread_life.specs.MadeGates.{IsGateOf}
+use Rattle.sthread_life.specs.Copying.{Preparation, copy_grants}
+use Rattle.sthread_life.specs.Taking.{copies_asked}
+use Rattle.sthread_life.specs.declared.copy_grant.CopyGrant.{CopyGrant}
+use Rattle.sthread_life.proofs.MakingGates.{MayGrant, IsMakeable, granting_at, prepared_left}
+use Rattle.cow_pages.specs.PrivateMemory.{PrivateMemory}
+use Rattle.grant_sheet.proofs.SheetWithin.{sheet_within}
 
 -- the request that is in question in what an actor wants
 abbrev pub request_for : Cells → ActorState → ℕ → Bool → Want → Option Request
@@ -120,6 +127,7 @@ abbrev pub WantsAs : (ℕ → Bool → ℕ → Type 0) → ActorState → (Cells
 WantsAs N a asked later x (phase.Within q) = (rd : ℕ) × (s : Bool) × (x ≡ record a { phase = phase.Within q }) × ((c : Cells) → asked c ≡ request_for c a rd s q) × IsWanted (N rd s) a q × ((c : Cells) → later c ≡ refusal_for c a q)
 WantsAs N a asked later x phase.Running = Unit {0}
 WantsAs N a asked later x (phase.Starting pre) = ⊥
+WantsAs N a asked later x (phase.MakingGate pre) = (x ≡ record a { phase = phase.MakingGate pre }) × IsMakeable a pre
 WantsAs N a asked later x (phase.Opening slot tag) = ⊥
 WantsAs N a asked later x (phase.Releasing slot) = ⊥
 WantsAs N a asked later x (phase.OpeningFile o) = (x ≡ record a { phase = phase.OpeningFile o }) × (o.number ≡ None) × (a1 a ≤ a.fuel)
@@ -133,10 +141,15 @@ phase_for a (Allots tag size) = phase.Within (want.Slot (slot_held a tag) (slot_
 phase_for a (Opens path f b) = phase.OpeningFile (opened_as path f b)
 phase_for a r = phase.Within (want.Lives lives_ask.Claim)
 
+-- what is left of one that is done: its actor comes to its event, and has made a gate or waits for copies of tags for it
+abbrev pub DoneNow : ActorState → Request → ActorState → Type 0
+DoneNow a (Makes d) x = HasBegunGate a d x
+DoneNow a r x = x ≡ record a { phase = phase_for a r }
+
 -- a request that is checked at once: the actor is denied, or comes to its event, or is refused
 pub record IsCheckedNow (a : ActorState) (r : Request) (x : ActorState) : Type 0 where
   pub denied : (d : Denial) → lacks a r ≡ Some d → x ≡ denied_of a r d
-  pub done : lacks a r ≡ None → is_refused a r ≡ false → x ≡ record a { phase = phase_for a r }
+  pub done : lacks a r ≡ None → is_refused a r ≡ false → DoneNow a r x
   pub refused : lacks a r ≡ None → is_refused a r ≡ true → (x.phase ≡ phase.Running) × (x.denials ≡ a.denials)
 
 -- what an instruction makes of its actor where it makes a request
@@ -189,6 +202,7 @@ wants_as : (N : ℕ → Bool → ℕ → Type 0) (a : ActorState) (asked told : 
 wants_as N a asked told later x (phase.Within q) same w = (w.0, w.1, w.2, λ c. same c ∙ w.3 c, w.4, w.5)
 wants_as N a asked told later x phase.Running same w = tt
 wants_as N a asked told later x (phase.Starting pre) same w = w
+wants_as N a asked told later x (phase.MakingGate pre) same w = w
 wants_as N a asked told later x (phase.Opening slot tag) same w = w
 wants_as N a asked told later x (phase.Releasing slot) same w = w
 wants_as N a asked told later x (phase.OpeningFile o) same w = w
@@ -214,6 +228,7 @@ met_at_event a x q (Appends fd s bytes) is e = (q, is)
 met_at_event a x q (Closes fd s) is e = (q, is)
 met_at_event a x q (Opens path f b) is e = absurd cc
 met_at_event a x q (Creates d) is e = absurd cc
+met_at_event a x q (Makes d) is e = absurd cc
 met_at_event a x q (Deletes tag) is e = absurd cc
 met_at_event a x q (Allots tag size) is e = absurd cc
 met_at_event a x q (Frees p g) is e = (q, is)
@@ -415,6 +430,16 @@ bits_to_comes : (N : ℕ → Bool → ℕ → Type 0) (a : ActorState) (d : Opti
 bits_to_comes N a None = comes_refused N a _ _ code.NoSuch (λ c. refl)
 bits_to_comes N a (Some d) = bits_comes N a d (a2 a == 1) (a2 a == 2) (a2 a == 3)
 
+entry_comes : (N : ℕ → Bool → ℕ → Type 0) (a : ActorState) (d : Draft) (p : Bool)
+    → AsDraft N a (if not p then Some bad else if takes_gate d (a1 a) then None else Some full)
+    (if not p then refuses a code.Bad else if takes_gate d (a1 a) then answers (with_draft a (a0 a) (with_gate d (a1 a))) 0 else refuses a code.Full)
+entry_comes N a d false = comes_refused N a _ _ code.Bad (λ c. refl)
+entry_comes N a d true = as_if N a None (Some full) _ (refuses a code.Full) (takes_gate d (a1 a)) (drafted_comes N a _ 0) (comes_refused N a _ _ code.Full (λ c. refl))
+
+gate_comes : (N : ℕ → Bool → ℕ → Type 0) (i : Image) (a : ActorState) (d : Option Draft) → AsDraft N a (gate_refusal i (a1 a) d) (add_gate_to i a d)
+gate_comes N i a None = comes_refused N a _ _ code.NoSuch (λ c. refl)
+gate_comes N i a (Some d) = entry_comes N a d (is_procedure i (a1 a))
+
 user_comes : (N : ℕ → Bool → ℕ → Type 0) (a : ActorState) (d : Option Draft) → AsDraft N a (user_refusal d) (set_user a d)
 user_comes N a None = comes_refused N a _ _ code.NoSuch (λ c. refl)
 user_comes N a (Some d) = drafted_comes N a _ 0
@@ -435,9 +460,10 @@ draft_comes N i a n =
     as_if N a _ _ (sc_new a) _ (n == 7) (new_comes N a (length a.drafts) (nat_le 64 (length a.drafts)) (not_over (length a.drafts)))
     (as_if N a _ _ (sc_mem_add a) _ (n == 8) (right_to_comes N a found)
     (as_if N a _ _ (sc_fd_add a) _ (n == 9) (bits_to_comes N a found)
+    (as_if N a _ _ (sc_cgate_add i a) _ (n == 10) (gate_comes N i a found)
     (as_if N a _ _ (sc_user a) _ (n == 11) (user_comes N a found)
     (as_if N a _ (Some bad) (sc_root i a) (refuses a code.Bad) (n == 12)
-    (subst (λ told. AsDraft N a (root_refusal a (a2 a) told found) (sc_root i a)) (sym (path_is i a (a1 a) (a2 a))) (root_comes N a (path_in i a (a1 a) (a2 a)) found)) (comes_refused N a _ _ code.Bad (λ c. refl))))))
+    (subst (λ told. AsDraft N a (root_refusal a (a2 a) told found) (sc_root i a)) (sym (path_is i a (a1 a) (a2 a))) (root_comes N a (path_in i a (a1 a) (a2 a)) found)) (comes_refused N a _ _ code.Bad (λ c. refl)))))))
   where
     not_over : (n : ℕ) → nat_lt n 64 ≡ not (nat_le 64 n)
     not_over n = grind (arith, nat_tests)
@@ -578,6 +604,7 @@ met_now (Appends fd s bytes) now h = absurd cc
 met_now (Closes fd s) now h = absurd cc
 met_now (Opens path f b) now h = h
 met_now (Creates d) now h = h
+met_now (Makes d) now h = h
 met_now (Deletes tag) now h = h
 met_now (Allots tag size) now h = h
 met_now (Frees p g) now h = absurd cc
@@ -598,13 +625,13 @@ denied_now N a r d later now lack is = record {
 }
 
 comes_now : (N : ℕ → Bool → ℕ → Type 0) (a : ActorState) (r : Request) (q : Want) (later : Cells → Option ℕ) → is_checked_at_event r ≡ false → lacks a r ≡ None → is_refused a r ≡ false → phase_for a r ≡ phase.Within q
-    → IsWanted (N 0 false) a q → ((c : Cells) → Some r ≡ request_for c a 0 false q) → ((c : Cells) → later c ≡ refusal_for c a q) → Comes N a (λ c. Some r) later None None (wants a q)
-comes_now N a r q later now lack goes is own asked coded = record {
+    → (wants a q ≡ record a { phase = phase_for a r } → DoneNow a r (wants a q)) → IsWanted (N 0 false) a q → ((c : Cells) → Some r ≡ request_for c a 0 false q) → ((c : Cells) → later c ≡ refusal_for c a q) → Comes N a (λ c. Some r) later None None (wants a q)
+comes_now N a r q later now lack goes is comes own asked coded = record {
   name = refl;
   quiet = λ c h. absurd cc;
   met = λ c x h. subst (λ y. MetBy a y (wants a q)) (same_some r x h) (met_now r now (record {
     denied = λ y e. let g : None ≡ Some y = sym lack ∙ e in absurd cc;
-    done = λ e f. ap (λ z. record a { phase = z }) (sym is);
+    done = λ e f. comes (ap (λ z. record a { phase = z }) (sym is));
     refused = λ e f. absurd (true≢false (sym f ∙ goes));
   }));
   ends = refl;
@@ -616,7 +643,7 @@ delete_comes : (N : ℕ → Bool → ℕ → Type 0) (a : ActorState) (t : Bool)
     → Comes N a (λ c. Some (Deletes (a0 a))) (λ c. close_refusal (a0 a) (slot_in c (slot_held a (a0 a)))) None None
     (if t then wants a (want.Slot (slot_held a (a0 a)) (slot_want.Close (a0 a))) else denies a (denial.NotMaker (a0 a)))
 delete_comes N a true e =
-    comes_now N a (Deletes (a0 a)) _ _ refl (ap (λ u. if u then None else Some (denial.NotMaker (a0 a))) e) refl refl (e, refl) (λ c. refl) (λ c. refl)
+    comes_now N a (Deletes (a0 a)) _ _ refl (ap (λ u. if u then None else Some (denial.NotMaker (a0 a))) e) refl refl (λ h. h) (e, refl) (λ c. refl) (λ c. refl)
 delete_comes N a false e = denied_now N a (Deletes (a0 a)) (denial.NotMaker (a0 a)) _ refl (ap (λ u. if u then None else Some (denial.NotMaker (a0 a))) e) refl
 
 allot_comes : (N : ℕ → Bool → ℕ → Type 0) (a : ActorState) (t u : Bool) → (a1 a == 0) ≡ t → may_use a (a0 a) right.ReadWrite ≡ u
@@ -624,7 +651,7 @@ allot_comes : (N : ℕ → Bool → ℕ → Type 0) (a : ActorState) (t u : Bool
     (if t then refuses a code.Bad else if u then wants a (want.Slot (slot_held a (a0 a)) (slot_want.Smalloc (a0 a) (a1 a))) else denies a (denial.Tag (a0 a) right.ReadWrite))
 allot_comes N a true u e f = comes_refused N a _ _ code.Bad (λ c. refl)
 allot_comes N a false true e f =
-    comes_now N a (Allots (a0 a) (a1 a)) _ _ refl (ap (λ x. if x then None else Some (denial.Tag (a0 a) right.ReadWrite)) f) refl refl (f, refl, e) (λ c. refl) (λ c. refl)
+    comes_now N a (Allots (a0 a) (a1 a)) _ _ refl (ap (λ x. if x then None else Some (denial.Tag (a0 a) right.ReadWrite)) f) refl refl (λ h. h) (f, refl, e) (λ c. refl) (λ c. refl)
 allot_comes N a false false e f =
     denied_now N a (Allots (a0 a) (a1 a)) (denial.Tag (a0 a) right.ReadWrite) _ refl (ap (λ x. if x then None else Some (denial.Tag (a0 a) right.ReadWrite)) f) refl
 
@@ -700,6 +727,80 @@ open_comes N i a =
     subst (λ path. Comes N a (λ c. open_of i a (a1 a) (bits_to_open (a2 a)) path) (λ c. None) None (open_refusal i a (a1 a) (bits_to_open (a2 a)) path) (file_open i a)) (sym (path_is i a (a0 a) (a1 a)))
     (path_opens N i a (mode_asked (a2 a)) (path_in i a (a0 a) (a1 a)))
 
+-- ---- the call that makes a gate: it is checked at once
+
+two_kinds : (n : ℕ) → ((n == 0) || (n == 1)) ≡ nat_le n 1
+two_kinds n = grind (arith, nat_tests)
+
+pub suits_so : (i : Image) (a : ActorState) (d : Draft) → suits_gate i (a1 a) (a4 a) d ≡ may_be_gate i a d
+suits_so i a d = ap (λ t. is_procedure i (a1 a) && (t && (is_none d.user && is_none d.root))) (two_kinds (a4 a))
+
+pub unset : {X : Type 0} (o : Option X) → is_none o ≡ true → o ≡ None
+unset None e = refl
+unset (Some x) e = absurd cc
+
+-- a gate is of its draft
+pub gate_of_draft : (a : ActorState) (d : Draft) (m : PrivateMemory) → slice_get a.drafts (a0 a) ≡ Some d → MayGrant a → IsGateOf a d (new_gate a d m)
+gate_of_draft a d m drafted g =
+    let same : g.draft ≡ d = same_some g.draft d (sym g.drafted ∙ drafted) in
+    record {
+      id = refl;
+      entry = refl;
+      sheet = refl;
+      within = sheet_within a.sheet a.made d (subst (λ x. first_excess a.sheet a.made x ≡ None) same g.allowed);
+      user = ap (λ o. unwrap_or o a.sheet.user) (subst (λ x. x.user ≡ None) same g.user);
+      root = ap (λ o. unwrap_or o a.sheet.root) (subst (λ x. x.root ≡ None) same g.root);
+      argument = refl;
+      fuel = refl;
+      kind = refl;
+    }
+
+made_comes : (N : ℕ → Bool → ℕ → Type 0) (a : ActorState) (d : Draft) (p : Preparation) (gs : List CopyGrant) → slice_get a.drafts (a0 a) ≡ Some d → IsMakeable a p → lacks a (Makes d) ≡ None
+    → Comes N a (λ c. Some (Makes d)) (λ c. None) None None (makes_or_waits a d p gs)
+made_comes N a d p [] drafted g none = record {
+  name = refl;
+  quiet = λ c h. absurd cc;
+  met = λ c r h. subst (λ y. MetBy a y (has_gate a (new_gate a d p.memory))) (same_some (Makes d) r h)
+      (record { denied = λ y e. let f : None ≡ Some y = sym none ∙ e in absurd cc; done = λ e f. inl (new_gate a d p.memory, gate_of_draft a d p.memory drafted g.may, refl); refused = λ e f. absurd cc });
+  ends = refl;
+  wants = tt;
+  codes = λ n h. absurd cc;
+}
+made_comes N a d p (x ∷ xs) drafted g none = record {
+  name = refl;
+  quiet = λ c h. absurd cc;
+  met = λ c r h. subst (λ y. MetBy a y (record a { phase = phase.MakingGate p })) (same_some (Makes d) r h)
+      (record { denied = λ y e. let f : None ≡ Some y = sym none ∙ e in absurd cc; done = λ e f. inr (p, refl); refused = λ e f. absurd cc });
+  ends = refl;
+  wants = (refl, g);
+  codes = λ n h. absurd cc;
+}
+
+gate_checked : (N : ℕ → Bool → ℕ → Type 0) (i : Image) (a : ActorState) (d : Draft) (o : Option Denial) → slice_get a.drafts (a0 a) ≡ Some d → first_excess a.sheet a.made d ≡ o → d.user ≡ None → d.root ≡ None
+    → Comes N a (λ c. Some (Makes d)) (λ c. None) None None (make_checked i a d o)
+gate_checked N i a d (Some y) drafted excess user root = denied_now N a (Makes d) y _ refl excess refl
+gate_checked N i a d None drafted excess user root =
+    let gs = copy_grants (granted a.sheet a.made d).tags in
+    let fewer = prepared_left a.sheet a.made a.memory.copies (pristine i) gs in
+    let asked : length (copies_asked a) ≡ length gs = ap (λ o. length (copy_grants (granted a.sheet a.made (unwrap_or o empty_draft)).tags)) drafted in
+    made_comes N a d _ _ drafted (record { may = record { draft = d; drafted = drafted; allowed = excess; user = user; root = root }; few = omega (arith, fewer, asked) }) excess
+
+gate_tests : (N : ℕ → Bool → ℕ → Type 0) (i : Image) (a : ActorState) (d : Draft) (p k u r : Bool) → slice_get a.drafts (a0 a) ≡ Some d → is_none d.user ≡ u → is_none d.root ≡ r
+    → Comes N a (λ c. if p && (k && (u && r)) then Some (Makes d) else None) (λ c. None) None (if p && (k && (u && r)) then None else Some bad)
+    (if not (p && (k && (u && r))) then refuses a code.Bad else make_checked i a d (first_excess a.sheet a.made d))
+gate_tests N i a d false k u r drafted user root = comes_refused N a _ _ code.Bad (λ c. refl)
+gate_tests N i a d true false u r drafted user root = comes_refused N a _ _ code.Bad (λ c. refl)
+gate_tests N i a d true true false r drafted user root = comes_refused N a _ _ code.Bad (λ c. refl)
+gate_tests N i a d true true true false drafted user root = comes_refused N a _ _ code.Bad (λ c. refl)
+gate_tests N i a d true true true true drafted user root = gate_checked N i a d (first_excess a.sheet a.made d) drafted refl (unset d.user user) (unset d.root root)
+
+make_comes : (N : ℕ → Bool → ℕ → Type 0) (i : Image) (a : ActorState) (o : Option Draft) → slice_get a.drafts (a0 a) ≡ o
+    → Comes N a (λ c. make_of i (a1 a) (a4 a) o) (λ c. None) None (make_refusal i (a1 a) (a4 a) o) (make_with i a o)
+make_comes N i a None drafted = comes_refused N a _ _ code.NoSuch (λ c. refl)
+make_comes N i a (Some d) drafted =
+    subst (λ t. Comes N a (λ c. if t then Some (Makes d) else None) (λ c. None) None (if t then None else Some bad) (make_with i a (Some d))) (sym (suits_so i a d))
+    (gate_tests N i a d (is_procedure i (a1 a)) (nat_le (a4 a) 1) (is_none d.user) (is_none d.root) drafted refl refl)
+
 -- ---- a call by its number
 
 abbrev CallComes : (ℕ → Bool → ℕ → Type 0) → Image → ActorState → ℕ → Type 0
@@ -712,25 +813,29 @@ call_comes N i a n = by_0 (n == 0) refl
     at : (k : ℕ) → (n == k) ≡ true → CallComes N i a k → CallComes N i a n
     at k e h = subst (CallComes N i a) (sym (eqb-true n k e)) h
 
-    by_18 : (t : Bool) → (n == 18) ≡ t → (n == 0) ≡ false → (n == 1) ≡ false → (n == 2) ≡ false → (n == 3) ≡ false → (n == 4) ≡ false → (n == 5) ≡ false → (n == 6) ≡ false → (n == 15) ≡ false → (n == 16) ≡ false → (n == 17) ≡ false → CallComes N i a n
-    by_18 true e e0 e1 e2 e3 e4 e5 e6 e15 e16 e17 = at 18 e (open_comes N i a)
-    by_18 false e e0 e1 e2 e3 e4 e5 e6 e15 e16 e17 = rw (e0, e1, e2, e3, e4, e5, e6, e15, e16, e17, e) (draft_comes N i a n)
+    by_18 : (t : Bool) → (n == 18) ≡ t → (n == 0) ≡ false → (n == 1) ≡ false → (n == 2) ≡ false → (n == 3) ≡ false → (n == 4) ≡ false → (n == 5) ≡ false → (n == 6) ≡ false → (n == 13) ≡ false → (n == 15) ≡ false → (n == 16) ≡ false → (n == 17) ≡ false → CallComes N i a n
+    by_18 true e e0 e1 e2 e3 e4 e5 e6 e13 e15 e16 e17 = at 18 e (open_comes N i a)
+    by_18 false e e0 e1 e2 e3 e4 e5 e6 e13 e15 e16 e17 = rw (e0, e1, e2, e3, e4, e5, e6, e13, e15, e16, e17, e) (draft_comes N i a n)
 
-    by_17 : (t : Bool) → (n == 17) ≡ t → (n == 0) ≡ false → (n == 1) ≡ false → (n == 2) ≡ false → (n == 3) ≡ false → (n == 4) ≡ false → (n == 5) ≡ false → (n == 6) ≡ false → (n == 15) ≡ false → (n == 16) ≡ false → CallComes N i a n
-    by_17 true e e0 e1 e2 e3 e4 e5 e6 e15 e16 = at 17 e (close_comes N a)
-    by_17 false e e0 e1 e2 e3 e4 e5 e6 e15 e16 = by_18 (n == 18) refl e0 e1 e2 e3 e4 e5 e6 e15 e16 e
+    by_17 : (t : Bool) → (n == 17) ≡ t → (n == 0) ≡ false → (n == 1) ≡ false → (n == 2) ≡ false → (n == 3) ≡ false → (n == 4) ≡ false → (n == 5) ≡ false → (n == 6) ≡ false → (n == 13) ≡ false → (n == 15) ≡ false → (n == 16) ≡ false → CallComes N i a n
+    by_17 true e e0 e1 e2 e3 e4 e5 e6 e13 e15 e16 = at 17 e (close_comes N a)
+    by_17 false e e0 e1 e2 e3 e4 e5 e6 e13 e15 e16 = by_18 (n == 18) refl e0 e1 e2 e3 e4 e5 e6 e13 e15 e16 e
 
-    by_16 : (t : Bool) → (n == 16) ≡ t → (n == 0) ≡ false → (n == 1) ≡ false → (n == 2) ≡ false → (n == 3) ≡ false → (n == 4) ≡ false → (n == 5) ≡ false → (n == 6) ≡ false → (n == 15) ≡ false → CallComes N i a n
-    by_16 true e e0 e1 e2 e3 e4 e5 e6 e15 = at 16 e (append_comes N i a)
-    by_16 false e e0 e1 e2 e3 e4 e5 e6 e15 = by_17 (n == 17) refl e0 e1 e2 e3 e4 e5 e6 e15 e
+    by_16 : (t : Bool) → (n == 16) ≡ t → (n == 0) ≡ false → (n == 1) ≡ false → (n == 2) ≡ false → (n == 3) ≡ false → (n == 4) ≡ false → (n == 5) ≡ false → (n == 6) ≡ false → (n == 13) ≡ false → (n == 15) ≡ false → CallComes N i a n
+    by_16 true e e0 e1 e2 e3 e4 e5 e6 e13 e15 = at 16 e (append_comes N i a)
+    by_16 false e e0 e1 e2 e3 e4 e5 e6 e13 e15 = by_17 (n == 17) refl e0 e1 e2 e3 e4 e5 e6 e13 e15 e
 
-    by_15 : (t : Bool) → (n == 15) ≡ t → (n == 0) ≡ false → (n == 1) ≡ false → (n == 2) ≡ false → (n == 3) ≡ false → (n == 4) ≡ false → (n == 5) ≡ false → (n == 6) ≡ false → CallComes N i a n
-    by_15 true e e0 e1 e2 e3 e4 e5 e6 = at 15 e (read_comes N a)
-    by_15 false e e0 e1 e2 e3 e4 e5 e6 = by_16 (n == 16) refl e0 e1 e2 e3 e4 e5 e6 e
+    by_15 : (t : Bool) → (n == 15) ≡ t → (n == 0) ≡ false → (n == 1) ≡ false → (n == 2) ≡ false → (n == 3) ≡ false → (n == 4) ≡ false → (n == 5) ≡ false → (n == 6) ≡ false → (n == 13) ≡ false → CallComes N i a n
+    by_15 true e e0 e1 e2 e3 e4 e5 e6 e13 = at 15 e (read_comes N a)
+    by_15 false e e0 e1 e2 e3 e4 e5 e6 e13 = by_16 (n == 16) refl e0 e1 e2 e3 e4 e5 e6 e13 e
+
+    by_13 : (t : Bool) → (n == 13) ≡ t → (n == 0) ≡ false → (n == 1) ≡ false → (n == 2) ≡ false → (n == 3) ≡ false → (n == 4) ≡ false → (n == 5) ≡ false → (n == 6) ≡ false → CallComes N i a n
+    by_13 true e e0 e1 e2 e3 e4 e5 e6 = at 13 e (make_comes N i a (slice_get a.drafts (a0 a)) refl)
+    by_13 false e e0 e1 e2 e3 e4 e5 e6 = by_15 (n == 15) refl e0 e1 e2 e3 e4 e5 e6 e
 
     by_6 : (t : Bool) → (n == 6) ≡ t → (n == 0) ≡ false → (n == 1) ≡ false → (n == 2) ≡ false → (n == 3) ≡ false → (n == 4) ≡ false → (n == 5) ≡ false → CallComes N i a n
     by_6 true e e0 e1 e2 e3 e4 e5 = at 6 e (free_comes N a (slot_of (a0 a)))
-    by_6 false e e0 e1 e2 e3 e4 e5 = by_15 (n == 15) refl e0 e1 e2 e3 e4 e5 e
+    by_6 false e e0 e1 e2 e3 e4 e5 = by_13 (n == 13) refl e0 e1 e2 e3 e4 e5 e
 
     by_5 : (t : Bool) → (n == 5) ≡ t → (n == 0) ≡ false → (n == 1) ≡ false → (n == 2) ≡ false → (n == 3) ≡ false → (n == 4) ≡ false → CallComes N i a n
     by_5 true e e0 e1 e2 e3 e4 = at 5 e (allot_comes N a (a1 a == 0) (may_use a (a0 a) right.ReadWrite) refl refl)
@@ -773,7 +878,7 @@ abbrev pub LoadsAt : Image → Hart → ℕ → Bool → ℕ → Type 0
 LoadsAt i h = InstrLoads h (option_and_then decode (fetch i h.pc))
 
 -- an instruction that is paid for
-needed_comes : (i : Image) (ins : Instr) (a : ActorState) (h : Hart) (n : Need) → a.phase ≡ phase.Running → Comes (NeedLoads ins.rd n) a (λ c. needed_request i c a ins.rd n) (λ c. need_refusal_after c a n) (needed_end i a n) (need_refusal i a n) (needed i ins a h n)
+pub needed_comes : (i : Image) (ins : Instr) (a : ActorState) (h : Hart) (n : Need) → a.phase ≡ phase.Running → Comes (NeedLoads ins.rd n) a (λ c. needed_request i c a ins.rd n) (λ c. need_refusal_after c a n) (needed_end i a n) (need_refusal i a n) (needed i ins a h n)
 unfolding serves
 needed_comes i ins a h need.Done run = comes_on (NeedLoads ins.rd need.Done) a (record a { hart = h }) _ _ refl refl run (λ c. refl)
 needed_comes i ins a h (need.Load address width s) run = load_comes (NeedLoads ins.rd (need.Load address width s)) i ins s a address width _ _ (range_at a.memory.ranges address width) (refl, refl, refl) run
@@ -830,6 +935,7 @@ abbrev pub ReadsAs : Image → ActorState → Phase → Type 0
 ReadsAs i a (phase.Within q) = (rd : ℕ) × (s : Bool) × ((c : Cells) → request_at i c a ≡ request_for c a rd s q) × IsWanted (LoadsAt i a.hart rd s) a q × ((c : Cells) → refusal_after i c a ≡ refusal_for c a q)
 ReadsAs i a phase.Running = Unit {0}
 ReadsAs i a (phase.Starting pre) = IsStartable a
+ReadsAs i a (phase.MakingGate pre) = IsMakeable a pre
 ReadsAs i a (phase.Opening slot tag) = (slot < slots_in i) × AsksForPages a
 ReadsAs i a (phase.Releasing slot) = Unit {0}
 ReadsAs i a (phase.OpeningFile o) = (a1 a ≤ a.fuel) × NumberIn i o.number
@@ -871,6 +977,7 @@ reads_of : (i : Image) (p x : ActorState) (ph : Phase) → WantsAs (LoadsAt i p.
 reads_of i p x (phase.Within q) w = subst (λ y. ReadsAs i y (phase.Within q)) (sym w.2) (reads_within i p q w.0 w.1 w.3 w.4 w.5)
 reads_of i p x phase.Running w = tt
 reads_of i p x (phase.Starting pre) w = absurd w
+reads_of i p x (phase.MakingGate pre) w = subst (λ y. ReadsAs i y (phase.MakingGate pre)) (sym w.0) (granting_at p (phase.MakingGate pre) pre w.1)
 reads_of i p x (phase.Opening slot tag) w = absurd w
 reads_of i p x (phase.Releasing slot) w = absurd w
 reads_of i p x (phase.OpeningFile o) w = subst (λ y. ReadsAs i y (phase.OpeningFile o)) (sym w.0) (w.2, subst (NumberIn i) (sym w.1) tt)

@@ -34,7 +34,7 @@ use Rattle.wedge_base.specs.declared.cells.SlotReply.{SlotReply}
 use Rattle.wedge_base.specs.declared.cells.SlotReply.TheVariants as slot_reply
 use Rattle.sthread_life.specs.declared.phase.Phase.{Phase}
 use Rattle.sthread_life.specs.declared.phase.Phase.TheVariants as phase
-use Rattle.sthread_life.specs.Actors.{ActorState, root}
+use Rattle.sthread_life.specs.Actors.{ActorState, root, but_gates}
 use Rattle.sthread_life.specs.Between.{IsBetween}
 use Rattle.sthread_life.specs.Calls.{a0, are_pages}
 use Rattle.sthread_life.specs.CellHistories.{Occupant, occupant, occupant_in, occupant_by, occupant_after_event, places_after_event}
@@ -53,7 +53,7 @@ use Rattle.sthread_life.proofs.CellChanging.{IsChanged, event_changes}
 use Rattle.sthread_life.proofs.Directing.{claimed_rises}
 use Rattle.sthread_life.proofs.Families.{takes_made, takes_sheet, made_same, want_made, child_begins}
 use Rattle.sthread_life.proofs.FamilyRuns.{Acts, ActsAlone, Starts, Joins, acts, one_begins, kept_at_rest}
-use Rattle.sthread_life.proofs.Happening.{Happens, snap_cases, Requested, Joined, Snaps, Started, Opens, Releases, Numbers, OpensFile, LastJoined, Ended}
+use Rattle.sthread_life.proofs.Happening.{Happens, snap_cases, Requested, Joined, Snaps, GateSnaps, Started, Opens, Releases, Numbers, OpensFile, LastJoined, Ended}
 use Rattle.sthread_life.proofs.Meeting.{IsRequest}
 use Rattle.sthread_life.proofs.Named.{found_name}
 use Rattle.sthread_life.proofs.Occupying.{Turns, IsPlain, occupied_after, stays_so, claims_so, opens_so, closes_so, releases_so}
@@ -121,6 +121,7 @@ between_calls : (p : Phase) → IsBetween p → (slot_of_call p ≡ None) × (ta
 between_calls phase.Running h = (refl, refl)
 between_calls (phase.Within q) h = absurd h
 between_calls (phase.Starting pre) h = absurd h
+between_calls (phase.MakingGate pre) h = absurd h
 between_calls (phase.Opening slot tag) h = absurd h
 between_calls (phase.Releasing slot) h = absurd h
 between_calls (phase.OpeningFile o) h = absurd h
@@ -135,6 +136,7 @@ prepared_calls : (p : Phase) → MayPrepare p → (slot_of_call p ≡ None) × (
 prepared_calls phase.Running h = (refl, refl)
 prepared_calls (phase.Within q) h = absurd h
 prepared_calls (phase.Starting pre) h = (refl, refl)
+prepared_calls (phase.MakingGate pre) h = (refl, refl)
 prepared_calls (phase.Opening slot tag) h = absurd h
 prepared_calls (phase.Releasing slot) h = absurd h
 prepared_calls (phase.OpeningFile o) h = absurd h
@@ -146,6 +148,7 @@ numbered_calls fd phase.Running h = (refl, refl)
 numbered_calls fd (phase.OpeningFile o) h = (refl, refl)
 numbered_calls fd (phase.Within q) h = absurd h
 numbered_calls fd (phase.Starting pre) h = absurd h
+numbered_calls fd (phase.MakingGate pre) h = absurd h
 numbered_calls fd (phase.Opening slot tag) h = absurd h
 numbered_calls fd (phase.Releasing slot) h = absurd h
 numbered_calls fd (phase.Ending x) h = absurd h
@@ -218,20 +221,21 @@ same_known i a e none tag =
     ap (λ (s : Sheet). slot_on s (takes i b e).made tag) (takes_sheet i b e ∙ k.sheet)
     ∙ ap (λ (m : Map ℕ). option_or (at m tag) (option_map (λ g. g.slot) (at a.sheet.tags tag))) (ap (λ (m : Made). m.tags) (takes_made i b e) ∙ (none ∙ ap (λ (m : Made). m.tags) k.made))
 
-opened_made : (i : Image) (a : ActorState) (slot tag pages : ℕ) → (takes i (rest i a) (event.Slot slot (slot_ask.Open tag pages) slot_reply.Opened)).made ≡ made_tag a.made tag slot
-opened_made i a slot tag pages = takes_made i (rest i a) (event.Slot slot (slot_ask.Open tag pages) slot_reply.Opened) ∙ ap (λ (m : Made). made_tag m tag slot) (kept_at_rest i a _ refl).made
+opened_made : (i : Image) (a : ActorState) (slot tag pages : ℕ) → (takes i (rest i a) (event.Slot slot (slot_ask.Open tag pages) slot_reply.Opened)).made.tags ≡ (made_tag a.made tag slot).tags
+opened_made i a slot tag pages =
+    ap (λ (m : Made). m.tags) (takes_made i (rest i a) (event.Slot slot (slot_ask.Open tag pages) slot_reply.Opened)) ∙ ap (λ (m : Made). (made_tag m tag slot).tags) (kept_at_rest i a _ refl).made
 
 opened_sheet : (i : Image) (a : ActorState) (e : Event) → (takes i (rest i a) e).sheet ≡ a.sheet
 opened_sheet i a e = takes_sheet i (rest i a) e ∙ (kept_at_rest i a _ refl).sheet
 
 opened_other : (i : Image) (a : ActorState) (slot tag pages t : ℕ) → (t ≡ tag → ⊥) → slot_known (takes i (rest i a) (event.Slot slot (slot_ask.Open tag pages) slot_reply.Opened)) t ≡ slot_known a t
 opened_other i a slot tag pages t ne =
-    ap (λ (m : Made). slot_on (takes i (rest i a) (event.Slot slot (slot_ask.Open tag pages) slot_reply.Opened)).sheet m t) (opened_made i a slot tag pages)
+    ap (λ (ts : Map ℕ). option_or (at ts t) (option_map (λ g. g.slot) (at (takes i (rest i a) (event.Slot slot (slot_ask.Open tag pages) slot_reply.Opened)).sheet.tags t))) (opened_made i a slot tag pages)
     ∙ (ap (λ (s : Sheet). slot_on s (made_tag a.made tag slot) t) (opened_sheet i a _) ∙ ap (λ o. option_or o (option_map (λ g. g.slot) (at a.sheet.tags t))) (with_other a.made.tags tag slot t ne))
 
 opened_own : (i : Image) (a : ActorState) (slot tag pages : ℕ) → slot_known (takes i (rest i a) (event.Slot slot (slot_ask.Open tag pages) slot_reply.Opened)) tag ≡ Some slot
 opened_own i a slot tag pages =
-    ap (λ (m : Made). slot_on (takes i (rest i a) (event.Slot slot (slot_ask.Open tag pages) slot_reply.Opened)).sheet m tag) (opened_made i a slot tag pages)
+    ap (λ (ts : Map ℕ). option_or (at ts tag) (option_map (λ g. g.slot) (at (takes i (rest i a) (event.Slot slot (slot_ask.Open tag pages) slot_reply.Opened)).sheet.tags tag))) (opened_made i a slot tag pages)
     ∙ ap (λ o. option_or o (option_map (λ g. g.slot) (at (takes i (rest i a) (event.Slot slot (slot_ask.Open tag pages) slot_reply.Opened)).sheet.tags tag))) (with_same a.made.tags tag slot)
 
 -- ---- each kind of turn
@@ -317,6 +321,7 @@ tags_under : (m : Made) (p : Phase) (fd : ℕ) → (made_under m p fd).tags ≡ 
 tags_under m phase.Running fd = refl
 tags_under m (phase.Within q) fd = refl
 tags_under m (phase.Starting pre) fd = refl
+tags_under m (phase.MakingGate pre) fd = refl
 tags_under m (phase.Opening slot tag) fd = refl
 tags_under m (phase.Releasing slot) fd = refl
 tags_under m (phase.OpeningFile o) fd = refl
@@ -346,6 +351,9 @@ by_happening w a e all occ there (Joined j) =
     subst (TurnsBy w a) (sym j.join.is) (quiet_turn w a _ occ there tt refl changed)
 by_happening w a e all occ there (Snaps s) =
     let changed = subst (λ y. IsChanged w.cells y (cells_after w.cells y)) s.is (event_changes w (rest w.image a) e all.cells (Snaps s)) in
+    subst (TurnsBy w a) (sym s.is) (quiet_turn w a _ occ there (snap_quiet (slot_in w.cells s.grant.slot) s.grant.tag) (ap (λ (m : Made). m.tags) (made_same (rest w.image a).made s.grant.slot _ _ tt)) changed)
+by_happening w a e all occ there (GateSnaps s) =
+    let changed = subst (λ y. IsChanged w.cells y (cells_after w.cells y)) s.is (event_changes w (rest w.image a) e all.cells (GateSnaps s)) in
     subst (TurnsBy w a) (sym s.is) (quiet_turn w a _ occ there (snap_quiet (slot_in w.cells s.grant.slot) s.grant.tag) (ap (λ (m : Made). m.tags) (made_same (rest w.image a).made s.grant.slot _ _ tt)) changed)
 by_happening w a e all occ there (Started s) =
     let changed = subst (λ y. IsChanged w.cells y (cells_after w.cells y)) s.is (event_changes w (rest w.image a) e all.cells (Started s)) in
@@ -385,7 +393,7 @@ begins_plain w a e (Starts s) k is =
     let both : Some child ≡ Some k = sym (ap (begun w.image b) s.is) ∙ is in
     let same_child : child ≡ k = cc in
     let begins = child_begins w.image b s.preparation s.at s.complete s.ready in
-    let known : (tag : ℕ) → slot_known (takes w.image b e) tag ≡ slot_known b tag = λ tag. ap (λ (s : Sheet). slot_on s (takes w.image b e).made tag) (takes_sheet w.image b e) ∙ ap (λ (m : Made). slot_on b.sheet m tag) (takes_made w.image b e ∙ ap (λ y. made_by b (Some y)) s.is) in
+    let known : (tag : ℕ) → slot_known (takes w.image b e) tag ≡ slot_known b tag = λ tag. ap (λ (s : Sheet). slot_on s (takes w.image b e).made tag) (takes_sheet w.image b e) ∙ ap (λ (m : Made). slot_on b.sheet m tag) (takes_made w.image b e ∙ ap (λ y. but_gates (made_by b (Some y))) s.is) in
     subst (IsPlain (takes w.image b e)) same_child (record { calls = refl; opens = refl; holds = λ tag slot f. known tag ∙ child_plain w.image b child begins tag slot f })
 
 cells_released : (c : Cells) (e : Event) → AreReleased c.places.unused c.places.released → AreReleased (cells_after c e).places.unused (cells_after c e).places.released
@@ -448,6 +456,7 @@ suits : (w : WorldState) (a : ActorState) (e : Event) → AllReady w → Occupie
 suits w a e all occ there (Requested r) = subst (AskSuits w.cells) (sym r.is) (suits_want w (rest w.image a) _ r.want occ r.own)
 suits w a e all occ there (Joined j) = subst (AskSuits w.cells) (sym j.join.is) tt
 suits w a e all occ there (Snaps s) = subst (AskSuits w.cells) (sym s.is) tt
+suits w a e all occ there (GateSnaps s) = subst (AskSuits w.cells) (sym s.is) tt
 suits w a e all occ there (Started s) = subst (AskSuits w.cells) (sym s.is) tt
 suits w a e all occ there (Opens o) =
     let at_ = rest-uncalm w.image a (phase.Opening o.slot o.tag) (λ h. h) o.at in

@@ -41,7 +41,7 @@ use Rattle.sthread_life.specs.Paying.{instr_cost, cost_of_word, cost_at, cost_by
 use Rattle.sthread_life.proofs.Resting.{goes_executed}
 use Rattle.cow_pages.specs.Listed.{bytes_listed}
 use Rattle.sthread_life.proofs.Between.{event_for, loads_fuel, number_fuel, opened_at, joined_is, snapped_is}
-use Rattle.sthread_life.proofs.Happening.{Happens, Requested, Joined, Snaps, Started, Opens, Releases, Numbers, OpensFile, LastJoined, Ended}
+use Rattle.sthread_life.proofs.Happening.{Happens, Requested, Joined, Snaps, GateSnaps, Started, Opens, Releases, Numbers, OpensFile, LastJoined, Ended}
 use Rattle.sthread_life.proofs.Meeting.{IsRequest}
 use Rattle.sthread_life.proofs.StreamCalls.{IsStreamRequest, read_cases, append_cases, close_cases}
 
@@ -71,8 +71,8 @@ EventPays i b e = (takes i b e).fuel + cost_by b e + given_by b (Some e) ≡ b.f
 slot_pays : (i : Image) (b : ActorState) (slot : ℕ) (q : SlotAsk) (r : SlotReply) → EventPays i b (event.Slot slot q r)
 unfolding takes
 slot_pays i b slot q (slot_reply.Loaded value) = let same = loads_fuel (runs b) (option_and_then decode (fetch i b.hart.pc)) value in omega (arith, same)
-slot_pays i b slot q (slot_reply.Snapped pages) = let same = snapped_is (λ x. x.fuel ≡ b.fuel) b b.phase slot (Some (bytes_listed pages)) refl (λ x. refl) in omega (arith, same)
-slot_pays i b slot q slot_reply.Gone = let same = snapped_is (λ x. x.fuel ≡ b.fuel) b b.phase slot None refl (λ x. refl) in omega (arith, same)
+slot_pays i b slot q (slot_reply.Snapped pages) = let same = snapped_is (λ x. x.fuel ≡ b.fuel) b b.phase slot (Some (bytes_listed pages)) refl (λ x. refl) (λ x. refl) (λ g. refl) in omega (arith, same)
+slot_pays i b slot q slot_reply.Gone = let same = snapped_is (λ x. x.fuel ≡ b.fuel) b b.phase slot None refl (λ x. refl) (λ x. refl) (λ g. refl) in omega (arith, same)
 slot_pays i b slot (slot_ask.Sfree offset live) (slot_reply.Denied tag wants) = omega arith
 slot_pays i b slot (slot_ask.Open tag pages) slot_reply.Opened = omega arith
 slot_pays i b slot q r = omega arith
@@ -149,6 +149,7 @@ pub event_pays : (w : WorldState) (b : ActorState) (e : Event) → Happens w b e
 event_pays w b e (Requested r) = subst (EventPays w.image b) (sym r.is) (want_pays w.image w.cells b _ r.want r.own)
 event_pays w b e (Joined j) = subst (EventPays w.image b) (sym j.join.is) (join_pays w.image b j.number j.join.how j.join.child.fuel)
 event_pays w b e (Snaps s) = subst (EventPays w.image b) (sym s.is) (slot_pays w.image b s.grant.slot _ _)
+event_pays w b e (GateSnaps s) = subst (EventPays w.image b) (sym s.is) (slot_pays w.image b s.grant.slot _ _)
 event_pays w b e (Started s) = subst (EventPays w.image b) (sym s.is) (start_pays w.image b _ s.ready.enough)
 event_pays w b e (Opens o) = subst (EventPays w.image b) (sym o.is) (slot_pays w.image b o.slot _ _)
 event_pays w b e (Releases r) = subst (EventPays w.image b) (sym r.is) (place_pays w.image b _ _)

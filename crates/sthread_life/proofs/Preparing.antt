@@ -30,17 +30,17 @@ use Rattle.sthread_life.specs.declared.copy_grant.CopyGrant.{CopyGrant}
 use Rattle.sthread_life.specs.declared.phase.Phase.{Phase}
 use Rattle.sthread_life.specs.declared.phase.Phase.TheVariants as phase
 use Rattle.sthread_life.specs.Actors.{ActorState, pristine, right_of}
-use Rattle.sthread_life.specs.Calls.{a0}
+use Rattle.sthread_life.specs.Calls.{a0, draft_at}
 use Rattle.sthread_life.specs.Cells.{slot_in}
 use Rattle.sthread_life.specs.ChildCopies.{copy_asked, copies_in, own_at, IsPrepared, Prepares, pages_living, snap_reply, NotPreparing, SnapsNext, PreparesBy}
 use Rattle.sthread_life.specs.Copying.{Preparation, copy_grants, copied_from, is_copy_alone, prepared, behind_first}
 use Rattle.sthread_life.specs.Local.{step}
 use Rattle.sthread_life.specs.Moments.{with_actor}
-use Rattle.sthread_life.specs.Taking.{draft_at, copies_asked, has_snapped, takes}
+use Rattle.sthread_life.specs.Taking.{copies_asked, has_snapped, takes, copied_on}
 use Rattle.sthread_life.specs.Worlds.{WorldState}
-use Rattle.sthread_life.proofs.Between.{event_for, IsPreparing, numbered_is, takes_between}
+use Rattle.sthread_life.proofs.Between.{event_for, IsPreparing, numbered_is, takes_between, made_is}
 use Rattle.sthread_life.proofs.ByNumber.{same_number, number_itself, found_with}
-use Rattle.sthread_life.proofs.Happening.{Happens, AtSnap, Requested, Joined, Snaps, Started, Opens, Releases, Numbers, OpensFile, LastJoined, Ended, no_preparing}
+use Rattle.sthread_life.proofs.Happening.{Happens, AtSnap, Requested, Joined, Snaps, GateSnaps, Started, Opens, Releases, Numbers, OpensFile, LastJoined, Ended, no_preparing}
 use Rattle.sthread_life.proofs.Meeting.{IsRequest}
 use Rattle.sthread_life.proofs.Resting.{IsCalm, steps_step}
 
@@ -114,6 +114,7 @@ not_preparing : (p : Phase) → (IsPreparing p → ⊥) → NotPreparing p
 not_preparing phase.Running h = tt
 not_preparing (phase.Within q) h = tt
 not_preparing (phase.Starting pre) h = absurd (h tt)
+not_preparing (phase.MakingGate pre) h = tt
 not_preparing (phase.Opening slot tag) h = tt
 not_preparing (phase.Releasing slot) h = tt
 not_preparing (phase.OpeningFile o) h = tt
@@ -124,6 +125,7 @@ calm_unprepared : (p : Phase) → IsCalm p → NotPreparing p
 calm_unprepared phase.Running h = tt
 calm_unprepared (phase.Within q) h = tt
 calm_unprepared (phase.Starting pre) h = absurd h
+calm_unprepared (phase.MakingGate pre) h = tt
 calm_unprepared (phase.Opening slot tag) h = tt
 calm_unprepared (phase.Releasing slot) h = tt
 calm_unprepared (phase.OpeningFile o) h = tt
@@ -145,6 +147,7 @@ was_preparing i b (event.Lives (lives_ask.Release x) r) k = absurd k
 was_preparing i b (event.Slot slot q (slot_reply.Snapped pages)) k = inr (by_phase b.phase k)
   where
     by_phase : (p : Phase) → IsPreparing (has_snapped b p slot (Some (bytes_listed pages))).phase → IsPreparing p
+    by_phase (phase.MakingGate pre) h = absurd (made_is (λ x. IsPreparing x.phase → ⊥) b (draft_at b.drafts (a0 b)) (copied_on b pre slot (Some (bytes_listed pages))) (λ x k. k) (λ g k. k) h)
     by_phase phase.Running h = absurd h
     by_phase (phase.Within w) h = absurd h
     by_phase (phase.Starting pre) h = tt
@@ -156,6 +159,7 @@ was_preparing i b (event.Slot slot q (slot_reply.Snapped pages)) k = inr (by_pha
 was_preparing i b (event.Slot slot q slot_reply.Gone) k = inr (by_phase b.phase k)
   where
     by_phase : (p : Phase) → IsPreparing (has_snapped b p slot None).phase → IsPreparing p
+    by_phase (phase.MakingGate pre) h = absurd (made_is (λ x. IsPreparing x.phase → ⊥) b (draft_at b.drafts (a0 b)) (copied_on b pre slot None) (λ x k. k) (λ g k. k) h)
     by_phase phase.Running h = absurd h
     by_phase (phase.Within w) h = absurd h
     by_phase (phase.Starting pre) h = tt
@@ -185,7 +189,7 @@ copy_in e right.Cow es = refl
 copy_in e right.Read es = refl
 copy_in e right.ReadWrite es = refl
 
-copies_are : (gs : Map Grant) → copy_grants gs ≡ copies_in gs
+pub copies_are : (gs : Map Grant) → copy_grants gs ≡ copies_in gs
 copies_are [] = refl
 copies_are (e ∷ es) = copy_in e e.1.right (copy_grants es) ∙ ap (cons_option (copy_asked e.0 e.1.slot e.1.right)) (copies_are es)
 
@@ -251,6 +255,9 @@ event_prepares w b e (Joined j) =
     subst (λ ph. PreparesBy (with_actor w b) b ph e (takes w.image b e)) (sym j.at)
     (subst (λ y. PreparesBy (with_actor w b) b (phase.Within (want.Join j.number)) y (takes w.image b y)) (sym j.join.is) (unprepared w.image b _ (λ k. subst IsPreparing j.at k) (λ is. absurd cc)))
 event_prepares w b e (Snaps s) = subst (λ ph. PreparesBy (with_actor w b) b ph e (takes w.image b e)) (sym s.at) (snaps_next w b e s)
+event_prepares w b e (GateSnaps s) =
+    subst (λ ph. PreparesBy (with_actor w b) b ph e (takes w.image b e)) (sym s.at)
+    (subst (λ y. PreparesBy (with_actor w b) b (phase.MakingGate s.preparation) y (takes w.image b y)) (sym s.is) (unprepared w.image b _ (λ k. subst IsPreparing s.at k) (λ is. absurd cc)))
 event_prepares w b e (Started s) =
     subst (λ ph. PreparesBy (with_actor w b) b ph e (takes w.image b e)) (sym s.at)
     (subst (λ l. SnapsNext (with_actor w b) b s.preparation l e (takes w.image b e)) (sym s.complete) (subst (λ y. NotPreparing (takes w.image b y).phase) (sym s.is) (start_prepares w.image b _)))

@@ -98,6 +98,7 @@ join_at_rest i k (Some c) = by_end (has_ended c.phase) refl
     not_reached phase.Running e = refl
     not_reached (phase.Within q) e = refl
     not_reached (phase.Starting pre) e = refl
+    not_reached (phase.MakingGate pre) e = refl
     not_reached (phase.Opening slot tag) e = refl
     not_reached (phase.Releasing slot) e = refl
     not_reached (phase.OpeningFile o) e = refl
@@ -156,6 +157,7 @@ no_line : (i : Image) (a : ActorState) (p : Phase) (ls : List ActorLine) → has
 no_line i a phase.Running ls e = refl
 no_line i a (phase.Within q) ls e = refl
 no_line i a (phase.Starting pre) ls e = refl
+no_line i a (phase.MakingGate pre) ls e = refl
 no_line i a (phase.Opening slot tag) ls e = refl
 no_line i a (phase.Releasing slot) ls e = refl
 no_line i a (phase.OpeningFile o) ls e = refl

@@ -4,11 +4,9 @@ use Rattle.std.specs.Prelude.{Option, Some, None, is_some, if◌then◌else◌}
 use Rattle.std.specs.Ordering.{nat_cmp, match_ordering}
 use Rattle.std.specs.declared.cmp.Ordering.{Ordering}
 use Rattle.std.specs.declared.cmp.Ordering.TheVariants.{Less, Equal, Greater}
-use Rattle.cow_pages.specs.Copies.{Copies, copy_at}
 use Rattle.cow_pages.specs.Listed.{bytes_listed}
-use Rattle.cow_pages.specs.PrivateMemory.{PrivateMemory}
 use Rattle.wedge_base.specs.Images.{Image}
-use Rattle.wedge_base.specs.Sheets.{Sheet, Made, right_on, most_grants}
+use Rattle.wedge_base.specs.Sheets.{most_grants, Draft}
 use Rattle.wedge_base.specs.Slots.{Segment, slot_reply as slot_reply_of}
 use Rattle.wedge_base.specs.declared.cells.SlotAsk.TheVariants as slot_ask
 use Rattle.wedge_base.specs.declared.events.Want.{Want}
@@ -34,23 +32,25 @@ use Rattle.sthread_life.specs.Actors.{ActorState, pristine, root}
 use Rattle.sthread_life.specs.Between.{IsBetween}
 use Rattle.sthread_life.specs.Children.{Children, child_name, is_number, fuel_given, is_child, with_child, without_child}
 use Rattle.sthread_life.specs.FamilyTrees.{Family}
-use Rattle.sthread_life.specs.Copying.{Preparation, copied_from, is_copy_alone, prepared, behind_first}
+use Rattle.sthread_life.specs.Copying.{Preparation, copied_from, prepared, behind_first}
 use Rattle.sthread_life.specs.Cells.{slot_in}
 use Rattle.sthread_life.specs.Fuel.{unit_work, units_of, opening_work, phase_work, tasks_of, tasks_in, work_left, most_turns}
 use Rattle.sthread_life.specs.Laws.{RunsEnd}
 use Rattle.sthread_life.specs.Local.{is_running, rest}
-use Rattle.sthread_life.specs.Taking.{next_start, answered_end, copies_asked, has_snapped, takes, begun}
+use Rattle.sthread_life.specs.Taking.{next_start, answered_end, copies_asked, has_snapped, takes, begun, copied_on}
 use Rattle.sthread_life.specs.Worlds.{WorldState, opening, actor_named, put_actor, with_begun, turn_of, Runs}
 use Rattle.wedge_base.specs.Names.{same}
-use Rattle.sthread_life.proofs.Between.{IsPreparing, MayPrepare, MayNumber, Leaves, numbered_is, opened_is, takes_between, takes_name, turn_parts}
+use Rattle.sthread_life.proofs.Between.{IsPreparing, MayPrepare, MayNumber, Leaves, numbered_is, opened_is, takes_between, takes_name, turn_parts, IsMaking}
 use Rattle.sthread_life.proofs.DraftsFit.{AreFew, few_copies}
 use Rattle.sthread_life.proofs.Preparing.{was_preparing}
 use Rattle.sthread_life.proofs.Families.{IsOfOne, takes_same, first_child}
 use Rattle.sthread_life.proofs.FamilyRuns.{kept_at_rest, rest_units, turn_keeps, turn_family, opening_family, one_begins, request_of_one, join_keeps_starts}
-use Rattle.sthread_life.proofs.Happening.{Happens, snap_cases, Requested, Joined, Snaps, Started, Opens, Releases, Numbers, OpensFile, LastJoined, Ended}
+use Rattle.sthread_life.proofs.Happening.{Happens, snap_cases, Requested, Joined, Snaps, GateSnaps, Started, Opens, Releases, Numbers, OpensFile, LastJoined, Ended}
 use Rattle.sthread_life.proofs.Named.{found_name}
 use Rattle.sthread_life.proofs.Resting.{IsCalm, HasPaid, rests, rest-stays, rest-name, running_is}
 use Rattle.sthread_life.proofs.Settling.{AllReady, actor_few, turn_happens, turn_ready, opening_ready}
+use Rattle.sthread_life.specs.Calls.{draft_at, makes_or_waits, a0}
+use Rattle.sthread_life.proofs.MakingGates.{prepared_left, was_making}
 
 -- ---- children by their count
 
@@ -115,6 +115,7 @@ tasks_begun actors (Some c) = tasks_behind actors c
 record IsPaid (a b : ActorState) (units : ℕ) : Type 0 where
   within : (q : Want) → b.phase ≡ phase.Within q → 7 + most_grants ≤ unit_work * units + phase_work a.phase
   starting : (p : Preparation) → b.phase ≡ phase.Starting p → 6 + length p.left ≤ unit_work * units + phase_work a.phase
+  making : (p : Preparation) → length p.left ≤ most_grants → b.phase ≡ phase.MakingGate p → 6 + length p.left ≤ unit_work * units + phase_work a.phase
   opening : (slot tag : ℕ) → b.phase ≡ phase.Opening slot tag → 6 ≤ unit_work * units + phase_work a.phase
   releasing : (slot : ℕ) → b.phase ≡ phase.Releasing slot → 6 ≤ unit_work * units + phase_work a.phase
   file : (o : FileOpening) → b.phase ≡ phase.OpeningFile o → opening_work o.number ≤ unit_work * units + phase_work a.phase
@@ -128,6 +129,9 @@ paid_opening f g slot tag p e h = subst (HasPaid f g) e h
 
 paid_releasing : (f g slot : ℕ) (p : Phase) → p ≡ phase.Releasing slot → HasPaid f g p → g < f
 paid_releasing f g slot p e h = subst (HasPaid f g) e h
+
+paid_making : (f g : ℕ) (x : Preparation) (p : Phase) → p ≡ phase.MakingGate x → HasPaid f g p → g < f
+paid_making f g x p e h = subst (HasPaid f g) e h
 
 paid_file : (f g : ℕ) (o : FileOpening) (p : Phase) → p ≡ phase.OpeningFile o → HasPaid f g p → g < f
 paid_file f g o p e h = subst (HasPaid f g) e h
@@ -144,6 +148,7 @@ rest_paid i a true e =
     record {
       within = λ q is. let less = paid_within a.fuel (rest i a).fuel (rest i a).phase q is r.paid in omega (arith, less, units, work);
       starting = λ p is. absurd (subst IsCalm is r.calm);
+      making = λ p few is. let less = paid_making a.fuel (rest i a).fuel p (rest i a).phase is r.paid in omega (arith, less, units, work, few);
       opening = λ slot tag is. let less = paid_opening a.fuel (rest i a).fuel slot tag (rest i a).phase is r.paid in omega (arith, less, units, work);
       releasing = λ slot is. let less = paid_releasing a.fuel (rest i a).fuel slot (rest i a).phase is r.paid in omega (arith, less, units, work);
       file = λ o is. let less = paid_file a.fuel (rest i a).fuel o (rest i a).phase is r.paid in let most = opening_most o.number in omega (arith, less, units, work, most);
@@ -155,6 +160,7 @@ rest_paid i a false e =
     record {
       within = λ q is. let work : phase_work a.phase ≡ 7 + most_grants = ap phase_work (sym same ∙ is) in omega (arith, work);
       starting = λ p is. let work : phase_work a.phase ≡ 6 + length p.left = ap phase_work (sym same ∙ is) in omega (arith, work);
+      making = λ p few is. let work : phase_work a.phase ≡ 6 + length p.left = ap phase_work (sym same ∙ is) in omega (arith, work);
       opening = λ slot tag is. let work : phase_work a.phase ≡ 6 = ap phase_work (sym same ∙ is) in omega (arith, work);
       releasing = λ slot is. let work : phase_work a.phase ≡ 6 = ap phase_work (sym same ∙ is) in omega (arith, work);
       file = λ o is. let work : phase_work a.phase ≡ opening_work o.number = ap phase_work (sym same ∙ is) in omega (arith, work);
@@ -166,6 +172,7 @@ between_work : (p : Phase) → IsBetween p → phase_work p ≤ 2
 between_work phase.Running h = omega arith
 between_work (phase.Within q) h = absurd h
 between_work (phase.Starting pre) h = absurd h
+between_work (phase.MakingGate pre) h = absurd h
 between_work (phase.Opening slot tag) h = absurd h
 between_work (phase.Releasing slot) h = absurd h
 between_work (phase.OpeningFile o) h = absurd h
@@ -181,6 +188,7 @@ not_within : (p : Phase) → ((q : Want) → p ≡ phase.Within q → ⊥) → N
 not_within phase.Running h = tt
 not_within (phase.Within q) h = h q refl
 not_within (phase.Starting pre) h = tt
+not_within (phase.MakingGate pre) h = tt
 not_within (phase.Opening slot tag) h = tt
 not_within (phase.Releasing slot) h = tt
 not_within (phase.OpeningFile o) h = tt
@@ -209,25 +217,16 @@ leaves_none (event.Slot slot q slot_reply.Gone) p h = not_within p (λ q is. sub
 leaves_none (event.Slot slot q r) p h = between_one p h
 leaves_none e p h = between_one p h
 
-work_without : (p : Phase) → NotWithin p → ((pre : Preparation) → p ≡ phase.Starting pre → length pre.left ≤ most_grants) → phase_work p ≤ 6 + most_grants
-work_without phase.Running h few = omega arith
-work_without (phase.Within q) h few = absurd h
-work_without (phase.Starting pre) h few = let left = few pre refl in omega (arith, left)
-work_without (phase.Opening slot tag) h few = omega arith
-work_without (phase.Releasing slot) h few = omega arith
-work_without (phase.OpeningFile o) h few = let most = opening_most o.number in omega (arith, most)
-work_without (phase.Ending e) h few = omega arith
-work_without (phase.Ended e) h few = omega arith
-
--- the copies that are left once those of the starter's own are made
-prepared_left : (s : Sheet) (made : Made) (own : Copies) (m : PrivateMemory) (gs : List CopyGrant) → length (prepared s made own m gs).left ≤ length gs
-prepared_left s made own m [] = omega arith
-prepared_left s made own m (g ∷ gs) = by_right (is_copy_alone (right_on s made g.tag)) (prepared_left s made own (copied_from (copy_at own g.slot) g.slot m) gs)
-  where
-    by_right : (t : Bool) → length (prepared s made own (copied_from (copy_at own g.slot) g.slot m) gs).left ≤ length gs
-        → length (if t then prepared s made own (copied_from (copy_at own g.slot) g.slot m) gs else record { memory = m; left = g ∷ gs }).left ≤ suc (length gs)
-    by_right true fewer = omega (arith, fewer)
-    by_right false fewer = omega arith
+work_without : (p : Phase) → NotWithin p → (IsMaking p → ⊥) → ((pre : Preparation) → p ≡ phase.Starting pre → length pre.left ≤ most_grants) → phase_work p ≤ 6 + most_grants
+work_without phase.Running h none few = omega arith
+work_without (phase.Within q) h none few = absurd h
+work_without (phase.Starting pre) h none few = let left = few pre refl in omega (arith, left)
+work_without (phase.MakingGate pre) h none few = absurd (none tt)
+work_without (phase.Opening slot tag) h none few = omega arith
+work_without (phase.Releasing slot) h none few = omega arith
+work_without (phase.OpeningFile o) h none few = let most = opening_most o.number in omega (arith, most)
+work_without (phase.Ending e) h none few = omega arith
+work_without (phase.Ended e) h none few = omega arith
 
 claimed_left : (i : Image) (b : ActorState) (pre : Preparation) → AreFew b.drafts → (takes i b (event.Lives lives_ask.Claim lives_reply.Claimed)).phase ≡ phase.Starting pre → length pre.left ≤ most_grants
 unfolding takes
@@ -243,6 +242,7 @@ claimed_left i b pre few is =
 request_work : (w : WorldState) (b : ActorState) (e : Event) (q : Want) → b.phase ≡ phase.Within q → AreFew b.drafts → phase_work (takes w.image b e).phase ≤ 6 + most_grants
 request_work w b e q at few =
     work_without (takes w.image b e).phase (leaves_none e (takes w.image b e).phase (takes_between w.image b e))
+    (λ k. subst IsMaking at (was_making w.image b e k))
     (λ pre is. by_cause pre is (was_preparing w.image b e (subst IsPreparing (sym is) tt)))
   where
     by_cause : (pre : Preparation) → (takes w.image b e).phase ≡ phase.Starting pre → (e ≡ event.Lives lives_ask.Claim lives_reply.Claimed) ⊎ IsPreparing b.phase → length pre.left ≤ most_grants
@@ -264,6 +264,27 @@ snap_work i b p slot tag grant others g at left =
     snap_cases (λ r. phase_work (takes i b (event.Slot slot (slot_ask.Snap tag) r)).phase ≤ 6 + length others) g tag
     (λ pages. snapped_work b p slot (grant ∷ others) (Some (bytes_listed pages)) at left) (snapped_work b p slot (grant ∷ others) None at left)
 
+made_work : (b : ActorState) (d : Draft) (p : Preparation) (gs : List CopyGrant) → phase_work (makes_or_waits b d p gs).phase ≤ 6 + length p.left
+made_work b d p [] = omega arith
+made_work b d p (g ∷ gs) = omega arith
+
+gate_snapped_work : (b : ActorState) (p : Preparation) (slot : ℕ) (grant : CopyGrant) (others : List CopyGrant) (o : Option (List ℕ)) → b.phase ≡ phase.MakingGate p → p.left ≡ grant ∷ others
+    → phase_work (has_snapped b b.phase slot o).phase ≤ 6 + length others
+gate_snapped_work b p slot grant others o at left =
+    let next = copied_on b p slot o in
+    let fewer = prepared_left b.sheet b.made b.memory.copies (copied_from o slot p.memory) (behind_first p.left) in
+    let most = made_work b (draft_at b.drafts (a0 b)) next next.left in
+    let work : phase_work (has_snapped b b.phase slot o).phase ≡ phase_work (makes_or_waits b (draft_at b.drafts (a0 b)) next next.left).phase = ap (λ ph. phase_work (has_snapped b ph slot o).phase) at in
+    let same : length (behind_first p.left) ≡ length others = ap (λ l. length (behind_first l)) left in
+    omega (arith, fewer, most, work, same)
+
+gate_snap_work : (i : Image) (b : ActorState) (p : Preparation) (slot tag : ℕ) (grant : CopyGrant) (others : List CopyGrant) (g : Option Segment) → b.phase ≡ phase.MakingGate p → p.left ≡ grant ∷ others
+    → phase_work (takes i b (event.Slot slot (slot_ask.Snap tag) (slot_reply_of g (slot_ask.Snap tag)))).phase ≤ 6 + length others
+unfolding takes
+gate_snap_work i b p slot tag grant others g at left =
+    snap_cases (λ r. phase_work (takes i b (event.Slot slot (slot_ask.Snap tag) r)).phase ≤ 6 + length others) g tag
+    (λ pages. gate_snapped_work b p slot grant others (Some (bytes_listed pages)) at left) (gate_snapped_work b p slot grant others None at left)
+
 -- the tasks of the doer and of a child after the event, against those before and the units
 record IsLess (i : Image) (b : ActorState) (e : Event) (n : ℕ) : Type 0 where
   less : tasks_of (takes i b e) + begun_tasks (begun i b e) < n
@@ -280,6 +301,7 @@ joined_work : (a : ActorState) (p : Phase) (x : End) → a.phase ≡ p → phase
 joined_work a phase.Running x at = omega arith
 joined_work a (phase.Within q) x at = omega arith
 joined_work a (phase.Starting pre) x at = omega arith
+joined_work a (phase.MakingGate pre) x at = omega arith
 joined_work a (phase.Opening slot tag) x at = omega arith
 joined_work a (phase.Releasing slot) x at = omega arith
 joined_work a (phase.OpeningFile o) x at = omega arith
@@ -378,6 +400,16 @@ event_less w a e drafts (Snaps s) =
     let paid = (rest_paid w.image a _ refl).starting s.preparation s.at in
     let asked = event.Slot s.grant.slot (slot_ask.Snap s.grant.tag) (slot_reply_of (slot_in w.cells s.grant.slot) (slot_ask.Snap s.grant.tag)) in
     let few = snap_work w.image b s.preparation s.grant.slot s.grant.tag s.grant s.others (slot_in w.cells s.grant.slot) s.at s.left in
+    let left : length s.preparation.left ≡ suc (length s.others) = ap length s.left in
+    let count : length (takes w.image b asked).unjoined ≡ length a.unjoined = ap length ((takes_same w.image b asked tt).unjoined ∙ k.unjoined) in
+    let less : tasks_of (takes w.image b asked) + 0 < unit_work * units_of w.image (a.fuel + 1) a + tasks_of a = omega (arith, paid, few, left, count) in
+    subst (λ y. tasks_of (takes w.image b y) + begun_tasks (begun w.image b y) < unit_work * units_of w.image (a.fuel + 1) a + tasks_of a) (sym s.is) less
+event_less w a e drafts (GateSnaps s) =
+    let b = rest w.image a in
+    let k = kept_at_rest w.image a _ refl in
+    let paid = (rest_paid w.image a _ refl).making s.preparation (omega (arith, s.granting.few, few_copies b drafts)) s.at in
+    let asked = event.Slot s.grant.slot (slot_ask.Snap s.grant.tag) (slot_reply_of (slot_in w.cells s.grant.slot) (slot_ask.Snap s.grant.tag)) in
+    let few = gate_snap_work w.image b s.preparation s.grant.slot s.grant.tag s.grant s.others (slot_in w.cells s.grant.slot) s.at s.left in
     let left : length s.preparation.left ≡ suc (length s.others) = ap length s.left in
     let count : length (takes w.image b asked).unjoined ≡ length a.unjoined = ap length ((takes_same w.image b asked tt).unjoined ∙ k.unjoined) in
     let less : tasks_of (takes w.image b asked) + 0 < unit_work * units_of w.image (a.fuel + 1) a + tasks_of a = omega (arith, paid, few, left, count) in

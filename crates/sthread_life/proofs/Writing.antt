@@ -41,7 +41,7 @@ use Rattle.sthread_life.specs.Written.{bytes_in, BytesFollow, stores_in, StepWri
 use Rattle.sthread_life.specs.Laws.{RunsWriteTheirOwn}
 use Rattle.sthread_life.proofs.Resting.{rests, rest-stays}
 use Rattle.sthread_life.proofs.Between.{event_for, turn_parts}
-use Rattle.sthread_life.proofs.Happening.{Happens, Requested, Joined, Snaps, Started, Opens, Releases, Numbers, OpensFile, LastJoined, Ended}
+use Rattle.sthread_life.proofs.Happening.{Happens, Requested, Joined, Snaps, GateSnaps, Started, Opens, Releases, Numbers, OpensFile, LastJoined, Ended}
 use Rattle.sthread_life.proofs.Settling.{AreCells, AllReady, turn_happens, turn_ready, opening_ready}
 use Rattle.sthread_life.proofs.Meeting.{IsRequest}
 use Rattle.sthread_life.proofs.StreamCalls.{read_cases, append_cases, close_cases, unopened_stays, IsStreamRequest}
@@ -166,6 +166,7 @@ event_follows : (w : WorldState) (b : ActorState) (e : Event) → AreCells w.ima
 event_follows w b e cells (Requested r) = subst (IsFollowed w.cells) (sym r.is) (want_follows _ w.cells b r.want r.own)
 event_follows w b e cells (Joined j) = subst (IsFollowed w.cells) (sym j.join.is) (record { tags = λ slot. refl; streams = λ fd. refl })
 event_follows w b e cells (Snaps s) = subst (IsFollowed w.cells) (sym s.is) (slot_follows w.cells s.grant.slot (slot_ask.Snap s.grant.tag) tt)
+event_follows w b e cells (GateSnaps s) = subst (IsFollowed w.cells) (sym s.is) (slot_follows w.cells s.grant.slot (slot_ask.Snap s.grant.tag) tt)
 event_follows w b e cells (Started s) = subst (IsFollowed w.cells) (sym s.is) (record { tags = λ slot. refl; streams = λ fd. refl })
 event_follows w b e cells (Opens o) = subst (IsFollowed w.cells) (sym o.is) (open_follows w.cells o.slot o.tag (a0 b) (subst (λ n. o.slot < n) (sym cells.slots) o.inside))
 event_follows w b e cells (Releases r) = subst (IsFollowed w.cells) (sym r.is) (record { tags = λ slot. refl; streams = λ fd. refl })
@@ -260,6 +261,7 @@ event_own : (w : WorldState) (b : ActorState) (e : Event) → Happens w b e → 
 event_own w b e (Requested r) = subst (IsOwn w.cells b) (sym r.is) (want_own _ w.cells b r.want r.own)
 event_own w b e (Joined j) = subst (IsOwn w.cells b) (sym j.join.is) (record { stores = λ slot h. absurd (true≢false (sym h)); appends = λ fd h. absurd (true≢false (sym h)) })
 event_own w b e (Snaps s) = subst (IsOwn w.cells b) (sym s.is) (record { stores = λ slot h. absurd (true≢false (sym h)); appends = λ fd h. absurd (true≢false (sym h)) })
+event_own w b e (GateSnaps s) = subst (IsOwn w.cells b) (sym s.is) (record { stores = λ slot h. absurd (true≢false (sym h)); appends = λ fd h. absurd (true≢false (sym h)) })
 event_own w b e (Started s) = subst (IsOwn w.cells b) (sym s.is) (record { stores = λ slot h. absurd (true≢false (sym h)); appends = λ fd h. absurd (true≢false (sym h)) })
 event_own w b e (Opens o) = subst (IsOwn w.cells b) (sym o.is) (record { stores = λ slot h. absurd (true≢false (sym h)); appends = λ fd h. absurd (true≢false (sym h)) })
 event_own w b e (Releases r) = subst (IsOwn w.cells b) (sym r.is) (record { stores = λ slot h. absurd (true≢false (sym h)); appends = λ fd h. absurd (true≢false (sym h)) })

@@ -12,6 +12,7 @@ use Rattle.wedge_base.specs.declared.rights.Code.{Code}
 use Rattle.wedge_base.specs.declared.rights.Code.TheVariants as code
 use Rattle.wedge_base.specs.declared.rights.End.{End}
 use Rattle.wedge_base.specs.declared.events.Want.{Want}
+use Rattle.callgate.specs.declared.gate.Gate.{Gate}
 use Rattle.rv_hart.specs.declared.Hart.{Hart}
 use Rattle.rv_hart.specs.Local.{put, answered, answered_with}
 use Rattle.sthread_life.specs.Children.{Children}
@@ -20,13 +21,15 @@ use Rattle.sthread_life.specs.declared.files.StreamLabel.{StreamLabel}
 use Rattle.sthread_life.specs.declared.phase.Phase.{Phase}
 use Rattle.sthread_life.specs.declared.phase.Phase.TheVariants as phase
 
--- an actor: its sheet, what it made, the paths of the files that it opened, its drafts, its registers and private
--- memory, its fuel, its denials, how many actors it started and those of them that it has not joined, and what it is at
+-- an actor: its sheet, what it made, the gates that it knows, the paths of the files that it opened, its drafts, its
+-- registers and private memory, its fuel, its denials, how many actors it started and those of them that it has not joined,
+-- and what it is at. That a gate is known is no right to enter it.
 pub record ActorState : Type 0 where
   pub name : List ℕ
   pub compartment : ℕ
   pub sheet : Sheet
   pub made : Made
+  pub gates : List Gate
   pub labels : List StreamLabel
   pub drafts : List Draft
   pub hart : Hart
@@ -56,6 +59,7 @@ root i = record {
   compartment = i.entry;
   sheet = root_sheet i.tags i.fds i.user i.root;
   made = nothing_made;
+  gates = [];
   labels = [];
   drafts = [];
   hart = opening_hart i.entry;
@@ -74,6 +78,10 @@ right_of a tag = right_on a.sheet a.made tag
 
 abbrev pub bits_of : ActorState → ℕ → FdBits
 bits_of a fd = bits_on a.sheet a.made fd
+
+-- what it made, its gates apart
+abbrev pub but_gates : Made → Made
+but_gates m = record m { gates = []; count = 0 }
 
 -- the slot in which a tag that it holds was opened
 abbrev pub slot_held : ActorState → ℕ → ℕ
@@ -128,6 +136,7 @@ pub record ActorRecord : Type 0 where
   pub compartment : ℕ
   pub sheet : Sheet
   pub made : Made
+  pub gates : List Gate
   pub labels : List StreamLabel
   pub drafts : List Draft
   pub hart : Hart
@@ -145,6 +154,7 @@ whole r memory = record {
   compartment = r.compartment;
   sheet = r.sheet;
   made = r.made;
+  gates = r.gates;
   labels = r.labels;
   drafts = r.drafts;
   hart = r.hart;

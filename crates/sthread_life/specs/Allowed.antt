@@ -1,13 +1,13 @@
 -- What a sheet allows: the grant that a request lacks, what refuses it besides, and what it leaves where it
 -- is done and where it is denied. Nothing here calls the step.
-use Rattle.std.specs.Prelude.{◌≡◌, ℕ, ◌+◌, ◌-◌, ◌%◌, ◌^◌, Bool, true, false, not, ◌||◌, List, [], ◌∷◌, ◌++◌, length, nat_lt, slice_range, slice_set, take, drop, Option, Some, None, is_none, if◌then◌else◌}
+use Rattle.std.specs.Prelude.{◌≡◌, ℕ, ◌+◌, ◌-◌, ◌%◌, ◌^◌, ◌⊎◌, Bool, true, false, not, ◌||◌, List, [], ◌∷◌, ◌++◌, length, nat_lt, slice_range, slice_set, take, drop, Option, Some, None, is_none, IsSomeAnd, if◌then◌else◌}
 use Rattle.wedge_base.specs.Blocks.{block_at}
 use Rattle.wedge_base.specs.Bytes.{number_of}
 use Rattle.wedge_base.specs.Files.{may_open}
 use Rattle.wedge_base.specs.Maps.{has}
 use Rattle.wedge_base.specs.Memory.{write_at}
 use Rattle.wedge_base.specs.Rights.{at_least, read_bit, append_bit}
-use Rattle.wedge_base.specs.Sheets.{first_excess}
+use Rattle.wedge_base.specs.Sheets.{Draft, first_excess, made_gate}
 use Rattle.wedge_base.specs.declared.rights.Denial.{Denial}
 use Rattle.wedge_base.specs.declared.rights.Denial.TheVariants as denial
 use Rattle.wedge_base.specs.Streams.{Stream}
@@ -30,12 +30,15 @@ use Rattle.wedge_base.specs.declared.cells.SlotAsk.TheVariants as slot_ask
 use Rattle.wedge_base.specs.declared.cells.SlotReply.TheVariants as slot_reply
 use Rattle.wedge_base.specs.declared.cells.StreamAsk.TheVariants as stream_ask
 use Rattle.wedge_base.specs.declared.cells.StreamReply.TheVariants as stream_reply
+use Rattle.callgate.specs.declared.gate.Gate.{Gate}
 use Rattle.rv_hart.specs.declared.Hart.{Hart}
 use Rattle.rv_hart.specs.Local.{reg, put, extended}
+use Rattle.sthread_life.specs.Copying.{Preparation}
+use Rattle.sthread_life.specs.MadeGates.{IsGateOf}
 use Rattle.sthread_life.specs.Opening.{FileOpening}
 use Rattle.sthread_life.specs.declared.phase.Phase.TheVariants as phase
 use Rattle.sthread_life.specs.Actors.{ActorState, right_of, bits_of, slot_held}
-use Rattle.sthread_life.specs.Requests.{Access, Request, Loads, Stores, Reads, Appends, Closes, Opens, Creates, Deletes, Allots, Frees}
+use Rattle.sthread_life.specs.Requests.{Access, Request, Loads, Stores, Reads, Appends, Closes, Opens, Creates, Makes, Deletes, Allots, Frees}
 
 -- whether a tag may be used as asked: a copy is never enough for the tag itself
 abbrev pub may_use : ActorState → ℕ → Right → Bool
@@ -61,6 +64,7 @@ lacks a (Appends fd s bytes) = if (bits_of a fd).append then None else Some (den
 lacks a (Closes fd s) = if may_close s.kind (bits_of a fd) then None else Some (denial.Fd fd (bit_to_close s.kind))
 lacks a (Opens path f b) = if may_open a.sheet.user f b then None else Some (denial.File path)
 lacks a (Creates d) = first_excess a.sheet a.made d
+lacks a (Makes d) = first_excess a.sheet a.made d
 lacks a (Deletes tag) = if has a.made.tags tag then None else Some (denial.NotMaker tag)
 lacks a (Allots tag size) = if may_use a tag right.ReadWrite then None else Some (denial.Tag tag right.ReadWrite)
 lacks a (Frees p g) = if may_use a g.tag right.ReadWrite then None else Some (denial.Tag g.tag right.ReadWrite)
@@ -79,6 +83,7 @@ is_refused a (Appends fd s bytes) = is_source s.kind
 is_refused a (Closes fd s) = false
 is_refused a (Opens path f b) = not (fits_kind f.kind b)
 is_refused a (Creates d) = not (nat_lt (length a.name) 32) || nat_lt a.fuel (reg a.hart.regs 13)
+is_refused a (Makes d) = false
 is_refused a (Deletes tag) = false
 is_refused a (Allots tag size) = false
 is_refused a (Frees p g) = is_none (block_at g.blocks p.offset)
@@ -92,6 +97,7 @@ is_checked_at_event (Appends fd s bytes) = true
 is_checked_at_event (Closes fd s) = true
 is_checked_at_event (Opens path f b) = false
 is_checked_at_event (Creates d) = false
+is_checked_at_event (Makes d) = false
 is_checked_at_event (Deletes tag) = false
 is_checked_at_event (Allots tag size) = false
 is_checked_at_event (Frees p g) = true
@@ -99,7 +105,7 @@ is_checked_at_event (Frees p g) = true
 -- What a request leaves that is done: its event, and its actor at the next word, with what was loaded or
 -- with the call's answer and code 0. One that is checked in its instruction has come to its event: a child's starter to the
 -- claim of a life, a file to the claim of a number for its descriptor, a tag that is to be deleted to its close, and a
--- block to the slot in which the tag was opened.
+-- block to the slot in which the tag was opened. A gate is made at once, but where copies of tags are to be made for it first.
 abbrev pub next_word : ActorState → ℕ
 next_word a = (a.hart.pc + 4) % 2 ^ 32
 
@@ -126,6 +132,14 @@ next_bytes s n = take n (drop s.position s.bytes)
 abbrev pub opened_as : List ℕ → FileEntry → FdBits → FileOpening
 opened_as path f b = record { path = path; kind = f.kind; bytes = f.content; bits = b; number = None }
 
+-- an actor that has made a gate: it knows it, holds it at its entry, and is answered 0
+abbrev pub with_gate_made : ActorState → Gate → ActorState
+with_gate_made a g = record a { made = made_gate a.made g.entry g.id; gates = a.gates ++ g ∷ []; hart = answered a 0 0; phase = phase.Running }
+
+-- it has made the gate, or the gate waits for copies of tags
+abbrev pub HasBegunGate : ActorState → Draft → ActorState → Type 0
+HasBegunGate a d b = ((g : Gate) × IsGateOf a d g × (b ≡ with_gate_made a g)) ⊎ ((p : Preparation) × (b ≡ record a { phase = phase.MakingGate p }))
+
 abbrev pub IsDone : ActorState → Request → Option Event → Option ActorState → Type 0
 IsDone a (Loads x rd s) e now =
     (e ≡ Some (event.Slot x.place.slot (slot_ask.Load x.place.offset x.width (living_for a x)) (slot_reply.Loaded (value_in x))))
@@ -149,6 +163,7 @@ IsDone a (Closes fd s) e now =
     × (now ≡ Some (record a { hart = answered a 0 0; phase = phase.Running }))
 IsDone a (Opens path f b) e now = (e ≡ None) × (now ≡ Some (record a { phase = phase.OpeningFile (opened_as path f b) }))
 IsDone a (Creates d) e now = (e ≡ None) × (now ≡ comes_to a (want.Lives lives_ask.Claim))
+IsDone a (Makes d) e now = (e ≡ None) × IsSomeAnd now (HasBegunGate a d)
 IsDone a (Deletes tag) e now = (e ≡ None) × (now ≡ comes_to a (want.Slot (slot_held a tag) (slot_want.Close tag)))
 IsDone a (Allots tag size) e now = (e ≡ None) × (now ≡ comes_to a (want.Slot (slot_held a tag) (slot_want.Smalloc tag size)))
 IsDone a (Frees p g) e now =
@@ -174,6 +189,7 @@ denied a (Appends fd s bytes) d = answered_denied a d
 denied a (Closes fd s) d = answered_denied a d
 denied a (Opens path f b) d = answered_denied a d
 denied a (Creates draft) d = answered_denied a d
+denied a (Makes draft) d = answered_denied a d
 denied a (Deletes tag) d = answered_denied a d
 denied a (Allots tag size) d = answered_denied a d
 denied a (Frees p g) d = answered_denied a d

@@ -24,7 +24,7 @@ use Rattle.rv_hart.specs.declared.Hart.{Hart}
 use Rattle.rv_hart.specs.Local.{reg}
 use Rattle.sthread_life.specs.Actors.{ActorState}
 use Rattle.sthread_life.specs.Children.{Children, fuel_given, is_child, all_given, child_name}
-use Rattle.sthread_life.specs.Taking.{draft_at}
+use Rattle.sthread_life.specs.Calls.{draft_at}
 use Rattle.sthread_life.specs.declared.copy_grant.CopyGrant.{CopyGrant}
 use Rattle.sthread_life.specs.declared.phase.Phase.{Phase}
 use Rattle.sthread_life.specs.declared.phase.Phase.TheVariants as phase
@@ -34,16 +34,17 @@ abbrev pub IsBetween : Phase → Type 0
 IsBetween phase.Running = Unit {0}
 IsBetween (phase.Within q) = ⊥
 IsBetween (phase.Starting p) = ⊥
+IsBetween (phase.MakingGate p) = ⊥
 IsBetween (phase.Opening slot tag) = ⊥
 IsBetween (phase.Releasing slot) = ⊥
 IsBetween (phase.OpeningFile o) = ⊥
 IsBetween (phase.Ending e) = Unit {0}
 IsBetween (phase.Ended e) = Unit {0}
 
--- What an actor started, its fuel, and the fuel that it gave away and has not got back are together at most the fuel of an
--- image.
-abbrev pub funds : ℕ → ℕ → Children → ℕ
-funds starts fuel unjoined = starts + fuel + all_given unjoined
+-- What an actor started, the gates that it made, its fuel, and the fuel that it gave away and has not got back are together at
+-- most the fuel of an image.
+abbrev pub funds : ℕ → ℕ → ℕ → Children → ℕ
+funds starts gates fuel unjoined = starts + gates + fuel + all_given unjoined
 
 -- An actor that is about to start a child: its name has room for one more part, there is a draft of that number, every
 -- grant of which it may give, it has the fuel that the child is to have, and it has paid for one more start.
@@ -52,10 +53,20 @@ pub record IsReady (name : List ℕ) (sheet : Sheet) (made : Made) (drafts : Lis
   pub drafted : reg hart.regs 10 < length drafts
   pub allowed : first_excess sheet made (draft_at drafts (reg hart.regs 10)) ≡ None
   pub enough : reg hart.regs 13 ≤ fuel
-  pub paid : funds starts fuel unjoined < most_fuel
+  pub paid : funds starts made.count fuel unjoined < most_fuel
 
 abbrev pub MayStart : ActorState → Type 0
 MayStart a = IsReady a.name a.sheet a.made a.drafts a.hart a.fuel a.starts a.unjoined
+
+-- An actor that is about to make a gate: there is a draft of that number, every grant of which it may give, and it has paid for
+-- one more gate.
+pub record IsGranting (sheet : Sheet) (made : Made) (drafts : List Draft) (hart : Hart) (fuel starts : ℕ) (unjoined : Children) : Type 0 where
+  pub drafted : reg hart.regs 10 < length drafts
+  pub allowed : first_excess sheet made (draft_at drafts (reg hart.regs 10)) ≡ None
+  pub paid : funds starts made.count fuel unjoined < most_fuel
+
+abbrev pub MayMake : ActorState → Type 0
+MayMake a = IsGranting a.sheet a.made a.drafts a.hart a.fuel a.starts a.unjoined
 
 -- the name of the next child that an actor starts
 abbrev pub IsNextName : List ℕ → ℕ → List ℕ → Type 0
@@ -111,15 +122,16 @@ abbrev pub NumberFits : Option ℕ → Type 0
 NumberFits None = Unit {0}
 NumberFits (Some fd) = fd < most_fds
 
-abbrev pub PhaseFitsWhere : Type 0 → Type 0 → (List ℕ → Type 0) → (ℕ → Type 0) → Phase → Type 0
-PhaseFitsWhere P R S J phase.Running = Unit {0}
-PhaseFitsWhere P R S J (phase.Within w) = WantFitsWhere P R S J w
-PhaseFitsWhere P R S J (phase.Starting p) = R × AreInSlots p.left
-PhaseFitsWhere P R S J (phase.Opening slot tag) = (slot < slots) × P
-PhaseFitsWhere P R S J (phase.Releasing slot) = slot < slots
-PhaseFitsWhere P R S J (phase.OpeningFile o) = NumberFits o.number
-PhaseFitsWhere P R S J (phase.Ending e) = Unit {0}
-PhaseFitsWhere P R S J (phase.Ended e) = Unit {0}
+abbrev pub PhaseFitsWhere : Type 0 → Type 0 → Type 0 → (List ℕ → Type 0) → (ℕ → Type 0) → Phase → Type 0
+PhaseFitsWhere P R M S J phase.Running = Unit {0}
+PhaseFitsWhere P R M S J (phase.Within w) = WantFitsWhere P R S J w
+PhaseFitsWhere P R M S J (phase.Starting p) = R × AreInSlots p.left
+PhaseFitsWhere P R M S J (phase.MakingGate p) = M × AreInSlots p.left × (1 ≤ length p.left)
+PhaseFitsWhere P R M S J (phase.Opening slot tag) = (slot < slots) × P
+PhaseFitsWhere P R M S J (phase.Releasing slot) = slot < slots
+PhaseFitsWhere P R M S J (phase.OpeningFile o) = NumberFits o.number
+PhaseFitsWhere P R M S J (phase.Ending e) = Unit {0}
+PhaseFitsWhere P R M S J (phase.Ended e) = Unit {0}
 
 -- a read gives at most as many bytes as were asked for, and nothing else gives any
 abbrev pub GivesWithin : StreamAsk → List ℕ → Type 0

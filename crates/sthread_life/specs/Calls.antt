@@ -1,5 +1,5 @@
 -- The service calls: what the actor itself decides, up to the event that a call wants.
-use Rattle.std.specs.Prelude.{ℕ, ◌==◌, Bool, true, false, not, ◌&&◌, nat_lt, nat_le, List, [], ◌∷◌, ◌++◌, length, slice_get, slice_set, find, Option, Some, None, if◌then◌else◌}
+use Rattle.std.specs.Prelude.{ℕ, ◌+◌, ◌==◌, Bool, true, false, not, ◌&&◌, nat_lt, nat_le, List, [], ◌∷◌, ◌++◌, length, slice_get, slice_set, find, Option, Some, None, is_none, unwrap_or, if◌then◌else◌}
 use Rattle.wedge_base.specs.Images.{Image, most_pages, slot_of}
 use Rattle.wedge_base.specs.Maps.{has}
 use Rattle.wedge_base.specs.Paths.{resolve}
@@ -8,7 +8,7 @@ use Rattle.wedge_base.specs.Services.{service_number}
 use Rattle.wedge_base.specs.declared.service.Service.TheVariants as service
 use Rattle.wedge_base.specs.Files.{may_open}
 use Rattle.wedge_base.specs.Names.{same, most_parts}
-use Rattle.wedge_base.specs.Sheets.{Draft, empty_draft, takes_tag, takes_fd, with_tag, with_fd, first_excess}
+use Rattle.wedge_base.specs.Sheets.{Draft, empty_draft, takes_tag, takes_fd, takes_gate, with_tag, with_fd, with_gate, first_excess, granted, made_gate}
 use Rattle.wedge_base.specs.Streams.{most_fds}
 use Rattle.wedge_base.specs.declared.cells.LivesAsk.TheVariants as lives_ask
 use Rattle.wedge_base.specs.declared.address.Place.{Place}
@@ -18,6 +18,8 @@ use Rattle.wedge_base.specs.declared.rights.Denial.{Denial}
 use Rattle.wedge_base.specs.declared.rights.Denial.TheVariants as denial
 use Rattle.wedge_base.specs.declared.rights.FdBits.{FdBits}
 use Rattle.wedge_base.specs.declared.image.FileEntry.{FileEntry}
+use Rattle.wedge_base.specs.declared.grants.GateKind.{GateKind}
+use Rattle.wedge_base.specs.declared.grants.GateKind.TheVariants as gate_kind
 use Rattle.wedge_base.specs.declared.rights.StreamKind.{StreamKind}
 use Rattle.wedge_base.specs.declared.rights.StreamKind.TheVariants as kind
 use Rattle.wedge_base.specs.declared.rights.Right.{Right}
@@ -26,11 +28,15 @@ use Rattle.wedge_base.specs.declared.rights.Code.TheVariants as code
 use Rattle.wedge_base.specs.declared.rights.End.TheVariants as end_
 use Rattle.wedge_base.specs.declared.events.Want.TheVariants as want
 use Rattle.wedge_base.specs.declared.cells.StreamAsk.TheVariants as stream_ask
+use Rattle.callgate.specs.declared.gate.Gate.{Gate}
+use Rattle.cow_pages.specs.PrivateMemory.{PrivateMemory}
 use Rattle.image_form.specs.Rules.{begins_at}
 use Rattle.rv_hart.specs.Local.{reg}
-use Rattle.sthread_life.specs.Actors.{ActorState, right_of, bits_of, slot_held, answers, refuses, denies, ends, wants, spends}
+use Rattle.sthread_life.specs.Actors.{ActorState, pristine, right_of, bits_of, slot_held, answers, refuses, denies, ends, wants, spends}
 use Rattle.sthread_life.specs.Children.{is_child}
+use Rattle.sthread_life.specs.Copying.{Preparation, copy_grants, prepared}
 use Rattle.sthread_life.specs.Opening.{FileOpening}
+use Rattle.sthread_life.specs.declared.copy_grant.CopyGrant.{CopyGrant}
 use Rattle.sthread_life.specs.declared.phase.Phase.TheVariants as phase
 use Rattle.sthread_life.specs.Private.{fits_read, fits_write, buffer}
 
@@ -46,6 +52,9 @@ a2 a = reg a.hart.regs 12
 
 abbrev pub a3 : ActorState → ℕ
 a3 a = reg a.hart.regs 13
+
+abbrev pub a4 : ActorState → ℕ
+a4 a = reg a.hart.regs 14
 
 abbrev pub a7 : ActorState → ℕ
 a7 a = reg a.hart.regs 17
@@ -238,6 +247,20 @@ add_bits_to a (Some d) = add_bits a d (bits_asked (a2 a))
 abbrev pub sc_fd_add : ActorState → ActorState
 sc_fd_add a = add_bits_to a (slice_get a.drafts (a0 a))
 
+-- sc_cgate_add: draft, entry
+abbrev pub add_gate : Image → ActorState → Draft → ActorState
+add_gate i a d =
+    if not (is_procedure i (a1 a)) then refuses a code.Bad
+    else if takes_gate d (a1 a) then answers (with_draft a (a0 a) (with_gate d (a1 a))) 0
+    else refuses a code.Full
+
+abbrev pub add_gate_to : Image → ActorState → Option Draft → ActorState
+add_gate_to i a None = refuses a code.NoSuch
+add_gate_to i a (Some d) = add_gate i a d
+
+abbrev pub sc_cgate_add : Image → ActorState → ActorState
+sc_cgate_add i a = add_gate_to i a (slice_get a.drafts (a0 a))
+
 -- a draft with a user, and with a root directory, in place of those that it had
 abbrev pub with_user : Draft → ℕ → Draft
 with_user d user = record d { user = Some user }
@@ -267,12 +290,62 @@ set_root a path (Some d) = put_root a d path
 abbrev pub sc_root : Image → ActorState → ActorState
 sc_root i a = set_root a (path_in i a (a1 a) (a2 a)) (slice_get a.drafts (a0 a))
 
+-- ---- gates
+
+-- the draft of a number, which a call has found before
+abbrev pub draft_at : List Draft → ℕ → Draft
+draft_at ds n = unwrap_or (slice_get ds n) empty_draft
+
+-- the kind that an argument asks for: 0 for a fresh gate, 1 for a recycled one
+abbrev pub kind_asked : ℕ → GateKind
+kind_asked n = if n == 0 then gate_kind.Fresh else gate_kind.Recycled
+
+-- the gate that a call makes of its draft, whose runs begin with this private memory
+abbrev pub new_gate : ActorState → Draft → PrivateMemory → Gate
+new_gate a d m = record {
+  id = record { maker = a.name; number = a.made.count + 1 };
+  entry = a1 a;
+  sheet = granted a.sheet a.made d;
+  argument = a2 a;
+  fuel = a3 a;
+  kind = kind_asked (a4 a);
+  memory = m;
+}
+
+-- a gate is made: its maker knows it, and holds it at its entry, in place of one that it made there before
+abbrev pub has_gate : ActorState → Gate → ActorState
+has_gate a g = answers (record a { made = made_gate a.made g.entry g.id; gates = a.gates ++ g ∷ [] }) 0
+
+-- the gate is made once it has all its copies; until then the first that is left is to be made of its tag
+abbrev pub makes_or_waits : ActorState → Draft → Preparation → List CopyGrant → ActorState
+makes_or_waits a d p [] = has_gate a (new_gate a d p.memory)
+makes_or_waits a d p (g ∷ gs) = record a { phase = phase.MakingGate p }
+
+abbrev pub making : ActorState → Draft → Preparation → ActorState
+making a d p = makes_or_waits a d p p.left
+
+-- cgate_make: draft, entry, argument, fuel, kind. The draft has no user and no root directory.
+abbrev pub may_be_gate : Image → ActorState → Draft → Bool
+may_be_gate i a d = is_procedure i (a1 a) && (nat_le (a4 a) 1 && (is_none d.user && is_none d.root))
+
+abbrev pub make_checked : Image → ActorState → Draft → Option Denial → ActorState
+make_checked i a d (Some x) = denies a x
+make_checked i a d None = making a d (prepared a.sheet a.made a.memory.copies (pristine i) (copy_grants (granted a.sheet a.made d).tags))
+
+abbrev pub make_with : Image → ActorState → Option Draft → ActorState
+make_with i a None = refuses a code.NoSuch
+make_with i a (Some d) = if not (may_be_gate i a d) then refuses a code.Bad else make_checked i a d (first_excess a.sheet a.made d)
+
+abbrev pub cgate_make : Image → ActorState → ActorState
+cgate_make i a = make_with i a (slice_get a.drafts (a0 a))
+
 -- a call on drafts by its number; any other number is refused
 abbrev pub draft_call : Image → ActorState → ℕ → ActorState
 draft_call i a n =
     if n == service_number service.ScNew then sc_new a
     else if n == service_number service.ScMemAdd then sc_mem_add a
     else if n == service_number service.ScFdAdd then sc_fd_add a
+    else if n == service_number service.ScCgateAdd then sc_cgate_add i a
     else if n == service_number service.ScUser then sc_user a
     else if n == service_number service.ScRoot then sc_root i a
     else refuses a code.Bad
@@ -287,6 +360,7 @@ serves i a n =
     else if n == service_number service.TagDelete then tag_delete a
     else if n == service_number service.Smalloc then smalloc a
     else if n == service_number service.Sfree then sfree a
+    else if n == service_number service.CgateMake then cgate_make i a
     else if n == service_number service.FdRead then fd_read a
     else if n == service_number service.FdAppend then fd_append i a
     else if n == service_number service.FdClose then fd_close a

@@ -2,7 +2,7 @@
 -- the calls. A call that is refused leaves them as they are, and so does everything else.
 use Rattle.std.specs.Prelude.{◌≡◌, ℕ, zero, suc, ◌==◌, true, false, List, [], ◌∷◌, ◌++◌, slice_get, slice_set, Option, Some, None, IsSomeAnd, if◌then◌else◌}
 use Rattle.wedge_base.specs.Images.{Image, fetch}
-use Rattle.wedge_base.specs.Sheets.{Draft, empty_draft, with_tag, with_fd}
+use Rattle.wedge_base.specs.Sheets.{Draft, empty_draft, with_tag, with_fd, with_gate}
 use Rattle.wedge_base.specs.declared.events.Event.{Event}
 use Rattle.wedge_base.specs.declared.rights.FdBits.{FdBits}
 use Rattle.wedge_base.specs.declared.rights.Right.{Right}
@@ -13,7 +13,7 @@ use Rattle.rv_hart.specs.declared.Need.{Need}
 use Rattle.rv_hart.specs.declared.Need.TheVariants as need
 use Rattle.rv_hart.specs.Local.{local, reg}
 use Rattle.sthread_life.specs.Actors.{ActorState}
-use Rattle.sthread_life.specs.Refusals.{new_refusal, right_refusal, bits_refusal, user_refusal, root_refusal}
+use Rattle.sthread_life.specs.Refusals.{new_refusal, right_refusal, bits_refusal, gate_refusal, user_refusal, root_refusal}
 use Rattle.sthread_life.specs.Requests.{path_at}
 use Rattle.sthread_life.specs.Worlds.{WorldState, actor_named}
 
@@ -34,7 +34,7 @@ abbrev pub with_new : List Draft → Option ℕ → List Draft
 with_new ds (Some code) = ds
 with_new ds None = ds ++ empty_draft ∷ []
 
--- sc_new, sc_mem_add, sc_fd_add, sc_user and sc_root
+-- sc_new, sc_mem_add, sc_fd_add, sc_cgate_add, sc_user and sc_root
 abbrev pub drafts_by_call : Image → ActorState → List ℕ → ℕ → List Draft
 drafts_by_call i a regs n =
     let ds = a.drafts in
@@ -43,6 +43,7 @@ drafts_by_call i a regs n =
     if n == 7 then with_new ds (new_refusal ds)
     else if n == 8 then edited ds (reg regs 10) (right_refusal (reg regs 11) (reg regs 12) found) (λ d. with_tag d (reg regs 11) (right_of_number (reg regs 12))) found
     else if n == 9 then edited ds (reg regs 10) (bits_refusal (reg regs 11) (reg regs 12) found) (λ d. with_fd d (reg regs 11) (bits_of_number (reg regs 12))) found
+    else if n == 10 then edited ds (reg regs 10) (gate_refusal i (reg regs 11) found) (λ d. with_gate d (reg regs 11)) found
     else if n == 11 then edited ds (reg regs 10) (user_refusal found) (λ d. record d { user = Some (reg regs 11) }) found
     else if n == 12 then edited ds (reg regs 10) (root_refusal a (reg regs 12) path found) (λ d. record d { root = path }) found
     else ds

@@ -33,6 +33,7 @@ abbrev pub end_of : Phase → Option End
 end_of phase.Running = None
 end_of (phase.Within q) = None
 end_of (phase.Starting p) = None
+end_of (phase.MakingGate p) = None
 end_of (phase.Opening slot tag) = None
 end_of (phase.Releasing slot) = None
 end_of (phase.OpeningFile o) = None

@@ -15,7 +15,7 @@ use Rattle.rv_hart.specs.Local.{reg}
 use Rattle.sthread_life.specs.declared.files.StreamLabel.{StreamLabel}
 use Rattle.sthread_life.specs.declared.phase.Phase.{Phase}
 use Rattle.sthread_life.specs.declared.phase.Phase.TheVariants as phase
-use Rattle.sthread_life.specs.Actors.{ActorState}
+use Rattle.sthread_life.specs.Actors.{ActorState, but_gates}
 use Rattle.sthread_life.specs.Allowed.{answered}
 use Rattle.sthread_life.specs.Children.{Children, is_child, with_child, without_child}
 use Rattle.sthread_life.specs.Copying.{Preparation}
@@ -45,6 +45,7 @@ pub record IsChild (a c : ActorState) : Type 0 where
   pub complete : prepared.left ≡ []
   pub memory : c.memory ≡ prepared.memory
   pub fuel : c.fuel ≡ reg a.hart.regs 13
+  pub gates : c.gates ≡ a.gates
   pub fresh : IsFresh c
 
 -- its starter: it is answered the child's number, and the child's fuel goes from its own
@@ -115,7 +116,7 @@ labels_by a (Some (event.Fd fd q stream_reply.Opened)) = labelled_under a.labels
 labels_by a e = a.labels
 
 -- Nothing else changes another actor, nor what an actor may do and whom it started, but that it has made a tag or a descriptor that
--- it opened.
+-- it opened; which gates it makes is said apart.
 -- A child whose memory is prepared is started next, and who ends has joined all its children.
 pub record ActsAlone (old : WorldState) (a : ActorState) (e : Option Event) (new : WorldState) : Type 0 where
   pub after : ActorState
@@ -123,7 +124,7 @@ pub record ActsAlone (old : WorldState) (a : ActorState) (e : Option Event) (new
   pub name : after.name ≡ a.name
   pub compartment : after.compartment ≡ a.compartment
   pub sheet : after.sheet ≡ a.sheet
-  pub made : after.made ≡ made_by a e
+  pub made : but_gates after.made ≡ but_gates (made_by a e)
   pub labels : after.labels ≡ labels_by a e
   pub starts : after.starts ≡ a.starts
   pub unjoined : after.unjoined ≡ a.unjoined

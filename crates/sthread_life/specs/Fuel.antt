@@ -71,6 +71,7 @@ abbrev pub phase_work : Phase → ℕ
 phase_work phase.Running = 2
 phase_work (phase.Within q) = 7 + most_grants
 phase_work (phase.Starting p) = 6 + length p.left
+phase_work (phase.MakingGate p) = 6 + length p.left
 phase_work (phase.Opening slot tag) = 6
 phase_work (phase.Releasing slot) = 6
 phase_work (phase.OpeningFile o) = opening_work o.number

@@ -22,6 +22,7 @@ use Rattle.sthread_life.specs.Paying.{Pays}
 use Rattle.sthread_life.specs.Drafting.{EditsDrafts}
 use Rattle.sthread_life.specs.Families.{KeepsFamily}
 use Rattle.sthread_life.specs.TagCalls.{MakesTags}
+use Rattle.sthread_life.specs.GateCalls.{MakesGates}
 use Rattle.sthread_life.specs.ChildCopies.{MakesCopies}
 use Rattle.sthread_life.specs.CopiesGranted.{HasItsCopiesGranted}
 use Rattle.sthread_life.specs.Remembering.{Remembers}
@@ -30,7 +31,8 @@ use Rattle.wedge_base.specs.Directories.{slots_opening, fds_opening}
 -- what holds of a moment: its request is mediated, a call is refused by its row, an actor ends by its cause, it
 -- goes on as it should, it pays what the moment costs, its drafts are as its calls made them, its private bytes are those that it
 -- stored, it starts and joins its own children alone, none of which has more rights than it has, it makes tags by its own
--- claims alone, and the copies with which its children begin are made of its own copies and of the tags as they are then
+-- claims alone, the copies with which its children and the runs of its gates begin are made of its own copies and of the tags as they
+-- are then, and it makes gates by its own calls alone
 pub record IsLawful (old : WorldState) (a : ActorState) (e : Option Event) (new : WorldState) : Type 0 where
   pub mediated : IsMediated old a e new
   pub ends : EndsByCause old a e new
@@ -42,6 +44,7 @@ pub record IsLawful (old : WorldState) (a : ActorState) (e : Option Event) (new 
   pub family : KeepsFamily old a e new
   pub makes : MakesTags old a e new
   pub copies : MakesCopies old a e new
+  pub gates : MakesGates old a e new
 
 -- each moment of each run is lawful
 abbrev pub MomentsAreLawful : Type 0

@@ -9,6 +9,7 @@ pub mod Taking
 pub mod Cells
 pub mod Worlds
 pub mod Requests
+pub mod MadeGates
 pub mod Allowed
 pub mod Moments
 pub mod Ends
@@ -18,6 +19,7 @@ pub mod Families
 pub mod FileCalls
 pub mod TagCalls
 pub mod ChildCopies
+pub mod GateCalls
 pub mod CopiesGranted
 pub mod Drafting
 pub mod Remembering

@@ -7,7 +7,7 @@ use Rattle.wedge_base.specs.Blocks.{rounded, first_fit, block_at}
 use Rattle.wedge_base.specs.Directories.{Directory}
 use Rattle.wedge_base.specs.Images.{Image, fetch, slot_of}
 use Rattle.wedge_base.specs.Slots.{Segment}
-use Rattle.wedge_base.specs.Sheets.{Draft, takes_tag, takes_fd, first_excess}
+use Rattle.wedge_base.specs.Sheets.{Draft, takes_tag, takes_fd, takes_gate, first_excess}
 use Rattle.wedge_base.specs.Streams.{Stream, most_fds}
 use Rattle.wedge_base.specs.declared.address.Place.{Place}
 use Rattle.wedge_base.specs.declared.events.Event.{Event}
@@ -34,7 +34,7 @@ use Rattle.sthread_life.specs.Actors.{ActorState, bits_of, slot_held}
 use Rattle.sthread_life.specs.Cells.{Cells, slot_in, stream_in}
 use Rattle.sthread_life.specs.Children.{is_child}
 use Rattle.sthread_life.specs.Worlds.{WorldState}
-use Rattle.sthread_life.specs.Requests.{bytes_at, path_at, is_room, bits_to_open, file_of}
+use Rattle.sthread_life.specs.Requests.{bytes_at, path_at, is_room, bits_to_open, file_of, suits_gate}
 use Rattle.sthread_life.specs.Allowed.{may_use, is_source, fits_kind, answered}
 use Rattle.sthread_life.specs.Moments.{with_actor}
 
@@ -94,6 +94,11 @@ abbrev pub create_refusal : Image → ActorState → ℕ → Option Draft → Op
 create_refusal i a entry None = Some no_such
 create_refusal i a entry (Some d) = if not (list_any (λ p. p.address == entry) i.procedures) then Some bad else start_refusal a (first_excess a.sheet a.made d)
 
+-- cgate_make: no such draft; no procedure at the entry, a kind that is neither 0 nor 1, or a draft with a user or a root directory
+abbrev pub make_refusal : Image → ℕ → ℕ → Option Draft → Option ℕ
+make_refusal i entry kind None = Some no_such
+make_refusal i entry kind (Some d) = if suits_gate i entry kind d then None else Some bad
+
 -- sthread_join: a number that is of no child to be joined
 abbrev pub join_refusal : ActorState → ℕ → Option ℕ
 join_refusal a k = if is_child a.unjoined k then None else Some no_such
@@ -125,6 +130,14 @@ abbrev pub bits_refusal : ℕ → ℕ → Option Draft → Option ℕ
 bits_refusal fd bits None = Some no_such
 bits_refusal fd bits (Some d) = if not ((bits == 1) || ((bits == 2) || (bits == 3))) then Some bad else if takes_fd d fd then None else Some full
 
+-- sc_cgate_add: no such draft; no procedure at the entry; a draft without room, to which the entry is new
+abbrev pub gate_refusal : Image → ℕ → Option Draft → Option ℕ
+gate_refusal i entry None = Some no_such
+gate_refusal i entry (Some d) =
+    if not (list_any (λ p. p.address == entry) i.procedures) then Some bad
+    else if takes_gate d entry then None
+    else Some full
+
 -- sc_user: no such draft
 abbrev pub user_refusal : Option Draft → Option ℕ
 user_refusal None = Some no_such
@@ -141,6 +154,7 @@ draft_refusal i a regs n =
     if n == 7 then new_refusal a.drafts
     else if n == 8 then right_refusal (reg regs 11) (reg regs 12) (slice_get a.drafts (reg regs 10))
     else if n == 9 then bits_refusal (reg regs 11) (reg regs 12) (slice_get a.drafts (reg regs 10))
+    else if n == 10 then gate_refusal i (reg regs 11) (slice_get a.drafts (reg regs 10))
     else if n == 11 then user_refusal (slice_get a.drafts (reg regs 10))
     else if n == 12 then root_refusal a (reg regs 12) (path_at i a (reg regs 11) (reg regs 12)) (slice_get a.drafts (reg regs 10))
     else Some bad
@@ -155,6 +169,7 @@ call_refusal i a regs n =
     else if n == 4 then None
     else if n == 5 then size_refusal (reg regs 11)
     else if n == 6 then address_refusal (slot_of (reg regs 10))
+    else if n == 13 then make_refusal i (reg regs 11) (reg regs 14) (slice_get a.drafts (reg regs 10))
     else if n == 15 then read_refusal a (reg regs 10) (reg regs 12) (is_room a (reg regs 11) (reg regs 12))
     else if n == 16 then append_refusal a (reg regs 10) (reg regs 12) (bytes_at i a (reg regs 11) (reg regs 12))
     else if n == 17 then number_refusal (reg regs 10)

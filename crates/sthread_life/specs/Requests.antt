@@ -1,7 +1,7 @@
 -- The requests that a sheet may forbid, and which of them an instruction makes: read off its word, the
 -- registers, private memory and what lives in the cells. Nothing here calls the step, so that what the step
 -- makes of a request is a theorem.
-use Rattle.std.specs.Prelude.{ℕ, ◌%◌, ◌==◌, Bool, true, false, not, ◌&&◌, List, [], length, slice_get, find, Option, Some, None, is_some, option_map, option_and_then, nat_le, nat_lt, ◌||◌, if◌then◌else◌}
+use Rattle.std.specs.Prelude.{ℕ, ◌%◌, ◌==◌, Bool, true, false, not, ◌&&◌, List, [], length, slice_get, find, Option, Some, None, is_some, is_none, option_map, option_and_then, nat_le, nat_lt, ◌||◌, if◌then◌else◌}
 use Rattle.std.specs.List.{list_any}
 use Rattle.cow_pages.specs.Copies.{copy_at}
 use Rattle.wedge_base.specs.Memory.{range_at, read_range}
@@ -31,7 +31,7 @@ pub record Access : Type 0 where
 
 -- a request that a sheet may forbid: to load into a register, with a sign or without, to store a value, to read so many
 -- bytes of a live stream, to append bytes to one, to close one, to open the file of a path with bits, to start a child
--- with the sheet of a draft, to delete a tag, to place a block of so many bytes in a tag, and to free the block at a
+-- with the sheet of a draft, to make a gate with one, to delete a tag, to place a block of so many bytes in a tag, and to free the block at a
 -- place of a tag that lives there
 pub data Request : Type 0 where
   Loads : Access → (rd : ℕ) → (is_signed : Bool) → Request
@@ -41,6 +41,7 @@ pub data Request : Type 0 where
   Closes : (fd : ℕ) → Stream → Request
   Opens : (path : List ℕ) → FileEntry → FdBits → Request
   Creates : Draft → Request
+  Makes : Draft → Request
   Deletes : (tag : ℕ) → Request
   Allots : (tag size : ℕ) → Request
   Frees : Place → Segment → Request
@@ -118,6 +119,14 @@ abbrev pub create_of : Image → ℕ → Option Draft → Option Request
 create_of i entry None = None
 create_of i entry (Some d) = if list_any (λ p. p.address == entry) i.procedures then Some (Creates d) else None
 
+-- cgate_make: there is such a draft, without a user and without a root directory, a procedure at the entry, and the kind is 0 or 1
+abbrev pub suits_gate : Image → ℕ → ℕ → Draft → Bool
+suits_gate i entry kind d = list_any (λ p. p.address == entry) i.procedures && (((kind == 0) || (kind == 1)) && (is_none d.user && is_none d.root))
+
+abbrev pub make_of : Image → ℕ → ℕ → Option Draft → Option Request
+make_of i entry kind None = None
+make_of i entry kind (Some d) = if suits_gate i entry kind d then Some (Makes d) else None
+
 -- smalloc: the size is not 0; the tag need not live
 abbrev pub allot_of : ℕ → ℕ → Option Request
 allot_of tag size = if size == 0 then None else Some (Allots tag size)
@@ -134,6 +143,7 @@ call_request i c a regs n =
     else if n == 4 then Some (Deletes (reg regs 10))
     else if n == 5 then allot_of (reg regs 10) (reg regs 11)
     else if n == 6 then free_of c (slot_of (reg regs 10))
+    else if n == 13 then make_of i (reg regs 11) (reg regs 14) (slice_get a.drafts (reg regs 10))
     else if n == 15 then read_of c a (reg regs 10) (reg regs 11) (reg regs 12)
     else if n == 16 then append_of c a (reg regs 10) (reg regs 12) (bytes_at i a (reg regs 11) (reg regs 12))
     else if n == 17 then close_of c (reg regs 10)

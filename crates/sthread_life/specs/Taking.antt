@@ -1,11 +1,11 @@
 -- The actor's part of a shared event: what it wants and asks, and what the reply makes of it.
-use Rattle.std.specs.Prelude.{ℕ, ◌+◌, ◌-◌, List, [], ◌∷◌, ◌++◌, length, slice_get, Option, Some, None, option_map, option_and_then, unwrap_or}
+use Rattle.std.specs.Prelude.{ℕ, ◌+◌, ◌-◌, List, [], ◌∷◌, ◌++◌, length, Option, Some, None, option_map, option_and_then}
 use Rattle.cow_pages.specs.Copies.{without_copy}
 use Rattle.cow_pages.specs.Listed.{bytes_listed}
 use Rattle.cow_pages.specs.PrivateMemory.{PrivateMemory, no_memory}
 use Rattle.wedge_base.specs.Images.{Image, fetch, address_of}
 use Rattle.wedge_base.specs.Memory.{write_at}
-use Rattle.wedge_base.specs.Sheets.{Draft, empty_draft, nothing_made, granted, made_tag, made_fd}
+use Rattle.wedge_base.specs.Sheets.{nothing_made, granted, made_tag, made_fd}
 use Rattle.wedge_base.specs.Wants.{asked_with}
 use Rattle.wedge_base.specs.declared.rights.Right.{Right}
 use Rattle.wedge_base.specs.declared.rights.Denial.TheVariants as denial
@@ -44,9 +44,9 @@ use Rattle.sthread_life.specs.declared.phase.Phase.{Phase}
 use Rattle.sthread_life.specs.declared.phase.Phase.TheVariants as phase
 use Rattle.sthread_life.specs.Actors.{ActorState, pristine, opening_hart, right_of, answers, answers_more, refuses, notes, denies, ends, spends}
 use Rattle.sthread_life.specs.Private.{has_loaded, has_stored}
-use Rattle.sthread_life.specs.Calls.{a0, a1, a2, a3}
+use Rattle.sthread_life.specs.Calls.{a0, a1, a2, a3, draft_at, making}
 use Rattle.sthread_life.specs.Children.{Children, least_child, with_child, without_child, child_name}
-use Rattle.sthread_life.specs.Copying.{copy_grants, copied_from, prepared, behind_first}
+use Rattle.sthread_life.specs.Copying.{Preparation, copy_grants, copied_from, prepared, behind_first}
 use Rattle.sthread_life.specs.declared.copy_grant.CopyGrant.{CopyGrant}
 
 -- the number of the next actor that it starts
@@ -66,6 +66,11 @@ abbrev pub starting_want : ActorState → List CopyGrant → Want
 starting_want a [] = want.Start (child_name a.name (next_start a))
 starting_want a (g ∷ gs) = want.Slot g.slot (slot_want.Snap g.tag)
 
+-- an actor that makes a gate asks for a copy of the next tag of which one is to be made
+abbrev pub making_want : List CopyGrant → Option Want
+making_want [] = None
+making_want (g ∷ gs) = Some (want.Slot g.slot (slot_want.Snap g.tag))
+
 -- an actor that opens a file asks for a number for its descriptor, and then opens the stream behind it
 abbrev pub opening_want : FileOpening → Option ℕ → Want
 opening_want o None = want.Fds directory_ask.Claim
@@ -76,6 +81,7 @@ abbrev pub wanted_at : ActorState → Phase → Option Want
 wanted_at a phase.Running = None
 wanted_at a (phase.Within w) = Some w
 wanted_at a (phase.Starting p) = Some (starting_want a p.left)
+wanted_at a (phase.MakingGate p) = making_want p.left
 wanted_at a (phase.Opening slot tag) = Some (want.Slot slot (slot_want.Open tag (a0 a)))
 wanted_at a (phase.OpeningFile o) = Some (opening_want o o.number)
 wanted_at a (phase.Releasing slot) = Some (want.Slots (directory_ask.Release slot))
@@ -118,11 +124,14 @@ has_opened a slot (slot_ask.Open tag pages) =
     answers_more (record a { made = made_tag a.made tag slot; memory = record a.memory { copies = without_copy a.memory.copies slot } }) tag (address_of slot 0)
 has_opened a slot q = runs a
 
--- the copy of a tag is put into the memory of the child that is to be started, and the next ones are made, up to the first that is to
--- be made of a tag; one that lives no more gives none
+-- the copy of a tag is put into the memory of the child that is to be started, or with which runs of a gate are to begin, and the
+-- next ones are made, up to the first that is to be made of a tag; one that lives no more gives none
+abbrev pub copied_on : ActorState → Preparation → ℕ → Option (List ℕ) → Preparation
+copied_on a p slot bytes = prepared a.sheet a.made a.memory.copies (copied_from bytes slot p.memory) (behind_first p.left)
+
 abbrev pub has_snapped : ActorState → Phase → ℕ → Option (List ℕ) → ActorState
-has_snapped a (phase.Starting p) slot bytes =
-    record a { phase = phase.Starting (prepared a.sheet a.made a.memory.copies (copied_from bytes slot p.memory) (behind_first p.left)) }
+has_snapped a (phase.Starting p) slot bytes = record a { phase = phase.Starting (copied_on a p slot bytes) }
+has_snapped a (phase.MakingGate p) slot bytes = making a (draft_at a.drafts (a0 a)) (copied_on a p slot bytes)
 has_snapped a p slot bytes = runs a
 
 -- A slot's reply, to what was asked of it. A tag that is closed has its slot released next.
@@ -182,10 +191,6 @@ takes_stream a fd stream_reply.NoSuch = refuses a code.NoSuch
 takes_stream a fd (stream_reply.Denied wants) = denies a (denial.Fd fd wants)
 takes_stream a fd stream_reply.Bad = refuses a code.Bad
 takes_stream a fd stream_reply.Opened = has_opened_file a a.phase fd
-
--- the draft of a number, which a start has found before
-abbrev pub draft_at : List Draft → ℕ → Draft
-draft_at ds n = unwrap_or (slice_get ds n) empty_draft
 
 -- the grants of copies of the draft at hand
 abbrev pub copies_asked : ActorState → List CopyGrant
@@ -253,6 +258,7 @@ child_of i a name = record {
   compartment = a1 a;
   sheet = granted a.sheet a.made (draft_at a.drafts (a0 a));
   made = nothing_made;
+  gates = a.gates;
   labels = [];
   drafts = [];
   hart = record (opening_hart (a1 a)) { regs = put (opening_hart (a1 a)).regs 10 (a2 a) };

@@ -18,6 +18,7 @@ use crate::copy_grant::is_copy_alone;
 use crate::files::StreamLabel;
 use crate::phase::Phase;
 use crate::unjoined::Children;
+use callgate::Gate;
 use cow_pages::{Pages, PrivateView};
 use grant_sheet::{Draft, Made, Sheet, right_on};
 use image_form::Image;
@@ -25,6 +26,7 @@ use ready_text::Program;
 use rv_hart::Hart;
 use std::alloc::Global;
 use std::marker::Model;
+use std::sync::Arc;
 use wedge_base::{
     ActorName, Ask, Code, Denial, DenialAt, End, Items, Live, NoMemory, PRIVATE_BASE, PRIVATE_SIZE,
     PathText, Slot, TagEntry, TagNo, Want,
@@ -42,6 +44,9 @@ pub struct Actor {
     pub(crate) compartment: u32,
     pub(crate) sheet: Sheet,
     pub(crate) made: Made,
+    /// The gates that it knows: those that its starter knew when it started it, and those that it made. That a gate is among
+    /// them is no right to enter it.
+    pub(crate) gates: Vec<Arc<Gate>>,
     /// The paths of the files that it opened.
     pub(crate) labels: Items<StreamLabel>,
     pub(crate) drafts: Vec<Draft>,
@@ -57,10 +62,11 @@ pub struct Actor {
 
 impl Model for Actor {
     ghost use Rattle.sthread_life.specs.Actors.{ActorRecord};
-    ghost use Rattle.std.specs.Prelude.{◌≡◌, ◌≤◌, true};
+    ghost use Rattle.std.specs.Arc.{arc_value};
+    ghost use Rattle.std.specs.Prelude.{◌≡◌, ◌≤◌, true, map};
     ghost use Rattle.sthread_life.specs.Children.{is_child};
     ghost use Rattle.image_form.specs.Rules.{most_fuel};
-    ghost use Rattle.sthread_life.specs.Between.{AsksPages, HoldsInSlots, IsReady, IsNextName, PhaseFitsWhere, funds};
+    ghost use Rattle.sthread_life.specs.Between.{AsksPages, HoldsInSlots, IsReady, IsGranting, IsNextName, PhaseFitsWhere, funds};
 
     ghost Value = { ActorRecord };
 
@@ -69,6 +75,7 @@ impl Model for Actor {
       compartment = a.compartment;
       sheet = a.sheet;
       made = a.made;
+      gates = map arc_value a.gates.items;
       labels = a.labels;
       drafts = a.drafts.items;
       hart = a.hart;
@@ -82,10 +89,11 @@ impl Model for Actor {
 
     ghost invariant = { λ a. record {
       fits : PhaseFitsWhere (AsksPages a.hart) (IsReady a.name a.sheet a.made a.drafts.items a.hart
-          a.fuel a.starts a.unjoined) (IsNextName a.name a.starts)
+          a.fuel a.starts a.unjoined) (IsGranting a.sheet a.made a.drafts.items a.hart a.fuel
+          a.starts a.unjoined) (IsNextName a.name a.starts)
           (λ k. is_child a.unjoined k ≡ true) a.phase;
       placed : HoldsInSlots a.sheet a.made;
-      funded : funds a.starts a.fuel a.unjoined ≤ most_fuel;
+      funded : funds a.starts a.made.count a.fuel a.unjoined ≤ most_fuel;
     } };
 }
 
@@ -115,6 +123,7 @@ impl Actor {
             compartment: image.entry(),
             sheet: root_sheet(alloc, image)?,
             made: Made::new(alloc),
+            gates: Vec::new(alloc),
             labels: Items::new(Vec::new(alloc)),
             drafts: Vec::new(alloc),
             hart,

@@ -9,7 +9,7 @@ ghost use Rattle.sthread_life.specs.Calls as calls;
 
 use crate::actor::Actor;
 use cow_pages::PrivateView;
-use image_form::Image;
+use ready_text::Program;
 use wedge_base::{End, NoMemory, Service};
 
 /// The register of a call's first argument.
@@ -20,6 +20,8 @@ pub(crate) const A1: u8 = 11;
 pub(crate) const A2: u8 = 12;
 /// The register of its fourth argument: the fuel of a child.
 pub(crate) const A3: u8 = 13;
+/// The register of its fifth argument: the kind of a gate.
+pub(crate) const A4: u8 = 14;
 /// The register of its number.
 const A7: u8 = 17;
 
@@ -27,13 +29,18 @@ impl Actor {
     /// The service call at hand, up to the event that it wants.
     #[inline(never)]
     #[tactic(auto, unfolding(crate::specs::Calls::serves))]
-    pub(crate) fn serve(&mut self, image: &Image, memory: &PrivateView) -> Result<(), NoMemory>
+    pub(crate) fn serve(
+        &mut self,
+        program: &Program<'_>,
+        memory: &PrivateView,
+    ) -> Result<(), NoMemory>
         requires running { self.old.phase ≡ phase.Running }
-        requires paid { funds self.old.starts self.old.fuel self.old.unjoined < most_fuel }
+        requires paid { funds self.old.starts self.old.made.count self.old.fuel self.old.unjoined < most_fuel }
         ensures { OnOk result (whole self.new memory.now
-            ≡ calls.serves image.now (whole self.old memory.now)
+            ≡ calls.serves program.now (whole self.old memory.now)
             (calls.a7 (whole self.old memory.now))) }
     {
+        let image = program.image();
         let number = self.hart.reg(A7);
         if number == Service::Exit.number() {
             let value = self.hart.reg(A0);
@@ -50,6 +57,8 @@ impl Actor {
             self.smalloc()?;
         } else if number == Service::Sfree.number() {
             self.sfree();
+        } else if number == Service::CgateMake.number() {
+            self.cgate_make(program, memory)?;
         } else if number == Service::FdRead.number() {
             self.fd_read(memory);
         } else if number == Service::FdAppend.number() {

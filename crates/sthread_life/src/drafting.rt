@@ -34,6 +34,8 @@ impl Actor {
             self.sc_mem_add()?;
         } else if number == Service::ScFdAdd.number() {
             self.sc_fd_add()?;
+        } else if number == Service::ScCgateAdd.number() {
+            self.sc_cgate_add(image)?;
         } else if number == Service::ScUser.number() {
             self.sc_user();
         } else if number == Service::ScRoot.number() {
@@ -101,6 +103,31 @@ impl Actor {
         let fd = FdNo(self.hart.reg(A1));
         let draft = &mut self.drafts[number];
         match draft.put_fd(fd, bits) {
+            Ok(()) => self.answer(0, 0),
+            Err(DraftFault::Full) => self.refuse(Code::Full),
+            Err(DraftFault::NoMemory) => return Err(NoMemory),
+        }
+        Ok(())
+    }
+
+    /// The call that puts the gate at an entry into a draft.
+    fn sc_cgate_add(&mut self, image: &Image) -> Result<(), NoMemory>
+        requires { self.old.phase ≡ phase.Running }
+        ensures { OnOk result ((m : PrivateMemory) → whole self.new m
+            ≡ calls.sc_cgate_add image.now (whole self.old m)) }
+    {
+        let number = self.hart.reg(A0) as usize;
+        if number >= self.drafts.len() {
+            self.refuse(Code::NoSuch);
+            return Ok(());
+        }
+        let entry = self.hart.reg(A1);
+        if image.proc_at(entry).is_none() {
+            self.refuse(Code::Bad);
+            return Ok(());
+        }
+        let draft = &mut self.drafts[number];
+        match draft.put_gate(entry) {
             Ok(()) => self.answer(0, 0),
             Err(DraftFault::Full) => self.refuse(Code::Full),
             Err(DraftFault::NoMemory) => return Err(NoMemory),

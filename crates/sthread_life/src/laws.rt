@@ -9,8 +9,10 @@ ghost use Rattle.sthread_life.specs.Walks.{RootsWalk};
 /// missing grant, and all else stays but that a load or store ends its actor and a call answers that it is
 /// denied; where no request is in question nothing is denied. A call is refused with the code of its row. Each
 /// actor ends exactly by the cause of its end, passes no instruction over, and pays exactly what each moment
-/// costs: a unit of fuel for an instruction, and one for each byte that it appends. Its drafts are as its calls
-/// made them. Its private bytes are those that it stored, and a load gives them.
+/// costs: a unit of fuel for an instruction, and one for each byte that it reads or appends, and of the path of a root
+/// directory or of a file that it opens. Its drafts are as its calls made them. Its private bytes are those that it stored, and
+/// a load gives them. It starts and joins its own children alone, each with no more rights than it has itself, and makes
+/// tags, gates and the copies with which children and the runs of gates begin by its own calls alone.
 pub fn moments_are_lawful()
     ensures { MomentsAreLawful }
 {}

@@ -12,6 +12,7 @@ mod files;
 mod laws;
 mod lives;
 mod local;
+mod making;
 mod phase;
 mod preparation;
 mod roots;

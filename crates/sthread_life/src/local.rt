@@ -14,6 +14,7 @@ ghost use Rattle.sthread_life.specs.Taking.{wanted};
 ghost use Rattle.sthread_life.specs.Resting.{want_in, end_in, NextFits};
 
 use crate::actor::Actor;
+use crate::making::making_want;
 use crate::phase::Phase;
 use crate::tags::releasing_want;
 use cow_pages::PrivateView;
@@ -105,6 +106,7 @@ impl Actor {
         match &self.phase {
             Phase::Within(want) => Ok(Next::Shared(want.copy(self.alloc)?)),
             Phase::Starting(preparation) => Ok(Next::Shared(self.starting_want(preparation)?)),
+            Phase::MakingGate(preparation) => Ok(Next::Shared(making_want(preparation))),
             Phase::Opening { slot, tag } => Ok(Next::Shared(self.opening_want(*slot, *tag))),
             Phase::Releasing { slot } => Ok(Next::Shared(releasing_want(*slot))),
             Phase::OpeningFile(opening) => Ok(Next::Shared(opening.want()?)),
@@ -156,7 +158,7 @@ impl Actor {
     ) -> Result<(), NoMemory>
         requires registers { HasRegisters instr.now }
         requires running { self.old.phase ≡ phase.Running }
-        requires paid { funds self.old.starts self.old.fuel self.old.unjoined < most_fuel }
+        requires paid { funds self.old.starts self.old.made.count self.old.fuel self.old.unjoined < most_fuel }
         ensures { OnOk result (whole self.new memory.new
             ≡ local.proceeds program.now instr.now (whole self.old memory.old)
             (hart.local instr.now self.old.hart)) }
@@ -173,7 +175,7 @@ impl Actor {
                 width,
                 value,
             } => self.store(program, memory, address, width, value)?,
-            Need::Call => self.serve(program.image(), memory)?,
+            Need::Call => self.serve(program, memory)?,
             Need::Break => self.end(End::Break),
             Need::JumpMisaligned => self.end(End::JumpMisaligned),
         }

@@ -14,6 +14,8 @@ pub enum Phase {
     /// A life is claimed for a child: it wants the copies of tags with which the child begins, one after another, and then
     /// the child's start.
     Starting(Preparation),
+    /// It makes a gate: it wants the copies of tags with which the gate's runs begin, one after another.
+    MakingGate(Preparation),
     /// A slot is claimed for a new tag, and it wants to open the tag there.
     Opening { slot: Slot, tag: TagNo },
     /// The tag that lived in a slot is closed, and it wants to release the slot.

@@ -1,6 +1,7 @@
 //! Starting and joining children.
 
-ghost use Rattle.std.specs.Prelude.{◌≡◌, ◌<◌, ◌≤◌, Some, None, length, option_map, IfOk, IfSome, OnOk, IsSomeAnd, false};
+ghost use Rattle.std.specs.Arc.{arc_value};
+ghost use Rattle.std.specs.Prelude.{◌≡◌, ◌<◌, ◌≤◌, Some, None, length, map, option_map, IfOk, IfSome, OnOk, IsSomeAnd, false};
 ghost use Rattle.wedge_base.specs.Names.{most_parts};
 ghost use Rattle.wedge_base.specs.Sheets as sheets;
 ghost use Rattle.wedge_base.specs.declared.events.Want.{Want as AWant};
@@ -20,12 +21,14 @@ use crate::copy_grant::{CopyGrant, copy_grants};
 use crate::phase::Phase;
 use crate::preparation::Preparation;
 use crate::unjoined::Children;
+use callgate::Gate;
 use cow_pages::{Pages, PrivateView};
 use grant_sheet::{Made, first_excess, sheet_of};
 use image_form::Image;
 use ready_text::Program;
 use rv_hart::Hart;
 use std::mem;
+use std::sync::Arc;
 use wedge_base::{
     ActorName, Code, Denial, End, Items, LivesAsk, LivesReply, MOST_PARTS, NameFault, NoMemory,
     PRIVATE_BASE, PRIVATE_SIZE, Slot, SlotWant, Want,
@@ -34,7 +37,7 @@ use wedge_base::{
 impl Actor {
     /// The call that starts a child, up to the claim of a life for it.
     pub(crate) fn create(&mut self, image: &Image) -> Result<(), NoMemory>
-        requires { funds self.old.starts self.old.fuel self.old.unjoined < most_fuel }
+        requires { funds self.old.starts self.old.made.count self.old.fuel self.old.unjoined < most_fuel }
         ensures { OnOk result ((m : PrivateMemory) → whole self.new m
             ≡ calls.create image.now (whole self.old m)) }
     {
@@ -53,10 +56,10 @@ impl Actor {
 
     /// The call that starts a child, with the first part of the draft that it may not give.
     fn create_checked(&mut self, excess: Option<Denial>) -> Result<(), NoMemory>
-        requires paid { funds self.old.starts self.old.fuel self.old.unjoined < most_fuel }
+        requires paid { funds self.old.starts self.old.made.count self.old.fuel self.old.unjoined < most_fuel }
         requires drafted { calls.a0 (whole self.old no_memory) < length self.old.drafts }
         requires excess { excess ≡ sheets.first_excess self.old.sheet self.old.made
-            (taking.draft_at self.old.drafts (calls.a0 (whole self.old no_memory))) }
+            (calls.draft_at self.old.drafts (calls.a0 (whole self.old no_memory))) }
         ensures { OnOk result ((m : PrivateMemory) → whole self.new m
             ≡ calls.create_checked (whole self.old m) excess) }
     {
@@ -72,10 +75,10 @@ impl Actor {
 
     /// The call that starts a child, where it may give every grant of the draft.
     fn create_allowed(&mut self)
-        requires room { funds self.old.starts self.old.fuel self.old.unjoined < most_fuel }
+        requires room { funds self.old.starts self.old.made.count self.old.fuel self.old.unjoined < most_fuel }
         requires drafted { calls.a0 (whole self.old no_memory) < length self.old.drafts }
         requires allowed { sheets.first_excess self.old.sheet self.old.made
-            (taking.draft_at self.old.drafts (calls.a0 (whole self.old no_memory))) ≡ None }
+            (calls.draft_at self.old.drafts (calls.a0 (whole self.old no_memory))) ≡ None }
         ensures { (m : PrivateMemory) → whole self.new m ≡ calls.create_allowed (whole self.old m) }
     {
         if self.name.parts().len() >= MOST_PARTS {
@@ -157,9 +160,9 @@ impl Actor {
         Ok(())
     }
 
-    /// The pristine memory for a child, and the grants of copies that it is to have.
-    fn preparation(&self, program: &Program<'_>) -> Result<Preparation, NoMemory>
-        requires { MayStart (whole self.now no_memory) }
+    /// The pristine memory for a child or for the runs of a gate, and the grants of copies that these are to have.
+    pub(crate) fn preparation(&self, program: &Program<'_>) -> Result<Preparation, NoMemory>
+        requires { calls.a0 (whole self.now no_memory) < length self.now.drafts }
         ensures is { IfOk result (λ p. p ≡ record {
           memory = pristine program.now;
           left = taking.copies_asked (whole self.now no_memory);
@@ -173,8 +176,8 @@ impl Actor {
         Preparation::new(alloc, memory, grants)
     }
 
-    /// A copy of a tag was made for the child that is to be started, or the tag lives no more: the next copies are made, up
-    /// to the first that is to be made of a tag.
+    /// A copy of a tag was made for the child that is to be started or the gate that is to be made, or the tag lives no more:
+    /// the next copies are made, up to the first that is to be made of a tag.
     pub(crate) fn go_on_copying(
         &mut self,
         memory: &PrivateView,
@@ -183,13 +186,20 @@ impl Actor {
     ) -> Result<(), NoMemory>
         ensures takes { OnOk result (whole self.new memory.now ≡ taking.has_snapped
             (whole self.old memory.now) self.old.phase slot pages) }
-        ensures name { self.new.name ≡ self.old.name }
+        ensures name { OnOk result (self.new.name ≡ self.old.name) }
     {
-        let Phase::Starting(preparation) = &mut self.phase else {
-            self.phase = Phase::Running;
-            return Ok(());
-        };
-        preparation.go_on(slot, pages, &self.sheet, &self.made, memory)
+        match mem::replace(&mut self.phase, Phase::Running) {
+            Phase::Starting(mut preparation) => {
+                preparation.go_on(slot, pages, &self.sheet, &self.made, memory)?;
+                self.phase = Phase::Starting(preparation);
+                Ok(())
+            }
+            Phase::MakingGate(mut preparation) => {
+                preparation.go_on(slot, pages, &self.sheet, &self.made, memory)?;
+                self.go_on_making(preparation)
+            }
+            _ => Ok(()),
+        }
     }
 
     /// The child of a name that it is ready to start, but for its private memory.
@@ -214,6 +224,7 @@ impl Actor {
             compartment: entry,
             sheet,
             made: Made::new(alloc),
+            gates: copy_of_gates(&self.gates)?,
             labels: Items::new(Vec::new(alloc)),
             drafts: Vec::new(alloc),
             hart,
@@ -294,6 +305,13 @@ impl Actor {
             }
         }
     }
+}
+
+/// The same gates, which both know then.
+fn copy_of_gates(gates: &Vec<Arc<Gate>>) -> Result<Vec<Arc<Gate>>, NoMemory>
+    ensures { IfOk result (λ v. map arc_value v.items ≡ map arc_value gates.now.items) }
+{
+    Ok(gates.clone()?)
 }
 
 /// The value of an actor that ended so: 0 unless it exited with another.

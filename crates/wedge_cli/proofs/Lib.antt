@@ -5,3 +5,4 @@ pub mod Statuses
 pub mod Replays
 pub mod Again
 pub mod TraceFaults
+pub mod Links

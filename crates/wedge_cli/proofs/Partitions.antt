@@ -15,7 +15,7 @@ use Rattle.wedge_cli.specs.declared.refusal.PartRefusal.TheVariants as part
 use Rattle.wedge_cli.specs.Refusals.{as_refused, part_refusal_of}
 use Rattle.wedge_cli.specs.Loading.{built_of, by_partition, most_partition, IsRefusalOf}
 
-not_utf8 : (bytes : List ℕ) (t : Bool) → is_utf8 bytes ≡ t → (IsUtf8 bytes → ⊥) → is_utf8 bytes ≡ false
+pub not_utf8 : (bytes : List ℕ) (t : Bool) → is_utf8 bytes ≡ t → (IsUtf8 bytes → ⊥) → is_utf8 bytes ≡ false
 not_utf8 bytes true e h = absurd (h (IsUtf8-from_is_utf8 bytes e))
 not_utf8 bytes false e h = e
 

@@ -5,6 +5,7 @@ use Rattle.std.proofs.lemmas.Bool.{le-ltb, lt-ltb}
 use Rattle.host_io.specs.Exposed.{WhereExposed}
 use Rattle.wedge_base.specs.Images.{Image}
 use Rattle.image_form.specs.declared.fault.Fault.{Fault}
+use Rattle.elf_in.specs.declared.fault.Fault.{Fault as ElfFault}
 use Rattle.image_form.specs.Reading.{reading}
 use Rattle.report_text.specs.Schedules.{names_in}
 use Rattle.sthread_life.specs.Worlds.{WorldState, opening}
@@ -53,6 +54,7 @@ image_refused m n (refusal.Image fault) h = ap (λ x. replay_of x n) h
 image_refused m n (refusal.Partition p) h = ap (λ x. replay_of x n) h
 image_refused m n (refusal.Schedule s) h = absurd h
 image_refused m n (refusal.Trace fault) h = absurd h
+image_refused m n (refusal.Elf fault) h = absurd h
 image_refused m n (refusal.NoSuchName item) h = absurd h
 
 pub names_refused : (m : Result Image Refusal) (i : Image) (n : Result (List (List ℕ)) Refusal) (r : Refusal) → m ≡ Ok i → IsRefusalIn n r → IsRefusalIn (replay_of m n) r
@@ -62,6 +64,7 @@ names_refused m i n (refusal.Image fault) is h = ap (λ x. replay_of x n) is ∙
 names_refused m i n (refusal.Partition p) is h = ap (λ x. replay_of x n) is ∙ ap (λ x. replay_of (Ok i) x) h
 names_refused m i n (refusal.Schedule s) is h = ap (λ x. replay_of x n) is ∙ ap (λ x. replay_of (Ok i) x) h
 names_refused m i n (refusal.Trace fault) is h = absurd h
+names_refused m i n (refusal.Elf fault) is h = ap (λ x. replay_of x n) is ∙ ap (λ x. replay_of (Ok i) x) h
 names_refused m i n (refusal.NoSuchName item) is h = absurd h
 
 -- ---- which refusals come of the image
@@ -75,6 +78,10 @@ image_cause : (m : Result Image Refusal) (n : Result (List (List ℕ)) ℕ) (r :
 image_cause (Err why) n r unlike e = let is : why ≡ r = cc in ap (λ x. Err x) is
 image_cause (Ok i) (Err at) r unlike e = absurd (unlike (schedule.Form at) (let is : refusal.Schedule (schedule.Form at) ≡ r = cc in sym is))
 image_cause (Ok i) (Ok names) r unlike e = absurd (report_cause (replayed (opening i) 1 names) r unlike e)
+
+no_elf_by : (m : Result Image Fault) (f : ElfFault) → image_by m ≡ Err (refusal.Elf f) → ⊥
+no_elf_by (Ok i) f e = cc
+no_elf_by (Err g) f e = cc
 
 no_partition_by : (m : Result Image Fault) (p : PartRefusal) → image_by m ≡ Err (refusal.Partition p) → ⊥
 no_partition_by (Ok i) p e = cc
@@ -94,6 +101,7 @@ first_unread image schedule files before after (refusal.Image fault) h = (
 first_unread image schedule files before after (refusal.Partition p) h = let e = h.is in absurd cc
 first_unread image schedule files before after (refusal.Schedule s) h = let e = h.is in absurd cc
 first_unread image schedule files before after (refusal.Trace fault) h = let e = h.is in absurd cc
+first_unread image schedule files before after (refusal.Elf fault) h = let e = h.is in absurd cc
 first_unread image schedule files before after (refusal.NoSuchName item) h = absurd h
 
 -- the schedule's was not, after the image's
@@ -109,6 +117,7 @@ second_unread image schedule files before after middle bytes (refusal.Partition 
 second_unread image schedule files before after middle bytes (refusal.Schedule s) low same within h = λ a b image_is schedule_is.
     long_second a b (subst (λ x. length x ≤ most_of kind.Image) (same a image_is) within) (h.longer b schedule_is) ∙ ap (λ r. Err r) (sym h.is)
 second_unread image schedule files before after middle bytes (refusal.Trace fault) low same within h = let e = h.is in absurd cc
+second_unread image schedule files before after middle bytes (refusal.Elf fault) low same within h = let e = h.is in absurd cc
 second_unread image schedule files before after middle bytes (refusal.NoSuchName item) low same within h = absurd h
 
 -- both were read
@@ -138,4 +147,6 @@ both_read image schedule files before after bytes names (refusal.Partition p) sa
 both_read image schedule files before after bytes names (refusal.Schedule s) same same_names within within_names h =
     answered image schedule files bytes names (Err (refusal.Schedule s)) same same_names h
 both_read image schedule files before after bytes names (refusal.Trace fault) same same_names within within_names h = absurd h
+both_read image schedule files before after bytes names (refusal.Elf fault) same same_names within within_names h =
+    no_elf_by (reading bytes) fault (image_cause (image_of bytes) (names_in names) (refusal.Elf fault) (λ s e. cc) (sym (text_within bytes names within within_names) ∙ h))
 both_read image schedule files before after bytes names (refusal.NoSuchName item) same same_names within within_names h = absurd h

@@ -12,7 +12,8 @@ use Rattle.wedge_cli.specs.declared.writing.Text.{Text}
 use Rattle.wedge_cli.specs.Lines.{line, usage_line, refusal_text, status_of}
 use Rattle.wedge_cli.specs.Loading.{image_of, built_of, IsRefusedBy}
 use Rattle.wedge_cli.specs.Replaying.{replay_text}
-use Rattle.wedge_cli.specs.Words.{Asked, Run, Show, Build, Replay, Derive, Analyze}
+use Rattle.wedge_cli.specs.Linking.{link_text, IsLinkedImage}
+use Rattle.wedge_cli.specs.Words.{Asked, Run, Show, Build, Link, Replay, Derive, Analyze}
 use Rattle.image_form.specs.Rules.{Encodes}
 use Rattle.report_text.specs.Reports.{report_of}
 use Rattle.report_text.specs.Schedules.{actors_of, schedule_of}
@@ -20,12 +21,13 @@ use Rattle.wedge_cli.specs.Outside.{Device, Sinks, Outside, Rises, Takes}
 use Rattle.trace_form.specs.Records.{records_of}
 use Rattle.cb_analyze.specs.Sheets.{sheets_of}
 use Rattle.cb_analyze.specs.Texts.{sheets_text}
-use Rattle.wedge_cli.specs.Ended.{AreTaken, IsReported, IsTraceAnswer, IsWritten, IsSaid, IsRunDone, IsScheduleDone, IsCutShort, IsAnswerEnd}
+use Rattle.wedge_cli.specs.Ended.{AreTaken, IsReported, IsPairAnswer, IsTraceAnswer, IsWritten, IsSaid, IsRunDone, IsScheduleDone, IsLinkDone, IsCutShort, IsAnswerEnd}
 use Rattle.wedge_cli.specs.declared.words.Query.{Query}
 use Rattle.wedge_cli.specs.Traces.{derive_text, analyze_text, query_lines, answer_to, unless_fault, IsUnknownIn, IsTraceRefused, IsQueryRefused}
-use Rattle.wedge_cli.specs.Causes.{IsReplayRefused, IsRefused, IsUnfit, IsRejected, IsTraceRejected, IsUnknown, IsUnreadable, SaysRefusal, IsRefusal, IsDone, IsUsage, IsAnswer}
+use Rattle.wedge_cli.specs.Causes.{IsReplayRefused, IsRefused, IsUnfit, IsRejected, IsTraceRejected, IsElfRejected, IsUnknown, IsUnreadable, SaysRefusal, IsRefusal, IsDone, IsUsage, IsAnswer}
 use Rattle.wedge_cli.proofs.Written.{Rise, written_status, said_status, took_out, took_err, took_both}
 use Rattle.wedge_cli.proofs.Again.{schedule_replays}
+use Rattle.wedge_cli.proofs.Links.{unfit_link, unread_link, rejected_elf, no_other_link, link_refusal}
 
 -- what was done with a command: it was refused, or its texts were written
 abbrev IsEither : Asked → Ended → Outside → Outside → Type 0
@@ -57,6 +59,7 @@ other_than (refusal.Image fault) n h e = absurd (omega arith)
 other_than (refusal.Partition p) n h e = absurd (omega arith)
 other_than (refusal.Schedule s) n h e = absurd (omega arith)
 other_than (refusal.Trace fault) n h e = absurd (omega arith)
+other_than (refusal.Elf fault) n h e = absurd (omega arith)
 other_than (refusal.NoSuchName item) n h e = absurd (omega arith)
 
 -- ---- 3
@@ -73,6 +76,7 @@ unfit_by meant name content before after (refusal.Image fault) h e = λ bytes ex
 unfit_by meant name content before after (refusal.Partition p) h e = λ bytes exposed. is_err_of (meant bytes) (refusal.Partition p) (h bytes exposed)
 unfit_by meant name content before after (refusal.Schedule s) h e = absurd h
 unfit_by meant name content before after (refusal.Trace fault) h e = absurd h
+unfit_by meant name content before after (refusal.Elf fault) h e = absurd h
 unfit_by meant name content before after (refusal.NoSuchName item) h e = absurd h
 
 unfit_replay : (image schedule : List ℕ) (files : List ℕ → Option (List ℕ)) (before after : List ℕ → ℕ) (r : Refusal)
@@ -83,6 +87,7 @@ unfit_replay image schedule files before after (refusal.Image fault) h e = λ by
 unfit_replay image schedule files before after (refusal.Partition p) h e = absurd h
 unfit_replay image schedule files before after (refusal.Schedule s) h e = absurd (omega arith)
 unfit_replay image schedule files before after (refusal.Trace fault) h e = absurd h
+unfit_replay image schedule files before after (refusal.Elf fault) h e = absurd h
 unfit_replay image schedule files before after (refusal.NoSuchName item) h e = absurd h
 
 unfit_trace : (trace : List ℕ) (content : Option (List ℕ)) (before after : ℕ) (r : Refusal)
@@ -93,6 +98,7 @@ unfit_trace trace content before after (refusal.Image fault) h e = absurd h
 unfit_trace trace content before after (refusal.Partition p) h e = absurd h
 unfit_trace trace content before after (refusal.Schedule s) h e = absurd h
 unfit_trace trace content before after (refusal.Trace fault) h e = absurd (omega arith)
+unfit_trace trace content before after (refusal.Elf fault) h e = absurd h
 unfit_trace trace content before after (refusal.NoSuchName item) h e = absurd h
 
 unfit_query : (query : Query) (name trace : List ℕ) (content : Option (List ℕ)) (before after : ℕ) (r : Refusal)
@@ -103,12 +109,14 @@ unfit_query query name trace content before after (refusal.Image fault) h e = ab
 unfit_query query name trace content before after (refusal.Partition p) h e = absurd h
 unfit_query query name trace content before after (refusal.Schedule s) h e = absurd h
 unfit_query query name trace content before after (refusal.Trace fault) h e = absurd (omega arith)
+unfit_query query name trace content before after (refusal.Elf fault) h e = absurd h
 unfit_query query name trace content before after (refusal.NoSuchName item) h e = absurd (omega arith)
 
 unfit : (a : Asked) (files : List ℕ → Option (List ℕ)) (before after : List ℕ → ℕ) (r : Refusal) → IsRefused a files before after r → status_of r ≡ 3 → IsUnfit a files
 unfit (Run image flag) files before after r h e = unfit_by image_of image (files image) (before image) (after image) r h e
 unfit (Show image) files before after r h e = unfit_by image_of image (files image) (before image) (after image) r h e
 unfit (Build part) files before after r h e = unfit_by built_of part (files part) (before part) (after part) r h e
+unfit (Link elf part) files before after r h e = unfit_link elf part files before after r h e
 unfit (Replay image schedule) files before after r h e = unfit_replay image schedule files before after r h e
 unfit (Derive trace) files before after r h e = unfit_trace trace (files trace) (before trace) (after trace) r h e
 unfit (Analyze trace query name) files before after r h e = unfit_query query name trace (files trace) (before trace) (after trace) r h e
@@ -133,6 +141,7 @@ unread_by meant name content before after (refusal.Image fault) h e = absurd (om
 unread_by meant name content before after (refusal.Partition p) h e = absurd (omega arith)
 unread_by meant name content before after (refusal.Schedule s) h e = absurd h
 unread_by meant name content before after (refusal.Trace fault) h e = absurd h
+unread_by meant name content before after (refusal.Elf fault) h e = absurd h
 unread_by meant name content before after (refusal.NoSuchName item) h e = absurd h
 
 unread_replay : (image schedule : List ℕ) (files : List ℕ → Option (List ℕ)) (before after : List ℕ → ℕ) (r : Refusal)
@@ -144,6 +153,7 @@ unread_replay image schedule files before after (refusal.Image fault) h e = absu
 unread_replay image schedule files before after (refusal.Partition p) h e = absurd (omega arith)
 unread_replay image schedule files before after (refusal.Schedule s) h e = absurd (omega arith)
 unread_replay image schedule files before after (refusal.Trace fault) h e = absurd h
+unread_replay image schedule files before after (refusal.Elf fault) h e = absurd h
 unread_replay image schedule files before after (refusal.NoSuchName item) h e = absurd h
 
 unread_trace : (trace : List ℕ) (content : Option (List ℕ)) (before after : ℕ) (r : Refusal)
@@ -154,6 +164,7 @@ unread_trace trace content before after (refusal.Image fault) h e = absurd h
 unread_trace trace content before after (refusal.Partition p) h e = absurd h
 unread_trace trace content before after (refusal.Schedule s) h e = absurd h
 unread_trace trace content before after (refusal.Trace fault) h e = absurd (omega arith)
+unread_trace trace content before after (refusal.Elf fault) h e = absurd h
 unread_trace trace content before after (refusal.NoSuchName item) h e = absurd h
 
 unread_query : (query : Query) (name trace : List ℕ) (content : Option (List ℕ)) (before after : ℕ) (r : Refusal)
@@ -164,12 +175,14 @@ unread_query query name trace content before after (refusal.Image fault) h e = a
 unread_query query name trace content before after (refusal.Partition p) h e = absurd h
 unread_query query name trace content before after (refusal.Schedule s) h e = absurd h
 unread_query query name trace content before after (refusal.Trace fault) h e = absurd (omega arith)
+unread_query query name trace content before after (refusal.Elf fault) h e = absurd h
 unread_query query name trace content before after (refusal.NoSuchName item) h e = absurd (omega arith)
 
 unread : (a : Asked) (files : List ℕ → Option (List ℕ)) (before after : List ℕ → ℕ) (r : Refusal) → IsRefused a files before after r → status_of r ≡ 4 → IsUnreadable a before after
 unread (Run image flag) files before after r h e = unread_by image_of image (files image) (before image) (after image) r h e
 unread (Show image) files before after r h e = unread_by image_of image (files image) (before image) (after image) r h e
 unread (Build part) files before after r h e = unread_by built_of part (files part) (before part) (after part) r h e
+unread (Link elf part) files before after r h e = unread_link elf part files before after r h e
 unread (Replay image schedule) files before after r h e = unread_replay image schedule files before after r h e
 unread (Derive trace) files before after r h e = unread_trace trace (files trace) (before trace) (after trace) r h e
 unread (Analyze trace query name) files before after r h e = unread_query query name trace (files trace) (before trace) (after trace) r h e
@@ -194,6 +207,7 @@ rejected_by meant name content before after (refusal.Image fault) h e = omega ar
 rejected_by meant name content before after (refusal.Partition p) h e = omega arith
 rejected_by meant name content before after (refusal.Schedule s) h e = h
 rejected_by meant name content before after (refusal.Trace fault) h e = h
+rejected_by meant name content before after (refusal.Elf fault) h e = h
 rejected_by meant name content before after (refusal.NoSuchName item) h e = h
 
 rejected_replay : (image schedule : List ℕ) (files : List ℕ → Option (List ℕ)) (before after : List ℕ → ℕ) (r : Refusal)
@@ -204,6 +218,7 @@ rejected_replay image schedule files before after (refusal.Image fault) h e = ab
 rejected_replay image schedule files before after (refusal.Partition p) h e = absurd h
 rejected_replay image schedule files before after (refusal.Schedule s) h e = (s, h)
 rejected_replay image schedule files before after (refusal.Trace fault) h e = absurd h
+rejected_replay image schedule files before after (refusal.Elf fault) h e = absurd h
 rejected_replay image schedule files before after (refusal.NoSuchName item) h e = absurd h
 
 rejected_trace : (trace : List ℕ) (content : Option (List ℕ)) (before after : ℕ) (r : Refusal)
@@ -214,6 +229,7 @@ rejected_trace trace content before after (refusal.Image fault) h e = absurd h
 rejected_trace trace content before after (refusal.Partition p) h e = absurd h
 rejected_trace trace content before after (refusal.Schedule s) h e = absurd h
 rejected_trace trace content before after (refusal.Trace fault) h e = (fault, h)
+rejected_trace trace content before after (refusal.Elf fault) h e = absurd h
 rejected_trace trace content before after (refusal.NoSuchName item) h e = absurd h
 
 rejected_query : (query : Query) (name trace : List ℕ) (content : Option (List ℕ)) (before after : ℕ) (r : Refusal)
@@ -224,12 +240,14 @@ rejected_query query name trace content before after (refusal.Image fault) h e =
 rejected_query query name trace content before after (refusal.Partition p) h e = absurd h
 rejected_query query name trace content before after (refusal.Schedule s) h e = absurd h
 rejected_query query name trace content before after (refusal.Trace fault) h e = (fault, h)
+rejected_query query name trace content before after (refusal.Elf fault) h e = absurd h
 rejected_query query name trace content before after (refusal.NoSuchName item) h e = absurd (omega arith)
 
 rejected : (a : Asked) (files : List ℕ → Option (List ℕ)) (before after : List ℕ → ℕ) (r : Refusal) → IsRefused a files before after r → status_of r ≡ 8 → IsRejected a files
 rejected (Run image flag) files before after r h e = rejected_by image_of image (files image) (before image) (after image) r h e
 rejected (Show image) files before after r h e = rejected_by image_of image (files image) (before image) (after image) r h e
 rejected (Build part) files before after r h e = rejected_by built_of part (files part) (before part) (after part) r h e
+rejected (Link elf part) files before after r h e = no_other_link elf part files before after r h (inl e)
 rejected (Replay image schedule) files before after r h e = rejected_replay image schedule files before after r h e
 rejected (Derive trace) files before after r h e = rejected_trace trace (files trace) (before trace) (after trace) r h e
 rejected (Analyze trace query name) files before after r h e = rejected_query query name trace (files trace) (before trace) (after trace) r h e
@@ -255,6 +273,7 @@ known_by meant name content before after (refusal.Image fault) h e = omega arith
 known_by meant name content before after (refusal.Partition p) h e = omega arith
 known_by meant name content before after (refusal.Schedule s) h e = h
 known_by meant name content before after (refusal.Trace fault) h e = h
+known_by meant name content before after (refusal.Elf fault) h e = h
 known_by meant name content before after (refusal.NoSuchName item) h e = h
 
 known_replay : (image schedule : List ℕ) (files : List ℕ → Option (List ℕ)) (before after : List ℕ → ℕ) (r : Refusal)
@@ -265,6 +284,7 @@ known_replay image schedule files before after (refusal.Image fault) h e = omega
 known_replay image schedule files before after (refusal.Partition p) h e = h
 known_replay image schedule files before after (refusal.Schedule s) h e = omega arith
 known_replay image schedule files before after (refusal.Trace fault) h e = h
+known_replay image schedule files before after (refusal.Elf fault) h e = h
 known_replay image schedule files before after (refusal.NoSuchName item) h e = h
 
 known_trace : (trace : List ℕ) (content : Option (List ℕ)) (before after : ℕ) (r : Refusal)
@@ -275,6 +295,7 @@ known_trace trace content before after (refusal.Image fault) h e = h
 known_trace trace content before after (refusal.Partition p) h e = h
 known_trace trace content before after (refusal.Schedule s) h e = h
 known_trace trace content before after (refusal.Trace fault) h e = omega arith
+known_trace trace content before after (refusal.Elf fault) h e = h
 known_trace trace content before after (refusal.NoSuchName item) h e = h
 
 unknown_query : (query : Query) (name trace : List ℕ) (content : Option (List ℕ)) (before after : ℕ) (r : Refusal)
@@ -285,12 +306,14 @@ unknown_query query name trace content before after (refusal.Image fault) h e = 
 unknown_query query name trace content before after (refusal.Partition p) h e = absurd h
 unknown_query query name trace content before after (refusal.Schedule s) h e = absurd h
 unknown_query query name trace content before after (refusal.Trace fault) h e = absurd (omega arith)
+unknown_query query name trace content before after (refusal.Elf fault) h e = absurd h
 unknown_query query name trace content before after (refusal.NoSuchName item) h e = h.1
 
 unknown : (a : Asked) (files : List ℕ → Option (List ℕ)) (before after : List ℕ → ℕ) (r : Refusal) → IsRefused a files before after r → status_of r ≡ 9 → IsUnknown a files
 unknown (Run image flag) files before after r h e = known_by image_of image (files image) (before image) (after image) r h e
 unknown (Show image) files before after r h e = known_by image_of image (files image) (before image) (after image) r h e
 unknown (Build part) files before after r h e = known_by built_of part (files part) (before part) (after part) r h e
+unknown (Link elf part) files before after r h e = no_other_link elf part files before after r h (inr e)
 unknown (Replay image schedule) files before after r h e = known_replay image schedule files before after r h e
 unknown (Derive trace) files before after r h e = known_trace trace (files trace) (before trace) (after trace) r h e
 unknown (Analyze trace query name) files before after r h e = unknown_query query name trace (files trace) (before trace) (after trace) r h e
@@ -303,6 +326,72 @@ name_only a ended before after (inl r) is =
       | inr (inr fault) ↦ absurd (omega (arith, fault.0, is))
     ]
 name_only a ended before after (inr d) is =
+    elim (done_status a ended before after d) [ inl status ↦ absurd (omega (arith, status, is)) | inr fault ↦ absurd (omega (arith, fault.0, is)) ]
+
+-- ---- 10
+
+-- no image and no partition by itself has it
+not_elf : (meant : List ℕ → Result Image Refusal) (name : List ℕ) (content : Option (List ℕ)) (before after : ℕ) (r : Refusal)
+    → IsRefusedBy meant name content before after r → status_of r ≡ 10 → ⊥
+not_elf meant name content before after refusal.NoMemory h e = omega arith
+not_elf meant name content before after (refusal.Read file) h e = omega arith
+not_elf meant name content before after (refusal.Image fault) h e = omega arith
+not_elf meant name content before after (refusal.Partition p) h e = omega arith
+not_elf meant name content before after (refusal.Schedule s) h e = h
+not_elf meant name content before after (refusal.Trace fault) h e = h
+not_elf meant name content before after (refusal.Elf fault) h e = h
+not_elf meant name content before after (refusal.NoSuchName item) h e = h
+
+not_elf_replay : (image schedule : List ℕ) (files : List ℕ → Option (List ℕ)) (before after : List ℕ → ℕ) (r : Refusal)
+    → IsReplayRefused image schedule files before after r → status_of r ≡ 10 → ⊥
+not_elf_replay image schedule files before after refusal.NoMemory h e = omega arith
+not_elf_replay image schedule files before after (refusal.Read file) h e = omega arith
+not_elf_replay image schedule files before after (refusal.Image fault) h e = omega arith
+not_elf_replay image schedule files before after (refusal.Partition p) h e = h
+not_elf_replay image schedule files before after (refusal.Schedule s) h e = omega arith
+not_elf_replay image schedule files before after (refusal.Trace fault) h e = h
+not_elf_replay image schedule files before after (refusal.Elf fault) h e = h
+not_elf_replay image schedule files before after (refusal.NoSuchName item) h e = h
+
+not_elf_trace : (trace : List ℕ) (content : Option (List ℕ)) (before after : ℕ) (r : Refusal)
+    → IsTraceRefused trace content before after r → status_of r ≡ 10 → ⊥
+not_elf_trace trace content before after refusal.NoMemory h e = omega arith
+not_elf_trace trace content before after (refusal.Read file) h e = omega arith
+not_elf_trace trace content before after (refusal.Image fault) h e = h
+not_elf_trace trace content before after (refusal.Partition p) h e = h
+not_elf_trace trace content before after (refusal.Schedule s) h e = h
+not_elf_trace trace content before after (refusal.Trace fault) h e = omega arith
+not_elf_trace trace content before after (refusal.Elf fault) h e = h
+not_elf_trace trace content before after (refusal.NoSuchName item) h e = h
+
+not_elf_query : (query : Query) (name trace : List ℕ) (content : Option (List ℕ)) (before after : ℕ) (r : Refusal)
+    → IsQueryRefused query name trace content before after r → status_of r ≡ 10 → ⊥
+not_elf_query query name trace content before after refusal.NoMemory h e = omega arith
+not_elf_query query name trace content before after (refusal.Read file) h e = omega arith
+not_elf_query query name trace content before after (refusal.Image fault) h e = h
+not_elf_query query name trace content before after (refusal.Partition p) h e = h
+not_elf_query query name trace content before after (refusal.Schedule s) h e = h
+not_elf_query query name trace content before after (refusal.Trace fault) h e = omega arith
+not_elf_query query name trace content before after (refusal.Elf fault) h e = h
+not_elf_query query name trace content before after (refusal.NoSuchName item) h e = omega arith
+
+elf_rejected : (a : Asked) (files : List ℕ → Option (List ℕ)) (before after : List ℕ → ℕ) (r : Refusal) → IsRefused a files before after r → status_of r ≡ 10 → IsElfRejected a files
+elf_rejected (Run image flag) files before after r h e = not_elf image_of image (files image) (before image) (after image) r h e
+elf_rejected (Show image) files before after r h e = not_elf image_of image (files image) (before image) (after image) r h e
+elf_rejected (Build part) files before after r h e = not_elf built_of part (files part) (before part) (after part) r h e
+elf_rejected (Link elf part) files before after r h e = rejected_elf elf part files before after r h e
+elf_rejected (Replay image schedule) files before after r h e = not_elf_replay image schedule files before after r h e
+elf_rejected (Derive trace) files before after r h e = not_elf_trace trace (files trace) (before trace) (after trace) r h e
+elf_rejected (Analyze trace query name) files before after r h e = not_elf_query query name trace (files trace) (before trace) (after trace) r h e
+
+pub elf_only : (a : Asked) (ended : Ended) (before after : Outside) → IsEither a ended before after → ended.status ≡ 10 → IsElfRejected a before.files
+elf_only a ended before after (inl r) is =
+    elim (refusal_status r.why ended before.sinks.err after.sinks.err r.err) [
+      | inl status ↦ elf_rejected a before.files before.reads after.reads r.why r.cause (sym status ∙ is)
+      | inr (inl status) ↦ absurd (omega (arith, status, is))
+      | inr (inr fault) ↦ absurd (omega (arith, fault.0, is))
+    ]
+elf_only a ended before after (inr d) is =
     elim (done_status a ended before after d) [ inl status ↦ absurd (omega (arith, status, is)) | inr fault ↦ absurd (omega (arith, fault.0, is)) ]
 
 -- ---- 2
@@ -435,6 +524,7 @@ replay_refusal image schedule bytes names files before after (refusal.Image faul
 replay_refusal image schedule bytes names files before after (refusal.Partition p) h image_is schedule_is = absurd h
 replay_refusal image schedule bytes names files before after (refusal.Schedule s) h image_is schedule_is = inr (h bytes names image_is schedule_is)
 replay_refusal image schedule bytes names files before after (refusal.Trace fault) h image_is schedule_is = absurd h
+replay_refusal image schedule bytes names files before after (refusal.Elf fault) h image_is schedule_is = absurd h
 replay_refusal image schedule bytes names files before after (refusal.NoSuchName item) h image_is schedule_is = absurd h
 
 -- a line that was said with its status, or the status of a write that failed
@@ -446,43 +536,7 @@ said_line status text ended e f said =
       | inr fault ↦ inr fault.1
     ]
 
--- the end of a replay that was refused
-refused_end : (image schedule bytes names : List ℕ) (ended : Ended) (before after : Outside) (r : IsRefusal (Replay image schedule) ended before after)
-    → before.files image ≡ Some bytes → before.files schedule ≡ Some names → ended.status ≡ status_of r.why
-    → Takes (line (refusal_text r.why)) before.sinks.err after.sinks.err
-    → IsCutShort ended.status ⊎ IsAnswerEnd (replay_text bytes names) ended.status before.sinks after.sinks
-refused_end image schedule bytes names ended before after r image_is schedule_is status took =
-    elim (replay_refusal image schedule bytes names before.files before.reads after.reads r.why r.cause image_is schedule_is) [
-      | inl short ↦ inl (subst IsCutShort (sym status) short)
-      | inr answer ↦ inr (subst (λ meant. IsAnswerEnd meant ended.status before.sinks after.sinks) (sym answer) (status, took, r.out))
-    ]
-
-pub replay_done : (image schedule bytes names : List ℕ) (ended : Ended) (before after : Outside) → IsEither (Replay image schedule) ended before after
-    → before.files image ≡ Some bytes → before.files schedule ≡ Some names
-    → IsCutShort ended.status ⊎ IsAnswerEnd (replay_text bytes names) ended.status before.sinks after.sinks
-replay_done image schedule bytes names ended before after (inl r) image_is schedule_is =
-    elim r.err [
-      | inl said ↦ elim (said_line (status_of r.why) (line (refusal_text r.why)) ended before.sinks.err after.sinks.err said) [
-        | inl done ↦ refused_end image schedule bytes names ended before after r image_is schedule_is done.0 done.1
-        | inr fault ↦ inl (inr (inl fault))
-      ]
-      | inr said ↦ elim (said_line 6 (line (refusal_text refusal.NoMemory)) ended before.sinks.err after.sinks.err said) [
-        | inl done ↦ inl (inr (inr done.0))
-        | inr fault ↦ inl (inr (inl fault))
-      ]
-    ]
-replay_done image schedule bytes names ended before after (inr d) image_is schedule_is =
-    let same : replay_text bytes names ≡ Ok d.made.text =
-    ap (λ b. replay_text b names) (sym (d.made.bytes_are bytes image_is)) ∙ ap (λ n. replay_text d.made.bytes n) (sym (d.made.names_are names schedule_is)) ∙ d.made.meant in
-    elim d.written.cases [
-      | inl done ↦
-          let took : Takes d.made.text before.sinks.out after.sinks.out × (after.sinks.err ≡ before.sinks.err) =
-          took_out d.made.text before.sinks after.sinks (subst (λ ts. AreTaken ts before.sinks after.sinks) d.made.are done.0) in
-          inr (subst (λ meant. IsAnswerEnd meant ended.status before.sinks after.sinks) (sym same) (done.1, took.0, took.1))
-      | inr fault ↦ inl (inr (inl fault.1))
-    ]
-
--- ---- what is asked of a trace
+-- ---- commands that write an answer
 
 -- a command that is refused ended as its answer says, if the answer is that refusal unless it was cut short
 answer_refused : (meant : Result (List ℕ) Refusal) (a : Asked) (ended : Ended) (before after : Outside) (r : IsRefusal a ended before after)
@@ -515,6 +569,59 @@ answer_done meaning content bytes kept texts ended s u made exposed written =
       | inr fault ↦ inl (inr (inl fault.1))
     ]
 
+-- the same of an answer of two files
+pair_done : (meaning : List ℕ → List ℕ → Result (List ℕ) Refusal) (one other : Option (List ℕ)) (first second : List ℕ) (kept : Option Journal) (texts : List Text) (ended : Ended) (s u : Sinks)
+    → IsPairAnswer meaning one other kept texts → one ≡ Some first → other ≡ Some second → IsWritten 0 kept texts ended s u
+    → IsCutShort ended.status ⊎ IsAnswerEnd (meaning first second) ended.status s u
+pair_done meaning one other first second kept texts ended s u made one_is other_is written =
+    let same : meaning first second ≡ Ok made.text =
+    ap (λ b. meaning b second) (sym (made.first_is first one_is)) ∙ ap (λ n. meaning made.first n) (sym (made.second_is second other_is)) ∙ made.meant in
+    elim written.cases [
+      | inl done ↦
+          let took : Takes made.text s.out u.out × (u.err ≡ s.err) = took_out made.text s u (subst (λ ts. AreTaken ts s u) made.are done.0) in
+          inr (subst (λ m. IsAnswerEnd m ended.status s u) (sym same) (done.1, took.0, took.1))
+      | inr fault ↦ inl (inr (inl fault.1))
+    ]
+
+pub replay_done : (image schedule bytes names : List ℕ) (ended : Ended) (before after : Outside) → IsEither (Replay image schedule) ended before after
+    → before.files image ≡ Some bytes → before.files schedule ≡ Some names
+    → IsCutShort ended.status ⊎ IsAnswerEnd (replay_text bytes names) ended.status before.sinks after.sinks
+replay_done image schedule bytes names ended before after (inl r) image_is schedule_is =
+    answer_refused (replay_text bytes names) (Replay image schedule) ended before after r
+    (replay_refusal image schedule bytes names before.files before.reads after.reads r.why r.cause image_is schedule_is)
+replay_done image schedule bytes names ended before after (inr d) image_is schedule_is =
+    pair_done replay_text (before.files image) (before.files schedule) bytes names d.kept d.texts ended before.sinks after.sinks d.made image_is schedule_is d.written
+
+-- ---- a link
+
+pub link_answered : (elf part bytes text : List ℕ) (ended : Ended) (before after : Outside) → IsEither (Link elf part) ended before after
+    → before.files elf ≡ Some bytes → before.files part ≡ Some text
+    → IsCutShort ended.status ⊎ IsAnswerEnd (link_text bytes text) ended.status before.sinks after.sinks
+link_answered elf part bytes text ended before after (inl r) elf_is part_is =
+    answer_refused (link_text bytes text) (Link elf part) ended before after r
+    (link_refusal elf part before.files before.reads after.reads bytes text r.why r.cause elf_is part_is)
+link_answered elf part bytes text ended before after (inr d) elf_is part_is =
+    pair_done link_text (before.files elf) (before.files part) bytes text d.kept d.texts ended before.sinks after.sinks d.made.answer elf_is part_is d.written
+
+linked_0 : (elf part bytes : List ℕ) (ended : Ended) (before after : Outside) → IsDone (Link elf part) ended before after
+    → before.files elf ≡ Some bytes → ended.status ≡ 0 → IsLinkDone bytes before.sinks after.sinks
+linked_0 elf part bytes ended before after d elf_is is =
+    let made = d.made.answer in
+    elim d.written.cases [
+      | inl done ↦
+          let took : Takes made.text before.sinks.out after.sinks.out × (after.sinks.err ≡ before.sinks.err) =
+          took_out made.text before.sinks after.sinks (subst (λ ts. AreTaken ts before.sinks after.sinks) made.are done.0) in
+          record { bytes = made.text; image = subst (λ b. IsLinkedImage b made.text) (made.first_is bytes elf_is) d.made.image; out = took.0; err = took.1 }
+      | inr fault ↦ absurd (omega (arith, fault.1, is))
+    ]
+
+pub link_done : (elf part bytes : List ℕ) (ended : Ended) (before after : Outside) → IsEither (Link elf part) ended before after
+    → before.files elf ≡ Some bytes → ended.status ≡ 0 → IsLinkDone bytes before.sinks after.sinks
+link_done elf part bytes ended before after (inl r) elf_is is = absurd (refused_not_0 (Link elf part) ended before after r is)
+link_done elf part bytes ended before after (inr d) elf_is is = linked_0 elf part bytes ended before after d elf_is is
+
+-- ---- what is asked of a trace
+
 derive_refusal : (trace bytes : List ℕ) (content : Option (List ℕ)) (before after : ℕ) (r : Refusal)
     → IsTraceRefused trace content before after r → content ≡ Some bytes → IsCutShort (status_of r) ⊎ (derive_text bytes ≡ Err r)
 derive_refusal trace bytes content before after refusal.NoMemory h exposed = inl (inr (inr refl))
@@ -524,6 +631,7 @@ derive_refusal trace bytes content before after (refusal.Partition p) h exposed 
 derive_refusal trace bytes content before after (refusal.Schedule s) h exposed = absurd h
 derive_refusal trace bytes content before after (refusal.Trace fault) h exposed =
     inr (ap (λ f. unless_fault f (Ok (sheets_text (sheets_of (records_of bytes))))) (h bytes exposed))
+derive_refusal trace bytes content before after (refusal.Elf fault) h exposed = absurd h
 derive_refusal trace bytes content before after (refusal.NoSuchName item) h exposed = absurd h
 
 pub derive_done : (trace bytes : List ℕ) (ended : Ended) (before after : Outside) → IsEither (Derive trace) ended before after
@@ -543,6 +651,7 @@ query_refusal query name trace bytes content before after (refusal.Partition p) 
 query_refusal query name trace bytes content before after (refusal.Schedule s) h exposed = absurd h
 query_refusal query name trace bytes content before after (refusal.Trace fault) h exposed =
     inr (ap (λ f. unless_fault f (answer_to name (query_lines query name (records_of bytes)))) (h bytes exposed))
+query_refusal query name trace bytes content before after (refusal.Elf fault) h exposed = absurd h
 query_refusal query name trace bytes content before after (refusal.NoSuchName item) h exposed =
     let unknown = h.1 bytes exposed in
     inr (

@@ -7,6 +7,7 @@ use Rattle.wedge_base.specs.Images.{Image}
 use Rattle.image_form.specs.Encoding.{most_bytes}
 use Rattle.image_form.specs.Reading.{reading}
 use Rattle.trace_form.specs.declared.fault.TraceFault.{TraceFault}
+use Rattle.elf_in.specs.declared.fault.Fault.{Fault as ElfFault}
 use Rattle.wedge_cli.specs.declared.loading.FileKind.{FileKind}
 use Rattle.wedge_cli.specs.declared.loading.FileKind.TheVariants as kind
 use Rattle.wedge_cli.specs.declared.refusal.ScheduleRefusal.{ScheduleRefusal}
@@ -37,18 +38,26 @@ no_image_trace f e = absurd cc
 pub no_partition_trace : (f : TraceFault) → refusal.Trace f ≡ too_long kind.Partition → ⊥
 no_partition_trace f e = absurd cc
 
+-- nor as an ELF file
+pub no_image_elf : (f : ElfFault) → refusal.Elf f ≡ too_long kind.Image → ⊥
+no_image_elf f e = absurd cc
+
+pub no_partition_elf : (f : ElfFault) → refusal.Elf f ≡ too_long kind.Partition → ⊥
+no_partition_elf f e = absurd cc
+
 -- a file whose bytes were not read
 pub unread_by : (meant : List ℕ → Result Image Refusal) (k : FileKind) (name : List ℕ) (content : Option (List ℕ)) (before after : ℕ) (r : Refusal)
     → ((bytes : List ℕ) → most_of k < length bytes → meant bytes ≡ Err (too_long k))
-    → ((s : ScheduleRefusal) → refusal.Schedule s ≡ too_long k → ⊥) → ((f : TraceFault) → refusal.Trace f ≡ too_long k → ⊥)
+    → ((s : ScheduleRefusal) → refusal.Schedule s ≡ too_long k → ⊥) → ((f : TraceFault) → refusal.Trace f ≡ too_long k → ⊥) → ((f : ElfFault) → refusal.Elf f ≡ too_long k → ⊥)
     → IsUnread k name content before after r → IsRefusedBy meant name content before after r
-unread_by meant k name content before after refusal.NoMemory long unlike no_trace h = tt
-unread_by meant k name content before after (refusal.Read file) long unlike no_trace h = h
-unread_by meant k name content before after (refusal.Image fault) long unlike no_trace h = λ bytes exposed. long bytes (h.longer bytes exposed) ∙ ap (λ r. Err r) (sym h.is)
-unread_by meant k name content before after (refusal.Partition p) long unlike no_trace h = λ bytes exposed. long bytes (h.longer bytes exposed) ∙ ap (λ r. Err r) (sym h.is)
-unread_by meant k name content before after (refusal.Schedule s) long unlike no_trace h = unlike s h.is
-unread_by meant k name content before after (refusal.Trace fault) long unlike no_trace h = no_trace fault h.is
-unread_by meant k name content before after (refusal.NoSuchName item) long unlike no_trace h = absurd h
+unread_by meant k name content before after refusal.NoMemory long unlike no_trace no_elf h = tt
+unread_by meant k name content before after (refusal.Read file) long unlike no_trace no_elf h = h
+unread_by meant k name content before after (refusal.Image fault) long unlike no_trace no_elf h = λ bytes exposed. long bytes (h.longer bytes exposed) ∙ ap (λ r. Err r) (sym h.is)
+unread_by meant k name content before after (refusal.Partition p) long unlike no_trace no_elf h = λ bytes exposed. long bytes (h.longer bytes exposed) ∙ ap (λ r. Err r) (sym h.is)
+unread_by meant k name content before after (refusal.Schedule s) long unlike no_trace no_elf h = unlike s h.is
+unread_by meant k name content before after (refusal.Trace fault) long unlike no_trace no_elf h = no_trace fault h.is
+unread_by meant k name content before after (refusal.Elf fault) long unlike no_trace no_elf h = no_elf fault h.is
+unread_by meant k name content before after (refusal.NoSuchName item) long unlike no_trace no_elf h = absurd h
 
 -- a file whose bytes were read and are refused
 refused_by : (meant : List ℕ → Result Image Refusal) (name : List ℕ) (content : Option (List ℕ)) (before after : ℕ) (bytes : List ℕ) (r : Refusal)
@@ -59,6 +68,7 @@ refused_by meant name content before after bytes (refusal.Image fault) same h = 
 refused_by meant name content before after bytes (refusal.Partition p) same h = λ b exposed. ap meant (sym (same b exposed)) ∙ h
 refused_by meant name content before after bytes (refusal.Schedule s) same h = absurd h
 refused_by meant name content before after bytes (refusal.Trace fault) same h = absurd h
+refused_by meant name content before after bytes (refusal.Elf fault) same h = absurd h
 refused_by meant name content before after bytes (refusal.NoSuchName item) same h = absurd h
 
 pub answer_by : (meant : List ℕ → Result Image Refusal) (name : List ℕ) (content : Option (List ℕ)) (before after : ℕ) (bytes : List ℕ) (result : Result Image Refusal)

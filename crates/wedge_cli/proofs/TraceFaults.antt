@@ -42,6 +42,7 @@ unread_trace name content before after (refusal.Partition p) h = let e = h.is in
 unread_trace name content before after (refusal.Schedule s) h = let e = h.is in absurd cc
 unread_trace name content before after (refusal.Trace fault) h =
     λ bytes exposed. long_fault bytes (h.longer bytes exposed) ∙ ap (λ f. Some f) (sym (trace_of fault long_trace h.is))
+unread_trace name content before after (refusal.Elf fault) h = let e = h.is in absurd cc
 unread_trace name content before after (refusal.NoSuchName item) h = absurd h
 
 -- a trace that is not had has no query that is answered
@@ -53,4 +54,5 @@ query_unread query asked name content before after (refusal.Image fault) h = h
 query_unread query asked name content before after (refusal.Partition p) h = h
 query_unread query asked name content before after (refusal.Schedule s) h = h
 query_unread query asked name content before after (refusal.Trace fault) h = h
+query_unread query asked name content before after (refusal.Elf fault) h = h
 query_unread query asked name content before after (refusal.NoSuchName item) h = absurd h

@@ -13,8 +13,11 @@ use Rattle.wedge_cli.specs.declared.refusal.ScheduleRefusal.{ScheduleRefusal}
 use Rattle.wedge_cli.specs.Loading.{image_of, built_of, most_of, IsReadFault, IsRefusedBy}
 use Rattle.trace_form.specs.declared.fault.TraceFault.{TraceFault}
 use Rattle.wedge_cli.specs.Replaying.{replay_text}
+use Rattle.elf_in.specs.declared.fault.Fault.{Fault as ElfFault}
+use Rattle.elf_in.specs.Reading.{reading as elf_reading}
+use Rattle.wedge_cli.specs.Linking.{link_text, IsUnjoined}
 use Rattle.wedge_cli.specs.Traces.{trace_fault, IsUnknownIn, IsTraceRefused, IsQueryRefused}
-use Rattle.wedge_cli.specs.Words.{Asked, Run, Show, Build, Replay, Derive, Analyze}
+use Rattle.wedge_cli.specs.Words.{Asked, Run, Show, Build, Link, Replay, Derive, Analyze}
 use Rattle.wedge_cli.specs.Ended.{IsMade, IsWritten, IsSaid}
 
 -- a read of one of the two files failed; where it is the second, the first is not too long
@@ -38,13 +41,42 @@ IsReplayRefused image schedule files before after (refusal.Image fault) =
 IsReplayRefused image schedule files before after (refusal.Partition p) = ⊥
 IsReplayRefused image schedule files before after (refusal.Schedule s) = IsReplayAnswer image schedule files (Err (refusal.Schedule s))
 IsReplayRefused image schedule files before after (refusal.Trace fault) = ⊥
+IsReplayRefused image schedule files before after (refusal.Elf fault) = ⊥
 IsReplayRefused image schedule files before after (refusal.NoSuchName item) = ⊥
+
+-- a read of one of the two files failed; where it is the second, the first is not too long
+abbrev pub IsLinkFault : List ℕ → List ℕ → (List ℕ → Option (List ℕ)) → (List ℕ → ℕ) → (List ℕ → ℕ) → List ℕ → Type 0
+IsLinkFault elf part files before after file =
+    IsReadFault elf (before elf) (after elf) file
+    ⊎ (IsReadFault part (before part) (after part) file × WhereExposed (files elf) (λ bytes. length bytes ≤ most_of kind.Elf))
+
+-- where both files are exposed, that is the answer
+abbrev pub IsLinkAnswer : List ℕ → List ℕ → (List ℕ → Option (List ℕ)) → Result (List ℕ) Refusal → Type 0
+IsLinkAnswer elf part files answer =
+    (bytes text : List ℕ) → files elf ≡ Some bytes → files part ≡ Some text → link_text bytes text ≡ answer
+
+-- the ELF file has this fault first
+abbrev pub IsElfFault : Option (List ℕ) → ElfFault → Type 0
+IsElfFault content fault = WhereExposed content (λ bytes. elf_reading bytes ≡ Err fault)
+
+-- why there is no image of an ELF file and a partition
+abbrev pub IsLinkRefused : List ℕ → List ℕ → (List ℕ → Option (List ℕ)) → (List ℕ → ℕ) → (List ℕ → ℕ) → Refusal → Type 0
+IsLinkRefused elf part files before after refusal.NoMemory = Unit {0}
+IsLinkRefused elf part files before after (refusal.Read file) = IsLinkFault elf part files before after file
+IsLinkRefused elf part files before after (refusal.Image fault) = IsLinkAnswer elf part files (Err (refusal.Image fault))
+IsLinkRefused elf part files before after (refusal.Partition p) = IsLinkAnswer elf part files (Err (refusal.Partition p))
+IsLinkRefused elf part files before after (refusal.Schedule s) = ⊥
+IsLinkRefused elf part files before after (refusal.Trace fault) = ⊥
+IsLinkRefused elf part files before after (refusal.Elf fault) =
+    IsLinkAnswer elf part files (Err (refusal.Elf fault)) × IsElfFault (files elf) fault
+IsLinkRefused elf part files before after (refusal.NoSuchName item) = ⊥
 
 -- why a command is not done, of the files and of their counts of failed reads before and after
 abbrev pub IsRefused : Asked → (List ℕ → Option (List ℕ)) → (List ℕ → ℕ) → (List ℕ → ℕ) → Refusal → Type 0
 IsRefused (Run image flag) files before after why = IsRefusedBy image_of image (files image) (before image) (after image) why
 IsRefused (Show image) files before after why = IsRefusedBy image_of image (files image) (before image) (after image) why
 IsRefused (Build part) files before after why = IsRefusedBy built_of part (files part) (before part) (after part) why
+IsRefused (Link elf part) files before after why = IsLinkRefused elf part files before after why
 IsRefused (Replay image schedule) files before after why = IsReplayRefused image schedule files before after why
 IsRefused (Derive trace) files before after why = IsTraceRefused trace (files trace) (before trace) (after trace) why
 IsRefused (Analyze trace query name) files before after why = IsQueryRefused query name trace (files trace) (before trace) (after trace) why
@@ -54,6 +86,7 @@ abbrev pub IsUnfit : Asked → (List ℕ → Option (List ℕ)) → Type 0
 IsUnfit (Run image flag) files = WhereExposed (files image) (λ bytes. IsErr (image_of bytes))
 IsUnfit (Show image) files = WhereExposed (files image) (λ bytes. IsErr (image_of bytes))
 IsUnfit (Build part) files = WhereExposed (files part) (λ bytes. IsErr (built_of bytes))
+IsUnfit (Link elf part) files = (bytes text : List ℕ) → files elf ≡ Some bytes → files part ≡ Some text → IsUnjoined bytes text
 IsUnfit (Replay image schedule) files = WhereExposed (files image) (λ bytes. IsErr (image_of bytes))
 IsUnfit (Derive trace) files = ⊥
 IsUnfit (Analyze trace query name) files = ⊥
@@ -67,6 +100,7 @@ abbrev pub IsRejected : Asked → (List ℕ → Option (List ℕ)) → Type 0
 IsRejected (Run image flag) files = ⊥
 IsRejected (Show image) files = ⊥
 IsRejected (Build part) files = ⊥
+IsRejected (Link elf part) files = ⊥
 IsRejected (Replay image schedule) files = (s : ScheduleRefusal) × IsReplayAnswer image schedule files (Err (refusal.Schedule s))
 IsRejected (Derive trace) files = IsTraceRejected (files trace)
 IsRejected (Analyze trace query name) files = IsTraceRejected (files trace)
@@ -76,15 +110,22 @@ abbrev pub IsUnknown : Asked → (List ℕ → Option (List ℕ)) → Type 0
 IsUnknown (Run image flag) files = ⊥
 IsUnknown (Show image) files = ⊥
 IsUnknown (Build part) files = ⊥
+IsUnknown (Link elf part) files = ⊥
 IsUnknown (Replay image schedule) files = ⊥
 IsUnknown (Derive trace) files = ⊥
 IsUnknown (Analyze trace query name) files = WhereExposed (files trace) (IsUnknownIn query name)
+
+-- its ELF file is rejected
+abbrev pub IsElfRejected : Asked → (List ℕ → Option (List ℕ)) → Type 0
+IsElfRejected (Link elf part) files = (fault : ElfFault) × IsElfFault (files elf) fault
+IsElfRejected other files = ⊥
 
 -- the count of failed reads of a file of it rose
 abbrev pub IsUnreadable : Asked → (List ℕ → ℕ) → (List ℕ → ℕ) → Type 0
 IsUnreadable (Run image flag) before after = before image < after image
 IsUnreadable (Show image) before after = before image < after image
 IsUnreadable (Build part) before after = before part < after part
+IsUnreadable (Link elf part) before after = (before elf < after elf) ⊎ (before part < after part)
 IsUnreadable (Replay image schedule) before after = (before image < after image) ⊎ (before schedule < after schedule)
 IsUnreadable (Derive trace) before after = before trace < after trace
 IsUnreadable (Analyze trace query name) before after = before trace < after trace

@@ -23,8 +23,9 @@ use Rattle.wedge_cli.specs.Lines.{line, write_fault_line, refusal_text, status_o
 use Rattle.wedge_cli.specs.Listing.{listing}
 use Rattle.wedge_cli.specs.Loading.{image_of, built_of, most_of}
 use Rattle.wedge_cli.specs.Replaying.{replay_text}
+use Rattle.wedge_cli.specs.Linking.{link_text, IsLinkedImage}
 use Rattle.wedge_cli.specs.Traces.{derive_text, analyze_text}
-use Rattle.wedge_cli.specs.Words.{Asked, Run, Show, Build, Replay, Derive, Analyze}
+use Rattle.wedge_cli.specs.Words.{Asked, Run, Show, Build, Link, Replay, Derive, Analyze}
 
 -- ---- what a command makes of its files
 
@@ -85,16 +86,21 @@ pub record IsBuilt (content : Option (List ℕ)) (kept : Option Journal) (texts 
   pub encoded : Encodes image bytes
   pub are : texts ≡ on_out bytes
 
--- a schedule's file is replayed over an image's: what was read of the two files is that of them, where it is exposed
-pub record IsReplayed (image schedule : Option (List ℕ)) (kept : Option Journal) (texts : List Text) : Type 0 where
-  pub bytes : List ℕ
-  pub names : List ℕ
-  pub bytes_are : WhereExposed image (λ exposed. bytes ≡ exposed)
-  pub names_are : WhereExposed schedule (λ exposed. names ≡ exposed)
+-- two files are answered: what was read of each is its bytes, where they are exposed, and the text is what is meant by both
+pub record IsPairAnswer (meaning : List ℕ → List ℕ → Result (List ℕ) Refusal) (one other : Option (List ℕ)) (kept : Option Journal) (texts : List Text) : Type 0 where
+  pub first : List ℕ
+  pub second : List ℕ
+  pub first_is : WhereExposed one (λ exposed. first ≡ exposed)
+  pub second_is : WhereExposed other (λ exposed. second ≡ exposed)
   pub kept_is : kept ≡ None
   pub text : List ℕ
-  pub meant : replay_text bytes names ≡ Ok text
+  pub meant : meaning first second ≡ Ok text
   pub are : texts ≡ on_out text
+
+-- an ELF file is linked with a partition
+pub record IsLinked (elf part : Option (List ℕ)) (kept : Option Journal) (texts : List Text) : Type 0 where
+  pub answer : IsPairAnswer link_text elf part kept texts
+  pub image : IsLinkedImage answer.first answer.text
 
 -- a trace's file is answered: what was read of it is its bytes, where they are exposed, and the text is what is meant by them
 pub record IsTraceAnswer (meaning : List ℕ → Result (List ℕ) Refusal) (trace : Option (List ℕ)) (kept : Option Journal) (texts : List Text) : Type 0 where
@@ -110,7 +116,8 @@ abbrev pub IsMade : Asked → (List ℕ → Option (List ℕ)) → Option Journa
 IsMade (Run image flag) files kept texts = IsRun flag (files image) kept texts
 IsMade (Show image) files kept texts = IsShown (files image) kept texts
 IsMade (Build part) files kept texts = IsBuilt (files part) kept texts
-IsMade (Replay image schedule) files kept texts = IsReplayed (files image) (files schedule) kept texts
+IsMade (Link elf part) files kept texts = IsLinked (files elf) (files part) kept texts
+IsMade (Replay image schedule) files kept texts = IsPairAnswer replay_text (files image) (files schedule) kept texts
 IsMade (Derive trace) files kept texts = IsTraceAnswer derive_text (files trace) kept texts
 IsMade (Analyze trace query name) files kept texts = IsTraceAnswer (analyze_text query name) (files trace) kept texts
 
@@ -204,3 +211,11 @@ abbrev pub IsAnswerEnd : Result (List ℕ) Refusal → ℕ → Sinks → Sinks �
 IsAnswerEnd (Ok text) status before after = (status ≡ 0) × Takes text before.out after.out × (after.err ≡ before.err)
 IsAnswerEnd (Err why) status before after =
     (status ≡ status_of why) × Takes (line (refusal_text why)) before.err after.err × (after.out ≡ before.out)
+
+-- `link ELF PART` was done: out has grown by the encoding of an image with the text, the data and the procedures of the
+-- ELF file, and err is as it was
+pub record IsLinkDone (elf : List ℕ) (before after : Sinks) : Type 0 where
+  pub bytes : List ℕ
+  pub image : IsLinkedImage elf bytes
+  pub out : Takes bytes before.out after.out
+  pub err : after.err ≡ before.err

@@ -4,6 +4,7 @@ pub mod Lines
 pub mod Refusals
 pub mod Loading
 pub mod Replaying
+pub mod Linking
 pub mod Traces
 pub mod Ended
 pub mod Causes

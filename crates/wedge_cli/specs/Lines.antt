@@ -1,6 +1,8 @@
 -- The lines of refusals.
 use Rattle.std.specs.Prelude.{ℕ, List, [], ◌∷◌, ◌++◌, codes}
 use Rattle.std.specs.Fmt.{decimal}
+use Rattle.elf_in.specs.declared.fault.Fault.{Fault as ElfFault}
+use Rattle.elf_in.specs.Words as elf
 use Rattle.image_form.specs.Words as image
 use Rattle.rv_asm.specs.Words as asm
 use Rattle.trace_form.specs.declared.fault.TraceFault.{TraceFault}
@@ -26,6 +28,10 @@ write_fault_line = line (codes "write fault")
 
 abbrev pub refused_at : ℕ → List ℕ → List ℕ
 refused_at place word = codes "image refused at " ++ decimal place ++ codes ": " ++ word
+
+-- what is wrong with an ELF file, at an offset
+abbrev pub elf_text : ElfFault → List ℕ
+elf_text fault = codes "elf refused at " ++ decimal fault.at ++ codes ": " ++ elf.word fault.why
 
 -- what is wrong with a partition
 abbrev pub part_text : PartRefusal → List ℕ
@@ -65,6 +71,7 @@ refusal_text (refusal.Image fault) = refused_at fault.at (image.word fault.why)
 refusal_text (refusal.Partition p) = codes "partition refused: " ++ part_text p
 refusal_text (refusal.Schedule s) = schedule_text s
 refusal_text (refusal.Trace fault) = trace_fault_text fault
+refusal_text (refusal.Elf fault) = elf_text fault
 refusal_text (refusal.NoSuchName name) = codes "no such name: " ++ name
 
 abbrev pub status_of : Refusal → ℕ
@@ -74,4 +81,5 @@ status_of (refusal.Image fault) = 3
 status_of (refusal.Partition p) = 3
 status_of (refusal.Schedule s) = 8
 status_of (refusal.Trace fault) = 8
+status_of (refusal.Elf fault) = 10
 status_of (refusal.NoSuchName name) = 9

@@ -3,6 +3,9 @@ use Rattle.std.specs.Prelude.{◌≡◌, ℕ, ◌<◌, List, length, Option, Res
 use Rattle.std.specs.Str.{is_utf8}
 use Rattle.wedge_base.specs.Images.{Image}
 use Rattle.host_io.specs.Exposed.{WhereExposed}
+use Rattle.elf_in.specs.declared.fault.Fault.{Fault as ElfFault}
+use Rattle.elf_in.specs.declared.fault.Why.TheVariants as elf_why
+use Rattle.elf_in.specs.Checks.{most_bytes as most_elf}
 use Rattle.image_form.specs.declared.fault.Fault.{Fault}
 use Rattle.image_form.specs.Reading.{reading}
 use Rattle.image_form.specs.Encoding.{most_bytes}
@@ -52,6 +55,7 @@ IsRefusalOf meant (refusal.Image fault) = meant ≡ Err (refusal.Image fault)
 IsRefusalOf meant (refusal.Partition p) = meant ≡ Err (refusal.Partition p)
 IsRefusalOf meant (refusal.Schedule s) = ⊥
 IsRefusalOf meant (refusal.Trace fault) = ⊥
+IsRefusalOf meant (refusal.Elf fault) = ⊥
 IsRefusalOf meant (refusal.NoSuchName item) = ⊥
 
 -- ---- files
@@ -67,15 +71,21 @@ most_trace = 67108864
 abbrev pub long_trace : TraceFault
 long_trace = record { at = 0; why = trace_why.Limit }
 
+-- the fault of an ELF file that has more than the most bytes
+abbrev pub long_elf : ElfFault
+long_elf = record { at = most_elf; why = elf_why.Limit }
+
 -- the most bytes of a file of a kind, and the refusal of one that has more
 abbrev pub most_of : FileKind → ℕ
 most_of kind.Image = most_bytes
+most_of kind.Elf = most_elf
 most_of kind.Partition = most_partition
 most_of kind.Schedule = most_schedule
 most_of kind.Trace = most_trace
 
 abbrev pub too_long : FileKind → Refusal
 too_long kind.Image = refusal.Image (record { at = most_bytes; why = Limit })
+too_long kind.Elf = refusal.Elf long_elf
 too_long kind.Partition = refusal.Partition part.Limit
 too_long kind.Schedule = refusal.Schedule schedule.Limit
 too_long kind.Trace = refusal.Trace long_trace
@@ -84,6 +94,12 @@ too_long kind.Trace = refusal.Trace long_trace
 pub record IsReadFault (name : List ℕ) (before after : ℕ) (file : List ℕ) : Type 0 where
   pub named : file ≡ name
   pub rose : before < after
+
+-- why the bytes of a partition's file are not had, but for its length
+abbrev pub IsPartitionUnread : List ℕ → ℕ → ℕ → Refusal → Type 0
+IsPartitionUnread name before after refusal.NoMemory = Unit {0}
+IsPartitionUnread name before after (refusal.Read file) = IsReadFault name before after file
+IsPartitionUnread name before after other = ⊥
 
 -- it is refused as too long
 pub record IsTooLong (k : FileKind) (content : Option (List ℕ)) (why : Refusal) : Type 0 where
@@ -98,6 +114,7 @@ IsUnread k name content before after (refusal.Image fault) = IsTooLong k content
 IsUnread k name content before after (refusal.Partition p) = IsTooLong k content (refusal.Partition p)
 IsUnread k name content before after (refusal.Schedule s) = IsTooLong k content (refusal.Schedule s)
 IsUnread k name content before after (refusal.Trace fault) = IsTooLong k content (refusal.Trace fault)
+IsUnread k name content before after (refusal.Elf fault) = IsTooLong k content (refusal.Elf fault)
 IsUnread k name content before after (refusal.NoSuchName item) = ⊥
 
 -- why the image of a file is not had: memory ran out, a read failed, or its bytes are refused so
@@ -108,4 +125,5 @@ IsRefusedBy meant name content before after (refusal.Image fault) = WhereExposed
 IsRefusedBy meant name content before after (refusal.Partition p) = WhereExposed content (λ bytes. meant bytes ≡ Err (refusal.Partition p))
 IsRefusedBy meant name content before after (refusal.Schedule s) = ⊥
 IsRefusedBy meant name content before after (refusal.Trace fault) = ⊥
+IsRefusedBy meant name content before after (refusal.Elf fault) = ⊥
 IsRefusedBy meant name content before after (refusal.NoSuchName item) = ⊥

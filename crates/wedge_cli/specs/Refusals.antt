@@ -1,4 +1,6 @@
--- Refusals of images and of partitions.
+-- Refusals of images, of partitions and of ELF files.
+use Rattle.elf_in.specs.declared.fault.ElfError.{ElfError}
+use Rattle.elf_in.specs.declared.fault.ElfError.TheVariants as elf
 use Rattle.image_form.specs.declared.fault.ImageError.{ImageError}
 use Rattle.image_form.specs.declared.fault.ImageError.TheVariants as error
 use Rattle.part_toml.specs.declared.fault.PartFault.{PartFault}
@@ -28,6 +30,15 @@ part_refusal_of (fault.Kind name) = refusal.Partition (part.Kind name)
 part_refusal_of (fault.Asm line why) = refusal.Partition (part.Asm line why)
 part_refusal_of (fault.Image at why) = refusal.Partition (part.Image at why)
 
+abbrev pub elf_refusal_of : ElfError → Refusal
+elf_refusal_of elf.NoMemory = refusal.NoMemory
+elf_refusal_of (elf.Fault fault) = refusal.Elf fault
+
+-- the refusal of a partition that a program is joined to: what is wrong with the image of both is the image's fault
+abbrev pub joining_refusal_of : PartFault → Refusal
+joining_refusal_of (fault.Image at why) = refusal.Image (record { at = at; why = why })
+joining_refusal_of other = part_refusal_of other
+
 -- the refusal of a text that is no schedule, and of a schedule that has no replay
 abbrev pub form_refusal_of : ScheduleFault → Refusal
 form_refusal_of text.NoMemory = refusal.NoMemory
@@ -44,3 +55,8 @@ as_refused (meant.Key name) = part.Key name
 as_refused (meant.Kind name) = part.Kind name
 as_refused (meant.Asm line why) = part.Asm line why
 as_refused (meant.Image at why) = part.Image at why
+
+-- and by one that a program is joined to
+abbrev pub as_unjoined : Meant → Refusal
+as_unjoined (meant.Image at why) = refusal.Image (record { at = at; why = why })
+as_unjoined other = refusal.Partition (as_refused other)

@@ -44,4 +44,5 @@ IsRefusalIn meant (refusal.Image fault) = meant ≡ Err (refusal.Image fault)
 IsRefusalIn meant (refusal.Partition p) = meant ≡ Err (refusal.Partition p)
 IsRefusalIn meant (refusal.Schedule s) = meant ≡ Err (refusal.Schedule s)
 IsRefusalIn meant (refusal.Trace fault) = ⊥
+IsRefusalIn meant (refusal.Elf fault) = meant ≡ Err (refusal.Elf fault)
 IsRefusalIn meant (refusal.NoSuchName item) = ⊥

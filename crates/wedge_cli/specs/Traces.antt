@@ -63,6 +63,7 @@ IsTraceRefused trace content before after (refusal.Partition p) = ⊥
 IsTraceRefused trace content before after (refusal.Schedule s) = ⊥
 IsTraceRefused trace content before after (refusal.Trace fault) =
     WhereExposed content (λ bytes. trace_fault bytes ≡ Some fault)
+IsTraceRefused trace content before after (refusal.Elf fault) = ⊥
 IsTraceRefused trace content before after (refusal.NoSuchName item) = ⊥
 
 -- why a query of a trace is not answered: besides, no record has the name that is asked for
@@ -74,5 +75,6 @@ IsQueryRefused query name trace content before after (refusal.Partition p) = ⊥
 IsQueryRefused query name trace content before after (refusal.Schedule s) = ⊥
 IsQueryRefused query name trace content before after (refusal.Trace fault) =
     WhereExposed content (λ bytes. trace_fault bytes ≡ Some fault)
+IsQueryRefused query name trace content before after (refusal.Elf fault) = ⊥
 IsQueryRefused query name trace content before after (refusal.NoSuchName item) =
     (item ≡ name) × WhereExposed content (IsUnknownIn query name)

@@ -14,6 +14,7 @@ pub data Asked : Type 0 where
   Run : List ℕ → RunFlag → Asked
   Show : List ℕ → Asked
   Build : List ℕ → Asked
+  Link : List ℕ → List ℕ → Asked
   Replay : List ℕ → List ℕ → Asked
   Derive : List ℕ → Asked
   Analyze : List ℕ → Query → List ℕ → Asked
@@ -23,6 +24,7 @@ abbrev pub asked_by : Command → Asked
 asked_by (command.Run image flag) = Run image.now flag
 asked_by (command.Show image) = Show image.now
 asked_by (command.Build part) = Build part.now
+asked_by (command.Link elf part) = Link elf.now part.now
 asked_by (command.Replay image schedule) = Replay image.now schedule.now
 asked_by (command.Derive trace) = Derive trace.now
 asked_by (command.Analyze trace query name) = Analyze trace.now query name.now
@@ -63,6 +65,10 @@ show_of arguments = option_map Show (file_of arguments)
 abbrev pub build_of : List (List ℕ) → Option Asked
 build_of arguments = option_map Build (file_of arguments)
 
+abbrev pub link_of : List (List ℕ) → Option Asked
+link_of (elf ∷ part ∷ []) = if is_plain elf && is_plain part then Some (Link elf part) else None
+link_of arguments = None
+
 abbrev pub replay_of : List (List ℕ) → Option Asked
 replay_of (image ∷ schedule ∷ []) = if is_plain image && is_plain schedule then Some (Replay image schedule) else None
 replay_of arguments = None
@@ -93,6 +99,7 @@ command_of (command ∷ arguments) =
     if bytes_eq command (codes "run") then run_of arguments
     else if bytes_eq command (codes "show") then show_of arguments
     else if bytes_eq command (codes "build") then build_of arguments
+    else if bytes_eq command (codes "link") then link_of arguments
     else if bytes_eq command (codes "replay") then replay_of arguments
     else if bytes_eq command (codes "derive") then derive_of arguments
     else if bytes_eq command (codes "analyze") then analyze_of arguments

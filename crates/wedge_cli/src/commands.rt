@@ -3,12 +3,14 @@
 ghost use Rattle.std.specs.Prelude.{◌≡◌, ◌≤◌, ℕ, List, Some, None, IfOk, IfErr};
 ghost use Rattle.wedge_cli.specs.Words as asking;
 ghost use Rattle.wedge_cli.specs.Loading.{IsRefusedBy, image_of, built_of};
-ghost use Rattle.wedge_cli.specs.Causes.{IsReplayRefused, IsRefused};
-ghost use Rattle.wedge_cli.specs.Ended.{on_out, on_both, IsReported, IsRun, IsShown, IsBuilt, IsReplayed, IsTraceAnswer, IsMade};
+ghost use Rattle.wedge_cli.specs.Causes.{IsLinkRefused, IsReplayRefused, IsRefused};
+ghost use Rattle.wedge_cli.specs.Ended.{on_out, on_both, IsReported, IsRun, IsShown, IsBuilt, IsLinked, IsPairAnswer, IsTraceAnswer, IsMade};
+ghost use Rattle.wedge_cli.specs.Replaying as replays;
 ghost use Rattle.wedge_cli.specs.Traces.{derive_text, analyze_text, IsTraceRefused, IsQueryRefused};
 
+use crate::linking::{link_text, program_of, read_partition_file};
 use crate::loading::{FileKind, load_built, load_image, read_file};
-use crate::refusal::Refusal;
+use crate::refusal::{PartRefusal, Refusal};
 use crate::replaying::replay_text;
 use crate::show::listing;
 use crate::traces::{load_trace, query_text, sheets_text};
@@ -39,6 +41,7 @@ pub(crate) fn prepare<F: Files>(
         Command::Run { image, flag } => run(alloc, files, image, flag),
         Command::Show { image } => show(alloc, files, image),
         Command::Build { part } => build(alloc, files, part),
+        Command::Link { elf, part } => link(alloc, files, elf, part),
         Command::Replay { image, schedule } => replay(alloc, files, image, schedule),
         Command::Derive { trace } => derive(alloc, files, trace),
         Command::Analyze { trace, query, name } => analyze(alloc, files, trace, query, name),
@@ -101,6 +104,26 @@ fn build<F: Files>(alloc: Global, files: &mut F, name: &str) -> Result<Ready, Re
     Ok(ready)
 }
 
+/// Makes the bytes of the image that an ELF file and a partition are joined to. Both files are read first, in this order.
+fn link<F: Files>(alloc: Global, files: &mut F, elf: &str, part: &str) -> Result<Ready, Refusal>
+    ensures made { IfOk result (λ r. IsLinked (F.content files.old elf.now)
+        (F.content files.old part.now) r.journal r.texts.items) }
+    ensures refused { IfErr result (IsLinkRefused elf.now part.now (F.content files.old)
+        (F.faults files.old) (F.faults files.new)) }
+    ensures content { (other : List ℕ) → F.content files.new other ≡ F.content files.old other }
+    ensures rises { (other : List ℕ) → F.faults files.old other ≤ F.faults files.new other }
+{
+    let elf = read_file(alloc, files, FileKind::Elf, elf)?;
+    let bytes = read_partition_file(alloc, files, part)?;
+    let program = program_of(alloc, elf.as_slice())?;
+    let Some(bytes) = bytes else {
+        return Err(Refusal::Partition(PartRefusal::Limit));
+    };
+    let text = link_text(alloc, &program, bytes.as_slice())?;
+    let ready = on_out(alloc, None, text)?;
+    Ok(ready)
+}
+
 /// Replays a schedule over an image. Both files are read first, in this order.
 fn replay<F: Files>(
     alloc: Global,
@@ -108,7 +131,7 @@ fn replay<F: Files>(
     image: &str,
     schedule: &str,
 ) -> Result<Ready, Refusal>
-    ensures made { IfOk result (λ r. IsReplayed (F.content files.old image.now)
+    ensures made { IfOk result (λ r. IsPairAnswer replays.replay_text (F.content files.old image.now)
         (F.content files.old schedule.now) r.journal r.texts.items) }
     ensures refused { IfErr result (IsReplayRefused image.now schedule.now (F.content files.old)
         (F.faults files.old) (F.faults files.new)) }

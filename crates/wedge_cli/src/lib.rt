@@ -8,10 +8,15 @@ mod commands;
 mod copy_tests;
 #[cfg(test)]
 mod file_tests;
+#[cfg(test)]
+mod gate_tests;
 mod headings;
 #[cfg(test)]
 mod interleaving_tests;
 mod lines;
+#[cfg(test)]
+mod link_tests;
+mod linking;
 mod loading;
 mod refusal;
 #[cfg(test)]

@@ -38,6 +38,7 @@ pub(crate) fn refusal_line(alloc: Global, refusal: &Refusal) -> Result<Vec<u8>, 
         Refusal::NoMemory => Vec::from_slice(alloc, no_memory_line()),
         Refusal::Read { file } => read_line(alloc, file.as_slice()),
         Refusal::Image(fault) => refused_line(alloc, fault.at, fault.why.word()),
+        Refusal::Elf(fault) => elf_line(alloc, *fault),
         Refusal::Partition(fault) => partition_line(alloc, fault),
         Refusal::Schedule(fault) => schedule_line(alloc, *fault),
         Refusal::Trace(fault) => trace_line(alloc, *fault),
@@ -61,6 +62,16 @@ fn refused_line(alloc: Global, at: usize, word: &str) -> Result<Vec<u8>, AllocEr
 {
     let mut line = Vec::from_slice(alloc, b"wedge: image refused at ")?;
     add_place(alloc, &mut line, at, b": ", word)?;
+    line.push(b'\n')?;
+    Ok(line)
+}
+
+/// The line of an ELF file that is refused.
+fn elf_line(alloc: Global, fault: elf_in::Fault) -> Result<Vec<u8>, AllocError>
+    ensures { IfOk result (λ v. v.items ≡ lines.line (lines.elf_text fault)) }
+{
+    let mut line = Vec::from_slice(alloc, b"wedge: elf refused at ")?;
+    add_place(alloc, &mut line, fault.at, b": ", fault.why.word())?;
     line.push(b'\n')?;
     Ok(line)
 }

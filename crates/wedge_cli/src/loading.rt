@@ -17,6 +17,9 @@ use wedge_base::Bytes;
 /// The most bytes of an image's file.
 const MOST_BYTES: u64 = 16_777_216;
 
+/// The most bytes of an ELF file.
+const MOST_ELF: u64 = 16_777_216;
+
 /// The most bytes of a partition's file.
 const MOST_PARTITION: u64 = 4_194_304;
 
@@ -30,6 +33,7 @@ const MOST_TRACE: u64 = 67_108_864;
 #[derive(Clone, Copy, Debug, PartialEq, Eq)]
 pub enum FileKind {
     Image,
+    Elf,
     Partition,
     Schedule,
     Trace,
@@ -68,6 +72,7 @@ fn most_of(kind: FileKind) -> u64
 {
     match kind {
         FileKind::Image => MOST_BYTES,
+        FileKind::Elf => MOST_ELF,
         FileKind::Partition => MOST_PARTITION,
         FileKind::Schedule => MOST_SCHEDULE,
         FileKind::Trace => MOST_TRACE,
@@ -82,6 +87,10 @@ fn too_long(kind: FileKind) -> Refusal
         FileKind::Image => Refusal::Image(Fault {
             at: MOST_BYTES as usize,
             why: Why::Limit,
+        }),
+        FileKind::Elf => Refusal::Elf(elf_in::Fault {
+            at: MOST_ELF as usize,
+            why: elf_in::Why::Limit,
         }),
         FileKind::Partition => Refusal::Partition(PartRefusal::Limit),
         FileKind::Schedule => Refusal::Schedule(ScheduleRefusal::Limit),

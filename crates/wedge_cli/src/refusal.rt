@@ -2,8 +2,9 @@
 
 ghost use Rattle.std.specs.Prelude.{◌≡◌};
 ghost use Rattle.wedge_cli.specs.declared.refusal.Refusal.TheVariants as errors;
-ghost use Rattle.wedge_cli.specs.Refusals.{refusal_of, part_refusal_of, form_refusal_of, replay_refusal_of};
+ghost use Rattle.wedge_cli.specs.Refusals.{refusal_of, part_refusal_of, elf_refusal_of, joining_refusal_of, form_refusal_of, replay_refusal_of};
 
+use elf_in::ElfError;
 use image_form::{Fault, ImageError};
 use part_toml::PartFault;
 use report_text::ScheduleFault;
@@ -26,6 +27,8 @@ pub enum Refusal {
     Schedule(ScheduleRefusal),
     /// The bytes of the trace's file are no trace: the first fault.
     Trace(TraceFault),
+    /// The bytes of the ELF file are no program: the first fault.
+    Elf(elf_in::Fault),
     /// The trace has no such procedure or item.
     NoSuchName { name: Bytes },
 }
@@ -109,5 +112,25 @@ pub(crate) fn refused_partition(fault: PartFault) -> Refusal
         PartFault::Kind { name } => Refusal::Partition(PartRefusal::Kind { name }),
         PartFault::Asm { line, why } => Refusal::Partition(PartRefusal::Asm { line, why }),
         PartFault::Image { at, why } => Refusal::Partition(PartRefusal::Image { at, why }),
+    }
+}
+
+/// What a rejected ELF file is.
+pub(crate) fn refused_elf(error: ElfError) -> Refusal
+    ensures { result ≡ elf_refusal_of error }
+{
+    match error {
+        ElfError::NoMemory => Refusal::NoMemory,
+        ElfError::Fault(fault) => Refusal::Elf(fault),
+    }
+}
+
+/// What a partition is that a program can't be joined to. What is wrong with the image of both is the image's fault.
+pub(crate) fn refused_joining(fault: PartFault) -> Refusal
+    ensures { result ≡ joining_refusal_of fault }
+{
+    match fault {
+        PartFault::Image { at, why } => Refusal::Image(Fault { at, why }),
+        other => refused_partition(other),
     }
 }

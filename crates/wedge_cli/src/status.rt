@@ -20,6 +20,9 @@ pub(crate) const REJECTED: u8 = 8;
 /// The status of a query of a trace that has no such name.
 pub(crate) const NO_SUCH_NAME: u8 = 9;
 
+/// The status of an ELF file that is refused.
+pub(crate) const ELF_REFUSED: u8 = 10;
+
 /// What the program ends with.
 #[derive(Debug, Drop)]
 pub struct Ended {

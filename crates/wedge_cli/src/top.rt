@@ -5,15 +5,18 @@ ghost use Rattle.wedge_cli.specs.Words as asking;
 ghost use Rattle.wedge_cli.specs.Words.{Asked, command_of, texts};
 ghost use Rattle.wedge_cli.specs.Outside.{outside, sinks, device};
 ghost use Rattle.wedge_cli.specs.Lines as lines;
-ghost use Rattle.wedge_cli.specs.Ended.{IsSaid, IsRunDone, IsScheduleDone, IsCutShort, IsAnswerEnd};
+ghost use Rattle.wedge_cli.specs.Ended.{IsSaid, IsRunDone, IsScheduleDone, IsLinkDone, IsCutShort, IsAnswerEnd};
+ghost use Rattle.wedge_cli.specs.Linking.{link_text};
 ghost use Rattle.wedge_cli.specs.Replaying.{replay_text};
 ghost use Rattle.wedge_cli.specs.Traces.{derive_text, analyze_text};
-ghost use Rattle.wedge_cli.specs.Causes.{IsUnfit, IsRejected, IsUnknown, IsUnreadable, SaysRefusal, IsAnswer};
+ghost use Rattle.wedge_cli.specs.Causes.{IsUnfit, IsRejected, IsElfRejected, IsUnknown, IsUnreadable, SaysRefusal, IsAnswer};
 
 use crate::commands::prepare;
 use crate::lines::{no_memory_line, refusal_line, usage_line};
 use crate::refusal::Refusal;
-use crate::status::{Ended, NO_MEMORY, NO_SUCH_NAME, READ_FAULT, REFUSED, REJECTED, USAGE};
+use crate::status::{
+    ELF_REFUSED, Ended, NO_MEMORY, NO_SUCH_NAME, READ_FAULT, REFUSED, REJECTED, USAGE,
+};
 use crate::words::{Query, RunFlag, WordsFault, read_words};
 use crate::writing::{finish, say};
 use host_io::{Files, Pace, Sink};
@@ -22,17 +25,18 @@ use std::sync::Wait;
 use std::thread::Threads;
 
 /// Does what the arguments ask: `run IMAGE` runs an image and writes its report on `out`, `show IMAGE`
-/// writes the listing of its text, and `build PART` makes an image of a partition and writes its bytes.
+/// writes the listing of its text, `build PART` makes an image of a partition and writes its bytes, and `link ELF PART`
+/// does so with the program of an ELF file in place of the partition's text.
 /// `run IMAGE --schedule` writes the schedule of the run on `out` and its report on `err`;
 /// `replay IMAGE SCHEDULE` takes the turns of a schedule and writes the report of the run that they make.
 /// `derive TRACE` writes the sheets that a trace needs, and `analyze TRACE accessed PROC`,
 /// `analyze TRACE users ITEM` and `analyze TRACE written PROC` write the lines that answer a query of it.
 ///
 /// The status is 0 where that was written; 2 where the arguments are no command; 3 where a file's bytes
-/// encode no image, or one to be run of a kind that the machine does not run yet, or no partition; 4
-/// where a read failed; 5 where a write failed; 6 where memory ran out; 8 where a file is no schedule of
-/// a complete run of the image, or no trace; 9 where a trace has no procedure or no item of the name that is
-/// asked for. A refusal leaves `out` alone and writes one line on `err`. A write that
+/// encode no image, or no partition; 4 where a read failed; 5 where a write failed; 6 where memory ran
+/// out; 8 where a file is no schedule of a complete run of the image, or no trace; 9 where a trace has no
+/// procedure or no item of the name that is asked for; 10 where a file is no ELF file of a program. A refusal leaves
+/// `out` alone and writes one line on `err`. A write that
 /// fails leaves a prefix of its text, and is reported once on `err`.
 pub fn wedge<R: Threads + Wait + Sync, F: Files, O: Sink, E: Sink, P: Pace + Sync>(
     _rt: &R,
@@ -58,6 +62,24 @@ pub fn wedge<R: Threads + Wait + Sync, F: Files, O: Sink, E: Sink, P: Pace + Syn
         → command_of (texts words.now) ≡ Some (asking.Run image RunFlag.Schedule)
         → F.content files.old image ≡ Some bytes → result.status ≡ 0
         → IsScheduleDone bytes result.journal
+        (sinks (O.written out.old) (O.faults out.old) (E.written err.old) (E.faults err.old))
+        (sinks (O.written out.new) (O.faults out.new) (E.written err.new) (E.faults err.new)) }
+
+    // Of `link ELF PART`, where no read or write failed and memory did not run out: what the bytes of the two files
+    // say. Where the ELF file is rejected, that is the status 10 and its line.
+    ensures link { (elf part bytes text : List ℕ)
+        → command_of (texts words.now) ≡ Some (asking.Link elf part)
+        → F.content files.old elf ≡ Some bytes → F.content files.old part ≡ Some text
+        → IsCutShort result.status ⊎ IsAnswerEnd (link_text bytes text) result.status
+        (sinks (O.written out.old) (O.faults out.old) (E.written err.old) (E.faults err.old))
+        (sinks (O.written out.new) (O.faults out.new) (E.written err.new) (E.faults err.new)) }
+
+    // With the status 0: each byte of the image's text and data that lies in a load is the file's byte, or zero past
+    // the load's size in the file; and what is around a load is zero.
+    ensures link_done { (elf part bytes : List ℕ)
+        → command_of (texts words.now) ≡ Some (asking.Link elf part)
+        → F.content files.old elf ≡ Some bytes → result.status ≡ 0
+        → IsLinkDone bytes
         (sinks (O.written out.old) (O.faults out.old) (E.written err.old) (E.faults err.old))
         (sinks (O.written out.new) (O.faults out.new) (E.written err.new) (E.faults err.new)) }
 
@@ -102,6 +124,8 @@ pub fn wedge<R: Threads + Wait + Sync, F: Files, O: Sink, E: Sink, P: Pace + Syn
         → IsUnfit a (F.content files.old) }
     ensures rejected_only { (a : Asked) → command_of (texts words.now) ≡ Some a → result.status ≡ 8
         → IsRejected a (F.content files.old) }
+    ensures elf_only { (a : Asked) → command_of (texts words.now) ≡ Some a → result.status ≡ 10
+        → IsElfRejected a (F.content files.old) }
     ensures name_only { (a : Asked) → command_of (texts words.now) ≡ Some a → result.status ≡ 9
         → IsUnknown a (F.content files.old) }
     ensures read_only { (a : Asked) → command_of (texts words.now) ≡ Some a → result.status ≡ 4
@@ -166,6 +190,7 @@ fn status_of(refusal: &Refusal) -> u8
         Refusal::Read { .. } => READ_FAULT,
         Refusal::Image(_) | Refusal::Partition(_) => REFUSED,
         Refusal::Schedule(_) | Refusal::Trace(_) => REJECTED,
+        Refusal::Elf(_) => ELF_REFUSED,
         Refusal::NoSuchName { .. } => NO_SUCH_NAME,
     }
 }

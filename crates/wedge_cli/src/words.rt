@@ -40,6 +40,11 @@ pub enum Command<'a> {
     Build {
         part: &'a str,
     },
+    /// To join an ELF file and a partition to an image and write it.
+    Link {
+        elf: &'a str,
+        part: &'a str,
+    },
     /// To replay a schedule over an image and write the report.
     Replay {
         image: &'a str,
@@ -86,6 +91,7 @@ fn command_in(words: &[String]) -> Option<Command<'_>>
         "run" => run_in(arguments),
         "show" => show_in(arguments),
         "build" => build_in(arguments),
+        "link" => link_in(arguments),
         "replay" => replay_in(arguments),
         "derive" => derive_in(arguments),
         "analyze" => analyze_in(arguments),
@@ -139,6 +145,19 @@ fn build_in(arguments: &[String]) -> Option<Command<'_>>
 {
     let part = file_in(arguments)?;
     Some(Command::Build { part })
+}
+
+/// The command of the arguments after `link`.
+fn link_in(arguments: &[String]) -> Option<Command<'_>>
+    ensures { option_map asking.asked_by result ≡ asking.link_of (asking.texts arguments.now) }
+{
+    match arguments {
+        [elf, part] if is_plain(elf.as_str()) && is_plain(part.as_str()) => Some(Command::Link {
+            elf: elf.as_str(),
+            part: part.as_str(),
+        }),
+        _ => None,
+    }
 }
 
 /// The command of the arguments after `replay`.

@@ -95,6 +95,7 @@ joins_at : (k : ℕ) (c : ActorState) (p : Phase) (e : Event) → c.phase ≡ p 
 joins_at k c phase.Running e at comes = absurd cc
 joins_at k c (phase.Within q) e at comes = absurd cc
 joins_at k c (phase.Starting pre) e at comes = absurd cc
+joins_at k c (phase.MakingGate pre) e at comes = absurd cc
 joins_at k c (phase.Opening slot tag) e at comes = absurd cc
 joins_at k c (phase.Releasing slot) e at comes = absurd cc
 joins_at k c (phase.OpeningFile o) e at comes = absurd cc

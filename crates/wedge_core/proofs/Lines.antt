@@ -32,6 +32,7 @@ line_put l (m ∷ ms) = ap (λ (ns : List ActorLine). cond (line_before l m) (l 
 one_more : (i : Image) (a : ActorState) (p : Phase) (ls : List ActorLine) → with_actor i a p (sorted line_before ls) ≡ sorted line_before (ls ++ with_actor i a p [])
 one_more i a phase.Running ls = ap (sorted line_before) (sym (append-nil ls))
 one_more i a (phase.Starting pre) ls = ap (sorted line_before) (sym (append-nil ls))
+one_more i a (phase.MakingGate pre) ls = ap (sorted line_before) (sym (append-nil ls))
 one_more i a (phase.Opening slot tag) ls = ap (sorted line_before) (sym (append-nil ls))
 one_more i a (phase.OpeningFile o) ls = ap (sorted line_before) (sym (append-nil ls))
 one_more i a (phase.Releasing slot) ls = ap (sorted line_before) (sym (append-nil ls))

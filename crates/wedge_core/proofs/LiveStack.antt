@@ -15,7 +15,7 @@ use Rattle.sthread_life.specs.FamilyTrees.{Holds, AllBehind}
 use Rattle.sthread_life.specs.Local.{rest, has_ended}
 use Rattle.sthread_life.specs.Opening.{FileOpening}
 use Rattle.sthread_life.specs.Names.{IsNew, AreDistinct}
-use Rattle.sthread_life.specs.Taking.{starting_want, opening_want, wanted_at, ending_want}
+use Rattle.sthread_life.specs.Taking.{making_want, starting_want, opening_want, wanted_at, ending_want}
 use Rattle.sthread_life.specs.Worlds.{WorldState, opening, actor_named, put_actor, Runs, is_ended}
 use Rattle.sthread_life.proofs.FamilyKept.{found_apart}
 use Rattle.sthread_life.proofs.FamilyRuns.{run_family}
@@ -154,6 +154,10 @@ starting_joins : (b : ActorState) (gs : List CopyGrant) (k : ℕ) → Some (star
 starting_joins b [] k is = cc
 starting_joins b (g ∷ gs) k is = cc
 
+making_joins : (gs : List CopyGrant) (k : ℕ) → making_want gs ≡ Some (want.Join k) → ⊥
+making_joins [] k is = cc
+making_joins (g ∷ gs) k is = cc
+
 opening_joins : (o : FileOpening) (n : Option ℕ) (k : ℕ) → Some (opening_want o n) ≡ Some (want.Join k) → ⊥
 opening_joins o None k is = cc
 opening_joins o (Some fd) k is = cc
@@ -162,6 +166,7 @@ waits_for : (i : Image) (b : ActorState) (p : Phase) (k : ℕ) → ReadsAs i b p
 waits_for i b phase.Running k reads wants = absurd cc
 waits_for i b (phase.Within q) k reads wants = let is : q ≡ want.Join k = cc in subst (λ x. IsWanted (LoadsAt i b.hart reads.0 reads.1) b x) is reads.3
 waits_for i b (phase.Starting pre) k reads wants = absurd (starting_joins b pre.left k wants)
+waits_for i b (phase.MakingGate pre) k reads wants = absurd (making_joins pre.left k wants)
 waits_for i b (phase.Opening slot tag) k reads wants = absurd cc
 waits_for i b (phase.Releasing slot) k reads wants = absurd cc
 waits_for i b (phase.OpeningFile o) k reads wants = absurd (opening_joins o o.number k wants)

@@ -70,6 +70,7 @@ ended_wants : (a : ActorState) (p : Phase) → has_ended p ≡ true → wanted_a
 ended_wants a phase.Running e = cc
 ended_wants a (phase.Within q) e = cc
 ended_wants a (phase.Starting pre) e = cc
+ended_wants a (phase.MakingGate pre) e = cc
 ended_wants a (phase.Opening slot tag) e = cc
 ended_wants a (phase.Releasing slot) e = cc
 ended_wants a (phase.OpeningFile o) e = cc
@@ -104,6 +105,7 @@ no_event k (Some c) e = by_phase c.phase e
     by_phase phase.Running e = refl
     by_phase (phase.Within q) e = refl
     by_phase (phase.Starting pre) e = refl
+    by_phase (phase.MakingGate pre) e = refl
     by_phase (phase.Opening slot tag) e = refl
     by_phase (phase.Releasing slot) e = refl
     by_phase (phase.OpeningFile o) e = refl

@@ -1,6 +1,6 @@
 //! The actors of a world, each with its private memory, by name.
 
-ghost use Rattle.std.specs.Prelude.{◌≡◌, ◌++◌, ◌∷◌, [], length, IfOk, OnOk, OnErr, IfSome, IfNone, None};
+ghost use Rattle.std.specs.Prelude.{◌≡◌, ◌<◌, ◌++◌, ◌∷◌, [], length, vec_capacity, IfOk, OnOk, OnErr, IfSome, IfNone, None};
 ghost use Rattle.sthread_life.specs.Children.{child_name};
 ghost use Rattle.sthread_life.specs.Worlds.{actor_named};
 ghost use Rattle.wedge_core.specs.Places.{IsIndexOf};
@@ -113,11 +113,19 @@ impl Residents {
         let parts = Vec::from_slice(alloc, child.name().parts())?;
         self.list.reserve(1)?;
         self.index.insert(parts, self.list.len())?;
-        let Ok(()) = self.list.push(child) else {
-            unreachable!()
-        };
+        add_in_room(&mut self.list, child);
         Ok(())
     }
+}
+
+/// Adds an item to a list that has room for it.
+fn add_in_room<T: Drop>(list: &mut Vec<T>, item: T)
+    requires room { length list.old.items < vec_capacity list.old }
+    ensures { list.new.items ≡ list.old.items ++ item ∷ [] }
+{
+    let Ok(()) = list.push(item) else {
+        unreachable!()
+    };
 }
 
 /// Drops all actors and their index. When out of memory not even an actor's name is known, so the index can't be kept.

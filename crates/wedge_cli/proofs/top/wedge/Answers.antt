@@ -1,4 +1,4 @@
-use Rattle.wedge_cli.proofs.Statuses.{run_done, schedule_done, replay_done, derive_done, analyze_done, rejected_only, name_only, usage_only, image_only, read_only, write_only}
+use Rattle.wedge_cli.proofs.Statuses.{run_done, schedule_done, replay_done, link_answered, link_done, derive_done, analyze_done, rejected_only, name_only, elf_only, usage_only, image_only, read_only, write_only}
 use Rattle.wedge_cli.proofs.top.wedge.Goals as goal
 
 pub returns-clause-run : goal.returns-clause-run
@@ -33,3 +33,12 @@ returns-clause-analyze g c = λ trace name bytes query asked exposed. analyze_do
 
 pub returns-clause-name_only : goal.returns-clause-name_only
 returns-clause-name_only g c = λ a asked is. name_only a _ _ _ (c.does.ensures.answer.command a asked) is
+
+pub returns-clause-link : goal.returns-clause-link
+returns-clause-link g c = λ elf part bytes text asked elf_is part_is. link_answered elf part bytes text _ _ _ (c.does.ensures.answer.command _ asked) elf_is part_is
+
+pub returns-clause-link_done : goal.returns-clause-link_done
+returns-clause-link_done g c = λ elf part bytes asked elf_is is. link_done elf part bytes _ _ _ (c.does.ensures.answer.command _ asked) elf_is is
+
+pub returns-clause-elf_only : goal.returns-clause-elf_only
+returns-clause-elf_only g c = λ a asked is. elf_only a _ _ _ (c.does.ensures.answer.command a asked) is

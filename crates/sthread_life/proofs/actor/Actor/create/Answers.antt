@@ -1,4 +1,5 @@
-use Rattle.std.proofs.Common.{◌≡◌, ◌<◌, true, length, sym, ap, subst, ◌∙◌, arith}
+use Rattle.std.specs.Arc.{arc_value}
+use Rattle.std.proofs.Common.{map, ◌≡◌, ◌<◌, true, length, sym, ap, subst, ◌∙◌, arith}
 use Rattle.sthread_life.specs.Actors.{ActorRecord, whole}
 use Rattle.sthread_life.specs.Calls.{is_procedure, create}
 use Rattle.sthread_life.proofs.Creating.{begins_there, on_ok, creates}
@@ -12,6 +13,7 @@ returns c =
       compartment = w.compartment;
       sheet = w.sheet;
       made = w.made;
+      gates = map arc_value w.gates.items;
       labels = w.labels;
       drafts = w.drafts.items;
       hart = w.hart;

@@ -1,4 +1,5 @@
-use Rattle.std.proofs.Common.{◌≡◌, ◌<◌, length, sym, ap, subst, ◌∙◌, arith}
+use Rattle.std.specs.Arc.{arc_value}
+use Rattle.std.proofs.Common.{map, ◌≡◌, ◌<◌, length, sym, ap, subst, ◌∙◌, arith}
 use Rattle.std.specs.Prelude.{Err}
 use Rattle.wedge_base.specs.Sheets.{takes_tag}
 use Rattle.sthread_life.specs.Actors.{ActorRecord, whole}
@@ -15,6 +16,7 @@ returns-in-Err-Full c = λ m.
       compartment = w.compartment;
       sheet = w.sheet;
       made = w.made;
+      gates = map arc_value w.gates.items;
       labels = w.labels;
       drafts = w.drafts.items;
       hart = w.hart;

@@ -13,7 +13,7 @@ invariant_of-self-2 c =
     let child = c.args.child in
     let key = c.in_ok-parts.parts in
     let none : actor_named actors child.name ≡ None = subst (λ (as_ : List ActorState). actor_named as_ child.name ≡ None) (sym c.self.view_is) c.requires in
-    let pushed : c.push.new.self.items ≡ actors ++ child ∷ [] = search rules in
+    let pushed : c.add_in_room.new.list.items ≡ actors ++ child ∷ [] = search rules in
     let named : key.items ≡ child.name = search rules in
     let at : c.len.result ≡ length actors = search rules in
     subst (λ (as_ : List ActorState). IsIndexOf c.insert.new.self as_) (sym pushed)

@@ -1,0 +1,10 @@
+//! Callgates: what a maker fixes of a gate, and the sheet with which a run of it begins.
+#![tactic(auto)]
+
+mod gate;
+mod lending;
+#[cfg(test)]
+mod tests;
+
+pub use gate::{Gate, gate_named};
+pub use lending::{is_lendable, run_sheet};

@@ -1,0 +1,270 @@
+-- The answer of a link, from what was read and done.
+use Rattle.std.proofs.Common.{◌≡◌, ◌⊎◌, inl, inr, ℕ, ◌<◌, ◌≤◌, Bool, true, false, cond, List, length, refl, sym, ap, subst, ◌∙◌, arith}
+use Rattle.std.specs.Prelude.{Option, Some, None, Result, Ok, Err, nat_le, nat_lt}
+use Rattle.std.specs.Str.{IsUtf8, is_utf8}
+use Rattle.std.proofs.lemmas.Str.{is_utf8-from_IsUtf8}
+use Rattle.std.proofs.lemmas.Bool.{lt-leb, le-ltb, lt-ltb}
+use Rattle.host_io.specs.Exposed.{WhereExposed}
+use Rattle.wedge_base.specs.Images.{Image}
+use Rattle.elf_in.specs.declared.fault.Fault.{Fault as ElfFault}
+use Rattle.elf_in.specs.declared.fault.ElfError.{ElfError}
+use Rattle.elf_in.specs.declared.fault.ElfError.TheVariants as elf_error
+use Rattle.elf_in.specs.Checks.{identity_check}
+use Rattle.elf_in.specs.Program.{Program}
+use Rattle.elf_in.specs.Reading.{reading}
+use Rattle.elf_in.specs.Steps.{Fails}
+use Rattle.part_toml.specs.declared.fault.PartFault.{PartFault}
+use Rattle.part_toml.specs.declared.fault.PartFault.TheVariants as fault
+use Rattle.part_toml.specs.Faults.{Refusal as Meant}
+use Rattle.part_toml.specs.Faults as meant
+use Rattle.part_toml.specs.Joining.{partition_with}
+use Rattle.part_toml.specs.Partition.{Reports, refusal_in}
+use Rattle.wedge_cli.specs.declared.loading.FileKind.TheVariants as kind
+use Rattle.wedge_cli.specs.declared.refusal.Refusal.{Refusal}
+use Rattle.wedge_cli.specs.declared.refusal.Refusal.TheVariants as refusal
+use Rattle.wedge_cli.specs.declared.refusal.PartRefusal.TheVariants as part
+use Rattle.wedge_cli.specs.Lines.{status_of}
+use Rattle.wedge_cli.specs.Refusals.{as_unjoined, elf_refusal_of, joining_refusal_of}
+use Rattle.wedge_cli.specs.Loading.{most_of, most_partition, long_elf, IsUnread, IsPartitionUnread}
+use Rattle.wedge_cli.specs.Replaying.{IsRefusalIn}
+use Rattle.wedge_cli.specs.Linking.{program_by, by_joining, joined_of, bytes_by, link_with, link_text, IsUnjoined}
+use Rattle.wedge_cli.specs.Causes.{IsLinkAnswer, IsLinkRefused, IsElfRejected, IsUnreadable}
+use Rattle.wedge_cli.specs.Ended.{IsCutShort}
+use Rattle.wedge_cli.specs.Words.{Link}
+use Rattle.wedge_cli.proofs.Partitions.{not_utf8}
+
+-- ---- the ELF file
+
+-- one of too many bytes is rejected
+pub long_file : (bytes : List ℕ) → most_of kind.Elf < length bytes → reading bytes ≡ Err long_elf
+unfolding reading identity_check
+long_file bytes lt = let long : nat_le (length bytes) (most_of kind.Elf) ≡ false = lt-leb (length bytes) (most_of kind.Elf) lt in rw long refl
+
+-- an error of the code is the fault that is meant
+pub rejected_by : (m : Result Program ElfFault) (e : ElfError) → Fails e m → IsRefusalIn (program_by m) (elf_refusal_of e)
+rejected_by m elf_error.NoMemory h = tt
+rejected_by m (elf_error.Fault f) h = ap program_by h
+
+-- ---- the partition
+
+-- bytes that are no UTF-8 are no TOML document
+pub joined_not_utf8 : (p : Program) (bytes : List ℕ) → length bytes ≤ most_partition → (IsUtf8 bytes → ⊥) → joined_of p bytes ≡ Err (refusal.Partition part.Toml)
+unfolding joined_of
+joined_not_utf8 p bytes le h =
+    let short : nat_lt most_partition (length bytes) ≡ false = le-ltb most_partition (length bytes) le in
+    rw (short, not_utf8 bytes _ refl h) refl
+
+pub joined_utf8 : (p : Program) (bytes : List ℕ) → length bytes ≤ most_partition → IsUtf8 bytes → joined_of p bytes ≡ by_joining (partition_with p bytes)
+unfolding joined_of
+joined_utf8 p bytes le h =
+    let short : nat_lt most_partition (length bytes) ≡ false = le-ltb most_partition (length bytes) le in
+    rw (short, is_utf8-from_IsUtf8 bytes h) refl
+
+joined_long : (p : Program) (bytes : List ℕ) → most_partition < length bytes → joined_of p bytes ≡ Err (refusal.Partition part.Limit)
+unfolding joined_of
+joined_long p bytes lt = let long : nat_lt most_partition (length bytes) ≡ true = lt-ltb most_partition (length bytes) lt in rw long refl
+
+some_err : (m : Result Image Meant) (r : Meant) → refusal_in m ≡ Some r → by_joining m ≡ Err (as_unjoined r)
+some_err (Ok i) r e = let f : None ≡ Some r = e in absurd cc
+some_err (Err q) r e = let is : q ≡ r = let f : Some q ≡ Some r = e in cc in ap (λ x. Err (as_unjoined x)) is
+
+-- a fault of the code is what is meant
+pub unjoined_by : (m : Result Image Meant) (f : PartFault) → Reports f (refusal_in m) → IsRefusalIn (by_joining m) (joining_refusal_of f)
+unjoined_by m fault.NoMemory h = tt
+unjoined_by m fault.Toml h = some_err m meant.Toml h
+unjoined_by m (fault.Key name) h = some_err m (meant.Key name) h
+unjoined_by m (fault.Kind name) h = some_err m (meant.Kind name) h
+unjoined_by m (fault.Asm line why) h = some_err m (meant.Asm line why) h
+unjoined_by m (fault.Image at why) h = some_err m (meant.Image at why) h
+
+-- what is wrong is of the partition, or of the image
+abbrev IsOfPart : Refusal → Type 0
+IsOfPart (refusal.Image fault) = Unit {0}
+IsOfPart (refusal.Partition p) = Unit {0}
+IsOfPart other = ⊥
+
+of_part : (m : Meant) → IsOfPart (as_unjoined m)
+of_part meant.Toml = tt
+of_part (meant.Key name) = tt
+of_part (meant.Kind name) = tt
+of_part (meant.Asm line why) = tt
+of_part (meant.Image at why) = tt
+
+of_joining : (m : Result Image Meant) (s : Refusal) → by_joining m ≡ Err s → IsOfPart s
+of_joining (Ok i) s e = absurd cc
+of_joining (Err r) s e = let is : as_unjoined r ≡ s = cc in subst IsOfPart is (of_part r)
+
+of_cases : (long text : Bool) (m : Result Image Meant) (s : Refusal)
+    → cond {A = Result Image Refusal} long (Err (refusal.Partition part.Limit)) (cond text (by_joining m) (Err (refusal.Partition part.Toml))) ≡ Err s → IsOfPart s
+of_cases true text m s e = let is : refusal.Partition part.Limit ≡ s = cc in subst IsOfPart is tt
+of_cases false true m s e = of_joining m s e
+of_cases false false m s e = let is : refusal.Partition part.Toml ≡ s = cc in subst IsOfPart is tt
+
+of_joined : (p : Program) (text : List ℕ) (s : Refusal) → joined_of p text ≡ Err s → IsOfPart s
+unfolding joined_of
+of_joined p text s e = of_cases (nat_lt most_partition (length text)) (is_utf8 text) (partition_with p text) s e
+
+-- ---- both
+
+-- of an ELF file that is accepted
+linked_by : (elf text : List ℕ) (p : Program) (answer : Result Image Refusal) → reading elf ≡ Ok p → joined_of p text ≡ answer → link_text elf text ≡ bytes_by answer
+linked_by elf text p answer accepted joined = ap (λ m. link_with (program_by m) text) accepted ∙ ap bytes_by joined
+
+pub linked_text : (elf text bytes : List ℕ) (p : Program) → reading elf ≡ Ok p → bytes_by (joined_of p text) ≡ Ok bytes → link_text elf text ≡ Ok bytes
+linked_text elf text bytes p accepted joined = ap (λ m. link_with (program_by m) text) accepted ∙ joined
+
+-- of one that is not
+rejected_with : (elf text : List ℕ) (f : ElfFault) → reading elf ≡ Err f → link_text elf text ≡ Err (refusal.Elf f)
+rejected_with elf text f e = ap (λ m. link_with (program_by m) text) e
+
+fault_by : (m : Result Program ElfFault) (f : ElfFault) → program_by m ≡ Err (refusal.Elf f) → m ≡ Err f
+fault_by (Ok p) f e = absurd cc
+fault_by (Err g) f e = let is : g ≡ f = cc in ap (λ x. Err x) is
+
+no_image_by : (m : Result Program ElfFault) (r : Refusal) → ((f : ElfFault) → r ≡ refusal.Elf f → ⊥) → program_by m ≡ Err r → ⊥
+no_image_by (Ok p) r unlike e = cc
+no_image_by (Err f) r unlike e = unlike f (let is : refusal.Elf f ≡ r = cc in sym is)
+
+-- ---- why there is no image
+
+module _ (elf part_name : List ℕ) (files : List ℕ → Option (List ℕ)) (before after : List ℕ → ℕ) where
+  -- the ELF file was not read
+  pub elf_unread : (r : Refusal) → IsUnread kind.Elf elf (files elf) (before elf) (after elf) r → IsLinkRefused elf part_name files before after r
+  elf_unread refusal.NoMemory h = tt
+  elf_unread (refusal.Read file) h = inl h
+  elf_unread (refusal.Image fault) h = let e = h.is in absurd cc
+  elf_unread (refusal.Partition p) h = let e = h.is in absurd cc
+  elf_unread (refusal.Schedule s) h = let e = h.is in absurd cc
+  elf_unread (refusal.Trace fault) h = let e = h.is in absurd cc
+  elf_unread (refusal.Elf f) h =
+      let is : f ≡ long_elf = let e = h.is in cc in (
+        λ bytes text elf_is part_is. rejected_with bytes text long_elf (long_file bytes (h.longer bytes elf_is)) ∙ ap (λ g. Err (refusal.Elf g)) (sym is),
+        λ bytes elf_is. long_file bytes (h.longer bytes elf_is) ∙ ap (λ g. Err g) (sym is),
+      )
+  elf_unread (refusal.NoSuchName item) h = absurd h
+
+  -- the partition's was not, after the ELF file
+  pub part_unread : (middle : ℕ) (read : List ℕ) (r : Refusal) → before part_name ≤ middle → WhereExposed (files elf) (λ b. read ≡ b) → length read ≤ most_of kind.Elf
+      → IsPartitionUnread part_name middle (after part_name) r → IsLinkRefused elf part_name files before after r
+  part_unread middle read refusal.NoMemory low same within h = tt
+  part_unread middle read (refusal.Read file) low same within h =
+      let rose = h.rose in
+      inr (record { named = h.named; rose = omega arith }, λ b exposed. subst (λ x. length x ≤ most_of kind.Elf) (same b exposed) within)
+  part_unread middle read (refusal.Image fault) low same within h = absurd h
+  part_unread middle read (refusal.Partition p) low same within h = absurd h
+  part_unread middle read (refusal.Schedule s) low same within h = absurd h
+  part_unread middle read (refusal.Trace fault) low same within h = absurd h
+  part_unread middle read (refusal.Elf f) low same within h = absurd h
+  part_unread middle read (refusal.NoSuchName item) low same within h = absurd h
+
+  -- the ELF file was rejected
+  pub elf_rejected : (read : List ℕ) (r : Refusal) → WhereExposed (files elf) (λ b. read ≡ b) → IsRefusalIn (program_by (reading read)) r → IsLinkRefused elf part_name files before after r
+  elf_rejected read refusal.NoMemory same h = tt
+  elf_rejected read (refusal.Read file) same h = absurd h
+  elf_rejected read (refusal.Image fault) same h = absurd (no_image_by (reading read) (refusal.Image fault) (λ f e. cc) h)
+  elf_rejected read (refusal.Partition p) same h = absurd (no_image_by (reading read) (refusal.Partition p) (λ f e. cc) h)
+  elf_rejected read (refusal.Schedule s) same h = absurd (no_image_by (reading read) (refusal.Schedule s) (λ f e. cc) h)
+  elf_rejected read (refusal.Trace fault) same h = absurd h
+  elf_rejected read (refusal.Elf f) same h =
+      let is : reading read ≡ Err f = fault_by (reading read) f h in (
+        λ bytes text elf_is part_is. rejected_with bytes text f (ap reading (sym (same bytes elf_is)) ∙ is),
+        λ bytes elf_is. ap reading (sym (same bytes elf_is)) ∙ is,
+      )
+  elf_rejected read (refusal.NoSuchName item) same h = absurd h
+
+  module _ (read : List ℕ) (p : Program) (same : WhereExposed (files elf) (λ b. read ≡ b)) (accepted : reading read ≡ Ok p) where
+    accepted_at : (bytes : List ℕ) → files elf ≡ Some bytes → reading bytes ≡ Ok p
+    accepted_at bytes elf_is = ap reading (sym (same bytes elf_is)) ∙ accepted
+
+    -- it was accepted, and the partition is too long
+    pub part_long : WhereExposed (files part_name) (λ b. most_partition < length b) → IsLinkRefused elf part_name files before after (refusal.Partition part.Limit)
+    part_long longer = λ bytes text elf_is part_is.
+        linked_by bytes text p (Err (refusal.Partition part.Limit)) (accepted_at bytes elf_is) (joined_long p text (longer text part_is))
+
+    joined_at : (given : List ℕ) (r : Refusal) → WhereExposed (files part_name) (λ b. given ≡ b) → joined_of p given ≡ Err r → IsLinkAnswer elf part_name files (Err r)
+    joined_at given r same_part h = λ bytes text elf_is part_is.
+        linked_by bytes text p (Err r) (accepted_at bytes elf_is) (ap (joined_of p) (sym (same_part text part_is)) ∙ h)
+
+    -- it was accepted, and the partition or the image of both is rejected
+    pub part_rejected : (given : List ℕ) (r : Refusal) → WhereExposed (files part_name) (λ b. given ≡ b)
+        → IsRefusalIn (joined_of p given) r → IsLinkRefused elf part_name files before after r
+    part_rejected given refusal.NoMemory same_part h = tt
+    part_rejected given (refusal.Read file) same_part h = absurd h
+    part_rejected given (refusal.Image fault) same_part h = joined_at given (refusal.Image fault) same_part h
+    part_rejected given (refusal.Partition q) same_part h = joined_at given (refusal.Partition q) same_part h
+    part_rejected given (refusal.Schedule s) same_part h = absurd (of_joined p given (refusal.Schedule s) h)
+    part_rejected given (refusal.Trace fault) same_part h = absurd h
+    part_rejected given (refusal.Elf f) same_part h = absurd (of_joined p given (refusal.Elf f) h)
+    part_rejected given (refusal.NoSuchName item) same_part h = absurd h
+
+-- ---- statuses
+
+unjoined_of : (elf text : List ℕ) (p : Program) (j : Result Image Refusal) (r : Refusal) → reading elf ≡ Ok p → joined_of p text ≡ j → bytes_by j ≡ Err r → IsUnjoined elf text
+unjoined_of elf text p (Ok i) r is joined e = absurd cc
+unjoined_of elf text p (Err why) r is joined e = record { program = p; accepted = is; why = why; rejected = joined }
+
+unjoined_at : (elf text : List ℕ) (m : Result Program ElfFault) (r : Refusal) → ((f : ElfFault) → r ≡ refusal.Elf f → ⊥)
+    → reading elf ≡ m → link_with (program_by m) text ≡ Err r → IsUnjoined elf text
+unjoined_at elf text (Err f) r unlike is e = absurd (unlike f (let same : refusal.Elf f ≡ r = cc in sym same))
+unjoined_at elf text (Ok p) r unlike is e = unjoined_of elf text p (joined_of p text) r is refl e
+
+-- a link that is refused with another status than 10 has an ELF file that is accepted
+unjoined : (elf text : List ℕ) (r : Refusal) → ((f : ElfFault) → r ≡ refusal.Elf f → ⊥) → link_text elf text ≡ Err r → IsUnjoined elf text
+unjoined elf text r unlike e = unjoined_at elf text (reading elf) r unlike refl e
+
+module _ (elf part_name : List ℕ) (files : List ℕ → Option (List ℕ)) (before after : List ℕ → ℕ) where
+  pub unfit_link : (r : Refusal) → IsLinkRefused elf part_name files before after r → status_of r ≡ 3
+      → (bytes text : List ℕ) → files elf ≡ Some bytes → files part_name ≡ Some text → IsUnjoined bytes text
+  unfit_link refusal.NoMemory h e = absurd (omega arith)
+  unfit_link (refusal.Read file) h e = absurd (omega arith)
+  unfit_link (refusal.Image fault) h e = λ bytes text elf_is part_is. unjoined bytes text (refusal.Image fault) (λ f e. cc) (h bytes text elf_is part_is)
+  unfit_link (refusal.Partition p) h e = λ bytes text elf_is part_is. unjoined bytes text (refusal.Partition p) (λ f e. cc) (h bytes text elf_is part_is)
+  unfit_link (refusal.Schedule s) h e = absurd h
+  unfit_link (refusal.Trace fault) h e = absurd h
+  unfit_link (refusal.Elf f) h e = absurd (omega arith)
+  unfit_link (refusal.NoSuchName item) h e = absurd h
+
+  pub unread_link : (r : Refusal) → IsLinkRefused elf part_name files before after r → status_of r ≡ 4 → IsUnreadable (Link elf part_name) before after
+  unread_link refusal.NoMemory h e = absurd (omega arith)
+  unread_link (refusal.Read file) (inl h) e = inl h.rose
+  unread_link (refusal.Read file) (inr h) e = inr h.0.rose
+  unread_link (refusal.Image fault) h e = absurd (omega arith)
+  unread_link (refusal.Partition p) h e = absurd (omega arith)
+  unread_link (refusal.Schedule s) h e = absurd h
+  unread_link (refusal.Trace fault) h e = absurd h
+  unread_link (refusal.Elf f) h e = absurd (omega arith)
+  unread_link (refusal.NoSuchName item) h e = absurd h
+
+  -- the ELF file is rejected with the status 10
+  pub rejected_elf : (r : Refusal) → IsLinkRefused elf part_name files before after r → status_of r ≡ 10 → IsElfRejected (Link elf part_name) files
+  rejected_elf refusal.NoMemory h e = absurd (omega arith)
+  rejected_elf (refusal.Read file) h e = absurd (omega arith)
+  rejected_elf (refusal.Image fault) h e = absurd (omega arith)
+  rejected_elf (refusal.Partition p) h e = absurd (omega arith)
+  rejected_elf (refusal.Schedule s) h e = absurd h
+  rejected_elf (refusal.Trace fault) h e = absurd h
+  rejected_elf (refusal.Elf f) h e = (f, h.1)
+  rejected_elf (refusal.NoSuchName item) h e = absurd h
+
+  -- no link has the statuses 8 and 9
+  pub no_other_link : (r : Refusal) → IsLinkRefused elf part_name files before after r → (status_of r ≡ 8) ⊎ (status_of r ≡ 9) → ⊥
+  no_other_link refusal.NoMemory h e = omega arith
+  no_other_link (refusal.Read file) h e = omega arith
+  no_other_link (refusal.Image fault) h e = omega arith
+  no_other_link (refusal.Partition p) h e = omega arith
+  no_other_link (refusal.Schedule s) h e = h
+  no_other_link (refusal.Trace fault) h e = h
+  no_other_link (refusal.Elf f) h e = omega arith
+  no_other_link (refusal.NoSuchName item) h e = h
+
+  -- the answer of both files is this refusal, or memory ran out, or a read failed
+  pub link_refusal : (bytes text : List ℕ) (r : Refusal) → IsLinkRefused elf part_name files before after r → files elf ≡ Some bytes → files part_name ≡ Some text
+      → IsCutShort (status_of r) ⊎ (link_text bytes text ≡ Err r)
+  link_refusal bytes text refusal.NoMemory h elf_is part_is = inl (inr (inr refl))
+  link_refusal bytes text (refusal.Read file) h elf_is part_is = inl (inl refl)
+  link_refusal bytes text (refusal.Image fault) h elf_is part_is = inr (h bytes text elf_is part_is)
+  link_refusal bytes text (refusal.Partition p) h elf_is part_is = inr (h bytes text elf_is part_is)
+  link_refusal bytes text (refusal.Schedule s) h elf_is part_is = absurd h
+  link_refusal bytes text (refusal.Trace fault) h elf_is part_is = absurd h
+  link_refusal bytes text (refusal.Elf f) h elf_is part_is = inr (h.0 bytes text elf_is part_is)
+  link_refusal bytes text (refusal.NoSuchName item) h elf_is part_is = absurd h
