@@ -5,6 +5,8 @@
 # of the program costs, and fails where that is more than its bound. The program is the one that bin/wedge builds, or $WEDGE.
 root=$(cd "$(dirname "$(readlink -f "$0")")/.." && pwd) || exit 1
 wedge=${WEDGE:-$root/bin/wedge}
+# What that runs, once it is built: valgrind would count the instructions of the shell.
+program=${WEDGE:-$root/crates/wedge/out/wedge}
 work=$(mktemp -d) || exit 1
 trap 'rm -rf "$work"' EXIT
 
@@ -109,7 +111,7 @@ count() {
     for fuel in "$3" "$4"; do
         partition "$fuel" < "$work/loop" > "$work/$2$fuel.toml"
         "$wedge" build "$work/$2$fuel.toml" > "$work/$2$fuel.wedge" || exit 1
-        valgrind --tool=callgrind --callgrind-out-file=/dev/null "$wedge" run "$work/$2$fuel.wedge" \
+        valgrind --tool=callgrind --callgrind-out-file=/dev/null "$program" run "$work/$2$fuel.wedge" \
             2> "$work/$2$fuel.count" > /dev/null || exit 1
     done
     awk -v what="$1" -v made="$5" -v bound="$6" '
@@ -125,13 +127,13 @@ command -v valgrind > /dev/null || exit 0
 
 # Register instructions alone.
 printf '.proc main\nagain:\naddi a0, a0, 1\nxor a1, a1, a0\nsub a2, a1, a0\nj again\n' |
-    count 'a local instruction' local 100000 200000 100000 40
+    count 'a local instruction' local 100000 200000 100000 40 || exit 1
 
 # A load and a store of private memory in ten instructions.
 {
     printf '.proc main\nagain:\nlw a1, -8(sp)\naddi a0, a0, 1\nxor a2, a0, a1\nslli a3, a2, 3\nadd a4, a3, a0\n'
     printf 'sw a4, -8(sp)\nandi a5, a4, 255\nsub a6, a4, a5\naddi a0, a0, 3\nj again\n'
-} | count 'the same, two in ten private' private 100000 200000 100000 55
+} | count 'the same, two in ten private' private 100000 200000 100000 55 || exit 1
 
 # Loads and stores of a tag, 32 of 33 instructions: each is counted with its part of the jump.
 {

@@ -1,4 +1,4 @@
-//! Builds each example, runs or lists what was built, asks about traces, and compares what is written with the text that lies
+//! Builds or links each example, runs or lists what was made, asks about traces, and compares what is written with the text that lies
 //! beside the example.
 #![tactic(auto)]
 
@@ -14,22 +14,32 @@ use wedge_cli::wedge;
 /// The most bytes that one example writes.
 const ROOM: u64 = 65536;
 
-/// A partition, or an image or a trace where `built` is false; what is done with it; the arguments, in which the
-/// image or the trace is `image`; the file of its schedule, which is `schedule` in the arguments, if it has one; and the file with what is
-/// written.
+/// What the file of an example is.
+#[derive(Clone, Copy)]
+enum Source {
+    /// A partition that is built.
+    Partition,
+    /// A partition that is linked with the ELF file of this name.
+    Linked(&'static str),
+    /// An image or a trace, as it is.
+    Ready,
+}
+
+/// A file, and what it is; what is done with it; the arguments, in which the image or the trace is `image`; the file
+/// of its schedule, which is `schedule` in the arguments, if it has one; and the file with what is written.
 struct Example {
     name: &'static str,
-    built: bool,
+    source: Source,
     title: &'static str,
     words: &'static [&'static str],
     schedule: Option<&'static str>,
     wanted: &'static str,
 }
 
-static EXAMPLES: [Example; 24] = [
+static EXAMPLES: [Example; 26] = [
     Example {
         name: "hello.toml",
-        built: true,
+        source: Source::Partition,
         title: "run",
         words: &["run", "image"],
         schedule: None,
@@ -37,7 +47,7 @@ static EXAMPLES: [Example; 24] = [
     },
     Example {
         name: "closed.toml",
-        built: true,
+        source: Source::Partition,
         title: "run",
         words: &["run", "image"],
         schedule: None,
@@ -45,7 +55,7 @@ static EXAMPLES: [Example; 24] = [
     },
     Example {
         name: "sum.toml",
-        built: true,
+        source: Source::Partition,
         title: "run",
         words: &["run", "image"],
         schedule: None,
@@ -53,7 +63,7 @@ static EXAMPLES: [Example; 24] = [
     },
     Example {
         name: "sum.toml",
-        built: true,
+        source: Source::Partition,
         title: "show",
         words: &["show", "image"],
         schedule: None,
@@ -61,7 +71,7 @@ static EXAMPLES: [Example; 24] = [
     },
     Example {
         name: "sum.toml",
-        built: true,
+        source: Source::Partition,
         title: "run --schedule",
         words: &["run", "image", "--schedule"],
         schedule: None,
@@ -69,7 +79,7 @@ static EXAMPLES: [Example; 24] = [
     },
     Example {
         name: "sum.toml",
-        built: true,
+        source: Source::Partition,
         title: "replay",
         words: &["replay", "image", "schedule"],
         schedule: Some("sum.schedule"),
@@ -77,7 +87,7 @@ static EXAMPLES: [Example; 24] = [
     },
     Example {
         name: "split.toml",
-        built: true,
+        source: Source::Partition,
         title: "run",
         words: &["run", "image"],
         schedule: None,
@@ -85,7 +95,7 @@ static EXAMPLES: [Example; 24] = [
     },
     Example {
         name: "split.toml",
-        built: true,
+        source: Source::Partition,
         title: "run --schedule",
         words: &["run", "image", "--schedule"],
         schedule: None,
@@ -93,7 +103,7 @@ static EXAMPLES: [Example; 24] = [
     },
     Example {
         name: "split.toml",
-        built: true,
+        source: Source::Partition,
         title: "replay",
         words: &["replay", "image", "schedule"],
         schedule: Some("split.schedule"),
@@ -101,7 +111,7 @@ static EXAMPLES: [Example; 24] = [
     },
     Example {
         name: "session.toml",
-        built: true,
+        source: Source::Partition,
         title: "run",
         words: &["run", "image"],
         schedule: None,
@@ -109,7 +119,7 @@ static EXAMPLES: [Example; 24] = [
     },
     Example {
         name: "session.toml",
-        built: true,
+        source: Source::Partition,
         title: "run --schedule",
         words: &["run", "image", "--schedule"],
         schedule: None,
@@ -117,7 +127,7 @@ static EXAMPLES: [Example; 24] = [
     },
     Example {
         name: "session.toml",
-        built: true,
+        source: Source::Partition,
         title: "replay",
         words: &["replay", "image", "schedule"],
         schedule: Some("session.schedule"),
@@ -125,7 +135,7 @@ static EXAMPLES: [Example; 24] = [
     },
     Example {
         name: "form.toml",
-        built: true,
+        source: Source::Partition,
         title: "run",
         words: &["run", "image"],
         schedule: None,
@@ -133,7 +143,7 @@ static EXAMPLES: [Example; 24] = [
     },
     Example {
         name: "form.toml",
-        built: true,
+        source: Source::Partition,
         title: "run --schedule",
         words: &["run", "image", "--schedule"],
         schedule: None,
@@ -141,7 +151,7 @@ static EXAMPLES: [Example; 24] = [
     },
     Example {
         name: "form.toml",
-        built: true,
+        source: Source::Partition,
         title: "replay",
         words: &["replay", "image", "schedule"],
         schedule: Some("form.schedule"),
@@ -149,7 +159,7 @@ static EXAMPLES: [Example; 24] = [
     },
     Example {
         name: "files.toml",
-        built: true,
+        source: Source::Partition,
         title: "run",
         words: &["run", "image"],
         schedule: None,
@@ -157,7 +167,7 @@ static EXAMPLES: [Example; 24] = [
     },
     Example {
         name: "files.toml",
-        built: true,
+        source: Source::Partition,
         title: "run --schedule",
         words: &["run", "image", "--schedule"],
         schedule: None,
@@ -165,15 +175,31 @@ static EXAMPLES: [Example; 24] = [
     },
     Example {
         name: "files.toml",
-        built: true,
+        source: Source::Partition,
         title: "replay",
         words: &["replay", "image", "schedule"],
         schedule: Some("files.schedule"),
         wanted: "files.report",
     },
     Example {
+        name: "checksum.toml",
+        source: Source::Linked("checksum.elf"),
+        title: "link and run",
+        words: &["run", "image"],
+        schedule: None,
+        wanted: "checksum.report",
+    },
+    Example {
+        name: "server.toml",
+        source: Source::Linked("server.elf"),
+        title: "link and run",
+        words: &["run", "image"],
+        schedule: None,
+        wanted: "server.report",
+    },
+    Example {
         name: "ok.wedge",
-        built: false,
+        source: Source::Ready,
         title: "run",
         words: &["run", "image"],
         schedule: None,
@@ -181,7 +207,7 @@ static EXAMPLES: [Example; 24] = [
     },
     Example {
         name: "denied.wedge",
-        built: false,
+        source: Source::Ready,
         title: "run",
         words: &["run", "image"],
         schedule: None,
@@ -189,7 +215,7 @@ static EXAMPLES: [Example; 24] = [
     },
     Example {
         name: "server.trace",
-        built: false,
+        source: Source::Ready,
         title: "derive",
         words: &["derive", "image"],
         schedule: None,
@@ -197,7 +223,7 @@ static EXAMPLES: [Example; 24] = [
     },
     Example {
         name: "server.trace",
-        built: false,
+        source: Source::Ready,
         title: "analyze accessed",
         words: &["analyze", "image", "accessed", "emit"],
         schedule: None,
@@ -205,7 +231,7 @@ static EXAMPLES: [Example; 24] = [
     },
     Example {
         name: "server.trace",
-        built: false,
+        source: Source::Ready,
         title: "analyze users",
         words: &["analyze", "image", "users", "tag:req"],
         schedule: None,
@@ -213,7 +239,7 @@ static EXAMPLES: [Example; 24] = [
     },
     Example {
         name: "server.trace",
-        built: false,
+        source: Source::Ready,
         title: "analyze written",
         words: &["analyze", "image", "written", "worker"],
         schedule: None,
@@ -250,10 +276,10 @@ fn is_as_wanted<R: Threads + Wait + Sync, F: Files>(
     files: &mut F,
     example: &Example,
 ) -> Result<bool, NoMemory> {
-    let image = if example.built {
-        output(rt, alloc, files, &["build", example.name])?
-    } else {
-        content(alloc, files, example.name)?
+    let image = match example.source {
+        Source::Partition => output(rt, alloc, files, &["build", example.name])?,
+        Source::Linked(elf) => output(rt, alloc, files, &["link", elf, example.name])?,
+        Source::Ready => content(alloc, files, example.name)?,
     };
     let schedule = match example.schedule {
         Some(name) => content(alloc, files, name)?,

@@ -1,0 +1,252 @@
+/* The service calls of wedge for programs in C (docs/MACHINE.md has the rules).
+ *
+ * The calls on gates are not among them yet: a gate can be made and granted so far, and not called.
+ *
+ * A call has its number in a7 and its arguments in a0 to a3. Its value comes back in a0, its code in a1, and some
+ * calls answer a further number in a2. A call that is refused has the value 0 and a code other than WEDGE_OK, and the
+ * program goes on.
+ */
+#ifndef WEDGE_H
+#define WEDGE_H
+
+#include <stdint.h>
+
+/* ---- codes: what a call answers in a1 */
+
+enum wedge_code {
+    WEDGE_OK = 0,
+    WEDGE_DENIED = 1,     /* the sheet does not allow it; the report names the grant that is missing */
+    WEDGE_FULL = 2,       /* no room: of blocks, slots, drafts, grants, descriptors or actors */
+    WEDGE_FUEL_SHORT = 3, /* less fuel is left than the call takes or gives away */
+    WEDGE_DEEP = 4,       /* the actor's name already has 32 parts */
+    WEDGE_NO_SUCH = 5,    /* there is no such child, tag, block's slot, draft, descriptor or file */
+    WEDGE_BAD = 6         /* an argument that no actor may pass, or a number that is no call */
+};
+
+/* ---- rights on tags, and bits on descriptors */
+
+enum wedge_right {
+    WEDGE_COW = 1,       /* a private copy of the bytes as they are when the child starts */
+    WEDGE_READ = 2,      /* to load */
+    WEDGE_READ_WRITE = 3 /* to load and to store, and to place and free blocks */
+};
+
+enum wedge_bits {
+    WEDGE_BIT_READ = 1,   /* to read a source */
+    WEDGE_BIT_APPEND = 2, /* to append to an append stream */
+    WEDGE_BIT_BOTH = 3
+};
+
+/* ---- how a child ended: wedge_joined.end */
+
+enum wedge_end {
+    WEDGE_END_EXITED = 0,
+    WEDGE_END_DENIED = 1,
+    WEDGE_END_MISALIGNED = 2,
+    WEDGE_END_JUMP_MISALIGNED = 3,
+    WEDGE_END_BAD_INSTRUCTION = 4,
+    WEDGE_END_FETCH_FAULT = 5,
+    WEDGE_END_TEXT_STORE = 6,
+    WEDGE_END_UNMAPPED = 7,
+    WEDGE_END_BREAK = 8,
+    WEDGE_END_FUEL_OUT = 9
+};
+
+/* ---- numbers of tags and descriptors
+ *
+ * A declared tag has as its number its index among the tags of the partition IN THE ORDER OF THEIR NAMES (by bytes:
+ * capitals before small letters), from 0; a declared descriptor has its index among the descriptors. So a program
+ * names them by an enum in that order:
+ *
+ *     enum { TAG_KEY, TAG_REQUESTS };
+ *     WEDGE_BEFORE("key", "requests");
+ *
+ * WEDGE_BEFORE stops the compiler where the first name does not come before the second. It does not see the
+ * partition: a tag that is added there needs its line here. */
+#define WEDGE_BEFORE(first, second) \
+    _Static_assert(__builtin_strcmp(first, second) < 0, first " does not come before " second)
+
+/* ---- windows: where the bytes of tags are seen */
+
+#define WEDGE_WINDOWS 0x40000000u /* the address of the first window */
+#define WEDGE_WINDOW 0x10000u     /* the bytes of a window */
+#define WEDGE_PAGE 4096u          /* a tag has 1 to 16 pages */
+
+/* The address at which a declared tag is seen: it lives in the slot of its number. A tag that was made lives
+ * elsewhere, at the address that wedge_tag_new answers. */
+static inline void *wedge_declared(uint32_t tag)
+{
+    return (void *)(WEDGE_WINDOWS + tag * WEDGE_WINDOW);
+}
+
+/* ---- answers */
+
+struct wedge_reply {
+    uint32_t value; /* 0 where the call is refused */
+    uint32_t code;  /* an enum wedge_code */
+};
+
+struct wedge_joined {
+    uint32_t value; /* what the child exited with, or 0 */
+    uint32_t code;
+    uint32_t end; /* an enum wedge_end, where the code is WEDGE_OK */
+};
+
+struct wedge_tag {
+    uint32_t tag;
+    uint32_t code;
+    void *bytes; /* where its bytes begin, where the code is WEDGE_OK */
+};
+
+struct wedge_block {
+    void *bytes; /* where the block begins, or NULL where it is refused */
+    uint32_t code;
+};
+
+/* ---- the call itself */
+
+struct wedge_answer {
+    uint32_t a0, a1, a2;
+};
+
+static inline struct wedge_answer wedge_ask(uint32_t number, uint32_t w0, uint32_t w1, uint32_t w2, uint32_t w3)
+{
+    register uint32_t a0 __asm__("a0") = w0;
+    register uint32_t a1 __asm__("a1") = w1;
+    register uint32_t a2 __asm__("a2") = w2;
+    register uint32_t a3 __asm__("a3") = w3;
+    register uint32_t a7 __asm__("a7") = number;
+    __asm__ volatile("ecall" : "+r"(a0), "+r"(a1), "+r"(a2) : "r"(a3), "r"(a7) : "memory");
+    return (struct wedge_answer){a0, a1, a2};
+}
+
+static inline struct wedge_reply wedge_call(uint32_t number, uint32_t w0, uint32_t w1, uint32_t w2, uint32_t w3)
+{
+    struct wedge_answer answer = wedge_ask(number, w0, w1, w2, w3);
+    return (struct wedge_reply){answer.a0, answer.a1};
+}
+
+/* ---- actors */
+
+/* Ends the actor with a value. */
+__attribute__((noreturn)) static inline void wedge_exit(uint32_t value)
+{
+    wedge_ask(0, value, 0, 0, 0);
+    __builtin_unreachable();
+}
+
+/* A function at which an actor begins: the root at `main`, a child at the one that wedge_create names. Nobody called
+ * it, so it must not return; this one exits with what its body returns.
+ *
+ *     WEDGE_ENTRY(main, argument) { return 0; }
+ */
+#define WEDGE_ENTRY(name, argument)                                       \
+    static uint32_t name##_body(uint32_t argument);                       \
+    __attribute__((noreturn, used)) void name(uint32_t argument);         \
+    void name(uint32_t argument) { wedge_exit(name##_body(argument)); }   \
+    static uint32_t name##_body(__attribute__((unused)) uint32_t argument)
+
+/* Starts a child under a draft, at an entry, with an argument and so much of this actor's fuel. The value is the
+ * child's number. Each child has a stack, a heap and data of its own, which begin as those of the program. */
+static inline struct wedge_reply wedge_create(uint32_t draft, void (*entry)(uint32_t), uint32_t argument, uint32_t fuel)
+{
+    return wedge_call(1, draft, (uint32_t)entry, argument, fuel);
+}
+
+/* Waits for a child to end, and takes back the fuel that it has left. */
+static inline struct wedge_joined wedge_join(uint32_t child)
+{
+    struct wedge_answer answer = wedge_ask(2, child, 0, 0, 0);
+    return (struct wedge_joined){answer.a0, answer.a1, answer.a2};
+}
+
+/* ---- tags and their blocks */
+
+/* Makes a tag of 1 to 16 pages, all zero. Its maker may load and store it, and nobody else without a grant. */
+static inline struct wedge_tag wedge_tag_new(uint32_t pages)
+{
+    struct wedge_answer answer = wedge_ask(3, pages, 0, 0, 0);
+    return (struct wedge_tag){answer.a0, answer.a1, (void *)answer.a2};
+}
+
+/* Deletes a tag that this actor made. */
+static inline struct wedge_reply wedge_tag_delete(uint32_t tag)
+{
+    return wedge_call(4, tag, 0, 0, 0);
+}
+
+/* Places a block in a tag. A block says what is taken, and guards nothing. */
+static inline struct wedge_block wedge_smalloc(uint32_t tag, uint32_t size)
+{
+    struct wedge_reply reply = wedge_call(5, tag, size, 0, 0);
+    return (struct wedge_block){(void *)reply.value, reply.code};
+}
+
+/* Frees a block. */
+static inline struct wedge_reply wedge_sfree(void *block)
+{
+    return wedge_call(6, (uint32_t)block, 0, 0, 0);
+}
+
+/* ---- drafts: of what the sheet of a child is made. Nothing is checked against the actor's own sheet before
+ * wedge_create uses the draft. */
+
+/* Makes a draft without grants. The value is its number. */
+static inline struct wedge_reply wedge_draft(void)
+{
+    return wedge_call(7, 0, 0, 0, 0);
+}
+
+/* Puts a right on a tag into a draft. */
+static inline struct wedge_reply wedge_grant_tag(uint32_t draft, uint32_t tag, enum wedge_right right)
+{
+    return wedge_call(8, draft, tag, right, 0);
+}
+
+/* Puts bits on a descriptor into a draft. */
+static inline struct wedge_reply wedge_grant_fd(uint32_t draft, uint32_t fd, enum wedge_bits bits)
+{
+    return wedge_call(9, draft, fd, bits, 0);
+}
+
+/* Has the child run as a user. Without it, it runs as this actor's. */
+static inline struct wedge_reply wedge_set_user(uint32_t draft, uint32_t user)
+{
+    return wedge_call(11, draft, user, 0, 0);
+}
+
+/* Has the child see the files below a directory. Without it, it sees this actor's. The path takes a unit of fuel for
+ * each of its bytes, of which it has 1 to 256. */
+static inline struct wedge_reply wedge_set_root(uint32_t draft, const char *path, uint32_t length)
+{
+    return wedge_call(12, draft, (uint32_t)path, length, 0);
+}
+
+/* ---- descriptors and files. A buffer has at most 256 bytes and lies in the stack, the heap or the data; one that is
+ * written may also lie in the text, where constants are. None lies in a tag. Each byte takes a unit of fuel. */
+
+/* Reads the next bytes of a source. The value is their number, 0 at the end. */
+static inline struct wedge_reply wedge_read(uint32_t fd, void *buffer, uint32_t length)
+{
+    return wedge_call(15, fd, (uint32_t)buffer, length, 0);
+}
+
+/* Appends bytes to an append stream. The value is their number. */
+static inline struct wedge_reply wedge_append(uint32_t fd, const void *buffer, uint32_t length)
+{
+    return wedge_call(16, fd, (uint32_t)buffer, length, 0);
+}
+
+/* Closes a stream, for every actor. */
+static inline struct wedge_reply wedge_close(uint32_t fd)
+{
+    return wedge_call(17, fd, 0, 0, 0);
+}
+
+/* Opens the file of a path below the actor's directory. The value is its descriptor. */
+static inline struct wedge_reply wedge_open(const char *path, uint32_t length, enum wedge_bits bits)
+{
+    return wedge_call(18, (uint32_t)path, length, bits, 0);
+}
+
+#endif
