@@ -34,7 +34,6 @@ use Rattle.sthread_life.specs.Cells.{Cells, cells_after}
 use Rattle.sthread_life.specs.Opening.{FileOpening}
 use Rattle.sthread_life.specs.Children.{child_name}
 use Rattle.sthread_life.specs.Families.{IsChild, made_under, made_by}
-use Rattle.sthread_life.specs.Laws.{RootBounds}
 use Rattle.sthread_life.specs.Local.{rest}
 use Rattle.sthread_life.specs.Taking.{next_start, takes, begun, child_of}
 use Rattle.sthread_life.specs.Worlds.{WorldState, opening, actor_named, put_actor, with_begun, turn_of, Runs}
@@ -46,10 +45,10 @@ use Rattle.sthread_life.proofs.FamilyRuns.{Acts, ActsAlone, Starts, Joins, acts,
 use Rattle.sthread_life.proofs.Happening.{Happens, Requested, Joined, Snaps, GateSnaps, Started, Opens, Releases, Numbers, OpensFile, LastJoined, Ended, happens_claim, happens_number, opens_by_claim}
 use Rattle.sthread_life.proofs.Named.{found_name, same_equal, same_self}
 use Rattle.sthread_life.proofs.Resting.{rest-name, rest-uncalm}
-use Rattle.sthread_life.proofs.Settling.{AllReady, turn_happens, turn_ready, opening_ready}
+use Rattle.sthread_life.proofs.Settling.{AllReady, turn_happens}
 use Rattle.sthread_life.proofs.Trees.{IsPut, IsDoer, IsOther, FoundPut, find_put, found_or_last}
 
-least_of : (o : Option Right) (g r : Right) → at_least o g ≡ true → at_least (Some g) r ≡ true → at_least o r ≡ true
+pub least_of : (o : Option Right) (g r : Right) → at_least o g ≡ true → at_least (Some g) r ≡ true → at_least o r ≡ true
 least_of None g r e f = absurd cc
 least_of (Some h) g r e f = between (rank r) (rank g) (rank h) f e
   where
@@ -69,13 +68,13 @@ both_are : (p q : Bool) → p ≡ true → q ≡ true → (p && q) ≡ true
 both_are true q e f = f
 both_are false q e f = absurd cc
 
-record IsBounded (i : Image) (a : ActorState) : Type 0 where
-  tags : (tag : ℕ) (r : Right) → tag < length i.tags → at_least (right_of a tag) r ≡ true → at_least (right_of (root i) tag) r ≡ true
-  fds : (fd : ℕ) → fd < length i.fds → bits_within (bits_of a fd) (bits_of (root i) fd) ≡ true
-  opens : (slot tag : ℕ) → a.phase ≡ phase.Opening slot tag → length i.tags ≤ tag
-  files : (o : FileOpening) (fd : ℕ) → a.phase ≡ phase.OpeningFile o → o.number ≡ Some fd → length i.fds ≤ fd
-  user : i.user ≢ 0 → (a.sheet.user ≡ i.user) × (a.sheet.root ≡ i.root)
-  directory : under i.root a.sheet.root ≡ true
+pub record IsBounded (i : Image) (a : ActorState) : Type 0 where
+  pub tags : (tag : ℕ) (r : Right) → tag < length i.tags → at_least (right_of a tag) r ≡ true → at_least (right_of (root i) tag) r ≡ true
+  pub fds : (fd : ℕ) → fd < length i.fds → bits_within (bits_of a fd) (bits_of (root i) fd) ≡ true
+  pub opens : (slot tag : ℕ) → a.phase ≡ phase.Opening slot tag → length i.tags ≤ tag
+  pub files : (o : FileOpening) (fd : ℕ) → a.phase ≡ phase.OpeningFile o → o.number ≡ Some fd → length i.fds ≤ fd
+  pub user : i.user ≢ 0 → (a.sheet.user ≡ i.user) × (a.sheet.root ≡ i.root)
+  pub directory : under i.root a.sheet.root ≡ true
 
 -- ---- directories
 
@@ -93,17 +92,17 @@ front_itself [] = refl
 front_itself (x ∷ xs) = both_are (same x x) (is_front xs xs) (same_self x) (front_itself xs)
 
 -- a sheet within one that has the root's user and directory, or is user 0, has them too
-child_user : (i : Image) (b c : Sheet) → (c.user ≡ b.user) ⊎ (b.user ≡ 0) → (c.root ≡ b.root) ⊎ ((b.user ≡ 0) × (under b.root c.root ≡ true))
+pub child_user : (i : Image) (b c : Sheet) → (c.user ≡ b.user) ⊎ (b.user ≡ 0) → (c.root ≡ b.root) ⊎ ((b.user ≡ 0) × (under b.root c.root ≡ true))
     → (i.user ≢ 0 → (b.user ≡ i.user) × (b.root ≡ i.root)) → i.user ≢ 0 → (c.user ≡ i.user) × (c.root ≡ i.root)
 child_user i b c (inr zero_is) r own some = absurd (some (sym (own some).0 ∙ zero_is))
 child_user i b c (inl same_user) (inr d) own some = absurd (some (sym (own some).0 ∙ d.0))
 child_user i b c (inl same_user) (inl same_root) own some = (same_user ∙ (own some).0, same_root ∙ (own some).1)
 
-child_directory : (top : List ℕ) (b c : Sheet) → (c.root ≡ b.root) ⊎ ((b.user ≡ 0) × (under b.root c.root ≡ true)) → under top b.root ≡ true → under top c.root ≡ true
+pub child_directory : (top : List ℕ) (b c : Sheet) → (c.root ≡ b.root) ⊎ ((b.user ≡ 0) × (under b.root c.root ≡ true)) → under top b.root ≡ true → under top c.root ≡ true
 child_directory top b c (inl same_root) own = ap (under top) same_root ∙ own
 child_directory top b c (inr d) own = front_through (parts_of top) (parts_of b.root) (parts_of c.root) own d.1
 
-within_bits : (x y z : FdBits) → bits_within x y ≡ true → bits_within y z ≡ true → bits_within x z ≡ true
+pub within_bits : (x y z : FdBits) → bits_within x y ≡ true → bits_within y z ≡ true → bits_within x z ≡ true
 within_bits x y z e f =
     let p = both_of _ _ e in
     let q = both_of _ _ f in
@@ -113,7 +112,7 @@ or_nothing : (p : Bool) → (p || false) ≡ p
 or_nothing true = refl
 or_nothing false = refl
 
-given_alone : (x : FdBits) → either_bits x no_bits ≡ x
+pub given_alone : (x : FdBits) → either_bits x no_bits ≡ x
 given_alone x = ap (λ r. record { read = r; append = x.append || false }) (or_nothing x.read) ∙ ap (λ a. record { read = x.read; append = a }) (or_nothing x.append)
 
 -- numbers that compare as equal are one
@@ -152,7 +151,7 @@ child_bounded i b c child bounded = record {
         bounded.tags tag r inside (least_of (right_of b tag) g.right r (child.within.tags tag g there) (ap (λ (x : Option Grant). at_least (option_map (λ y. y.right) x) r) (sym there) ∙ e))
 
 -- an actor at rest has the rights that it had
-rest_bounded : (i : Image) (a : ActorState) → IsBounded i a → IsBounded i (rest i a)
+pub rest_bounded : (i : Image) (a : ActorState) → IsBounded i a → IsBounded i (rest i a)
 rest_bounded i a bounded =
     let k = kept_at_rest i a _ refl in
     record {
@@ -181,9 +180,9 @@ made_fds w b e bounded (MadeFd f) fd inside =
     ∙ ap (λ (k : Option FdBits). unwrap_or k no_bits) (with_other b.made.fds f.fd f.opening.bits fd (λ same_fd. absurd (omega (arith, inside, from, same_fd)))))
 
 -- the numbers of descriptors that are given out are above those that are declared: none is ever released
-record GivesAbove (n : ℕ) (d : Directory) : Type 0 where
-  unused : n ≤ d.unused
-  released : d.released ≡ []
+pub record GivesAbove (n : ℕ) (d : Directory) : Type 0 where
+  pub unused : n ≤ d.unused
+  pub released : d.released ≡ []
 
 claim_above : (n : ℕ) (d : Directory) (ps : List ℕ) (c : Claim) → GivesAbove n d → ps ≡ [] → claim_from d ps ≡ Some c → (n ≤ c.place) × GivesAbove n c.left
 claim_above n d (p ∷ ps) c h none e = absurd cc
@@ -296,10 +295,10 @@ doer_bounded w b e counted above h bounded =
       directory = ap (λ (y : Sheet). under w.image.root y.root) sheet ∙ bounded.directory;
     }
 
-record AllBounded (w : WorldState) : Type 0 where
-  counted : length w.image.tags ≤ w.cells.places.number
-  above : GivesAbove (length w.image.fds) w.cells.numbers
-  actors : (m : List ℕ) (a : ActorState) → actor_named w.actors m ≡ Some a → IsBounded w.image a
+pub record AllBounded (w : WorldState) : Type 0 where
+  pub counted : length w.image.tags ≤ w.cells.places.number
+  pub above : GivesAbove (length w.image.fds) w.cells.numbers
+  pub actors : (m : List ℕ) (a : ActorState) → actor_named w.actors m ≡ Some a → IsBounded w.image a
 
 -- an event leaves the numbers of tags above those that are declared
 cells_counted : (n : ℕ) (c : Cells) (e : Event) → n ≤ c.places.number → n ≤ (cells_after c e).places.number
@@ -314,7 +313,7 @@ cells_counted n c (event.Join k end fuel) h = h
 cells_counted n c (event.Enter run) h = h
 cells_counted n c (event.Leave end) h = h
 
-turn_bounded : (w : WorldState) (name : List ℕ) (e : Event) (new : WorldState) → AllReady w → AllBounded w → turn_of w name ≡ Some (record { event = e; world = new }) → AllBounded new
+pub turn_bounded : (w : WorldState) (name : List ℕ) (e : Event) (new : WorldState) → AllReady w → AllBounded w → turn_of w name ≡ Some (record { event = e; world = new }) → AllBounded new
 turn_bounded w name e new all bounded t =
     let p = turn_parts w name e new t in
     let a = p.actor in
@@ -349,7 +348,7 @@ turn_bounded w name e new all bounded t =
         subst (IsBounded w.image) same_child (child_bounded w.image b child (child_begins w.image b s.preparation s.at s.complete s.ready) bounded)
     begins_bounded w b e (Joins k listed j) bounded c is = let f : None ≡ Some c = sym (ap (begun w.image b) j.is) ∙ is in absurd cc
 
-opening_bounded : (i : Image) → AllBounded (opening i)
+pub opening_bounded : (i : Image) → AllBounded (opening i)
 opening_bounded i = record { counted = omega arith; above = record { unused = omega arith; released = refl }; actors = λ m y found. by_name (same root_name m) (opening_found m y found) }
   where
     by_name : (t : Bool) {y : ActorState} → (if t then Some (root i) else None) ≡ Some y → IsBounded i y
@@ -369,15 +368,6 @@ opening_bounded i = record { counted = omega arith; above = record { unused = om
     opening_found : (m : List ℕ) (y : ActorState) → actor_named (opening i).actors m ≡ Some y → (if same root_name m then Some (root i) else None) ≡ Some y
     opening_found m y e = unfold root in e
 
-runs_bounded : (old : WorldState) (turns : List Turn) (new : WorldState) → AllReady old → AllBounded old → Runs old turns new → AllBounded new
-runs_bounded old [] new all bounded run = subst AllBounded (sym run) bounded
-runs_bounded old (t ∷ ts) new all bounded run = runs_bounded run.0 ts new (turn_ready old t.actor t.event run.0 all run.1) (turn_bounded old t.actor t.event run.0 all bounded run.1) run.2
-
 pub run_image : (old : WorldState) (turns : List Turn) (new : WorldState) → Runs old turns new → new.image ≡ old.image
 run_image old [] new run = ap (λ (w : WorldState). w.image) run
 run_image old (t ∷ ts) new run = run_image run.0 ts new run.2 ∙ ap (λ (w : WorldState). w.image) (turn_parts old t.actor t.event run.0 run.1).new_is
-
-pub root_bounds : RootBounds
-root_bounds i turns new run name a named =
-    let bounded = subst (λ j. IsBounded j a) (run_image (opening i) turns new run) ((runs_bounded (opening i) turns new (opening_ready i) (opening_bounded i) run).actors name a named) in
-    record { tags = λ tag inside r. bounded.tags tag r inside; fds = bounded.fds; user = bounded.user; directory = bounded.directory }

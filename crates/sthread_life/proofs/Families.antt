@@ -225,7 +225,7 @@ takes_sheet i a (event.Enter run) = (takes_same i a (event.Enter run) tt).sheet
 takes_sheet i a (event.Leave end) = (takes_same i a (event.Leave end) tt).sheet
 
 -- no tag is made where none was to be opened
-abbrev IsNoOpening : SlotAsk → Type 0
+abbrev pub IsNoOpening : SlotAsk → Type 0
 IsNoOpening (slot_ask.Open tag pages) = ⊥
 IsNoOpening q = Unit {0}
 
@@ -240,7 +240,7 @@ made_same m slot slot_reply.Opened (slot_ask.Snap tag) k = refl
 made_same m slot r q k = refl
 
 -- nor a descriptor by who has opened no file
-made_within : (b : ActorState) (q : Want) (fd : ℕ) (x : StreamAsk) (r : StreamReply) → b.phase ≡ phase.Within q → made_by b (Some (event.Fd fd x r)) ≡ b.made
+pub made_within : (b : ActorState) (q : Want) (fd : ℕ) (x : StreamAsk) (r : StreamReply) → b.phase ≡ phase.Within q → made_by b (Some (event.Fd fd x r)) ≡ b.made
 made_within b q fd x reply.Opened at = ap (λ p. made_under b.made p fd) at
 made_within b q fd x (reply.Given bytes) at = refl
 made_within b q fd x reply.Appended at = refl

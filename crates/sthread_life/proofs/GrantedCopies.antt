@@ -1,9 +1,8 @@
 -- In every run the private copies of an actor, and of a child that it prepares, are at the slots of the grants of copies on their sheets.
 use Rattle.std.proofs.Common.{◌≡◌, ◌⊎◌, inl, inr, ℕ, zero, suc, ◌+◌, Bool, true, false, List, [], ◌∷◌, refl, sym, ap, subst, ◌∙◌}
-use Rattle.std.specs.List.{AllByRecursion}
 use Rattle.std.specs.Prelude.{Option, Some, None, not, is_some, option_and_then, ◌&&◌, ◌||◌, ◌==◌, ◌%◌, if◌then◌else◌}
 use Rattle.std.proofs.lemmas.Bool.{eq-eqb}
-use Rattle.cow_pages.specs.Copies.{Copies, is_slot, copy_at, with_copy, without_copy, read_copy}
+use Rattle.cow_pages.specs.Copies.{Copies, is_slot, copy_at, with_copy, read_copy}
 use Rattle.cow_pages.specs.Listed.{bytes_listed}
 use Rattle.cow_pages.specs.PrivateMemory.{PrivateMemory}
 use Rattle.wedge_base.specs.Bytes.{bytes_of}
@@ -11,7 +10,7 @@ use Rattle.wedge_base.specs.Images.{Image, fetch, in_text, slot_of}
 use Rattle.wedge_base.specs.Maps.{Map}
 use Rattle.wedge_base.specs.Memory.{range_at}
 use Rattle.wedge_base.specs.Names.{same, root_name}
-use Rattle.wedge_base.specs.Sheets.{Sheet, Made, granted, right_on, is_copy, with_grant, root_tags}
+use Rattle.wedge_base.specs.Sheets.{Sheet, with_grant, root_tags}
 use Rattle.wedge_base.specs.Slots.{Segment, declared_segment, slot_reply as slot_reply_of}
 use Rattle.wedge_base.specs.declared.address.Place.{Place}
 use Rattle.wedge_base.specs.declared.cells.LivesAsk.TheVariants as lives_ask
@@ -36,18 +35,17 @@ use Rattle.rv_hart.specs.Local.{local}
 use Rattle.sthread_life.specs.declared.copy_grant.CopyGrant.{CopyGrant}
 use Rattle.sthread_life.specs.declared.phase.Phase.TheVariants as phase
 use Rattle.sthread_life.specs.Actors.{ActorState, pristine, root}
-use Rattle.sthread_life.specs.Calls.{a0, draft_at}
 use Rattle.sthread_life.specs.Cells.{slot_in}
 use Rattle.sthread_life.specs.Children.{child_name}
-use Rattle.sthread_life.specs.CopiesGranted.{grants_copy, AreGranted, HasItsCopiesGranted}
-use Rattle.sthread_life.specs.Copying.{Preparation, with_declared, copy_grants, copied_from, is_copy_alone, prepared, behind_first}
+use Rattle.sthread_life.specs.CopiesGranted.{grants_copy, AreGranted, AreOwnCopiesGranted}
+use Rattle.sthread_life.specs.Copying.{Preparation, with_declared, copied_from, is_copy_alone, prepared, behind_first}
 use Rattle.sthread_life.specs.Laws.{CopiesAreGranted}
 use Rattle.sthread_life.specs.Local.{is_running, step, run_local, rest}
 use Rattle.sthread_life.specs.Remembering.{copied_bytes, Elsewhere, copy_target, target_among, LoadGives, StoreWrites, NeedRemembers, InstrRemembers, WordRemembers, memory_in, memory_after}
 use Rattle.sthread_life.specs.Taking.{copies_asked, has_snapped, next_start, takes, memory_made, child_of, begun}
 use Rattle.sthread_life.specs.Worlds.{WorldState, opening, actor_named, put_actor, with_begun, turn_of, Runs}
 use Rattle.sthread_life.proofs.Between.{IsPreparing, takes_name, turn_parts}
-use Rattle.sthread_life.proofs.ByNumber.{same_number, number_itself, found_with, found_elsewhere, found_gone}
+use Rattle.sthread_life.proofs.ByNumber.{same_number, number_itself}
 use Rattle.sthread_life.proofs.Families.{takes_sheet}
 use Rattle.sthread_life.proofs.FamilyRuns.{Acts, ActsAlone, Starts, Joins, acts, one_begins}
 use Rattle.sthread_life.proofs.Happening.{Happens, snap_cases, Requested, Joined, Snaps, GateSnaps, Started, Opens, Releases, Numbers, OpensFile, LastJoined, Ended}
@@ -57,34 +55,10 @@ use Rattle.sthread_life.proofs.Preparing.{was_preparing}
 use Rattle.sthread_life.proofs.Resting.{IsCalm, steps_step, rests, stays, goes_on, rest-stays, rest-name}
 use Rattle.sthread_life.proofs.Settling.{AllReady, turn_happens, turn_ready, opening_ready}
 use Rattle.sthread_life.proofs.Trees.{IsPut, IsDoer, IsOther, FoundPut, find_put, found_or_last}
-
--- ---- copies that are put, and taken out
-
--- one at the slot of a grant
-copied_granted : (gs : Map Grant) (o : Option (List ℕ)) (slot : ℕ) (m : PrivateMemory) → AreGranted gs m.copies → grants_copy gs slot ≡ true → AreGranted gs (copied_from o slot m).copies
-copied_granted gs None slot m all here s there = all s there
-copied_granted gs (Some bytes) slot m all here s there = by_slot (is_slot s slot) refl (ap is_some (sym (found_with m.copies slot bytes s)) ∙ there)
-  where
-    by_slot : (t : Bool) → is_slot s slot ≡ t → is_some (if t then Some bytes else copy_at m.copies s) ≡ true → grants_copy gs s ≡ true
-    by_slot true e h = ap (grants_copy gs) (same_number s slot e) ∙ here
-    by_slot false e h = all s h
-
-without_granted : (gs : Map Grant) (copies : Copies) (slot : ℕ) → AreGranted gs copies → AreGranted gs (without_copy copies slot)
-without_granted gs copies slot all s there = by_slot (is_slot s slot) refl
-  where
-    by_slot : (t : Bool) → is_slot s slot ≡ t → grants_copy gs s ≡ true
-    by_slot true e =
-        let is : s ≡ slot = same_number s slot e in
-        let gone : is_some (copy_at (without_copy copies slot) s) ≡ false = ap (λ n. is_some (copy_at (without_copy copies slot) n)) is ∙ ap is_some (found_gone copies slot) in
-        let both : true ≡ false = sym there ∙ gone in
-        absurd cc
-    by_slot false e = all s (ap is_some (sym (found_elsewhere copies slot s (λ is. let both : true ≡ false = sym (number_itself slot) ∙ (ap (λ n. is_slot n slot) (sym is) ∙ e) in absurd cc))) ∙ there)
+use Rattle.sthread_life.proofs.GrantedPreparing.{or_true, copied_granted, without_granted, AreAllGranted, IsGranted, grants_granted, prepared_granted, child_grants}
+use Rattle.sthread_life.proofs.GrantedGates.{AreGatesGranted, gates_at_rest, event_gates_granted}
 
 -- ---- the root's copies
-
-or_true : (t u : Bool) → u ≡ true → (t || u) ≡ true
-or_true true u e = refl
-or_true false u e = e
 
 grants_first : (n : ℕ) (gs : Map Grant) → grants_copy ((n, record { right = right.Cow; slot = n }) ∷ gs) n ≡ true
 grants_first n gs = ap (λ t. t || grants_copy gs n) (eq-eqb n n refl)
@@ -105,48 +79,13 @@ declared_granted gs copies n (t ∷ ts) all more = by_right t.right more (λ cs.
     by_right (Some right.Read) h later = later copies all (λ slot e. h slot e)
     by_right (Some right.ReadWrite) h later = later copies all (λ slot e. h slot e)
 
--- ---- a child's copies
-
-abbrev AreAllGranted : Map Grant → List CopyGrant → Type 0
-AreAllGranted gs left = AllByRecursion (λ g. grants_copy gs g.slot ≡ true) left
-
-more_granted : (e : ℕ × Grant) (gs : Map Grant) (left : List CopyGrant) → AreAllGranted gs left → AreAllGranted (e ∷ gs) left
-more_granted e gs [] all = tt
-more_granted e gs (g ∷ left) all = (or_true _ (grants_copy gs g.slot) all.0, more_granted e gs left all.1)
-
-grants_granted : (gs : Map Grant) → AreAllGranted gs (copy_grants gs)
-grants_granted [] = tt
-grants_granted (e ∷ gs) = by_right (is_copy e.1.right) refl (more_granted e gs (copy_grants gs) (grants_granted gs))
-  where
-    by_right : (t : Bool) → is_copy e.1.right ≡ t → AreAllGranted (e ∷ gs) (copy_grants gs)
-        → AreAllGranted (e ∷ gs) (if t then record { tag = e.0; slot = e.1.slot } ∷ copy_grants gs else copy_grants gs)
-    by_right true is later = (ap (λ t. (t && (e.1.slot == e.1.slot)) || grants_copy gs e.1.slot) is ∙ ap (λ t. t || grants_copy gs e.1.slot) (eq-eqb e.1.slot e.1.slot refl), later)
-    by_right false is later = later
-
--- a child's memory so far, and what is left to do
-record IsGranted (gs : Map Grant) (p : Preparation) : Type 0 where
-  copies : AreGranted gs p.memory.copies
-  left : AreAllGranted gs p.left
-
-prepared_granted : (gs : Map Grant) (s : Sheet) (made : Made) (own : Copies) (m : PrivateMemory) (left : List CopyGrant) → AreGranted gs m.copies → AreAllGranted gs left → IsGranted gs (prepared s made own m left)
-prepared_granted gs s made own m [] all each = record { copies = all; left = tt }
-prepared_granted gs s made own m (g ∷ left) all each =
-    by_right (is_copy_alone (right_on s made g.tag)) (prepared_granted gs s made own (copied_from (copy_at own g.slot) g.slot m) left (copied_granted gs (copy_at own g.slot) g.slot m all each.0) each.1)
-  where
-    by_right : (t : Bool) → IsGranted gs (prepared s made own (copied_from (copy_at own g.slot) g.slot m) left)
-        → IsGranted gs (if t then prepared s made own (copied_from (copy_at own g.slot) g.slot m) left else record { memory = m; left = g ∷ left })
-    by_right true later = later
-    by_right false later = record { copies = all; left = each }
-
 -- ---- an actor
 
--- the grants of the child that an actor prepares
-abbrev child_grants : ActorState → Map Grant
-child_grants a = (granted a.sheet a.made (draft_at a.drafts (a0 a))).tags
-
 record HasGranted (a : ActorState) : Type 0 where
-  own : HasItsCopiesGranted a
+  own : AreOwnCopiesGranted a
   child : (p : Preparation) → a.phase ≡ phase.Starting p → IsGranted (child_grants a) p
+  making : (p : Preparation) → a.phase ≡ phase.MakingGate p → IsGranted (child_grants a) p
+  gates : AreGatesGranted a.gates
 
 -- an instruction gives an actor no copy at a slot at which it has none
 abbrev KeepsSlots : ActorState → ActorState → Type 0
@@ -201,23 +140,25 @@ word_slots : (i : Image) (a b : ActorState) (o : Option Instr) (n : ℕ) → Wor
 word_slots i a b o zero h = same_slots a b h
 word_slots i a b o (suc n) h = instr_slots i (record a { fuel = n }) b o h
 
-step_granted : (i : Image) (a : ActorState) → HasItsCopiesGranted a → HasItsCopiesGranted (step i a)
+step_granted : (i : Image) (a : ActorState) → AreOwnCopiesGranted a → AreOwnCopiesGranted (step i a)
 step_granted i a own slot there =
     ap (λ (s : Sheet). grants_copy s.tags slot) (steps_step i a).sheet
     ∙ own slot (word_slots i a (step i a) (option_and_then decode (fetch i a.hart.pc)) a.fuel (step_remembers i a) slot there)
 
-run_granted : (i : Image) (n : ℕ) (a : ActorState) (t : Bool) → is_running a.phase ≡ t → HasItsCopiesGranted a → HasItsCopiesGranted (run_local i n a)
-run_granted i n a false e own = subst HasItsCopiesGranted (sym (stays i n a e)) own
+run_granted : (i : Image) (n : ℕ) (a : ActorState) (t : Bool) → is_running a.phase ≡ t → AreOwnCopiesGranted a → AreOwnCopiesGranted (run_local i n a)
+run_granted i n a false e own = subst AreOwnCopiesGranted (sym (stays i n a e)) own
 run_granted i zero a true e own = unfold run_local in own
-run_granted i (suc n) a true e own = subst HasItsCopiesGranted (sym (goes_on i n a e)) (run_granted i n (step i a) _ refl (step_granted i a own))
+run_granted i (suc n) a true e own = subst AreOwnCopiesGranted (sym (goes_on i n a e)) (run_granted i n (step i a) _ refl (step_granted i a own))
 
-own_at_rest : (i : Image) (a : ActorState) → is_running a.phase ≡ true → HasItsCopiesGranted a → HasItsCopiesGranted (rest i a)
+own_at_rest : (i : Image) (a : ActorState) → is_running a.phase ≡ true → AreOwnCopiesGranted a → AreOwnCopiesGranted (rest i a)
 unfolding rest
 own_at_rest i a e own = run_granted i (a.fuel + 1) a true e own
 
 rest_granted : (i : Image) (a : ActorState) (t : Bool) → is_running a.phase ≡ t → HasGranted a → HasGranted (rest i a)
 rest_granted i a false e h = subst HasGranted (sym (rest-stays i a e)) h
-rest_granted i a true e h = record { own = own_at_rest i a e h.own; child = λ p is. absurd (subst IsCalm is (rests i a e).calm) }
+rest_granted i a true e h =
+    let g = gates_at_rest i a e h.gates in
+    record { own = own_at_rest i a e h.own; child = λ p is. absurd (subst IsCalm is (rests i a e).calm); making = g.making; gates = g.gates }
 
 -- ---- an event
 
@@ -236,7 +177,7 @@ memory_granted gs m (event.Lives (lives_ask.Release x) r) all = λ slot there. a
 memory_granted gs m (event.Slot slot q r) all = slot_granted gs m slot r q all
 memory_granted gs m e all = all
 
-own_granted : (i : Image) (b : ActorState) (e : Event) → HasItsCopiesGranted b → HasItsCopiesGranted (takes i b e)
+own_granted : (i : Image) (b : ActorState) (e : Event) → AreOwnCopiesGranted b → AreOwnCopiesGranted (takes i b e)
 own_granted i b e own slot there =
     ap (λ (s : Sheet). grants_copy s.tags slot) (takes_sheet i b e)
     ∙ memory_granted b.sheet.tags b.memory e own slot (ap (λ copies. is_some (copy_at copies slot)) (sym (event_copies i b e)) ∙ there)
@@ -310,13 +251,17 @@ event_granted w b e (LastJoined j) h p is = by_cause w b e p is (was_preparing w
 event_granted w b e (Ended f) h p is = by_cause w b e p is (was_preparing w.image b e (subst IsPreparing (sym is) tt)) (λ k. subst IsPreparing f.at k)
 
 doer_granted : (w : WorldState) (b : ActorState) (e : Event) → Happens w b e → HasGranted b → HasGranted (takes w.image b e)
-doer_granted w b e happens h = record { own = own_granted w.image b e h.own; child = event_granted w b e happens h }
+doer_granted w b e happens h =
+    let g = event_gates_granted w b e happens (record { making = h.making; gates = h.gates }) in
+    record { own = own_granted w.image b e h.own; child = event_granted w b e happens h; making = g.making; gates = g.gates }
 
 -- a child begins with the memory that was made for it
 child_granted : (i : Image) (b : ActorState) (name : List ℕ) (p : Preparation) → b.phase ≡ phase.Starting p → HasGranted b → HasGranted (child_of i b name)
 child_granted i b name p at h = record {
   own = λ slot there. (h.child p at).copies slot (ap (λ ph. is_some (copy_at (memory_made i ph).copies slot)) (sym at) ∙ there);
   child = λ q is. absurd cc;
+  making = λ q is. absurd cc;
+  gates = h.gates;
 }
 
 begins_granted : (w : WorldState) (b : ActorState) (e : Event) → Acts w b e → HasGranted b → (c : ActorState) → begun w.image b e ≡ Some c → HasGranted c
@@ -362,6 +307,8 @@ opening_granted i m y found = by_name (same root_name m) (opening_found m y foun
     root_granted = unfold root in record {
       own = declared_granted (root_tags 0 i.tags) [] 0 i.tags (λ slot there. absurd cc) (λ slot e. e);
       child = λ p is. absurd cc;
+      making = λ p is. absurd cc;
+      gates = tt;
     }
 
     by_name : (t : Bool) {z : ActorState} → (if t then Some (root i) else None) ≡ Some z → HasGranted z
@@ -376,4 +323,4 @@ runs_granted old [] new ready all run = subst AllGranted (sym run) all
 runs_granted old (t ∷ ts) new ready all run = runs_granted run.0 ts new (turn_ready old t.actor t.event run.0 ready run.1) (turn_granted old t.actor t.event run.0 ready all run.1) run.2
 
 pub copies_granted : CopiesAreGranted
-copies_granted i turns new run name a named = (runs_granted (opening i) turns new (opening_ready i) (opening_granted i) run name a named).own
+copies_granted i turns new run name a named = let h = runs_granted (opening i) turns new (opening_ready i) (opening_granted i) run name a named in record { own = h.own; gates = h.gates }

@@ -407,7 +407,7 @@ takes_startable i b (event.Slot slot q r) first ready k = no_preparing (takes i 
 takes_startable i b e first ready k = no_preparing (takes i b e).phase (takes_between i b e) k
 
 -- whoever makes a gate may give it its sheet
-happens_making : (w : WorldState) (b : ActorState) (e : Event) → Happens w b e → (x : Preparation) → b.phase ≡ phase.MakingGate x → IsMakeable b x
+pub happens_making : (w : WorldState) (b : ActorState) (e : Event) → Happens w b e → (x : Preparation) → b.phase ≡ phase.MakingGate x → IsMakeable b x
 happens_making w b e (GateSnaps s) x at = let both : phase.MakingGate s.preparation ≡ phase.MakingGate x = sym s.at ∙ at in let same : s.preparation ≡ x = cc in subst (IsMakeable b) same s.granting
 happens_making w b e (Requested r) x at = absurd (subst IsMaking (sym at ∙ r.at) tt)
 happens_making w b e (Joined j) x at = absurd (subst IsMaking (sym at ∙ j.at) tt)

@@ -25,10 +25,13 @@ pub mod Dropping
 pub mod PutBack
 pub mod GatesMade
 pub mod Preparing
+pub mod GrantedPreparing
+pub mod GrantedGates
 pub mod GrantedCopies
 pub mod Creating
 pub mod Reading
 pub mod Keeping
+pub mod MakesDrafted
 pub mod GateMoments
 pub mod Checking
 pub mod TagMoments
@@ -48,4 +51,7 @@ pub mod Bounding
 pub mod Occupying
 pub mod OccupiedRuns
 pub mod WorkLeft
+pub mod KnownGates
+pub mod BoundedGates
+pub mod Isolation
 pub mod Canonical

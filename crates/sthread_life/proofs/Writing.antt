@@ -271,11 +271,11 @@ event_own w b e (LastJoined j) = subst (IsOwn w.cells b) (sym j.join.is) (record
 event_own w b e (Ended f) = subst (IsOwn w.cells b) (sym f.is) (record { stores = λ slot h. absurd (true≢false (sym h)); appends = λ fd h. absurd (true≢false (sym h)) })
 
 -- an actor keeps its rights up to where it rests
-record SameRights (a b : ActorState) : Type 0 where
-  rights : (tag : ℕ) → right_of b tag ≡ right_of a tag
-  bits : (fd : ℕ) → bits_of b fd ≡ bits_of a fd
+pub record SameRights (a b : ActorState) : Type 0 where
+  pub rights : (tag : ℕ) → right_of b tag ≡ right_of a tag
+  pub bits : (fd : ℕ) → bits_of b fd ≡ bits_of a fd
 
-rest_rights : (i : Image) (a : ActorState) (t : Bool) → is_running a.phase ≡ t → SameRights a (rest i a)
+pub rest_rights : (i : Image) (a : ActorState) (t : Bool) → is_running a.phase ≡ t → SameRights a (rest i a)
 rest_rights i a true e =
     let r = rests i a e in
     record {

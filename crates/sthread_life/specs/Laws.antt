@@ -6,6 +6,7 @@ use Rattle.wedge_base.specs.Streams.{stream_opening}
 use Rattle.wedge_base.specs.Lives.{lives_opening}
 use Rattle.wedge_base.specs.declared.events.Event.{Event}
 use Rattle.wedge_base.specs.declared.events.Turn.{Turn}
+use Rattle.wedge_base.specs.declared.events.Want.{Want}
 use Rattle.sthread_life.specs.Actors.{ActorState}
 use Rattle.sthread_life.specs.Cells.{opening_cells, slot_in, stream_in}
 use Rattle.sthread_life.specs.Worlds.{WorldState, opening, actor_named, Runs}
@@ -24,7 +25,9 @@ use Rattle.sthread_life.specs.Families.{KeepsFamily}
 use Rattle.sthread_life.specs.TagCalls.{MakesTags}
 use Rattle.sthread_life.specs.GateCalls.{MakesGates}
 use Rattle.sthread_life.specs.ChildCopies.{MakesCopies}
-use Rattle.sthread_life.specs.CopiesGranted.{HasItsCopiesGranted}
+use Rattle.sthread_life.specs.CopiesGranted.{HasCopiesGranted}
+use Rattle.sthread_life.specs.KnownGates.{AreGatesKept}
+use Rattle.sthread_life.specs.Isolation.{IsAccess, TakesSameTurns}
 use Rattle.sthread_life.specs.Remembering.{Remembers}
 use Rattle.wedge_base.specs.Directories.{slots_opening, fds_opening}
 
@@ -95,9 +98,19 @@ pub record AreSlotsKept (i : Image) (turns : List Turn) (new : WorldState) : Typ
 abbrev pub SlotsAreOccupied : Type 0
 SlotsAreOccupied = (i : Image) (turns : List Turn) (new : WorldState) → Runs (opening i) turns new → AreSlotsKept i turns new
 
--- in each world of a run, each private copy of an actor is at the slot of a grant of a copy on its sheet
+-- in each world of a run, each private copy of an actor is at the slot of a grant of a copy on its sheet, and each copy with which the runs
+-- of a gate begin that it knows is at the slot of one on the gate's sheet
 abbrev pub CopiesAreGranted : Type 0
-CopiesAreGranted = (i : Image) (turns : List Turn) (new : WorldState) → Runs (opening i) turns new → (name : List ℕ) (a : ActorState) → actor_named new.actors name ≡ Some a → HasItsCopiesGranted a
+CopiesAreGranted = (i : Image) (turns : List Turn) (new : WorldState) → Runs (opening i) turns new → (name : List ℕ) (a : ActorState) → actor_named new.actors name ≡ Some a
+    → HasCopiesGranted a
+
+-- in each world of a run, actors know the gates that they hold, as their makers made them
+abbrev pub GatesAreKept : Type 0
+GatesAreKept = (i : Image) (turns : List Turn) (new : WorldState) → Runs (opening i) turns new → AreGatesKept new.actors
+
+-- what an actor loads, stores, reads and appends goes by what it may see, and by nothing else
+abbrev pub AccessesAreIsolated : Type 0
+AccessesAreIsolated = (v w : WorldState) (name : List ℕ) (a : ActorState) (q : Want) → IsAccess v w name a q → TakesSameTurns v w name
 
 -- so every run ends: it has at most so many turns
 abbrev pub RunsEnd : Type 0

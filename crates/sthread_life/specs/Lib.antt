@@ -21,6 +21,8 @@ pub mod TagCalls
 pub mod ChildCopies
 pub mod GateCalls
 pub mod CopiesGranted
+pub mod KnownGates
+pub mod Isolation
 pub mod Drafting
 pub mod Remembering
 pub mod Outcomes

@@ -1,7 +1,7 @@
 //! Laws of the definitions: each is the contract of a function that does nothing.
 
 ghost use Rattle.wedge_base.specs.Images.{Image};
-ghost use Rattle.sthread_life.specs.Laws.{CellsOpen, MomentsAreLawful, NamesAreDistinct, RunsWriteTheirOwn, FuelIsKept, RootBounds, SlotsAreOccupied, CopiesAreGranted, RunsEnd};
+ghost use Rattle.sthread_life.specs.Laws.{CellsOpen, AccessesAreIsolated, MomentsAreLawful, NamesAreDistinct, RunsWriteTheirOwn, FuelIsKept, RootBounds, SlotsAreOccupied, CopiesAreGranted, GatesAreKept, RunsEnd};
 ghost use Rattle.sthread_life.specs.Walks.{RootsWalk};
 
 /// In every run, whatever the image and the order of the turns, each request that an instruction makes
@@ -68,7 +68,22 @@ pub fn slots_are_occupied()
     ensures { SlotsAreOccupied }
 {}
 
-/// In every world of a run, each private copy of an actor is at the slot of a grant of a copy on its own sheet.
+/// In every world of a run, each private copy of an actor is at the slot of a grant of a copy on its own sheet, and each copy with which the
+/// runs of a gate begin is at the slot of one on the gate's.
 pub fn copies_are_granted()
     ensures { CopiesAreGranted }
+{}
+
+/// In every world of a run an actor knows each gate that it holds, by its sheet or because it made it; the sheet of a gate names only gates
+/// that were made before it; and a gate that an actor knows is the one that its maker made under that identity, whoever knows it.
+pub fn gates_are_kept()
+    ensures { GatesAreKept }
+{}
+
+/// Whatever two worlds hold besides, where an actor is the same in both, each tag that it may load from lives in the same slot with the
+/// same bytes or in neither, and each descriptor on which it has a bit has the same stream, a load or a store in the slot of such a tag, and a
+/// read or an append on such a descriptor, has the same event in both: the same reply. The actor then is the same in both, and the
+/// cells still look alike to it.
+pub fn accesses_are_isolated()
+    ensures { AccessesAreIsolated }
 {}

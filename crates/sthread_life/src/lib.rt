@@ -26,8 +26,9 @@ pub use actor::Actor;
 pub use copy_grant::CopyGrant;
 pub use files::{FileOpening, StreamLabel};
 pub use laws::{
-    actors_walk, cells_open_by_their_rules, copies_are_granted, fuel_is_kept, moments_are_lawful,
-    names_are_distinct, rights_are_within_the_roots, runs_write_their_own, slots_are_occupied,
+    accesses_are_isolated, actors_walk, cells_open_by_their_rules, copies_are_granted,
+    fuel_is_kept, gates_are_kept, moments_are_lawful, names_are_distinct,
+    rights_are_within_the_roots, runs_write_their_own, slots_are_occupied,
 };
 pub use lives::Lives;
 pub use local::Next;

@@ -17,7 +17,9 @@ use Rattle.sthread_life.specs.declared.phase.Phase.{Phase}
 use Rattle.sthread_life.specs.declared.phase.Phase.TheVariants as phase
 use Rattle.sthread_life.specs.Worlds.{WorldState, Taken, opening, actor_named, is_ended, join_event, event_at, happened, wanting, turn_with, turn_of, Runs, is_whole}
 use Rattle.sthread_life.proofs.FamilyRuns.{fuel_kept}
-use Rattle.sthread_life.proofs.Bounding.{root_bounds}
+use Rattle.sthread_life.proofs.BoundedGates.{root_bounds}
+use Rattle.sthread_life.proofs.GrantedCopies.{copies_granted}
+use Rattle.sthread_life.proofs.KnownGates.{gates_kept}
 use Rattle.sthread_life.proofs.OccupiedRuns.{slots_occupied}
 use Rattle.sthread_life.proofs.Mediating.{moments_lawful}
 use Rattle.sthread_life.proofs.Writing.{runs_write_their_own}
@@ -217,6 +219,8 @@ complete_of i turns last run whole goes = record {
   paid = (fuel_kept i turns last run).1;
   slots = slots_occupied i turns last run;
   bounded = root_bounds i turns last run;
+  copies = copies_granted i turns last run;
+  gates = gates_kept i turns last run;
 }
 
 pub replays_are_complete : ReplaysAreComplete

@@ -14,6 +14,8 @@ use Rattle.sthread_life.specs.Local.{has_ended}
 use Rattle.wedge_base.specs.declared.events.Turn.{Turn}
 use Rattle.sthread_life.specs.Moments.{EachStep, EachMoment}
 use Rattle.sthread_life.specs.Bounds.{IsWithinRoot}
+use Rattle.sthread_life.specs.CopiesGranted.{HasCopiesGranted}
+use Rattle.sthread_life.specs.KnownGates.{AreGatesKept}
 use Rattle.sthread_life.specs.Fuel.{fuel_of, TakesItsUnits}
 use Rattle.sthread_life.specs.Laws.{IsLawful, IsWrittenByOwners, AreSlotsKept}
 use Rattle.sthread_life.specs.Worlds.{WorldState, opening, actor_named, Runs, is_whole}
@@ -25,8 +27,9 @@ RootGoesOn w turns = EachStep (λ old t new. is_whole old ≡ false) w turns
 
 -- The turns are a complete run of the image, up to the end of its root: each moment of it is lawful; the bytes of each tag
 -- and of each stream come from those who may write them alone; each turn takes exactly its units of the image's fuel; each
--- slot was never used, or was released, or is held by one call, or one tag lives there; and whatever an actor has on a
--- declared tag or descriptor, the root began with.
+-- slot was never used, or was released, or is held by one call, or one tag lives there; whatever an actor has on a declared tag
+-- or descriptor, or the sheet of a gate gives, the root began with; each private copy is at the slot of a grant of a copy; and a
+-- gate is what its maker made, whoever knows it.
 pub record IsCompleteRun (i : Image) (turns : List Turn) (last : WorldState) : Type 0 where
   pub run : Runs (opening i) turns last
   pub whole : is_whole last ≡ true
@@ -37,6 +40,8 @@ pub record IsCompleteRun (i : Image) (turns : List Turn) (last : WorldState) : T
   pub paid : EachStep TakesItsUnits (opening i) turns
   pub slots : AreSlotsKept i turns last
   pub bounded : (name : List ℕ) (a : ActorState) → actor_named last.actors name ≡ Some a → IsWithinRoot i a
+  pub copies : (name : List ℕ) (a : ActorState) → actor_named last.actors name ≡ Some a → HasCopiesGranted a
+  pub gates : AreGatesKept last.actors
 
 -- entries tell a complete run of the image with this outcome
 pub record IsWholeRun (i : Image) (entries : List LogEntry) (outcome : Outcome) : Type 0 where

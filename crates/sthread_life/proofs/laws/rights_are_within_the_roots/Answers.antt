@@ -1,4 +1,4 @@
-use Rattle.sthread_life.proofs.Bounding.{root_bounds}
+use Rattle.sthread_life.proofs.BoundedGates.{root_bounds}
 use Rattle.sthread_life.proofs.laws.rights_are_within_the_roots.Goals as goal
 
 pub returns : goal.returns
