@@ -1,6 +1,6 @@
 -- What a turn is made of, and what its event leaves of the actor.
 use Rattle.std.proofs.Common.{◌≡◌, ℕ, ◌+◌, List, [], ◌∷◌, ◌++◌, refl, sym, ap, subst, ◌∙◌}
-use Rattle.std.specs.Prelude.{Option, Some, None, option_map, option_and_then}
+use Rattle.std.specs.Prelude.{Option, Some, None, option_map, option_and_then, ◌-◌}
 use Rattle.wedge_base.specs.Images.{Image, fetch}
 use Rattle.wedge_base.specs.declared.events.Want.{Want}
 use Rattle.wedge_base.specs.declared.events.Want.TheVariants as want
@@ -29,9 +29,9 @@ use Rattle.sthread_life.specs.Calls.{a1, a0, draft_at, new_gate, has_gate, makes
 use Rattle.sthread_life.specs.Opening.{FileOpening}
 use Rattle.wedge_base.specs.Sheets.{made_fd, Draft}
 use Rattle.sthread_life.specs.Between.{IsBetween}
-use Rattle.sthread_life.specs.Children.{without_child, child_name}
+use Rattle.sthread_life.specs.Children.{without_child, child_name, with_child}
 use Rattle.sthread_life.specs.Local.{rest, end_reached}
-use Rattle.sthread_life.specs.Taking.{wanted, pair, runs, loads_by, loads_at, has_snapped, has_number, has_opened_file, end_value, end_number, answered_end, takes, copied_on}
+use Rattle.sthread_life.specs.Taking.{wanted, pair, runs, loads_by, loads_at, has_snapped, has_number, has_opened_file, end_value, end_number, answered_end, takes, copied_on, has_entered, next_start}
 use Rattle.sthread_life.specs.Copying.{Preparation}
 use Rattle.cow_pages.specs.Listed.{bytes_listed}
 use Rattle.wedge_base.specs.Directories.{directory_reply}
@@ -42,9 +42,10 @@ use Rattle.wedge_base.specs.Streams.{stream_reply as stream_reply_of}
 use Rattle.wedge_base.specs.Wants.{slot_ask_with}
 use Rattle.wedge_base.specs.declared.rights.End.TheVariants as end_
 use Rattle.sthread_life.specs.Cells.{Cells, slot_in, stream_in, kept_in, tag_in}
-use Rattle.sthread_life.specs.Worlds.{WorldState, actor_named, join_event, event_at, happened, wanting, turn_with, turn_of, Taken}
+use Rattle.sthread_life.specs.Worlds.{WorldState, actor_named, join_event, event_at, happened, wanting, Taken}
 use Rattle.callgate.specs.declared.gate.Gate.{Gate}
 use Rattle.sthread_life.specs.declared.copy_grant.CopyGrant.{CopyGrant}
+use Rattle.sthread_life.specs.Entrances.{Entrance}
 
 -- a load that has its value leaves the actor running
 loaded_by : (ins : Instr) (n : Need) (a : ActorState) (value : ℕ) → a.phase ≡ phase.Running → (loads_by ins n a value).phase ≡ phase.Running
@@ -67,6 +68,8 @@ joined_is Q a (phase.Starting pre) e own other = other
 joined_is Q a (phase.MakingGate pre) e own other = other
 joined_is Q a (phase.Opening slot tag) e own other = other
 joined_is Q a (phase.Releasing slot) e own other = other
+joined_is Q a (phase.Entering entrance) e own other = other
+joined_is Q a (phase.Waiting number) e own other = other
 joined_is Q a (phase.OpeningFile o) e own other = other
 joined_is Q a (phase.Ending x) e own other = own
 joined_is Q a (phase.Ended x) e own other = other
@@ -79,6 +82,8 @@ numbered_is Q a (phase.Starting pre) fd other on = other
 numbered_is Q a (phase.MakingGate pre) fd other on = other
 numbered_is Q a (phase.Opening s tag) fd other on = other
 numbered_is Q a (phase.Releasing s) fd other on = other
+numbered_is Q a (phase.Entering entrance) fd other on = other
+numbered_is Q a (phase.Waiting number) fd other on = other
 numbered_is Q a (phase.OpeningFile o) fd other on = on o
 numbered_is Q a (phase.Ending x) fd other on = other
 numbered_is Q a (phase.Ended x) fd other on = other
@@ -94,6 +99,8 @@ opened_is Q a (phase.Starting pre) fd other on = other
 opened_is Q a (phase.MakingGate pre) fd other on = other
 opened_is Q a (phase.Opening s tag) fd other on = other
 opened_is Q a (phase.Releasing s) fd other on = other
+opened_is Q a (phase.Entering entrance) fd other on = other
+opened_is Q a (phase.Waiting number) fd other on = other
 opened_is Q a (phase.OpeningFile o) fd other on = on o
 opened_is Q a (phase.Ending x) fd other on = other
 opened_is Q a (phase.Ended x) fd other on = other
@@ -114,9 +121,28 @@ snapped_is Q a (phase.Starting pre) slot bytes other on waits made = on _
 snapped_is Q a (phase.MakingGate pre) slot bytes other on waits made = made_is Q a (draft_at a.drafts (a0 a)) (copied_on a pre slot bytes) waits made
 snapped_is Q a (phase.Opening s tag) slot bytes other on waits made = other
 snapped_is Q a (phase.Releasing s) slot bytes other on waits made = other
+snapped_is Q a (phase.Entering entrance) slot bytes other on waits made = other
+snapped_is Q a (phase.Waiting number) slot bytes other on waits made = other
 snapped_is Q a (phase.OpeningFile o) slot bytes other on waits made = other
 snapped_is Q a (phase.Ending x) slot bytes other on waits made = other
 snapped_is Q a (phase.Ended x) slot bytes other on waits made = other
+
+-- what the entry of a gate leaves of an actor: one that was about to enter it waits for its run, and any other runs
+abbrev pub entered_by : ActorState → Entrance → ActorState
+entered_by a x = record a { starts = next_start a; unjoined = with_child a.unjoined (next_start a) x.gate.fuel; fuel = a.fuel - x.gate.fuel; phase = phase.Waiting (next_start a) }
+
+pub entered_is : (Q : ActorState → Type 0) (a : ActorState) (p : Phase) → Q (runs a) → ((x : Entrance) → Q (entered_by a x)) → Q (has_entered a p)
+entered_is Q a phase.Running other on = other
+entered_is Q a (phase.Within q) other on = other
+entered_is Q a (phase.Starting pre) other on = other
+entered_is Q a (phase.MakingGate pre) other on = other
+entered_is Q a (phase.Opening s tag) other on = other
+entered_is Q a (phase.Releasing s) other on = other
+entered_is Q a (phase.OpeningFile o) other on = other
+entered_is Q a (phase.Entering x) other on = on x
+entered_is Q a (phase.Waiting k) other on = other
+entered_is Q a (phase.Ending x) other on = other
+entered_is Q a (phase.Ended x) other on = other
 
 -- an actor that prepares a child; and one that does so, makes a gate or is between instructions
 abbrev pub IsPreparing : Phase → Type 0
@@ -126,6 +152,8 @@ IsPreparing (phase.Starting pre) = Unit {0}
 IsPreparing (phase.MakingGate pre) = ⊥
 IsPreparing (phase.Opening slot tag) = ⊥
 IsPreparing (phase.Releasing slot) = ⊥
+IsPreparing (phase.Entering entrance) = ⊥
+IsPreparing (phase.Waiting number) = ⊥
 IsPreparing (phase.OpeningFile o) = ⊥
 IsPreparing (phase.Ending e) = ⊥
 IsPreparing (phase.Ended e) = ⊥
@@ -138,6 +166,8 @@ IsMaking (phase.Starting pre) = ⊥
 IsMaking (phase.MakingGate pre) = Unit {0}
 IsMaking (phase.Opening slot tag) = ⊥
 IsMaking (phase.Releasing slot) = ⊥
+IsMaking (phase.Entering entrance) = ⊥
+IsMaking (phase.Waiting number) = ⊥
 IsMaking (phase.OpeningFile o) = ⊥
 IsMaking (phase.Ending e) = ⊥
 IsMaking (phase.Ended e) = ⊥
@@ -149,6 +179,8 @@ MayPrepare (phase.Starting pre) = Unit {0}
 MayPrepare (phase.MakingGate pre) = Unit {0}
 MayPrepare (phase.Opening slot tag) = ⊥
 MayPrepare (phase.Releasing slot) = ⊥
+MayPrepare (phase.Entering entrance) = ⊥
+MayPrepare (phase.Waiting number) = ⊥
 MayPrepare (phase.OpeningFile o) = ⊥
 MayPrepare (phase.Ending e) = Unit {0}
 MayPrepare (phase.Ended e) = Unit {0}
@@ -161,13 +193,42 @@ MayNumber fd (phase.Starting pre) = ⊥
 MayNumber fd (phase.MakingGate pre) = ⊥
 MayNumber fd (phase.Opening slot tag) = ⊥
 MayNumber fd (phase.Releasing slot) = ⊥
+MayNumber fd (phase.Entering entrance) = ⊥
+MayNumber fd (phase.Waiting number) = ⊥
 MayNumber fd (phase.OpeningFile o) = o.number ≡ Some fd
 MayNumber fd (phase.Ending e) = ⊥
 MayNumber fd (phase.Ended e) = ⊥
 
+-- one that entered a gate waits for its run
+abbrev pub MayWait : Phase → Type 0
+MayWait phase.Running = Unit {0}
+MayWait (phase.Within q) = ⊥
+MayWait (phase.Starting pre) = ⊥
+MayWait (phase.MakingGate pre) = ⊥
+MayWait (phase.Opening slot tag) = ⊥
+MayWait (phase.Releasing slot) = ⊥
+MayWait (phase.OpeningFile o) = ⊥
+MayWait (phase.Entering x) = ⊥
+MayWait (phase.Waiting k) = Unit {0}
+MayWait (phase.Ending e) = ⊥
+MayWait (phase.Ended e) = ⊥
+
+pub waiting_is : (P : Phase → Type 0) (p : Phase) → MayWait p → P phase.Running → ((k : ℕ) → P (phase.Waiting k)) → P p
+waiting_is P phase.Running h runs waits = runs
+waiting_is P (phase.Within q) h runs waits = absurd h
+waiting_is P (phase.Starting pre) h runs waits = absurd h
+waiting_is P (phase.MakingGate pre) h runs waits = absurd h
+waiting_is P (phase.Opening slot tag) h runs waits = absurd h
+waiting_is P (phase.Releasing slot) h runs waits = absurd h
+waiting_is P (phase.OpeningFile o) h runs waits = absurd h
+waiting_is P (phase.Entering x) h runs waits = absurd h
+waiting_is P (phase.Waiting k) h runs waits = waits k
+waiting_is P (phase.Ending e) h runs waits = absurd h
+waiting_is P (phase.Ended e) h runs waits = absurd h
+
 -- An event leaves the actor that did it between instructions; one that claimed a life prepares a child, which goes on with the copies of
--- tags, one that claimed a slot is about to open a tag there, one that claimed a number to open the stream of its file, and one that
--- closed a tag to release its slot.
+-- tags, one that claimed a slot is about to open a tag there, one that claimed a number to open the stream of its file, one that
+-- closed a tag to release its slot, and one that entered a gate waits for its run.
 abbrev pub Leaves : Event → Phase → Type 0
 Leaves (event.Slots directory_ask.Claim (directory_reply.Claimed place number)) p = p ≡ phase.Opening place number
 Leaves (event.Fds directory_ask.Claim (directory_reply.Claimed fd number)) p = MayNumber fd p
@@ -175,6 +236,7 @@ Leaves (event.Slot slot q slot_reply.Closed) p = p ≡ phase.Releasing slot
 Leaves (event.Slot slot q (slot_reply.Snapped pages)) p = MayPrepare p
 Leaves (event.Slot slot q slot_reply.Gone) p = MayPrepare p
 Leaves (event.Lives lives_ask.Claim lives_reply.Claimed) p = IsPreparing p
+Leaves (event.Enter run) p = MayWait p
 Leaves e p = IsBetween p
 
 joined_between : (a : ActorState) (p : Phase) (e : End) → a.phase ≡ p → IsBetween (answered_end a p e).phase
@@ -184,6 +246,8 @@ joined_between a (phase.Starting pre) e is = tt
 joined_between a (phase.MakingGate pre) e is = tt
 joined_between a (phase.Opening slot tag) e is = tt
 joined_between a (phase.Releasing slot) e is = tt
+joined_between a (phase.Entering entrance) e is = tt
+joined_between a (phase.Waiting number) e is = tt
 joined_between a (phase.OpeningFile o) e is = tt
 joined_between a (phase.Ending x) e is = subst IsBetween (sym is) tt
 joined_between a (phase.Ended x) e is = tt
@@ -217,6 +281,7 @@ takes_between i a (event.Lives lives_ask.Claim lives_reply.Full) = tt
 takes_between i a (event.Lives lives_ask.Claim lives_reply.Released) = tt
 takes_between i a (event.Lives (lives_ask.Release e) r) = tt
 takes_between i a (event.Join k e fuel) = joined_between (record a { fuel = a.fuel + fuel; unjoined = without_child a.unjoined k }) a.phase e refl
+takes_between i a (event.Enter run) = entered_is (λ x. MayWait x.phase) a a.phase tt (λ x. tt)
 takes_between i a e = tt
 
 loaded_name : (ins : Instr) (n : Need) (a : ActorState) (value : ℕ) → (loads_by ins n a value).name ≡ a.name
@@ -260,6 +325,7 @@ takes_name i b (event.Lives lives_ask.Claim lives_reply.Full) = refl
 takes_name i b (event.Lives lives_ask.Claim lives_reply.Released) = refl
 takes_name i b (event.Lives (lives_ask.Release e) r) = refl
 takes_name i b (event.Join k e fuel) = joined_is (λ x. x.name ≡ b.name) (record b { fuel = b.fuel + fuel; unjoined = without_child b.unjoined k }) b.phase e refl refl
+takes_name i b (event.Enter run) = entered_is (λ x. x.name ≡ b.name) b b.phase refl (λ x. refl)
 takes_name i b e = refl
 
 -- nor its fuel, where it is a load
@@ -297,6 +363,8 @@ event_for c b (want.Fd fd q) = event.Fd fd q (stream_reply_of (stream_in c fd) q
 event_for c b (want.Lives q) = event.Lives q (lives_reply c.lives q)
 event_for c b (want.Gate id q) = event.Gate id q (gate_reply (kept_in c id) q)
 event_for c b (want.Start child) = event.Start child
+event_for c b (want.Enter run) = event.Enter run
+event_for c b (want.Leave end) = event.Leave end
 event_for c b q = event.Leave end_.Break
 
 -- a join that takes place: the child is there, and has ended
@@ -317,11 +385,11 @@ ComesOf w b (want.Lives q) e = e ≡ event_for w.cells b (want.Lives q)
 ComesOf w b (want.Gate id q) e = e ≡ event_for w.cells b (want.Gate id q)
 ComesOf w b (want.Start child) e = e ≡ event.Start child
 ComesOf w b (want.Join k) e = IsJoin w b k e
-ComesOf w b (want.Enter run) e = ⊥
-ComesOf w b (want.Leave end) e = ⊥
+ComesOf w b (want.Enter run) e = e ≡ event.Enter run
+ComesOf w b (want.Leave end) e = e ≡ event.Leave end
 
 join_ended : (w : WorldState) (b : ActorState) (k : ℕ) (c : ActorState) (x : Option End) (e : Event) → actor_named w.actors (child_name b.name k) ≡ Some c → end_reached c.phase ≡ x
-    → option_map (λ y. event.Join k y c.fuel) x ≡ Some e → IsJoin w b k e
+    → option_map (λ (y : End × ℕ). event.Join k y.0 y.1) (option_map (λ y. (y, c.fuel)) x) ≡ Some e → IsJoin w b k e
 join_ended w b k c None e there ended at = absurd cc
 join_ended w b k c (Some x) e there ended at = record { child = c; how = x; there = there; ended = ended; is = cc }
 
@@ -338,10 +406,10 @@ comes_of w b (want.Lives q) e at = cc
 comes_of w b (want.Gate id q) e at = cc
 comes_of w b (want.Start child) e at = cc
 comes_of w b (want.Join k) e at = join_comes w b k (actor_named w.actors (child_name b.name k)) e refl at
-comes_of w b (want.Enter run) e at = absurd cc
-comes_of w b (want.Leave end) e at = absurd cc
+comes_of w b (want.Enter run) e at = cc
+comes_of w b (want.Leave end) e at = cc
 
--- what a turn is made of: the actor of the name, what it wants at rest, and the event of that ask
+-- what a turn of an actor that waits for no run is made of: the actor of the name, what it wants at rest, and the event of that ask
 pub record TurnParts (w : WorldState) (name : List ℕ) (e : Event) (new : WorldState) : Type 0 where
   pub actor : ActorState
   pub named : actor_named w.actors name ≡ Some actor
@@ -366,16 +434,7 @@ parts_event w name a q (Some f) e new named wants at t =
       new_is = ap (λ (x : Taken). x.world) (sym is) ∙ ap (λ (x : Event). (happened w (rest w.image a) x).world) same;
     }
 
-parts_wanting : (w : WorldState) (name : List ℕ) (a : ActorState) (q : Option Want) (e : Event) (new : WorldState)
+pub parts_wanting : (w : WorldState) (name : List ℕ) (a : ActorState) (q : Option Want) (e : Event) (new : WorldState)
     → actor_named w.actors name ≡ Some a → wanted (rest w.image a) ≡ q → wanting w (rest w.image a) q ≡ Some (record { event = e; world = new }) → TurnParts w name e new
 parts_wanting w name a None e new named wants t = absurd cc
 parts_wanting w name a (Some q) e new named wants t = parts_event w name a q (event_at w (rest w.image a) q) e new named wants refl t
-
-parts_named : (w : WorldState) (name : List ℕ) (a : Option ActorState) (e : Event) (new : WorldState)
-    → actor_named w.actors name ≡ a → turn_with w a ≡ Some (record { event = e; world = new }) → TurnParts w name e new
-parts_named w name None e new named t = absurd cc
-parts_named w name (Some a) e new named t = parts_wanting w name a (wanted (rest w.image a)) e new named refl t
-
-pub turn_parts : (w : WorldState) (name : List ℕ) (e : Event) (new : WorldState) → turn_of w name ≡ Some (record { event = e; world = new }) → TurnParts w name e new
-unfolding turn_of
-turn_parts w name e new t = parts_named w name (actor_named w.actors name) e new refl t

@@ -10,7 +10,7 @@ use Rattle.wedge_base.specs.Maps.{Map, at, has, with}
 use Rattle.wedge_base.specs.Names.{same, root_name}
 use Rattle.wedge_base.specs.Rights.{rank, at_least, no_bits, bits_within}
 use Rattle.wedge_base.specs.Paths.{parts_of, is_front, under}
-use Rattle.wedge_base.specs.Sheets.{Sheet, Made, right_on, bits_on, bits_in, either_bits}
+use Rattle.wedge_base.specs.Sheets.{Sheet, Made, nothing_made, right_on, bits_on, bits_in, either_bits}
 use Rattle.wedge_base.specs.declared.rights.Right.{Right}
 use Rattle.wedge_base.specs.declared.rights.Right.TheVariants as right
 use Rattle.wedge_base.specs.declared.rights.FdBits.{FdBits}
@@ -30,23 +30,26 @@ use Rattle.sthread_life.specs.declared.phase.Phase.{Phase}
 use Rattle.sthread_life.specs.declared.phase.Phase.TheVariants as phase
 use Rattle.sthread_life.specs.Actors.{ActorState, root, right_of, bits_of}
 use Rattle.sthread_life.specs.Between.{IsBetween}
+use Rattle.sthread_life.specs.Bounds.{HasNoMoreThanRoot}
 use Rattle.sthread_life.specs.Cells.{Cells, cells_after}
 use Rattle.sthread_life.specs.Opening.{FileOpening}
 use Rattle.sthread_life.specs.Children.{child_name}
-use Rattle.sthread_life.specs.Families.{IsChild, made_under, made_by}
+use Rattle.sthread_life.specs.Families.{IsChild, IsRun, made_under, made_by}
 use Rattle.sthread_life.specs.Local.{rest}
-use Rattle.sthread_life.specs.Taking.{next_start, takes, begun, child_of}
-use Rattle.sthread_life.specs.Worlds.{WorldState, opening, actor_named, put_actor, with_begun, turn_of, Runs}
-use Rattle.sthread_life.proofs.Between.{event_for, Leaves, IsPreparing, MayPrepare, MayNumber, takes_name, takes_between, turn_parts}
+use Rattle.sthread_life.specs.Taking.{next_start, takes, begun, child_of, run_by}
+use Rattle.sthread_life.specs.Worlds.{WorldState, opening, actor_named, put_actor, with_begun, ready, resumed, Runs}
+use Rattle.sthread_life.proofs.Between.{event_for, Leaves, IsPreparing, MayPrepare, MayNumber, MayWait, takes_name, takes_between}
 use Rattle.sthread_life.proofs.Directing.{claimed_number, next_number}
+use Rattle.sthread_life.proofs.GateRuns.{entry_begins}
 use Rattle.sthread_life.proofs.Meeting.{IsRequest}
-use Rattle.sthread_life.proofs.Families.{MadeBy, MadeNothing, MadeTag, MadeFd, takes_made, takes_sheet, happens_made, child_begins}
-use Rattle.sthread_life.proofs.FamilyRuns.{Acts, ActsAlone, Starts, Joins, acts, one_begins, kept_at_rest}
-use Rattle.sthread_life.proofs.Happening.{Happens, Requested, Joined, Snaps, GateSnaps, Started, Opens, Releases, Numbers, OpensFile, LastJoined, Ended, happens_claim, happens_number, opens_by_claim}
-use Rattle.sthread_life.proofs.Named.{found_name, same_equal, same_self}
+use Rattle.sthread_life.proofs.Families.{MadeBy, MadeNothing, MadeTag, MadeFd, takes_made, takes_sheet, happens_made, child_begins, run_begins}
+use Rattle.sthread_life.proofs.FamilyRuns.{Acts, ActsAlone, Starts, Enters, Joins, acts, one_begins, kept_at_rest}
+use Rattle.sthread_life.proofs.Happening.{Happens, Requested, Joined, Snaps, GateSnaps, Started, Opens, Releases, Numbers, OpensFile, LastJoined, Ended, EntersGate, LeavesGate, happens_claim, happens_number, opens_by_claim}
+use Rattle.sthread_life.proofs.Named.{same_equal, same_self}
 use Rattle.sthread_life.proofs.Resting.{rest-name, rest-uncalm}
-use Rattle.sthread_life.proofs.Settling.{AllReady, turn_happens}
+use Rattle.sthread_life.proofs.Settling.{AllReady, turn_happens, turned_there}
 use Rattle.sthread_life.proofs.Trees.{IsPut, IsDoer, IsOther, FoundPut, find_put, found_or_last}
+use Rattle.sthread_life.proofs.Turns.{ready_is, ready_name, Turned, turn_from}
 
 pub least_of : (o : Option Right) (g r : Right) → at_least o g ≡ true → at_least (Some g) r ≡ true → at_least o r ≡ true
 least_of None g r e f = absurd cc
@@ -150,6 +153,17 @@ child_bounded i b c child bounded = record {
     by_grant tag r inside (Some g) there e =
         bounded.tags tag r inside (least_of (right_of b tag) g.right r (child.within.tags tag g there) (ap (λ (x : Option Grant). at_least (option_map (λ y. y.right) x) r) (sym there) ∙ e))
 
+-- the run of a gate has what its sheet gives, and nothing more
+run_bounded : (i : Image) (b c : ActorState) → IsRun b c → HasNoMoreThanRoot i c.sheet nothing_made → IsBounded i c
+run_bounded i b c run own = record {
+  tags = λ tag r inside e. own.tags tag inside r (ap (λ m. at_least (right_on c.sheet m tag) r) (sym run.fresh.0) ∙ e);
+  fds = λ fd inside. ap (λ m. bits_within (bits_on c.sheet m fd) (bits_of (root i) fd)) run.fresh.0 ∙ own.fds fd inside;
+  opens = λ slot tag is. let f : phase.Running ≡ phase.Opening slot tag = sym run.fresh.5 ∙ is in absurd cc;
+  files = λ o fd is some. let f : phase.Running ≡ phase.OpeningFile o = sym run.fresh.5 ∙ is in absurd cc;
+  user = own.user;
+  directory = own.directory;
+}
+
 -- an actor at rest has the rights that it had
 pub rest_bounded : (i : Image) (a : ActorState) → IsBounded i a → IsBounded i (rest i a)
 rest_bounded i a bounded =
@@ -236,6 +250,8 @@ cells_above n w b e (Numbers m) h = subst (λ y. GivesAbove n (cells_after w.cel
 cells_above n w b e (OpensFile f) h = subst (λ y. GivesAbove n (cells_after w.cells y).numbers) (sym f.is) h
 cells_above n w b e (LastJoined j) h = subst (λ y. GivesAbove n (cells_after w.cells y).numbers) (sym j.join.is) h
 cells_above n w b e (Ended f) h = subst (λ y. GivesAbove n (cells_after w.cells y).numbers) (sym f.is) h
+cells_above n w b e (EntersGate x) h = subst (λ y. GivesAbove n (cells_after w.cells y).numbers) (sym x.is) h
+cells_above n w b e (LeavesGate l) h = subst (λ y. GivesAbove n (cells_after w.cells y).numbers) (sym l.is) h
 
 -- an actor has a number for its file only once it claimed one, or had one before
 numbered_by : (i : Image) (b : ActorState) (e : Event) (o : FileOpening) (fd : ℕ) → (takes i b e).phase ≡ phase.OpeningFile o → o.number ≡ Some fd
@@ -268,6 +284,7 @@ numbered_by i b e o fd is some = leaves_number e (takes i b e).phase (takes_betw
     leaves_number (event.Slot s q (slot_reply.Snapped pages)) p h at_ = absurd (prepares p h at_)
     leaves_number (event.Slot s q slot_reply.Gone) p h at_ = absurd (prepares p h at_)
     leaves_number (event.Slot s q r) p h at_ = absurd (between p h at_)
+    leaves_number (event.Enter run) p h at_ = absurd (subst MayWait at_ h)
     leaves_number y p h at_ = absurd (between p h at_)
 
 -- so its event leaves its actor bounded
@@ -313,19 +330,35 @@ cells_counted n c (event.Join k end fuel) h = h
 cells_counted n c (event.Enter run) h = h
 cells_counted n c (event.Leave end) h = h
 
-pub turn_bounded : (w : WorldState) (name : List ℕ) (e : Event) (new : WorldState) → AllReady w → AllBounded w → turn_of w name ≡ Some (record { event = e; world = new }) → AllBounded new
-turn_bounded w name e new all bounded t =
-    let p = turn_parts w name e new t in
-    let a = p.actor in
+-- an actor that goes on has the rights that it had
+pub back_bounded : (i : Image) (actors : List ActorState) (a : ActorState) → IsBounded i a → IsBounded i (ready actors a)
+back_bounded i actors a h =
+    ready_is (IsBounded i) actors a h
+    (λ k e fuel. record { tags = h.tags; fds = h.fds; opens = λ slot tag is. absurd cc; files = λ o fd is some. absurd cc; user = h.user; directory = h.directory })
+
+resumed_bounded : (w : WorldState) (a : ActorState) → AllBounded w → actor_named w.actors a.name ≡ Some a → AllBounded (resumed w a)
+resumed_bounded w a bounded there = record { counted = bounded.counted; above = bounded.above; actors = λ m y found. goes m y (find_put w.actors a (ready w.actors a) m y (record { name = ready_name w.actors a; there = there }) found) }
+  where
+    goes : (m : List ℕ) (y : ActorState) → FoundPut w.actors a (ready w.actors a) m y → IsBounded w.image y
+    goes m y (IsDoer is f) = subst (IsBounded w.image) (sym f) (back_bounded w.image w.actors a (bounded.actors a.name a there))
+    goes m y (IsOther apart f) = bounded.actors m y f
+
+-- a turn, where the run of a gate that may begin by it has no more than the root
+pub turn_bounded : (w : WorldState) (name : List ℕ) (e : Event) (new : WorldState) → AllReady w → AllBounded w → (p : Turned w name e new)
+    → ((c : ActorState) → IsRun (rest w.image p.parts.actor) c → HasNoMoreThanRoot w.image c.sheet nothing_made) → AllBounded new
+turn_bounded w name e new all bounded p runs =
+    let v = resumed w p.actor in
+    let a = p.parts.actor in
     let b = rest w.image a in
     let x = takes w.image b e in
     let h = turn_happens w name e new all p in
-    let there : actor_named w.actors a.name ≡ Some a = ap (actor_named w.actors) (found_name w.actors name a p.named) ∙ p.named in
-    let put : IsPut w.actors a x = record { name = takes_name w.image b e ∙ rest-name w.image a; there = there } in
-    let doer = doer_bounded w b e bounded.counted bounded.above h (rest_bounded w.image a (bounded.actors a.name a there)) in
-    let child = begins_bounded w b e (acts w b e h) (rest_bounded w.image a (bounded.actors a.name a there)) in
-    subst AllBounded (sym p.new_is)
-    (record { counted = cells_counted (length w.image.tags) w.cells e bounded.counted; above = cells_above (length w.image.fds) w b e h bounded.above; actors = by_begun w a x bounded put doer (begun w.image b e) child })
+    let goes = resumed_bounded w p.actor bounded (turned_there w name p.actor p.named) in
+    let there = turned_there v name a p.parts.named in
+    let put : IsPut v.actors a x = record { name = takes_name w.image b e ∙ rest-name w.image a; there = there } in
+    let doer = doer_bounded v b e bounded.counted bounded.above h (rest_bounded w.image a (goes.actors a.name a there)) in
+    let child = begins_bounded v b e (acts v b e h) (rest_bounded w.image a (goes.actors a.name a there)) runs in
+    subst AllBounded (sym p.parts.new_is)
+    (record { counted = cells_counted (length w.image.tags) w.cells e bounded.counted; above = cells_above (length w.image.fds) v b e h bounded.above; actors = by_begun v a x goes put doer (begun w.image b e) child })
   where
     by_found : (w : WorldState) (a x : ActorState) → AllBounded w → IsPut w.actors a x → IsBounded w.image x → (m : List ℕ) (y : ActorState) → FoundPut w.actors a x m y → IsBounded w.image y
     by_found w a x bounded put doer m y (IsDoer is f) = subst (IsBounded w.image) (sym f) doer
@@ -339,14 +372,21 @@ turn_bounded w name e new all bounded t =
       | inr is ↦ subst (IsBounded w.image) (sym is) (child c refl)
     ]
 
-    begins_bounded : (w : WorldState) (b : ActorState) (e : Event) → Acts w b e → IsBounded w.image b → (c : ActorState) → begun w.image b e ≡ Some c → IsBounded w.image c
-    begins_bounded w b e (ActsAlone one) bounded c is = let f : None ≡ Some c = sym (one_begins w.image b e one) ∙ is in absurd cc
-    begins_bounded w b e (Starts s) bounded c is =
+    begins_bounded : (w : WorldState) (b : ActorState) (e : Event) → Acts w b e → IsBounded w.image b → ((c : ActorState) → IsRun b c → HasNoMoreThanRoot w.image c.sheet nothing_made) → (c : ActorState) → begun w.image b e ≡ Some c → IsBounded w.image c
+    begins_bounded w b e (ActsAlone one) bounded runs c is = let f : None ≡ Some c = sym (one_begins w.image b e one) ∙ is in absurd cc
+    begins_bounded w b e (Starts s) bounded runs c is =
         let child = child_of w.image b (child_name b.name (next_start b)) in
         let both : Some child ≡ Some c = sym (ap (begun w.image b) s.is) ∙ is in
         let same_child : child ≡ c = cc in
         subst (IsBounded w.image) same_child (child_bounded w.image b child (child_begins w.image b s.preparation s.at s.complete s.ready) bounded)
-    begins_bounded w b e (Joins k listed j) bounded c is = let f : None ≡ Some c = sym (ap (begun w.image b) j.is) ∙ is in absurd cc
+    begins_bounded w b e (Enters x) bounded runs c is =
+        let name = child_name b.name (next_start b) in
+        let run = run_by b name x.entrance in
+        let both : Some run ≡ Some c = sym (entry_begins w.image b e x) ∙ is in
+        let same_run : run ≡ c = cc in
+        let begins = run_begins b x.entrance x.at x.may in
+        subst (IsBounded w.image) same_run (run_bounded w.image b run begins (runs run begins))
+    begins_bounded w b e (Joins k listed j) bounded runs c is = let f : None ≡ Some c = sym (ap (begun w.image b) j.is) ∙ is in absurd cc
 
 pub opening_bounded : (i : Image) → AllBounded (opening i)
 opening_bounded i = record { counted = omega arith; above = record { unused = omega arith; released = refl }; actors = λ m y found. by_name (same root_name m) (opening_found m y found) }
@@ -370,4 +410,4 @@ opening_bounded i = record { counted = omega arith; above = record { unused = om
 
 pub run_image : (old : WorldState) (turns : List Turn) (new : WorldState) → Runs old turns new → new.image ≡ old.image
 run_image old [] new run = ap (λ (w : WorldState). w.image) run
-run_image old (t ∷ ts) new run = run_image run.0 ts new run.2 ∙ ap (λ (w : WorldState). w.image) (turn_parts old t.actor t.event run.0 run.1).new_is
+run_image old (t ∷ ts) new run = run_image run.0 ts new run.2 ∙ ap (λ (w : WorldState). w.image) (turn_from old t.actor t.event run.0 run.1).parts.new_is

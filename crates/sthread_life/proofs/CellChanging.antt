@@ -26,10 +26,11 @@ use Rattle.sthread_life.specs.Local.{rest}
 use Rattle.sthread_life.specs.Calls.{a0}
 use Rattle.sthread_life.specs.Taking.{pair}
 use Rattle.sthread_life.specs.Cells.{Cells, slot_in, stream_in, kept_in, cells_after}
-use Rattle.sthread_life.specs.Worlds.{WorldState, turn_of, Runs}
+use Rattle.sthread_life.specs.Worlds.{WorldState, turn_of, resumed, Runs}
 use Rattle.sthread_life.specs.CellHistories.{after_turns, Occupant, occupant, occupant_in, occupant_by, occupant_after_event, Mode, mode, mode_in, mode_by, mode_after_event, places_after_event, numbers_after_event, lives_after_event, kept_after_event, CellsFollow}
-use Rattle.sthread_life.proofs.Between.{event_for, turn_parts}
-use Rattle.sthread_life.proofs.Happening.{Happens, Requested, Joined, Snaps, GateSnaps, Started, Opens, Releases, Numbers, OpensFile, LastJoined, Ended}
+use Rattle.sthread_life.proofs.Between.{event_for}
+use Rattle.sthread_life.proofs.Turns.{turn_from}
+use Rattle.sthread_life.proofs.Happening.{Happens, Requested, Joined, Snaps, GateSnaps, Started, Opens, Releases, Numbers, OpensFile, LastJoined, Ended, EntersGate, LeavesGate}
 use Rattle.sthread_life.proofs.Settling.{AreCells, AllReady, turn_happens, turn_ready}
 use Rattle.sthread_life.proofs.Meeting.{IsRequest}
 use Rattle.sthread_life.proofs.StreamCalls.{read_cases, append_cases, close_cases, unopened_stays, IsStreamRequest}
@@ -220,15 +221,19 @@ event_changes w b e cells (LastJoined j) =
     subst (λ y. IsChanged w.cells y (cells_after w.cells y)) (sym j.join.is) (record { occupants = λ slot. refl; modes = λ fd. refl; places = refl; numbers = refl; lives = refl; gates = λ id. refl })
 event_changes w b e cells (Ended f) =
     subst (λ y. IsChanged w.cells y (cells_after w.cells y)) (sym f.is) (record { occupants = λ slot. refl; modes = λ fd. refl; places = refl; numbers = refl; lives = refl; gates = λ id. refl })
+event_changes w b e cells (EntersGate x) =
+    subst (λ y. IsChanged w.cells y (cells_after w.cells y)) (sym x.is) (record { occupants = λ slot. refl; modes = λ fd. refl; places = refl; numbers = refl; lives = refl; gates = λ id. refl })
+event_changes w b e cells (LeavesGate l) =
+    subst (λ y. IsChanged w.cells y (cells_after w.cells y)) (sym l.is) (record { occupants = λ slot. refl; modes = λ fd. refl; places = refl; numbers = refl; lives = refl; gates = λ id. refl })
 
 -- a turn's event makes the cells
 pub turn_cells : (w : WorldState) (t : Turn) (new : WorldState) → turn_of w t.actor ≡ Some (record { event = t.event; world = new }) → new.cells ≡ cells_after w.cells t.event
-turn_cells w t new e = let p = turn_parts w t.actor t.event new e in ap (λ (x : WorldState). x.cells) p.new_is
+turn_cells w t new e = let p = turn_from w t.actor t.event new e in ap (λ (x : WorldState). x.cells) p.parts.new_is
 
 pub turn_changes : (w : WorldState) (t : Turn) (new : WorldState) → AllReady w → turn_of w t.actor ≡ Some (record { event = t.event; world = new }) → IsChanged w.cells t.event new.cells
 turn_changes w t new all e =
-    let p = turn_parts w t.actor t.event new e in
-    let changed = event_changes w (rest w.image p.actor) t.event all.cells (turn_happens w t.actor t.event new all p) in
+    let p = turn_from w t.actor t.event new e in
+    let changed = event_changes (resumed w p.actor) (rest w.image p.parts.actor) t.event all.cells (turn_happens w t.actor t.event new all p) in
     subst (IsChanged w.cells t.event) (sym (turn_cells w t new e)) changed
 
 -- what a run leaves of something, if each of its turns leaves what its event does

@@ -14,10 +14,10 @@ use Rattle.wedge_base.specs.declared.cells.StreamReply.{StreamReply}
 use Rattle.sthread_life.specs.Actors.{ActorState, right_of}
 use Rattle.sthread_life.specs.Taking.{takes}
 use Rattle.sthread_life.specs.Cells.{Cells, held, slot_in, stream_in}
-use Rattle.sthread_life.specs.Worlds.{WorldState, actor_named, put_actor, happened}
+use Rattle.sthread_life.specs.Worlds.{WorldState, actor_named, put_actor, happened, with_actor}
 use Rattle.sthread_life.specs.Requests.{Request}
 use Rattle.sthread_life.specs.Allowed.{lacks, is_refused, IsDone, denied}
-use Rattle.sthread_life.specs.Moments.{with_actor, NothingDenied, IsChecked}
+use Rattle.sthread_life.specs.Moments.{NothingDenied, IsChecked}
 use Rattle.sthread_life.specs.Refusals.{refused}
 use Rattle.sthread_life.proofs.Named.{put_put, named_put, same_noted}
 

@@ -36,20 +36,25 @@ use Rattle.rv_hart.specs.Local.{local}
 use Rattle.wedge_base.specs.Files.{may_open}
 use Rattle.wedge_base.specs.declared.image.FileEntry.{FileEntry}
 use Rattle.wedge_base.specs.declared.rights.FdBits.{FdBits}
-use Rattle.sthread_life.specs.Actors.{ActorState, right_of, denies, answers, refuses, ends, spends}
+use Rattle.sthread_life.specs.Actors.{ActorState, right_of, denies, answers, refuses, ends, spends, gate_held}
 use Rattle.cow_pages.specs.Listed.{bytes_listed}
 use Rattle.cow_pages.specs.Copies.{copy_at, holds_copy, read_copy}
 use Rattle.sthread_life.specs.Private.{loads, stores, load_bytes, load_copy, load_window, load_range, store_copy, store_window, store_range, has_loaded, fits_read, fits_write}
 use Rattle.sthread_life.specs.Children.{is_child, without_child}
-use Rattle.sthread_life.proofs.Between.{joined_is, numbered_is, opened_is, snapped_is}
+use Rattle.sthread_life.proofs.Between.{joined_is, numbered_is, opened_is, snapped_is, entered_is}
 use Rattle.sthread_life.proofs.Buffers.{path_is}
-use Rattle.sthread_life.specs.Calls.{serves, exit, is_procedure, create, create_with, create_checked, join, are_pages, tag_new, tag_delete, smalloc, free_at, sfree, fd_read, fd_append, fd_close, draft_call, sc_new, sc_mem_add, sc_fd_add, sc_cgate_add, add_gate_to, with_draft, add_right, add_right_to, add_bits, add_bits_to, bits, a0, a1, a2, a3, a7, set_user, sc_user, path_in, set_root, sc_root, file_at, mode_asked, suits, open_file, open_path, file_open, makes_or_waits, may_be_gate, make_checked, make_with, cgate_make}
+use Rattle.sthread_life.specs.Calls.{serves, exit, is_procedure, create, create_with, create_checked, join, are_pages, tag_new, tag_delete, smalloc, free_at, sfree, fd_read, fd_append, fd_close, draft_call, sc_new, sc_mem_add, sc_fd_add, sc_cgate_add, add_gate_to, with_draft, add_right, add_right_to, add_bits, add_bits_to, bits, a0, a1, a2, a3, a7, set_user, sc_user, path_in, set_root, sc_root, file_at, mode_asked, suits, open_file, open_path, file_open, makes_or_waits, may_be_gate, make_checked, make_with, cgate_make, enter_kind, enter_checked, enter_lending, enter_held, cgate, lent_asked}
 use Rattle.sthread_life.specs.Drafting.{right_of_number, bits_of_number, edited, with_new, drafts_by_call, drafts_by_need, drafts_by_instr, drafts_by_fuel, drafts_by_word, drafts_after}
 use Rattle.sthread_life.specs.Local.{needed, executed, fuelled, fetched, step}
 use Rattle.sthread_life.specs.Refusals.{full, bad, right_refusal, bits_refusal, gate_refusal, fuel_short, user_refusal, root_refusal}
 use Rattle.sthread_life.specs.Taking.{runs, loads_by, loads_at, takes}
 use Rattle.sthread_life.specs.Copying.{Preparation}
 use Rattle.sthread_life.specs.declared.copy_grant.CopyGrant.{CopyGrant}
+use Rattle.sthread_life.specs.Lending.{may_lend, excess_lent}
+use Rattle.sthread_life.specs.Entrances.{Entrance}
+use Rattle.callgate.specs.declared.gate.Gate.{Gate}
+use Rattle.wedge_base.specs.declared.grants.GateKind.{GateKind}
+use Rattle.wedge_base.specs.declared.grants.GateKind.TheVariants as gate_kind
 
 -- ---- what leaves them as they are
 
@@ -118,6 +123,23 @@ open_stays : (i : Image) (a : ActorState) (b : Option FdBits) (path : Option (Li
 open_stays i a None path = refl
 open_stays i a (Some b) None = refl
 open_stays i a (Some b) (Some path) = stays_if a (refuses a code.FuelShort) _ (nat_lt a.fuel (a1 a)) refl (file_stays a path b (file_at i path))
+
+kind_stays : (a : ActorState) (k : GateKind) (x : Entrance) → Stays a (enter_kind a k x)
+kind_stays a gate_kind.Fresh x = refl
+kind_stays a gate_kind.Recycled x = refl
+
+entry_stays : (a : ActorState) (g : Gate) (lent : Option Draft) (d : Option Denial) → Stays a (enter_checked a g lent d)
+entry_stays a g lent (Some d) = refl
+entry_stays a g lent None =
+    stays_if a (refuses a code.Deep) _ (nat_le most_parts (length a.name)) refl (stays_if a (refuses a code.FuelShort) _ (nat_lt a.fuel g.fuel) refl (kind_stays a g.kind _))
+
+lending_stays : (a : ActorState) (g : Gate) (lent : Option (Option Draft)) → Stays a (enter_lending a g lent)
+lending_stays a g None = refl
+lending_stays a g (Some lent) = stays_if a (refuses a code.Bad) _ (not (may_lend lent)) refl (entry_stays a g lent (excess_lent a lent))
+
+enter_stays : (a : ActorState) (g : Option Gate) → Stays a (enter_held a g)
+enter_stays a None = refl
+enter_stays a (Some g) = lending_stays a g (lent_asked a.drafts (a2 a))
 
 create_stays : (i : Image) (a : ActorState) (d : Option Draft) → Stays a (create_with i a d)
 create_stays i a None = refl
@@ -264,6 +286,8 @@ call_edits i a n =
     (λ e. free_stays a (slot_of (a0 a)) ∙ subst (λ m. a.drafts ≡ drafts_by_call i a a.hart.regs m) (sym (eqb-true n 6 e)) refl)
     (λ _. picked (λ x. x.drafts ≡ drafts_by_call i a a.hart.regs n) (n == 13) (cgate_make i a) _
     (λ e. make_stays i a (slice_get a.drafts (a0 a)) ∙ subst (λ m. a.drafts ≡ drafts_by_call i a a.hart.regs m) (sym (eqb-true n 13 e)) refl)
+    (λ _. picked (λ x. x.drafts ≡ drafts_by_call i a a.hart.regs n) (n == 14) (cgate a) _
+    (λ e. enter_stays a (gate_held a (a0 a)) ∙ subst (λ m. a.drafts ≡ drafts_by_call i a a.hart.regs m) (sym (eqb-true n 14 e)) refl)
     (λ _. picked (λ x. x.drafts ≡ drafts_by_call i a a.hart.regs n) (n == 15) (fd_read a) _
     (λ e. read_stays a ∙ subst (λ m. a.drafts ≡ drafts_by_call i a a.hart.regs m) (sym (eqb-true n 15 e)) refl)
     (λ _. picked (λ x. x.drafts ≡ drafts_by_call i a a.hart.regs n) (n == 16) (fd_append i a) _
@@ -272,7 +296,7 @@ call_edits i a n =
     (λ e. stays_if a (refuses a code.NoSuch) _ (nat_le most_fds (a0 a)) refl refl ∙ subst (λ m. a.drafts ≡ drafts_by_call i a a.hart.regs m) (sym (eqb-true n 17 e)) refl)
     (λ _. picked (λ x. x.drafts ≡ drafts_by_call i a a.hart.regs n) (n == 18) (file_open i a) _
     (λ e. open_stays i a (mode_asked (a2 a)) (path_in i a (a0 a) (a1 a)) ∙ subst (λ m. a.drafts ≡ drafts_by_call i a a.hart.regs m) (sym (eqb-true n 18 e)) refl)
-    (λ _. draft_edits i a n))))))))))))
+    (λ _. draft_edits i a n)))))))))))))
 
 -- ---- an instruction
 
@@ -344,4 +368,5 @@ event_edits i a (event.Lives lives_ask.Claim lives_reply.Full) = refl
 event_edits i a (event.Lives lives_ask.Claim lives_reply.Released) = refl
 event_edits i a (event.Lives (lives_ask.Release x) r) = refl
 event_edits i a (event.Join k e fuel) = joined_is (λ x. x.drafts ≡ a.drafts) (record a { fuel = a.fuel + fuel; unjoined = without_child a.unjoined k }) a.phase e refl refl
+event_edits i a (event.Enter run) = entered_is (λ x. x.drafts ≡ a.drafts) a a.phase refl (λ x. refl)
 event_edits i a e = refl

@@ -1,10 +1,10 @@
 -- Starts, joins and ends among actors are as the registers, the drafts and the child say.
 use Rattle.std.proofs.Common.{◌≡◌, ℕ, ◌+◌, Bool, true, false, List, [], ◌∷◌, ◌++◌, refl, sym, ap, subst, ◌∙◌, arith}
 use Rattle.std.proofs.lemmas.Bool.{eq-eqb}
-use Rattle.std.specs.Prelude.{Option, Some, None, IsSomeAnd, option_and_then, unwrap_or, is_some, ◌&&◌, if◌then◌else◌}
+use Rattle.std.specs.Prelude.{Option, Some, None, IsSomeAnd, option_and_then, unwrap_or, is_some, ◌&&◌, if◌then◌else◌, IfSome}
 use Rattle.wedge_base.specs.Images.{Image, fetch}
 use Rattle.wedge_base.specs.Names.{same}
-use Rattle.wedge_base.specs.Sheets.{Made, empty_draft, granted}
+use Rattle.wedge_base.specs.Sheets.{Made, empty_draft, granted, Draft}
 use Rattle.wedge_base.specs.declared.rights.End.{End}
 use Rattle.wedge_base.specs.declared.events.Want.{Want}
 use Rattle.wedge_base.specs.declared.events.Want.TheVariants as want
@@ -38,24 +38,28 @@ use Rattle.sthread_life.specs.Calls.{a0, draft_at}
 use Rattle.sthread_life.specs.Cells.{Cells}
 use Rattle.sthread_life.specs.Children.{Children, is_number, fuel_given, is_child, without_child, child_name}
 use Rattle.sthread_life.specs.Ends.{is_end_event}
-use Rattle.sthread_life.specs.Families.{IsChild, IsStart, IsFirst, ActsAlone, made_in, made_under, made_by, labelled_under, labels_by, joined, KeepsFamily}
+use Rattle.sthread_life.specs.Families.{IsChild, IsStart, IsFirst, ActsAlone, made_in, made_under, made_by, labelled_under, labels_by, joined, KeepsFamily, IsRun, IsEnter, EndsAsIs}
 use Rattle.sthread_life.specs.Local.{end_reached, step}
-use Rattle.sthread_life.specs.Moments.{with_actor}
 use Rattle.cow_pages.specs.Listed.{bytes_listed}
 use Rattle.sthread_life.specs.Copying.{Preparation}
 use Rattle.sthread_life.specs.declared.copy_grant.CopyGrant.{CopyGrant}
-use Rattle.sthread_life.specs.Taking.{runs, loads_by, loads_at, next_start, takes, child_of, memory_made, has_opened_file}
-use Rattle.sthread_life.specs.Worlds.{WorldState, actor_named, put_actor, happened}
-use Rattle.sthread_life.proofs.Between.{event_for, IsJoin, joined_is, numbered_is, snapped_is, takes_name}
-use Rattle.sthread_life.proofs.Happening.{AtOpen, AtFile, Happens, Requested, Joined, Snaps, GateSnaps, Started, Opens, Releases, Numbers, OpensFile, LastJoined, Ended, joined_at}
+use Rattle.sthread_life.specs.Taking.{runs, loads_by, loads_at, next_start, takes, child_of, memory_made, has_opened_file, has_entered, run_by, run_at}
+use Rattle.sthread_life.specs.Worlds.{WorldState, actor_named, put_actor, happened, with_actor, with_begun}
+use Rattle.sthread_life.proofs.Between.{event_for, IsJoin, joined_is, numbered_is, snapped_is, takes_name, entered_is, entered_by}
+use Rattle.sthread_life.proofs.Happening.{AtOpen, AtFile, Happens, Requested, Joined, Snaps, GateSnaps, Started, Opens, Releases, Numbers, OpensFile, LastJoined, Ended, joined_at, EntersGate, LeavesGate}
 use Rattle.sthread_life.proofs.Meeting.{IsRequest, IsStartable}
 use Rattle.sthread_life.proofs.Named.{put_put, named_put_other}
 use Rattle.sthread_life.proofs.Resting.{steps_step}
+use Rattle.callgate.specs.Runs.{IsRunSheet}
+use Rattle.sthread_life.specs.Entrances.{Entrance}
+use Rattle.sthread_life.specs.Lending.{sheet_lent, excess_lent}
+use Rattle.sthread_life.proofs.EnteringGates.{IsEnterable, run_is}
 
 -- ---- what an event leaves as it is
 
 pub record IsSameWith (made_ : Made) (labels_ : List StreamLabel) (a x : ActorState) : Type 0 where
   pub compartment : x.compartment ≡ a.compartment
+  pub run_of : x.run_of ≡ a.run_of
   pub sheet : x.sheet ≡ a.sheet
   pub made : but_gates x.made ≡ but_gates made_
   pub labels : x.labels ≡ labels_
@@ -66,32 +70,35 @@ abbrev pub IsSame : Option Event → ActorState → ActorState → Type 0
 IsSame e a x = IsSameWith (made_by a e) (labels_by a e) a x
 
 loaded_same : (ins : Instr) (n : Need) (a : ActorState) (value : ℕ) → IsSame None a (loads_by ins n a value)
-loaded_same ins need.Done a value = record { compartment = refl; sheet = refl; made = refl; labels = refl; starts = refl; unjoined = refl }
-loaded_same ins (need.Load address width s) a value = record { compartment = refl; sheet = refl; made = refl; labels = refl; starts = refl; unjoined = refl }
-loaded_same ins (need.Store address width v) a value = record { compartment = refl; sheet = refl; made = refl; labels = refl; starts = refl; unjoined = refl }
-loaded_same ins need.Call a value = record { compartment = refl; sheet = refl; made = refl; labels = refl; starts = refl; unjoined = refl }
-loaded_same ins need.Break a value = record { compartment = refl; sheet = refl; made = refl; labels = refl; starts = refl; unjoined = refl }
-loaded_same ins need.JumpMisaligned a value = record { compartment = refl; sheet = refl; made = refl; labels = refl; starts = refl; unjoined = refl }
+loaded_same ins need.Done a value = record { compartment = refl; run_of = refl; sheet = refl; made = refl; labels = refl; starts = refl; unjoined = refl }
+loaded_same ins (need.Load address width s) a value = record { compartment = refl; run_of = refl; sheet = refl; made = refl; labels = refl; starts = refl; unjoined = refl }
+loaded_same ins (need.Store address width v) a value = record { compartment = refl; run_of = refl; sheet = refl; made = refl; labels = refl; starts = refl; unjoined = refl }
+loaded_same ins need.Call a value = record { compartment = refl; run_of = refl; sheet = refl; made = refl; labels = refl; starts = refl; unjoined = refl }
+loaded_same ins need.Break a value = record { compartment = refl; run_of = refl; sheet = refl; made = refl; labels = refl; starts = refl; unjoined = refl }
+loaded_same ins need.JumpMisaligned a value = record { compartment = refl; run_of = refl; sheet = refl; made = refl; labels = refl; starts = refl; unjoined = refl }
 
 loads_same : (a : ActorState) (ins : Option Instr) (value : ℕ) → IsSame None a (loads_at a ins value)
-loads_same a None value = record { compartment = refl; sheet = refl; made = refl; labels = refl; starts = refl; unjoined = refl }
+loads_same a None value = record { compartment = refl; run_of = refl; sheet = refl; made = refl; labels = refl; starts = refl; unjoined = refl }
 loads_same a (Some ins) value = loaded_same ins (local ins a.hart).need a value
 
 -- the stream of a file is opened
 opened_same : (a : ActorState) (p : Phase) (fd : ℕ) → IsSameWith (made_under a.made p fd) (labelled_under a.labels p fd) a (has_opened_file a p fd)
-opened_same a phase.Running fd = record { compartment = refl; sheet = refl; made = refl; labels = refl; starts = refl; unjoined = refl }
-opened_same a (phase.Within q) fd = record { compartment = refl; sheet = refl; made = refl; labels = refl; starts = refl; unjoined = refl }
-opened_same a (phase.Starting pre) fd = record { compartment = refl; sheet = refl; made = refl; labels = refl; starts = refl; unjoined = refl }
-opened_same a (phase.MakingGate pre) fd = record { compartment = refl; sheet = refl; made = refl; labels = refl; starts = refl; unjoined = refl }
-opened_same a (phase.Opening slot tag) fd = record { compartment = refl; sheet = refl; made = refl; labels = refl; starts = refl; unjoined = refl }
-opened_same a (phase.Releasing slot) fd = record { compartment = refl; sheet = refl; made = refl; labels = refl; starts = refl; unjoined = refl }
-opened_same a (phase.OpeningFile o) fd = record { compartment = refl; sheet = refl; made = refl; labels = refl; starts = refl; unjoined = refl }
-opened_same a (phase.Ending x) fd = record { compartment = refl; sheet = refl; made = refl; labels = refl; starts = refl; unjoined = refl }
-opened_same a (phase.Ended x) fd = record { compartment = refl; sheet = refl; made = refl; labels = refl; starts = refl; unjoined = refl }
+opened_same a phase.Running fd = record { compartment = refl; run_of = refl; sheet = refl; made = refl; labels = refl; starts = refl; unjoined = refl }
+opened_same a (phase.Within q) fd = record { compartment = refl; run_of = refl; sheet = refl; made = refl; labels = refl; starts = refl; unjoined = refl }
+opened_same a (phase.Starting pre) fd = record { compartment = refl; run_of = refl; sheet = refl; made = refl; labels = refl; starts = refl; unjoined = refl }
+opened_same a (phase.MakingGate pre) fd = record { compartment = refl; run_of = refl; sheet = refl; made = refl; labels = refl; starts = refl; unjoined = refl }
+opened_same a (phase.Opening slot tag) fd = record { compartment = refl; run_of = refl; sheet = refl; made = refl; labels = refl; starts = refl; unjoined = refl }
+opened_same a (phase.Releasing slot) fd = record { compartment = refl; run_of = refl; sheet = refl; made = refl; labels = refl; starts = refl; unjoined = refl }
+opened_same a (phase.Entering entrance) fd = record { compartment = refl; run_of = refl; sheet = refl; made = refl; labels = refl; starts = refl; unjoined = refl }
+opened_same a (phase.Waiting number) fd = record { compartment = refl; run_of = refl; sheet = refl; made = refl; labels = refl; starts = refl; unjoined = refl }
+opened_same a (phase.OpeningFile o) fd = record { compartment = refl; run_of = refl; sheet = refl; made = refl; labels = refl; starts = refl; unjoined = refl }
+opened_same a (phase.Ending x) fd = record { compartment = refl; run_of = refl; sheet = refl; made = refl; labels = refl; starts = refl; unjoined = refl }
+opened_same a (phase.Ended x) fd = record { compartment = refl; run_of = refl; sheet = refl; made = refl; labels = refl; starts = refl; unjoined = refl }
 
 -- an event of no other actor
 abbrev pub IsOfOne : Event → Type 0
 IsOfOne (event.Start child) = ⊥
+IsOfOne (event.Enter run) = ⊥
 IsOfOne (event.Join k e fuel) = ⊥
 IsOfOne e = Unit {0}
 
@@ -99,37 +106,38 @@ pub takes_same : (i : Image) (a : ActorState) (e : Event) → IsOfOne e → IsSa
 unfolding takes
 takes_same i a (event.Slot slot q (slot_reply.Loaded value)) h =
     let s = loads_same (runs a) (option_and_then decode (fetch i a.hart.pc)) value in
-    record { compartment = s.compartment; sheet = s.sheet; made = s.made; labels = s.labels; starts = s.starts; unjoined = s.unjoined }
-takes_same i a (event.Slots (directory_ask.Release place) r) h = record { compartment = refl; sheet = refl; made = refl; labels = refl; starts = refl; unjoined = refl }
-takes_same i a (event.Slots directory_ask.Claim (directory_reply.Claimed place number)) h = record { compartment = refl; sheet = refl; made = refl; labels = refl; starts = refl; unjoined = refl }
-takes_same i a (event.Slots directory_ask.Claim directory_reply.Full) h = record { compartment = refl; sheet = refl; made = refl; labels = refl; starts = refl; unjoined = refl }
-takes_same i a (event.Slots directory_ask.Claim directory_reply.Released) h = record { compartment = refl; sheet = refl; made = refl; labels = refl; starts = refl; unjoined = refl }
+    record { compartment = s.compartment; run_of = s.run_of; sheet = s.sheet; made = s.made; labels = s.labels; starts = s.starts; unjoined = s.unjoined }
+takes_same i a (event.Slots (directory_ask.Release place) r) h = record { compartment = refl; run_of = refl; sheet = refl; made = refl; labels = refl; starts = refl; unjoined = refl }
+takes_same i a (event.Slots directory_ask.Claim (directory_reply.Claimed place number)) h = record { compartment = refl; run_of = refl; sheet = refl; made = refl; labels = refl; starts = refl; unjoined = refl }
+takes_same i a (event.Slots directory_ask.Claim directory_reply.Full) h = record { compartment = refl; run_of = refl; sheet = refl; made = refl; labels = refl; starts = refl; unjoined = refl }
+takes_same i a (event.Slots directory_ask.Claim directory_reply.Released) h = record { compartment = refl; run_of = refl; sheet = refl; made = refl; labels = refl; starts = refl; unjoined = refl }
 takes_same i a (event.Slot slot q (slot_reply.Snapped pages)) h =
-    snapped_is (IsSame (Some (event.Slot slot q (slot_reply.Snapped pages))) a) a a.phase slot (Some (bytes_listed pages)) (record { compartment = refl; sheet = refl; made = refl; labels = refl; starts = refl; unjoined = refl }) (λ x. record { compartment = refl; sheet = refl; made = refl; labels = refl; starts = refl; unjoined = refl }) (λ x. record { compartment = refl; sheet = refl; made = refl; labels = refl; starts = refl; unjoined = refl }) (λ g. record { compartment = refl; sheet = refl; made = refl; labels = refl; starts = refl; unjoined = refl })
+    snapped_is (IsSame (Some (event.Slot slot q (slot_reply.Snapped pages))) a) a a.phase slot (Some (bytes_listed pages)) (record { compartment = refl; run_of = refl; sheet = refl; made = refl; labels = refl; starts = refl; unjoined = refl }) (λ x. record { compartment = refl; run_of = refl; sheet = refl; made = refl; labels = refl; starts = refl; unjoined = refl }) (λ x. record { compartment = refl; run_of = refl; sheet = refl; made = refl; labels = refl; starts = refl; unjoined = refl }) (λ g. record { compartment = refl; run_of = refl; sheet = refl; made = refl; labels = refl; starts = refl; unjoined = refl })
 takes_same i a (event.Slot slot q slot_reply.Gone) h =
-    snapped_is (IsSame (Some (event.Slot slot q slot_reply.Gone)) a) a a.phase slot None (record { compartment = refl; sheet = refl; made = refl; labels = refl; starts = refl; unjoined = refl }) (λ x. record { compartment = refl; sheet = refl; made = refl; labels = refl; starts = refl; unjoined = refl }) (λ x. record { compartment = refl; sheet = refl; made = refl; labels = refl; starts = refl; unjoined = refl }) (λ g. record { compartment = refl; sheet = refl; made = refl; labels = refl; starts = refl; unjoined = refl })
-takes_same i a (event.Slot slot (slot_ask.Sfree offset live) (slot_reply.Denied tag wants)) h = record { compartment = refl; sheet = refl; made = refl; labels = refl; starts = refl; unjoined = refl }
-takes_same i a (event.Slot slot (slot_ask.Open tag pages) slot_reply.Opened) h = record { compartment = refl; sheet = refl; made = refl; labels = refl; starts = refl; unjoined = refl }
-takes_same i a (event.Slot slot q r) h = record { compartment = refl; sheet = refl; made = refl; labels = refl; starts = refl; unjoined = refl }
+    snapped_is (IsSame (Some (event.Slot slot q slot_reply.Gone)) a) a a.phase slot None (record { compartment = refl; run_of = refl; sheet = refl; made = refl; labels = refl; starts = refl; unjoined = refl }) (λ x. record { compartment = refl; run_of = refl; sheet = refl; made = refl; labels = refl; starts = refl; unjoined = refl }) (λ x. record { compartment = refl; run_of = refl; sheet = refl; made = refl; labels = refl; starts = refl; unjoined = refl }) (λ g. record { compartment = refl; run_of = refl; sheet = refl; made = refl; labels = refl; starts = refl; unjoined = refl })
+takes_same i a (event.Slot slot (slot_ask.Sfree offset live) (slot_reply.Denied tag wants)) h = record { compartment = refl; run_of = refl; sheet = refl; made = refl; labels = refl; starts = refl; unjoined = refl }
+takes_same i a (event.Slot slot (slot_ask.Open tag pages) slot_reply.Opened) h = record { compartment = refl; run_of = refl; sheet = refl; made = refl; labels = refl; starts = refl; unjoined = refl }
+takes_same i a (event.Slot slot q r) h = record { compartment = refl; run_of = refl; sheet = refl; made = refl; labels = refl; starts = refl; unjoined = refl }
 takes_same i a (event.Fd fd q reply.Opened) h = opened_same a a.phase fd
-takes_same i a (event.Fds (directory_ask.Release place) r) h = record { compartment = refl; sheet = refl; made = refl; labels = refl; starts = refl; unjoined = refl }
+takes_same i a (event.Fds (directory_ask.Release place) r) h = record { compartment = refl; run_of = refl; sheet = refl; made = refl; labels = refl; starts = refl; unjoined = refl }
 takes_same i a (event.Fds directory_ask.Claim (directory_reply.Claimed fd number)) h =
-    numbered_is (IsSame (Some (event.Fds directory_ask.Claim (directory_reply.Claimed fd number))) a) a a.phase fd (record { compartment = refl; sheet = refl; made = refl; labels = refl; starts = refl; unjoined = refl }) (λ o. record { compartment = refl; sheet = refl; made = refl; labels = refl; starts = refl; unjoined = refl })
-takes_same i a (event.Fds directory_ask.Claim directory_reply.Full) h = record { compartment = refl; sheet = refl; made = refl; labels = refl; starts = refl; unjoined = refl }
-takes_same i a (event.Fds directory_ask.Claim directory_reply.Released) h = record { compartment = refl; sheet = refl; made = refl; labels = refl; starts = refl; unjoined = refl }
-takes_same i a (event.Fd fd q (reply.Given bytes)) h = record { compartment = refl; sheet = refl; made = refl; labels = refl; starts = refl; unjoined = refl }
-takes_same i a (event.Fd fd q reply.Appended) h = record { compartment = refl; sheet = refl; made = refl; labels = refl; starts = refl; unjoined = refl }
-takes_same i a (event.Fd fd q reply.Closed) h = record { compartment = refl; sheet = refl; made = refl; labels = refl; starts = refl; unjoined = refl }
-takes_same i a (event.Fd fd q reply.NoSuch) h = record { compartment = refl; sheet = refl; made = refl; labels = refl; starts = refl; unjoined = refl }
-takes_same i a (event.Fd fd q (reply.Denied wants)) h = record { compartment = refl; sheet = refl; made = refl; labels = refl; starts = refl; unjoined = refl }
-takes_same i a (event.Fd fd q reply.Bad) h = record { compartment = refl; sheet = refl; made = refl; labels = refl; starts = refl; unjoined = refl }
-takes_same i a (event.Lives lives_ask.Claim lives_reply.Claimed) h = record { compartment = refl; sheet = refl; made = refl; labels = refl; starts = refl; unjoined = refl }
-takes_same i a (event.Lives lives_ask.Claim lives_reply.Full) h = record { compartment = refl; sheet = refl; made = refl; labels = refl; starts = refl; unjoined = refl }
-takes_same i a (event.Lives lives_ask.Claim lives_reply.Released) h = record { compartment = refl; sheet = refl; made = refl; labels = refl; starts = refl; unjoined = refl }
-takes_same i a (event.Lives (lives_ask.Release x) r) h = record { compartment = refl; sheet = refl; made = refl; labels = refl; starts = refl; unjoined = refl }
+    numbered_is (IsSame (Some (event.Fds directory_ask.Claim (directory_reply.Claimed fd number))) a) a a.phase fd (record { compartment = refl; run_of = refl; sheet = refl; made = refl; labels = refl; starts = refl; unjoined = refl }) (λ o. record { compartment = refl; run_of = refl; sheet = refl; made = refl; labels = refl; starts = refl; unjoined = refl })
+takes_same i a (event.Fds directory_ask.Claim directory_reply.Full) h = record { compartment = refl; run_of = refl; sheet = refl; made = refl; labels = refl; starts = refl; unjoined = refl }
+takes_same i a (event.Fds directory_ask.Claim directory_reply.Released) h = record { compartment = refl; run_of = refl; sheet = refl; made = refl; labels = refl; starts = refl; unjoined = refl }
+takes_same i a (event.Fd fd q (reply.Given bytes)) h = record { compartment = refl; run_of = refl; sheet = refl; made = refl; labels = refl; starts = refl; unjoined = refl }
+takes_same i a (event.Fd fd q reply.Appended) h = record { compartment = refl; run_of = refl; sheet = refl; made = refl; labels = refl; starts = refl; unjoined = refl }
+takes_same i a (event.Fd fd q reply.Closed) h = record { compartment = refl; run_of = refl; sheet = refl; made = refl; labels = refl; starts = refl; unjoined = refl }
+takes_same i a (event.Fd fd q reply.NoSuch) h = record { compartment = refl; run_of = refl; sheet = refl; made = refl; labels = refl; starts = refl; unjoined = refl }
+takes_same i a (event.Fd fd q (reply.Denied wants)) h = record { compartment = refl; run_of = refl; sheet = refl; made = refl; labels = refl; starts = refl; unjoined = refl }
+takes_same i a (event.Fd fd q reply.Bad) h = record { compartment = refl; run_of = refl; sheet = refl; made = refl; labels = refl; starts = refl; unjoined = refl }
+takes_same i a (event.Lives lives_ask.Claim lives_reply.Claimed) h = record { compartment = refl; run_of = refl; sheet = refl; made = refl; labels = refl; starts = refl; unjoined = refl }
+takes_same i a (event.Lives lives_ask.Claim lives_reply.Full) h = record { compartment = refl; run_of = refl; sheet = refl; made = refl; labels = refl; starts = refl; unjoined = refl }
+takes_same i a (event.Lives lives_ask.Claim lives_reply.Released) h = record { compartment = refl; run_of = refl; sheet = refl; made = refl; labels = refl; starts = refl; unjoined = refl }
+takes_same i a (event.Lives (lives_ask.Release x) r) h = record { compartment = refl; run_of = refl; sheet = refl; made = refl; labels = refl; starts = refl; unjoined = refl }
 takes_same i a (event.Start child) h = absurd h
+takes_same i a (event.Enter run) h = absurd h
 takes_same i a (event.Join k e fuel) h = absurd h
-takes_same i a e h = record { compartment = refl; sheet = refl; made = refl; labels = refl; starts = refl; unjoined = refl }
+takes_same i a e h = record { compartment = refl; run_of = refl; sheet = refl; made = refl; labels = refl; starts = refl; unjoined = refl }
 
 -- ---- an instruction, and an event of no other actor
 
@@ -141,6 +149,7 @@ step_family w b run =
       actors = sym (put_put w.actors b (step w.image b) s.name);
       name = s.name;
       compartment = s.compartment;
+      run_of = s.run_of;
       sheet = s.sheet;
       made = s.made;
       labels = s.labels;
@@ -148,6 +157,7 @@ step_family w b run =
       unjoined = s.unjoined;
       starting = λ p e complete. let f : phase.Running ≡ phase.Starting p = sym run ∙ e in absurd cc;
       childless = λ e. absurd cc;
+      leaving = tt;
     }
 
 -- the world after an event
@@ -158,15 +168,16 @@ after w b e = (happened w b e).world
 abbrev IsIncomplete : Phase → Type 0
 IsIncomplete p = (x : Preparation) → p ≡ phase.Starting x → x.left ≡ [] → ⊥
 
-alone : (w : WorldState) (b : ActorState) (e : Event) → IsOfOne e → (after w b e).actors ≡ put_actor w.actors (takes w.image b e) → IsIncomplete b.phase → (is_end_event (Some e) ≡ true → b.unjoined ≡ [])
+alone : (w : WorldState) (b : ActorState) (e : Event) → IsOfOne e → (after w b e).actors ≡ put_actor w.actors (takes w.image b e) → IsIncomplete b.phase → (is_end_event (Some e) ≡ true → b.unjoined ≡ []) → EndsAsIs b.run_of (Some e)
     → ActsAlone (with_actor w b) b (Some e) (after w b e)
-alone w b e one actors starting childless =
+alone w b e one actors starting childless leaving =
     let s = takes_same w.image b e one in
     record {
       after = takes w.image b e;
       actors = actors ∙ sym (put_put w.actors b (takes w.image b e) (takes_name w.image b e));
       name = takes_name w.image b e;
       compartment = s.compartment;
+      run_of = s.run_of;
       sheet = s.sheet;
       made = s.made;
       labels = s.labels;
@@ -174,6 +185,7 @@ alone w b e one actors starting childless =
       unjoined = s.unjoined;
       starting = starting;
       childless = childless;
+      leaving = leaving;
     }
 
 -- the event of a request
@@ -187,14 +199,14 @@ still_left p x g gs left same complete =
     cc
 
 want_family : (w : WorldState) (b : ActorState) (N : ℕ → Type 0) (q : Want) → IsRequest N b q → b.phase ≡ phase.Within q → KeepsFamily (with_actor w b) b (Some (event_for w.cells b q)) (after w b (event_for w.cells b q))
-want_family w b N (want.Slots directory_ask.Claim) own at = alone w b _ tt refl (not_starting b _ at) (λ e. absurd cc)
-want_family w b N (want.Slot slot (slot_want.Close tag)) own at = alone w b _ tt refl (not_starting b _ at) (λ e. absurd cc)
-want_family w b N (want.Slot slot (slot_want.Smalloc tag size)) own at = alone w b _ tt refl (not_starting b _ at) (λ e. absurd cc)
-want_family w b N (want.Slot slot (slot_want.Sfree offset)) own at = alone w b _ tt refl (not_starting b _ at) (λ e. absurd cc)
-want_family w b N (want.Slot slot (slot_want.Load offset width)) own at = alone w b _ tt refl (not_starting b _ at) (λ e. absurd cc)
-want_family w b N (want.Slot slot (slot_want.Store offset width value)) own at = alone w b _ tt refl (not_starting b _ at) (λ e. absurd cc)
-want_family w b N (want.Fd fd q) own at = alone w b _ tt refl (not_starting b _ at) (λ e. absurd cc)
-want_family w b N (want.Lives lives_ask.Claim) own at = alone w b _ tt refl (not_starting b _ at) (λ e. absurd cc)
+want_family w b N (want.Slots directory_ask.Claim) own at = alone w b _ tt refl (not_starting b _ at) (λ e. absurd cc) tt
+want_family w b N (want.Slot slot (slot_want.Close tag)) own at = alone w b _ tt refl (not_starting b _ at) (λ e. absurd cc) tt
+want_family w b N (want.Slot slot (slot_want.Smalloc tag size)) own at = alone w b _ tt refl (not_starting b _ at) (λ e. absurd cc) tt
+want_family w b N (want.Slot slot (slot_want.Sfree offset)) own at = alone w b _ tt refl (not_starting b _ at) (λ e. absurd cc) tt
+want_family w b N (want.Slot slot (slot_want.Load offset width)) own at = alone w b _ tt refl (not_starting b _ at) (λ e. absurd cc) tt
+want_family w b N (want.Slot slot (slot_want.Store offset width value)) own at = alone w b _ tt refl (not_starting b _ at) (λ e. absurd cc) tt
+want_family w b N (want.Fd fd q) own at = alone w b _ tt refl (not_starting b _ at) (λ e. absurd cc) tt
+want_family w b N (want.Lives lives_ask.Claim) own at = alone w b _ tt refl (not_starting b _ at) (λ e. absurd cc) tt
 want_family w b N q own at = absurd own
 
 -- an event makes a tag of its actor's only where it opens one
@@ -208,7 +220,7 @@ takes_made i a (event.Fds q r) = (takes_same i a (event.Fds q r) tt).made
 takes_made i a (event.Fd fd q r) = (takes_same i a (event.Fd fd q r) tt).made
 takes_made i a (event.Lives q r) = (takes_same i a (event.Lives q r) tt).made
 takes_made i a (event.Gate id q r) = (takes_same i a (event.Gate id q r) tt).made
-takes_made i a (event.Enter run) = (takes_same i a (event.Enter run) tt).made
+takes_made i a (event.Enter run) = entered_is (λ y. but_gates y.made ≡ but_gates a.made) a a.phase refl (λ x. refl)
 takes_made i a (event.Leave end) = (takes_same i a (event.Leave end) tt).made
 
 pub takes_sheet : (i : Image) (a : ActorState) (e : Event) → (takes i a e).sheet ≡ a.sheet
@@ -221,7 +233,7 @@ takes_sheet i a (event.Fds q r) = (takes_same i a (event.Fds q r) tt).sheet
 takes_sheet i a (event.Fd fd q r) = (takes_same i a (event.Fd fd q r) tt).sheet
 takes_sheet i a (event.Lives q r) = (takes_same i a (event.Lives q r) tt).sheet
 takes_sheet i a (event.Gate id q r) = (takes_same i a (event.Gate id q r) tt).sheet
-takes_sheet i a (event.Enter run) = (takes_same i a (event.Enter run) tt).sheet
+takes_sheet i a (event.Enter run) = entered_is (λ y. y.sheet ≡ a.sheet) a a.phase refl (λ x. refl)
 takes_sheet i a (event.Leave end) = (takes_same i a (event.Leave end) tt).sheet
 
 -- no tag is made where none was to be opened
@@ -278,6 +290,8 @@ happens_made w b e (Numbers n) = MadeNothing (ap (λ y. made_by b (Some y)) n.is
 happens_made w b e (OpensFile f) = MadeFd f
 happens_made w b e (LastJoined j) = MadeNothing (ap (λ y. made_by b (Some y)) j.join.is)
 happens_made w b e (Ended f) = MadeNothing (ap (λ y. made_by b (Some y)) f.is)
+happens_made w b e (EntersGate x) = MadeNothing (ap (λ y. made_by b (Some y)) x.is)
+happens_made w b e (LeavesGate l) = MadeNothing (ap (λ y. made_by b (Some y)) l.is)
 
 -- ---- a start
 
@@ -293,6 +307,7 @@ child_begins i b p at complete ready =
       within = subst (IsWithin b.sheet b.made) (sym sheet) (sheet_within b.sheet b.made ready.draft ready.allowed);
       name = refl;
       compartment = refl;
+      own = refl;
       hart = refl;
       prepared = p;
       preparing = at;
@@ -313,19 +328,62 @@ start_family w b p at complete ready = record {
   actors = ap (λ (as_ : List ActorState). as_ ++ child_of w.image b (child_name b.name (next_start b)) ∷ []) (sym (put_put w.actors b (takes w.image b (event.Start (child_name b.name (next_start b)))) refl));
 }
 
+-- ---- the entry of a gate
+-- what is lent is within what its caller holds
+lent_within : (b : ActorState) (lent : Option Draft) → excess_lent b lent ≡ None → IfSome (sheet_lent b lent) (IsWithin b.sheet b.made)
+lent_within b None e = tt
+lent_within b (Some d) e = sheet_within b.sheet b.made d e
+
+pub run_begins : (b : ActorState) (x : Entrance) → b.phase ≡ phase.Entering x → IsEnterable b x → IsRun b (run_by b (child_name b.name (next_start b)) x)
+run_begins b x at may = record {
+  entrance = x;
+  entering = at;
+  held = may.held;
+  lent = may.lent;
+  asked = may.asked;
+  lendable = may.lendable;
+  allowed = may.allowed;
+  within = lent_within b may.lent may.allowed;
+  sheet = subst (IsRunSheet x.gate.sheet (sheet_lent b may.lent)) (sym may.sheet) (run_is x.gate.sheet (sheet_lent b may.lent));
+  name = refl;
+  compartment = refl;
+  own = refl;
+  hart = refl;
+  memory = refl;
+  fuel = refl;
+  gates = refl;
+  fresh = (refl, refl, refl, refl, refl, refl, refl);
+}
+
+enter_family : (w : WorldState) (b : ActorState) (x : Entrance) → b.phase ≡ phase.Entering x → IsEnterable b x
+    → IsEnter (with_actor w b) b (child_name b.name (next_start b)) (after w b (event.Enter (child_name b.name (next_start b))))
+unfolding takes
+enter_family w b x at may =
+    let name = child_name b.name (next_start b) in
+    let is : after w b (event.Enter name) ≡ record w { actors = put_actor w.actors (entered_by b x) ++ run_by b name x ∷ [] } =
+    ap (λ p. record w { actors = with_begun (put_actor w.actors (has_entered b p)) (run_at b name p) }) at in
+    record {
+      run = run_by b name x;
+      begins = run_begins b x at may;
+      named = refl;
+      actors = ap (λ (v : WorldState). v.actors) is ∙ ap (λ (as_ : List ActorState). as_ ++ run_by b name x ∷ []) (sym (put_put w.actors b (entered_by b x) refl));
+    }
+
 -- ---- a join
 
 longer : (n : List ℕ) (k : ℕ) → same n (child_name n k) ≡ false
 longer [] k = refl
 longer (x ∷ xs) k = ap (λ t. t && same xs (child_name xs k)) (eq-eqb x x refl) ∙ longer xs k
 
-ended_so : (p : Phase) (x : End) → end_reached p ≡ Some x → p ≡ phase.Ended x
+pub ended_so : (p : Phase) (x : End) → end_reached p ≡ Some x → p ≡ phase.Ended x
 ended_so phase.Running x e = absurd cc
 ended_so (phase.Within q) x e = absurd cc
 ended_so (phase.Starting pre) x e = absurd cc
 ended_so (phase.MakingGate pre) x e = absurd cc
 ended_so (phase.Opening slot tag) x e = absurd cc
 ended_so (phase.Releasing slot) x e = absurd cc
+ended_so (phase.Entering entrance) x e = absurd cc
+ended_so (phase.Waiting number) x e = absurd cc
 ended_so (phase.OpeningFile o) x e = absurd cc
 ended_so (phase.Ending y) x e = absurd cc
 ended_so (phase.Ended y) x e = cc
@@ -343,6 +401,8 @@ joins_as i b (phase.Starting pre) k x fuel at = joined_at b (phase.Starting pre)
 joins_as i b (phase.MakingGate pre) k x fuel at = joined_at b (phase.MakingGate pre) x k fuel at
 joins_as i b (phase.Opening slot tag) k x fuel at = joined_at b (phase.Opening slot tag) x k fuel at
 joins_as i b (phase.Releasing slot) k x fuel at = joined_at b (phase.Releasing slot) x k fuel at
+joins_as i b (phase.Entering entrance) k x fuel at = joined_at b (phase.Entering entrance) x k fuel at
+joins_as i b (phase.Waiting number) k x fuel at = joined_at b (phase.Waiting number) x k fuel at
 joins_as i b (phase.OpeningFile o) k x fuel at = joined_at b (phase.OpeningFile o) x k fuel at
 joins_as i b (phase.Ending y) k x fuel at = joined_at b (phase.Ending y) x k fuel at
 joins_as i b (phase.Ended y) k x fuel at = joined_at b (phase.Ended y) x k fuel at
@@ -377,25 +437,29 @@ event_family w b e (Joined j) = join_family w b j.number e j.join (subst (λ p. 
 event_family w b e (Started s) = subst (λ y. KeepsFamily (with_actor w b) b (Some y) (after w b y)) (sym s.is) (start_family w b s.preparation s.at s.complete s.ready)
 event_family w b e (Snaps s) =
     subst (λ y. KeepsFamily (with_actor w b) b (Some y) (after w b y)) (sym s.is)
-    (alone w b (event.Slot s.grant.slot (slot_ask.Snap s.grant.tag) _) tt refl (λ p h complete. still_left s.preparation p s.grant s.others s.left (sym s.at ∙ h) complete) (λ h. absurd cc))
+    (alone w b (event.Slot s.grant.slot (slot_ask.Snap s.grant.tag) _) tt refl (λ p h complete. still_left s.preparation p s.grant s.others s.left (sym s.at ∙ h) complete) (λ h. absurd cc) tt)
 event_family w b e (GateSnaps s) =
     subst (λ y. KeepsFamily (with_actor w b) b (Some y) (after w b y)) (sym s.is)
-    (alone w b (event.Slot s.grant.slot (slot_ask.Snap s.grant.tag) _) tt refl (λ p h complete. let g : phase.MakingGate s.preparation ≡ phase.Starting p = sym s.at ∙ h in absurd cc) (λ h. absurd cc))
+    (alone w b (event.Slot s.grant.slot (slot_ask.Snap s.grant.tag) _) tt refl (λ p h complete. let g : phase.MakingGate s.preparation ≡ phase.Starting p = sym s.at ∙ h in absurd cc) (λ h. absurd cc) tt)
 event_family w b e (LastJoined j) =
     join_family w b j.first.0 e j.join (subst (λ p. IsFirst p b.unjoined j.first.0) (sym j.at) (subst (λ cs. IsFirst (phase.Ending j.end_) cs j.first.0) (sym j.left) refl))
     (subst (λ cs. is_child cs j.first.0 ≡ true) (sym j.left) (first_child j.first j.others))
 event_family w b e (Opens o) =
     subst (λ y. KeepsFamily (with_actor w b) b (Some y) (after w b y)) (sym o.is)
-    (alone w b (event.Slot o.slot (slot_ask.Open o.tag (a0 b)) slot_reply.Opened) tt refl (λ p h complete. let g : phase.Opening o.slot o.tag ≡ phase.Starting p = sym o.at ∙ h in absurd cc) (λ h. absurd cc))
+    (alone w b (event.Slot o.slot (slot_ask.Open o.tag (a0 b)) slot_reply.Opened) tt refl (λ p h complete. let g : phase.Opening o.slot o.tag ≡ phase.Starting p = sym o.at ∙ h in absurd cc) (λ h. absurd cc) tt)
 event_family w b e (Releases r) =
     subst (λ y. KeepsFamily (with_actor w b) b (Some y) (after w b y)) (sym r.is)
-    (alone w b (event.Slots (directory_ask.Release r.slot) directory_reply.Released) tt refl (λ p h complete. let g : phase.Releasing r.slot ≡ phase.Starting p = sym r.at ∙ h in absurd cc) (λ h. absurd cc))
+    (alone w b (event.Slots (directory_ask.Release r.slot) directory_reply.Released) tt refl (λ p h complete. let g : phase.Releasing r.slot ≡ phase.Starting p = sym r.at ∙ h in absurd cc) (λ h. absurd cc) tt)
 event_family w b e (Numbers n) =
     subst (λ y. KeepsFamily (with_actor w b) b (Some y) (after w b y)) (sym n.is)
-    (alone w b (event.Fds directory_ask.Claim _) tt refl (λ p h complete. let g : phase.OpeningFile n.opening ≡ phase.Starting p = sym n.at ∙ h in absurd cc) (λ h. absurd cc))
+    (alone w b (event.Fds directory_ask.Claim _) tt refl (λ p h complete. let g : phase.OpeningFile n.opening ≡ phase.Starting p = sym n.at ∙ h in absurd cc) (λ h. absurd cc) tt)
 event_family w b e (OpensFile f) =
     subst (λ y. KeepsFamily (with_actor w b) b (Some y) (after w b y)) (sym f.is)
-    (alone w b (event.Fd f.fd (stream_ask.Open f.opening.kind f.opening.bytes) reply.Opened) tt refl (λ p h complete. let g : phase.OpeningFile f.opening ≡ phase.Starting p = sym f.at ∙ h in absurd cc) (λ h. absurd cc))
+    (alone w b (event.Fd f.fd (stream_ask.Open f.opening.kind f.opening.bytes) reply.Opened) tt refl (λ p h complete. let g : phase.OpeningFile f.opening ≡ phase.Starting p = sym f.at ∙ h in absurd cc) (λ h. absurd cc) tt)
+event_family w b e (EntersGate x) = subst (λ y. KeepsFamily (with_actor w b) b (Some y) (after w b y)) (sym x.is) (enter_family w b x.entrance x.at x.may)
+event_family w b e (LeavesGate l) =
+    subst (λ y. KeepsFamily (with_actor w b) b (Some y) (after w b y)) (sym l.is)
+    (alone w b (event.Leave l.end_) tt refl (λ p h complete. let g : phase.Ending l.end_ ≡ phase.Starting p = sym l.at ∙ h in absurd cc) (λ h. l.left) (ap is_some l.own))
 event_family w b e (Ended f) =
     subst (λ y. KeepsFamily (with_actor w b) b (Some y) (after w b y)) (sym f.is)
-    (alone w b (event.Lives (lives_ask.Release f.end_) lives_reply.Released) tt refl (λ p h complete. let g : phase.Ending f.end_ ≡ phase.Starting p = sym f.at ∙ h in absurd cc) (λ h. f.left))
+    (alone w b (event.Lives (lives_ask.Release f.end_) lives_reply.Released) tt refl (λ p h complete. let g : phase.Ending f.end_ ≡ phase.Starting p = sym f.at ∙ h in absurd cc) (λ h. f.left) f.own)

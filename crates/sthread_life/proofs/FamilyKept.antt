@@ -5,7 +5,7 @@ use Rattle.std.specs.Prelude.{Option, Some, None, is_some, ◌||◌, ◌⊎◌, 
 use Rattle.wedge_base.specs.Names.{same, root_name}
 use Rattle.sthread_life.specs.Actors.{ActorState}
 use Rattle.sthread_life.specs.Children.{Children, is_number, fuel_given, is_child, with_child, without_child, all_given, child_name}
-use Rattle.sthread_life.specs.FamilyTrees.{worth, Holds, AllBehind, IsChildOf, IsOfTree, Family}
+use Rattle.sthread_life.specs.FamilyTrees.{worth, Holds, AllBehind, IsChildOf, IsOfTree, Family, WaitsForOwn}
 use Rattle.sthread_life.specs.Fuel.{starter_of, number_in, has_child, is_unjoined}
 use Rattle.sthread_life.specs.Names.{IsNew, AreDistinct}
 use Rattle.sthread_life.specs.Local.{has_ended}
@@ -13,7 +13,7 @@ use Rattle.sthread_life.specs.Worlds.{actor_named, put_actor}
 use Rattle.sthread_life.proofs.Distinct.{put_distinct}
 use Rattle.sthread_life.proofs.FuelGiven.{given_with, taken_back, number_is, number_self, given_there, given_elsewhere, given_gone}
 use Rattle.sthread_life.proofs.Named.{same_self, same_equal, named_begun}
-use Rattle.sthread_life.proofs.Trees.{starter-child, number-child, child_apart, not_root, apart_too, IsPut, found_put, found_else, IsDoer, IsOther, FoundPut, find_put, found_behind, found_before, none_new, new_none, distinct_behind}
+use Rattle.sthread_life.proofs.Trees.{starter-child, number-child, child_apart, not_root, apart_too, IsPut, found_put, found_else, IsDoer, IsOther, FoundPut, find_put, found_behind, found_before, none_new, new_none, distinct_behind, found_or_last}
 
 -- ---- the tree of names
 
@@ -247,20 +247,37 @@ is_more cs j f k apart = ap is_some (given_there cs j f k) ∙ by_number (is_num
     by_number true e = absurd (apart (number_is k j e))
     by_number false e = refl
 
-has_more : (cs : Children) (j f : ℕ) → is_child (with_child cs j f) j ≡ true
+pub has_more : (cs : Children) (j f : ℕ) → is_child (with_child cs j f) j ≡ true
 has_more cs j f = ap is_some (given_there cs j f j) ∙ ap (λ t. is_some (if t then Some f else fuel_given cs j)) (number_self j)
+
+-- who waits for a run has not joined it
+waits_put : (actors : List ActorState) (a x : ActorState) → Family actors → IsPut actors a x → WaitsForOwn x.phase x.unjoined → (m : List ℕ) (y : ActorState) → actor_named (put_actor actors x) m ≡ Some y → WaitsForOwn y.phase y.unjoined
+waits_put actors a x f p waits m y found = was (find_put actors a x m y p found)
+  where
+    was : FoundPut actors a x m y → WaitsForOwn y.phase y.unjoined
+    was (IsDoer is e) = subst (λ (z : ActorState). WaitsForOwn z.phase z.unjoined) (sym e) waits
+    was (IsOther apart e) = f.waits m y e
+
+waits_behind : (actors : List ActorState) (c : ActorState) → ((m : List ℕ) (y : ActorState) → actor_named actors m ≡ Some y → WaitsForOwn y.phase y.unjoined) → WaitsForOwn c.phase c.unjoined
+    → (m : List ℕ) (y : ActorState) → actor_named (actors ++ c ∷ []) m ≡ Some y → WaitsForOwn y.phase y.unjoined
+waits_behind actors c h own m y found = was (found_or_last actors c m y found)
+  where
+    was : (actor_named actors m ≡ Some y) ⊎ (y ≡ c) → WaitsForOwn y.phase y.unjoined
+    was (inl e) = h m y e
+    was (inr e) = subst (λ (z : ActorState). WaitsForOwn z.phase z.unjoined) (sym e) own
 
 -- ---- the three ways in which actors go on
 
 -- a doer with the same starts and children, and no more fuel
-pub family_alone : (actors : List ActorState) (a x : ActorState) → Family actors → IsPut actors a x → has_ended a.phase ≡ false → x.starts ≡ a.starts → x.unjoined ≡ a.unjoined → x.fuel ≤ a.fuel → Family (put_actor actors x)
-family_alone actors a x f p live starts unjoined fuel =
+pub family_alone : (actors : List ActorState) (a x : ActorState) → Family actors → IsPut actors a x → has_ended a.phase ≡ false → x.starts ≡ a.starts → x.unjoined ≡ a.unjoined → x.fuel ≤ a.fuel → WaitsForOwn x.phase x.unjoined → Family (put_actor actors x)
+family_alone actors a x f p live starts unjoined fuel waits =
     let same_given : all_given x.unjoined ≡ all_given a.unjoined = ap all_given unjoined in
     let unjoined_same : (m : List ℕ) → is_unjoined (put_actor actors x) m ≡ is_unjoined actors m = λ m. unjoined_put actors a x m p (λ _. ap (λ cs. is_child cs (number_in m)) unjoined) in
     record {
       tree = tree_put actors a x p (omega (arith, starts)) f.tree;
       distinct = put_distinct actors x f.distinct;
       behind = behind_put actors a x p (λ k g given. ap (λ cs. fuel_given cs k) (sym unjoined) ∙ given) (omega (arith, same_given, fuel)) f.behind;
+      waits = waits_put actors a x f p waits;
       live = λ m y found alive. unjoined_same m ∙ was_live m y alive (find_put actors a x m y p found);
     }
   where
@@ -295,8 +312,8 @@ joined_others actors a x f p j m apart =
     unjoined_put actors a x m p
     (λ is. ap (λ cs. is_child cs (number_in m)) j.unjoined ∙ ap is_some (given_elsewhere a.unjoined j.number (number_in m) (other_child actors f a m j.number p.there is apart)))
 
-pub family_joined : (actors : List ActorState) (a x : ActorState) → Family actors → IsPut actors a x → has_ended a.phase ≡ false → JoinsChild actors a x → Family (put_actor actors x)
-family_joined actors a x f p live j =
+pub family_joined : (actors : List ActorState) (a x : ActorState) → Family actors → IsPut actors a x → has_ended a.phase ≡ false → JoinsChild actors a x → WaitsForOwn x.phase x.unjoined → Family (put_actor actors x)
+family_joined actors a x f p live j waits =
     let given = given_is a.unjoined j.number j.listed in
     let small : worth j.child ≤ given.0 = brings_back actors a j.child j.number given.0 f p.there j.there given.1 in
     let back = taken_back a.unjoined j.number given.0 given.1 in
@@ -305,6 +322,7 @@ family_joined actors a x f p live j =
       tree = tree_put actors a x p (omega (arith, j.starts)) f.tree;
       distinct = put_distinct actors x f.distinct;
       behind = behind_put actors a x p (λ k g h. was_given k g (ap (λ cs. fuel_given cs k) (sym j.unjoined) ∙ h)) (omega (arith, small, back, left, j.fuel)) f.behind;
+      waits = waits_put actors a x f p waits;
       live = λ m y found alive. still m (is_live m y alive (find_put actors a x m y p found)) ∙ was_live m y alive (find_put actors a x m y p found);
     }
   where
@@ -370,8 +388,8 @@ started_unjoined actors a x c p s =
     by_root true e = refl
     by_root false e = e
 
-pub family_started : (actors : List ActorState) (a x c : ActorState) → Family actors → IsPut actors a x → has_ended a.phase ≡ false → StartsChild a x c → Family (put_actor actors x ++ c ∷ [])
-family_started actors a x c f p live s =
+pub family_started : (actors : List ActorState) (a x c : ActorState) → Family actors → IsPut actors a x → has_ended a.phase ≡ false → StartsChild a x c → WaitsForOwn x.phase x.unjoined → WaitsForOwn c.phase c.unjoined → Family (put_actor actors x ++ c ∷ [])
+family_started actors a x c f p live s waits child_waits =
     let put = put_actor actors x in
     let new = started_new actors a x c f p s in
     let was_new : actor_named actors c.name ≡ None = ap (actor_named actors) s.name ∙ next_is_new actors f a p.there in
@@ -383,6 +401,7 @@ family_started actors a x c f p live s =
           (tree_put actors a x p (omega (arith, s.starts)) f.tree);
       distinct = distinct_behind put c (put_distinct actors x f.distinct) (none_new put c.name new);
       behind = behind_started actors a x c (a.starts + 1) c.fuel p s.unjoined s.name (omega (arith, none)) s.childless (omega (arith, given, more, s.fuel)) (none_new actors c.name was_new) f.behind;
+      waits = waits_behind put c (waits_put actors a x f p waits) child_waits;
       live = λ m y found alive. unjoined_behind put c m new s.childless ∙ by_name m y (same c.name m) refl found alive;
     }
   where

@@ -24,20 +24,24 @@ use Rattle.sthread_life.specs.Laws.{NamesAreDistinct, FuelIsKept}
 use Rattle.sthread_life.specs.Local.{step, is_running, has_ended, end_reached, run_local, rest}
 use Rattle.sthread_life.specs.Moments.{EachStep}
 use Rattle.sthread_life.specs.Paying.{cost_at, cost_by, given_by, brought_by}
-use Rattle.sthread_life.specs.Taking.{next_start, takes, begun, child_of}
-use Rattle.sthread_life.specs.Worlds.{WorldState, opening, actor_named, put_actor, with_begun, turn_of, Runs}
-use Rattle.sthread_life.proofs.Between.{event_for, IsJoin, joined_is, takes_name, turn_parts}
+use Rattle.sthread_life.specs.Taking.{next_start, takes, begun, child_of, run_by, run_at, has_entered}
+use Rattle.sthread_life.specs.Worlds.{WorldState, opening, actor_named, put_actor, with_begun, turn_of, Runs, ready, resumed}
+use Rattle.sthread_life.proofs.Between.{event_for, IsJoin, joined_is, takes_name, takes_between, entered_by}
 use Rattle.sthread_life.proofs.Families.{IsOfOne, takes_same, first_child}
-use Rattle.sthread_life.specs.FamilyTrees.{IsOfTree, Family}
-use Rattle.sthread_life.proofs.FamilyKept.{family_alone, JoinsChild, family_joined, StartsChild, family_started}
+use Rattle.sthread_life.specs.FamilyTrees.{IsOfTree, Family, WaitsForOwn}
+use Rattle.sthread_life.proofs.FamilyKept.{family_alone, JoinsChild, family_joined, StartsChild, family_started, has_more}
 use Rattle.sthread_life.proofs.FuelSums.{sum_alone, sum_joined, sum_started}
-use Rattle.sthread_life.proofs.Happening.{Happens, Requested, Joined, Snaps, GateSnaps, Started, Opens, Releases, Numbers, OpensFile, LastJoined, Ended, AtStart}
+use Rattle.sthread_life.proofs.Happening.{Happens, Requested, Joined, Snaps, GateSnaps, Started, Opens, Releases, Numbers, OpensFile, LastJoined, Ended, AtStart, AtEnter, EntersGate, LeavesGate}
 use Rattle.sthread_life.proofs.Meeting.{IsRequest}
 use Rattle.sthread_life.proofs.Named.{found_name, same_equal}
 use Rattle.sthread_life.proofs.Paying.{step_pays, event_pays}
 use Rattle.sthread_life.proofs.Resting.{rests, rest-stays, rest-name, rest-ended, stays, goes_on}
-use Rattle.sthread_life.proofs.Settling.{AllReady, turn_happens, turn_ready, opening_ready}
-use Rattle.sthread_life.proofs.Trees.{IsPut}
+use Rattle.sthread_life.proofs.Settling.{AllReady, turn_happens, turn_ready, opening_ready, turned_there}
+use Rattle.sthread_life.proofs.Trees.{IsPut, put_same}
+use Rattle.sthread_life.specs.Between.{IsBetween}
+use Rattle.sthread_life.specs.Entrances.{Entrance}
+use Rattle.sthread_life.proofs.Waits.{waits_none, leaves_awake}
+use Rattle.sthread_life.proofs.Turns.{back, RunEnded, Readies, Stays, Back, readies, turn_from}
 
 -- ---- an actor at rest
 
@@ -86,6 +90,7 @@ rest_units i a = units_taken i (a.fuel + 1) a _ refl
 
 pub one_begins : (i : Image) (b : ActorState) (e : Event) → IsOfOne e → begun i b e ≡ None
 one_begins i b (event.Start child) h = absurd h
+one_begins i b (event.Enter run) h = absurd h
 one_begins i b e h = refl
 
 one_brings : (e : Event) → IsOfOne e → brought_by (Some e) ≡ 0
@@ -94,6 +99,7 @@ one_brings e h = refl
 
 one_gives : (b : ActorState) (e : Event) → IsOfOne e → given_by b (Some e) ≡ 0
 one_gives b (event.Start child) h = absurd h
+one_gives b (event.Enter run) h = absurd h
 one_gives b e h = refl
 
 pub request_of_one : (N : ℕ → Type 0) (c : Cells) (b : ActorState) (q : Want) → IsRequest N b q → IsOfOne (event_for c b q)
@@ -110,6 +116,7 @@ request_of_one N c b q own = absurd own
 pub data Acts (w : WorldState) (b : ActorState) (e : Event) : Type 0 where
   ActsAlone : IsOfOne e → Acts w b e
   Starts : AtStart b e → Acts w b e
+  Enters : AtEnter b e → Acts w b e
   Joins : (k : ℕ) → is_child b.unjoined k ≡ true → IsJoin w b k e → Acts w b e
 
 first_is_child : (first : ℕ × ℕ) (others : List (ℕ × ℕ)) → is_child (first ∷ others) first.0 ≡ true
@@ -127,6 +134,8 @@ acts w b e (Releases r) = ActsAlone (subst IsOfOne (sym r.is) tt)
 acts w b e (Numbers n) = ActsAlone (subst IsOfOne (sym n.is) tt)
 acts w b e (OpensFile f) = ActsAlone (subst IsOfOne (sym f.is) tt)
 acts w b e (Ended f) = ActsAlone (subst IsOfOne (sym f.is) tt)
+acts w b e (EntersGate x) = Enters x
+acts w b e (LeavesGate l) = ActsAlone (subst IsOfOne (sym l.is) tt)
 
 pub lives : (w : WorldState) (b : ActorState) (e : Event) → Happens w b e → has_ended b.phase ≡ false
 lives w b e (Requested r) = ap has_ended r.at
@@ -140,6 +149,8 @@ lives w b e (Releases r) = ap has_ended r.at
 lives w b e (Numbers n) = ap has_ended n.at
 lives w b e (OpensFile f) = ap has_ended f.at
 lives w b e (Ended f) = ap has_ended f.at
+lives w b e (EntersGate x) = ap has_ended x.at
+lives w b e (LeavesGate l) = ap has_ended l.at
 
 -- ---- a turn
 
@@ -149,13 +160,19 @@ join_keeps_starts i b k x fuel =
     let c = record b { fuel = b.fuel + fuel; unjoined = without_child b.unjoined k } in
     (joined_is (λ y. y.starts ≡ b.starts) c b.phase x refl refl, joined_is (λ y. y.unjoined ≡ without_child b.unjoined k) c b.phase x refl refl)
 
-ended_reached : (p : Phase) (x : End) → end_reached p ≡ Some x → has_ended p ≡ true
+-- a joiner waits for no run
+join_awake : (i : Image) (b : ActorState) (k : ℕ) (x : End) (fuel : ℕ) → WaitsForOwn (takes i b (event.Join k x fuel)).phase (takes i b (event.Join k x fuel)).unjoined
+join_awake i b k x fuel = waits_none _ _ (λ n is. subst IsBetween is (takes_between i b (event.Join k x fuel)))
+
+pub ended_reached : (p : Phase) (x : End) → end_reached p ≡ Some x → has_ended p ≡ true
 ended_reached phase.Running x e = absurd cc
 ended_reached (phase.Within q) x e = absurd cc
 ended_reached (phase.Starting pre) x e = absurd cc
 ended_reached (phase.MakingGate pre) x e = absurd cc
 ended_reached (phase.Opening slot tag) x e = absurd cc
 ended_reached (phase.Releasing slot) x e = absurd cc
+ended_reached (phase.Entering entrance) x e = absurd cc
+ended_reached (phase.Waiting number) x e = absurd cc
 ended_reached (phase.OpeningFile o) x e = absurd cc
 ended_reached (phase.Ending y) x e = absurd cc
 ended_reached (phase.Ended y) x e = refl
@@ -187,9 +204,39 @@ start_keeps w a f there live paid =
       childless = refl;
     } in
     record {
-      family = family_started w.actors a x c f p live s;
+      family = family_started w.actors a x c f p live s tt tt;
       fuel = sum_started w.actors a x c (units_of_turn w.image a (event.Start name)) f p live s exact;
     }
+
+enter_keeps : (w : WorldState) (a : ActorState) (y : AtEnter (rest w.image a) (event.Enter (child_name (rest w.image a).name (next_start (rest w.image a))))) → Family w.actors → actor_named w.actors a.name ≡ Some a → has_ended a.phase ≡ false
+    → TurnKeeps w a (event.Enter (child_name (rest w.image a).name (next_start (rest w.image a)))) (record w { actors = put_actor w.actors (entered_by (rest w.image a) y.entrance) ++ run_by (rest w.image a) (child_name (rest w.image a).name (next_start (rest w.image a))) y.entrance ∷ [] })
+enter_keeps w a y f there live =
+    let b = rest w.image a in
+    let name = child_name b.name (next_start b) in
+    let x = entered_by b y.entrance in
+    let c = run_by b name y.entrance in
+    let k = kept_at_rest w.image a _ refl in
+    let p : IsPut w.actors a x = record { name = rest-name w.image a; there = there } in
+    let next : next_start b ≡ a.starts + 1 = ap (λ n. n + 1) k.starts in
+    let units = rest_units w.image a in
+    let exact : x.fuel + c.fuel + units_of_turn w.image a (event.Enter name) ≡ a.fuel = omega (arith, units, y.may.enough) in
+    let s : StartsChild a x c = record {
+      starts = next;
+      unjoined = ap (λ n. with_child b.unjoined n c.fuel) next ∙ ap (λ cs. with_child cs (a.starts + 1) c.fuel) k.unjoined;
+      fuel = omega (arith, exact);
+      name = ap (λ n. child_name n (next_start b)) (rest-name w.image a) ∙ ap (child_name a.name) next;
+      childless = refl;
+    } in
+    record {
+      family = family_started w.actors a x c f p live s (has_more b.unjoined (next_start b) y.entrance.gate.fuel) tt;
+      fuel = sum_started w.actors a x c (units_of_turn w.image a (event.Enter name)) f p live s exact;
+    }
+
+-- the world after the entry of a gate
+pub entered_world : (w : WorldState) (b : ActorState) (y : List ℕ) (x : Entrance) → b.phase ≡ phase.Entering x
+    → record w { actors = with_begun (put_actor w.actors (takes w.image b (event.Enter y))) (begun w.image b (event.Enter y)) } ≡ record w { actors = put_actor w.actors (entered_by b x) ++ run_by b y x ∷ [] }
+unfolding takes
+entered_world w b y x at = ap (λ p. record w { actors = with_begun (put_actor w.actors (has_entered b p)) (run_at b y p) }) at
 
 turn_keeps_at : (w : WorldState) (a : ActorState) (e : Event) → Family w.actors → actor_named w.actors a.name ≡ Some a → Happens w (rest w.image a) e → Acts w (rest w.image a) e
     → TurnKeeps w a e (record w { actors = with_begun (put_actor w.actors (takes w.image (rest w.image a) e)) (begun w.image (rest w.image a) e) })
@@ -207,7 +254,7 @@ turn_keeps_at w a e f there h (ActsAlone one) =
     let exact : x.fuel + units_of_turn w.image a e ≡ a.fuel = omega (arith, units, paid, brought, given) in
     subst (λ o. TurnKeeps w a e (record w { actors = with_begun (put_actor w.actors x) o })) (sym (one_begins w.image b e one))
     (record {
-      family = family_alone w.actors a x f p live (s.starts ∙ k.starts) (s.unjoined ∙ k.unjoined) (omega (arith, exact));
+      family = family_alone w.actors a x f p live (s.starts ∙ k.starts) (s.unjoined ∙ k.unjoined) (omega (arith, exact)) (waits_none x.phase x.unjoined (leaves_awake e x.phase one (takes_between w.image b e)));
       fuel = sum_alone w.actors a x (units_of_turn w.image a e) f p live (s.unjoined ∙ k.unjoined) exact;
     })
 turn_keeps_at w a e f there h (Starts s) =
@@ -215,6 +262,12 @@ turn_keeps_at w a e f there h (Starts s) =
     let name = child_name b.name (next_start b) in
     subst (λ y. TurnKeeps w a y (record w { actors = with_begun (put_actor w.actors (takes w.image b y)) (begun w.image b y) })) (sym s.is)
     (start_keeps w a f there (sym (rest-ended w.image a) ∙ lives w b e h) (subst (λ y. (takes w.image b y).fuel + cost_by b y + given_by b (Some y) ≡ b.fuel + brought_by (Some y)) s.is (event_pays w b e h)))
+turn_keeps_at w a e f there h (Enters y) =
+    let b = rest w.image a in
+    let name = child_name b.name (next_start b) in
+    subst (λ z. TurnKeeps w a z (record w { actors = with_begun (put_actor w.actors (takes w.image b z)) (begun w.image b z) })) (sym y.is)
+    (subst (TurnKeeps w a (event.Enter name)) (sym (entered_world w b name y.entrance y.at))
+    (enter_keeps w a (record { entrance = y.entrance; at = y.at; may = y.may; is = refl }) f there (sym (rest-ended w.image a) ∙ lives w b e h)))
 turn_keeps_at w a e f there h (Joins k listed j) =
     let b = rest w.image a in
     let x = takes w.image b e in
@@ -227,6 +280,7 @@ turn_keeps_at w a e f there h (Joins k listed j) =
     let fuel_is : x.fuel ≡ (takes w.image b (event.Join k j.how j.child.fuel)).fuel = ap (λ y. (takes w.image b y).fuel) j.is in
     let cost_is : cost_by b e ≡ 0 = ap (cost_by b) j.is in
     let exact : x.fuel + units_of_turn w.image a e ≡ a.fuel + j.child.fuel = omega (arith, units, paid, fuel_is, cost_is) in
+    let waits : WaitsForOwn x.phase x.unjoined = subst (λ y. WaitsForOwn (takes w.image b y).phase (takes w.image b y).unjoined) (sym j.is) (join_awake w.image b k j.how j.child.fuel) in
     let joins : JoinsChild w.actors a x = record {
       number = k;
       child = j.child;
@@ -238,21 +292,64 @@ turn_keeps_at w a e f there h (Joins k listed j) =
       fuel = omega (arith, exact);
     } in
     subst (λ o. TurnKeeps w a e (record w { actors = with_begun (put_actor w.actors x) o })) (sym (ap (begun w.image b) j.is))
-    (record { family = family_joined w.actors a x f p live joins; fuel = sum_joined w.actors a x (units_of_turn w.image a e) f p live joins exact })
+    (record { family = family_joined w.actors a x f p live joins waits; fuel = sum_joined w.actors a x (units_of_turn w.image a e) f p live joins exact })
 
-pub turn_keeps : (w : WorldState) (name : List ℕ) (e : Event) (new : WorldState) (a : ActorState) → AllReady w → Family w.actors → actor_named w.actors name ≡ Some a → turn_of w name ≡ Some (record { event = e; world = new }) → TurnKeeps w a e new
+-- ---- an actor that goes on
+-- as a joiner does
+abbrev goes_joining : (actors : List ActorState) (a : ActorState) (k : ℕ) (r : RunEnded actors a k) → Family actors → actor_named actors a.name ≡ Some a → a.phase ≡ phase.Waiting k → JoinsChild actors a (back a k r.how r.run.fuel)
+goes_joining actors a k r f there at = record {
+  number = k;
+  child = r.run;
+  listed = subst (λ p. WaitsForOwn p a.unjoined) at (f.waits a.name a there);
+  there = r.there;
+  ended = ended_reached r.run.phase r.how r.ended;
+  starts = refl;
+  unjoined = refl;
+  fuel = omega arith;
+}
+
+record GoesKeeping (w : WorldState) (a : ActorState) : Type 0 where
+  family : Family (resumed w a).actors
+  fuel : fuel_in (resumed w a).actors ≡ fuel_in w.actors
+
+goes_keeping : (w : WorldState) (a : ActorState) → Family w.actors → actor_named w.actors a.name ≡ Some a → GoesKeeping w a
+goes_keeping w a f there = by_case (readies w.actors a)
+  where
+    by_case : Readies w.actors a → GoesKeeping w a
+    by_case (Stays is) =
+        let same_actors : (resumed w a).actors ≡ w.actors = ap (put_actor w.actors) is ∙ put_same w.actors a there in
+        record { family = subst Family (sym same_actors) f; fuel = ap fuel_in same_actors }
+    by_case (Back k at r is) =
+        let x = back a k r.how r.run.fuel in
+        let j = goes_joining w.actors a k r f there at in
+        let p : IsPut w.actors a x = record { name = refl; there = there } in
+        let live : has_ended a.phase ≡ false = ap has_ended at in
+        let sum = sum_joined w.actors a x 0 f p live j (omega arith) in
+        let same_actors : (resumed w a).actors ≡ put_actor w.actors x = ap (put_actor w.actors) is in
+        record { family = subst Family (sym same_actors) (family_joined w.actors a x f p live j tt); fuel = ap fuel_in same_actors ∙ omega (arith, sum) }
+
+pub resumed_family : (w : WorldState) (name : List ℕ) (a : ActorState) → Family w.actors → actor_named w.actors name ≡ Some a → Family (resumed w a).actors
+resumed_family w name a f named = (goes_keeping w a f (turned_there w name a named)).family
+
+pub turn_keeps : (w : WorldState) (name : List ℕ) (e : Event) (new : WorldState) (a : ActorState) → AllReady w → Family w.actors → actor_named w.actors name ≡ Some a → turn_of w name ≡ Some (record { event = e; world = new }) → TurnKeeps w (ready w.actors a) e new
 turn_keeps w name e new a all f named t =
-    let p = turn_parts w name e new t in
+    let p = turn_from w name e new t in
     let both : Some p.actor ≡ Some a = sym p.named ∙ named in
     let is : p.actor ≡ a = cc in
-    let there : actor_named w.actors p.actor.name ≡ Some p.actor = ap (actor_named w.actors) (found_name w.actors name p.actor p.named) ∙ p.named in
+    let v = resumed w p.actor in
+    let d = p.parts.actor in
+    let goes = goes_keeping w p.actor f (turned_there w name p.actor p.named) in
+    let there : actor_named v.actors d.name ≡ Some d = ap (actor_named v.actors) (found_name v.actors name d p.parts.named) ∙ p.parts.named in
     let h = turn_happens w name e new all p in
-    let k = turn_keeps_at w p.actor e f there h (acts w (rest w.image p.actor) e h) in
-    subst (λ (x : ActorState). TurnKeeps w x e new) is
-    (record { family = subst (λ (x : WorldState). Family x.actors) (sym p.new_is) k.family; fuel = ap (λ (x : WorldState). fuel_in x.actors + units_of_turn w.image p.actor e) p.new_is ∙ k.fuel })
+    let k = turn_keeps_at v d e goes.family there h (acts v (rest w.image d) e h) in
+    subst (λ (x : ActorState). TurnKeeps w x e new) (p.is ∙ ap (ready w.actors) is)
+    (record {
+      family = subst (λ (x : WorldState). Family x.actors) (sym p.parts.new_is) k.family;
+      fuel = ap (λ (x : WorldState). fuel_in x.actors + units_of_turn w.image d e) p.parts.new_is ∙ (k.fuel ∙ goes.fuel);
+    })
 
 pub turn_family : (w : WorldState) (name : List ℕ) (e : Event) (new : WorldState) → AllReady w → Family w.actors → turn_of w name ≡ Some (record { event = e; world = new }) → Family new.actors
-turn_family w name e new all f t = (turn_keeps w name e new (turn_parts w name e new t).actor all f (turn_parts w name e new t).named t).family
+turn_family w name e new all f t = (turn_keeps w name e new (turn_from w name e new t).actor all f (turn_from w name e new t).named t).family
 
 -- ---- runs
 
@@ -262,12 +359,17 @@ opening_family i = record {
   tree = λ m x e. by_name m _ refl e;
   distinct = (tt, tt);
   behind = (λ k g given. absurd cc, tt);
+  waits = λ m x e. idle m _ refl e;
   live = λ m x e alive. counts m _ refl e;
 }
   where
     by_name : (m : List ℕ) (t : Bool) → same root_name m ≡ t → {x : ActorState} → (if t then Some (root i) else None) ≡ Some x → IsOfTree (root i ∷ []) m
     by_name m true s e = inl (sym (same_equal root_name m s))
     by_name m false s e = absurd cc
+
+    idle : (m : List ℕ) (t : Bool) → same root_name m ≡ t → {x : ActorState} → (if t then Some (root i) else None) ≡ Some x → WaitsForOwn x.phase x.unjoined
+    idle m true s {x = x} e = let is : root i ≡ x = cc in subst (λ (y : ActorState). WaitsForOwn y.phase y.unjoined) is tt
+    idle m false s e = absurd cc
 
     counts : (m : List ℕ) (t : Bool) → same root_name m ≡ t → {x : ActorState} → (if t then Some (root i) else None) ≡ Some x → is_unjoined (root i ∷ []) m ≡ true
     counts m true s e = subst (λ n. is_unjoined (root i ∷ []) n ≡ true) (same_equal root_name m s) refl

@@ -22,11 +22,10 @@ use Rattle.sthread_life.specs.Actors.{ActorState, bits_of, refuses}
 use Rattle.sthread_life.specs.Ends.{end_of}
 use Rattle.sthread_life.specs.FileCalls.{OpensAt, ClaimsNumber, OpensFile}
 use Rattle.sthread_life.specs.Local.{has_ended}
-use Rattle.sthread_life.specs.Moments.{with_actor}
 use Rattle.sthread_life.specs.Opening.{FileOpening}
 use Rattle.sthread_life.specs.Refusals.{full, RefusesNumber, RefusesOpening, is_refusal, refused}
 use Rattle.sthread_life.specs.Taking.{has_number, takes}
-use Rattle.sthread_life.specs.Worlds.{WorldState, put_actor}
+use Rattle.sthread_life.specs.Worlds.{WorldState, put_actor, with_actor}
 use Rattle.sthread_life.proofs.Between.{numbered_is, opened_is, opened_file, opened_at}
 use Rattle.sthread_life.proofs.Bounding.{with_same}
 use Rattle.sthread_life.proofs.Checking.{after, stayed}

@@ -40,12 +40,11 @@ use Rattle.sthread_life.specs.Children.{without_child}
 use Rattle.sthread_life.specs.Copying.{Preparation, copy_grants, copied_from, prepared, behind_first}
 use Rattle.sthread_life.specs.GateCalls.{NotMaking, KeepsGates, MakesWith, PreparesGate, BeginsUnless, GatesByRequest, InstrMakesGates, SnapsForGate, EventMakesGates}
 use Rattle.sthread_life.specs.Local.{needed, executed, fuelled, fetched, step}
-use Rattle.sthread_life.specs.Moments.{with_actor}
-use Rattle.sthread_life.specs.Requests.{Request, Loads, Stores, Reads, Appends, Closes, Opens, Creates, Makes, Deletes, Allots, Frees, make_of, call_request, needed_request, instr_request, word_request}
+use Rattle.sthread_life.specs.Requests.{Request, Loads, Stores, Reads, Appends, Closes, Opens, Creates, Makes, Deletes, Allots, Frees, make_of, call_request, needed_request, instr_request, word_request, Enters}
 use Rattle.sthread_life.specs.Taking.{runs, loads_by, loads_at, has_snapped, copied_on, takes}
-use Rattle.sthread_life.specs.Worlds.{WorldState}
-use Rattle.sthread_life.proofs.Between.{IsMaking, joined_is, numbered_is, opened_is}
-use Rattle.sthread_life.proofs.Happening.{Happens, AtGateSnap, Requested, Joined, Snaps, GateSnaps, Started, Opens as OpensTag, Releases, Numbers, OpensFile, LastJoined, Ended}
+use Rattle.sthread_life.specs.Worlds.{WorldState, with_actor}
+use Rattle.sthread_life.proofs.Between.{IsMaking, joined_is, numbered_is, opened_is, entered_is}
+use Rattle.sthread_life.proofs.Happening.{Happens, AtGateSnap, Requested, Joined, Snaps, GateSnaps, Started, Opens as OpensTag, Releases, Numbers, OpensFile, LastJoined, Ended, EntersGate, LeavesGate}
 use Rattle.sthread_life.proofs.MakingGates.{MayGrant, was_making, longer}
 use Rattle.sthread_life.proofs.Meeting.{stuck, suits_so, gate_of_draft, unset, needed_comes}
 use Rattle.sthread_life.proofs.Preparing.{copies_are, prepared_so}
@@ -106,6 +105,7 @@ keeps_by i a x (Some (Appends fd s bytes)) keeps other = keeps
 keeps_by i a x (Some (Closes fd s)) keeps other = keeps
 keeps_by i a x (Some (Opens path f b)) keeps other = keeps
 keeps_by i a x (Some (Creates d)) keeps other = keeps
+keeps_by i a x (Some (Enters entry lent)) keeps other = keeps
 keeps_by i a x (Some (Deletes tag)) keeps other = keeps
 keeps_by i a x (Some (Allots tag size)) keeps other = keeps
 keeps_by i a x (Some (Frees p g)) keeps other = keeps
@@ -175,6 +175,8 @@ snapped_gates a (phase.Starting pre) slot bytes other = refl
 snapped_gates a (phase.MakingGate pre) slot bytes other = absurd (other tt)
 snapped_gates a (phase.Opening s tag) slot bytes other = refl
 snapped_gates a (phase.Releasing s) slot bytes other = refl
+snapped_gates a (phase.Entering entrance) slot bytes other = refl
+snapped_gates a (phase.Waiting number) slot bytes other = refl
 snapped_gates a (phase.OpeningFile o) slot bytes other = refl
 snapped_gates a (phase.Ending x) slot bytes other = refl
 snapped_gates a (phase.Ended x) slot bytes other = refl
@@ -207,6 +209,7 @@ event_gates i a (event.Lives lives_ask.Claim lives_reply.Full) other = refl
 event_gates i a (event.Lives lives_ask.Claim lives_reply.Released) other = refl
 event_gates i a (event.Lives (lives_ask.Release x) r) other = refl
 event_gates i a (event.Join k e fuel) other = joined_is (λ x. gates_of x ≡ gates_of a) (record a { fuel = a.fuel + fuel; unjoined = without_child a.unjoined k }) a.phase e refl refl
+event_gates i a (event.Enter run) other = entered_is (λ x. gates_of x ≡ gates_of a) a a.phase refl (λ x. refl)
 event_gates i a e other = refl
 
 not_making : (p : Phase) → (IsMaking p → ⊥) → NotMaking p
@@ -216,6 +219,8 @@ not_making (phase.Starting pre) h = tt
 not_making (phase.MakingGate pre) h = absurd (h tt)
 not_making (phase.Opening slot tag) h = tt
 not_making (phase.Releasing slot) h = tt
+not_making (phase.Entering entrance) h = tt
+not_making (phase.Waiting number) h = tt
 not_making (phase.OpeningFile o) h = tt
 not_making (phase.Ending e) h = tt
 not_making (phase.Ended e) h = tt
@@ -242,6 +247,8 @@ keeps_at w b e p at other =
     by_phase (phase.MakingGate pre) h keeps = absurd (h tt)
     by_phase (phase.Opening slot tag) h keeps = keeps
     by_phase (phase.Releasing slot) h keeps = keeps
+    by_phase (phase.Entering entrance) h keeps = keeps
+    by_phase (phase.Waiting number) h keeps = keeps
     by_phase (phase.OpeningFile o) h keeps = keeps
     by_phase (phase.Ending x) h keeps = keeps
     by_phase (phase.Ended x) h keeps = keeps
@@ -290,3 +297,5 @@ event_makes_gates w b e (Numbers n) = keeps_at (with_actor w b) b e _ n.at (λ k
 event_makes_gates w b e (OpensFile f) = keeps_at (with_actor w b) b e _ f.at (λ k. k)
 event_makes_gates w b e (LastJoined j) = keeps_at (with_actor w b) b e _ j.at (λ k. k)
 event_makes_gates w b e (Ended f) = keeps_at (with_actor w b) b e _ f.at (λ k. k)
+event_makes_gates w b e (EntersGate x) = keeps_at (with_actor w b) b e _ x.at (λ k. k)
+event_makes_gates w b e (LeavesGate l) = keeps_at (with_actor w b) b e _ l.at (λ k. k)

@@ -20,7 +20,7 @@ use Rattle.sthread_life.specs.declared.phase.Phase.{Phase}
 use Rattle.sthread_life.specs.declared.phase.Phase.TheVariants as phase
 use Rattle.wedge_base.specs.Files.{may_open}
 use Rattle.wedge_base.specs.declared.image.FileEntry.{FileEntry}
-use Rattle.sthread_life.specs.Actors.{ActorState, right_of, denies, ends, refuses}
+use Rattle.sthread_life.specs.Actors.{ActorState, right_of, denies, ends, refuses, gate_held}
 use Rattle.cow_pages.specs.Copies.{copy_at, holds_copy, read_copy}
 use Rattle.sthread_life.specs.Private.{loads, stores, load_bytes, load_copy, load_window, load_range, store_copy, store_window, store_range, has_loaded, fits_read, fits_write}
 use Rattle.wedge_base.specs.Names.{most_parts}
@@ -33,15 +33,19 @@ use Rattle.wedge_base.specs.declared.rights.Right.TheVariants as right
 use Rattle.wedge_base.specs.declared.rights.FdBits.{FdBits}
 use Rattle.wedge_base.specs.declared.rights.Right.{Right}
 use Rattle.sthread_life.specs.Children.{is_child}
-use Rattle.sthread_life.specs.Calls.{serves, exit, is_procedure, create, create_with, create_checked, create_allowed, join, are_pages, tag_new, tag_delete, smalloc, free_at, sfree, fd_read, fd_append, fd_close, most_drafts, sc_new, right_asked, bits_asked, add_right, add_right_to, sc_mem_add, add_bits, add_bits_to, sc_fd_add, add_gate_to, sc_cgate_add, draft_call, a0, a1, a2, a3, a7, set_user, sc_user, path_in, put_root, set_root, sc_root, file_at, mode_asked, suits, open_file, open_path, file_open, makes_or_waits, may_be_gate, make_checked, make_with, cgate_make}
+use Rattle.sthread_life.specs.Calls.{serves, exit, is_procedure, create, create_with, create_checked, create_allowed, join, are_pages, tag_new, tag_delete, smalloc, free_at, sfree, fd_read, fd_append, fd_close, most_drafts, sc_new, right_asked, bits_asked, add_right, add_right_to, sc_mem_add, add_bits, add_bits_to, sc_fd_add, add_gate_to, sc_cgate_add, draft_call, a0, a1, a2, a3, a7, set_user, sc_user, path_in, put_root, set_root, sc_root, file_at, mode_asked, suits, open_file, open_path, file_open, makes_or_waits, may_be_gate, make_checked, make_with, cgate_make, enter_kind, enter_checked, enter_lending, enter_held, cgate, lent_asked}
 use Rattle.sthread_life.specs.Local.{needed, executed, fuelled, fetched, step, is_running}
-use Rattle.sthread_life.specs.Worlds.{WorldState, actor_named, put_actor}
-use Rattle.sthread_life.specs.Moments.{with_actor}
+use Rattle.sthread_life.specs.Worlds.{WorldState, actor_named, put_actor, with_actor}
 use Rattle.sthread_life.specs.Allowed.{next_word}
 use Rattle.sthread_life.specs.Ends.{GoesTo, NeedGoesOn, WordGoesOn, GoesOn}
 use Rattle.sthread_life.proofs.Named.{put_put, named_put}
 use Rattle.sthread_life.specs.Copying.{Preparation}
 use Rattle.sthread_life.specs.declared.copy_grant.CopyGrant.{CopyGrant}
+use Rattle.sthread_life.specs.Lending.{may_lend, excess_lent}
+use Rattle.sthread_life.specs.Entrances.{Entrance}
+use Rattle.callgate.specs.declared.gate.Gate.{Gate}
+use Rattle.wedge_base.specs.declared.grants.GateKind.{GateKind}
+use Rattle.wedge_base.specs.declared.grants.GateKind.TheVariants as gate_kind
 
 -- if it runs it is at the next word, and if not its hart is as it was
 abbrev pub IsNext : Hart → ActorState → Type 0
@@ -160,6 +164,24 @@ next_make : (i : Image) (a : ActorState) (d : Option Draft) → IsNext a.hart (m
 next_make i a None = (λ e. refl, λ e. absurd cc)
 next_make i a (Some d) = next_if a.hart (refuses a code.Bad) _ (not (may_be_gate i a d)) (λ e. refl, λ e. absurd cc) (next_make_checked i a d (first_excess a.sheet a.made d))
 
+next_kind : (a : ActorState) (k : GateKind) (x : Entrance) → IsNext a.hart (enter_kind a k x)
+next_kind a gate_kind.Fresh x = (λ e. absurd cc, λ e. refl)
+next_kind a gate_kind.Recycled x = (λ e. refl, λ e. absurd cc)
+
+next_entry : (a : ActorState) (g : Gate) (lent : Option Draft) (d : Option Denial) → IsNext a.hart (enter_checked a g lent d)
+next_entry a g lent (Some d) = (λ e. refl, λ e. absurd cc)
+next_entry a g lent None =
+    next_if a.hart (refuses a code.Deep) _ (nat_le most_parts (length a.name)) (λ e. refl, λ e. absurd cc)
+    (next_if a.hart (refuses a code.FuelShort) _ (nat_lt a.fuel g.fuel) (λ e. refl, λ e. absurd cc) (next_kind a g.kind _))
+
+next_lending : (a : ActorState) (g : Gate) (lent : Option (Option Draft)) → IsNext a.hart (enter_lending a g lent)
+next_lending a g None = (λ e. refl, λ e. absurd cc)
+next_lending a g (Some lent) = next_if a.hart (refuses a code.Bad) _ (not (may_lend lent)) (λ e. refl, λ e. absurd cc) (next_entry a g lent (excess_lent a lent))
+
+next_enter : (a : ActorState) (g : Option Gate) → IsNext a.hart (enter_held a g)
+next_enter a None = (λ e. refl, λ e. absurd cc)
+next_enter a (Some g) = next_lending a g (lent_asked a.drafts (a2 a))
+
 next_allowed : (a : ActorState) → IsNext a.hart (create_allowed a)
 next_allowed a =
     next_if a.hart (refuses a code.Deep) _ (nat_le most_parts (length a.name)) (λ e. refl, λ e. absurd cc)
@@ -207,10 +229,11 @@ next_call i a n =
     (next_if a.hart (smalloc a) _ (n == 5) (next_smalloc a)
     (next_if a.hart (sfree a) _ (n == 6) (next_free a (slot_of (a0 a)))
     (next_if a.hart (cgate_make i a) _ (n == 13) (next_make i a (slice_get a.drafts (a0 a)))
+    (next_if a.hart (cgate a) _ (n == 14) (next_enter a (gate_held a (a0 a)))
     (next_if a.hart (fd_read a) _ (n == 15) (next_read a)
     (next_if a.hart (fd_append i a) _ (n == 16) (next_append i a)
     (next_if a.hart (fd_close a) _ (n == 17) (next_if a.hart (refuses a code.NoSuch) _ (nat_le most_fds (a0 a)) (λ e. refl, λ e. absurd cc) (λ e. absurd cc, λ e. refl))
-    (next_if a.hart (file_open i a) _ (n == 18) (next_open i a (mode_asked (a2 a)) (path_in i a (a0 a) (a1 a))) (next_draft i a n))))))))))))
+    (next_if a.hart (file_open i a) _ (n == 18) (next_open i a (mode_asked (a2 a)) (path_in i a (a0 a) (a1 a))) (next_draft i a n)))))))))))))
 
 -- the actor that was put is at the next word if it runs
 pub put_next : (w : WorldState) (b x a : ActorState) → actor_named w.actors b.name ≡ Some a → x.name ≡ b.name → IsNext b.hart x

@@ -35,27 +35,31 @@ use Rattle.rv_hart.specs.Local.{local}
 use Rattle.sthread_life.specs.declared.copy_grant.CopyGrant.{CopyGrant}
 use Rattle.sthread_life.specs.declared.phase.Phase.TheVariants as phase
 use Rattle.sthread_life.specs.Actors.{ActorState, pristine, root}
+use Rattle.sthread_life.specs.Calls.{a0}
 use Rattle.sthread_life.specs.Cells.{slot_in}
 use Rattle.sthread_life.specs.Children.{child_name}
-use Rattle.sthread_life.specs.CopiesGranted.{grants_copy, AreGranted, AreOwnCopiesGranted}
+use Rattle.sthread_life.specs.CopiesGranted.{grants_copy, AreGranted, AreOwnCopiesGranted, AreGateCopiesGranted}
 use Rattle.sthread_life.specs.Copying.{Preparation, with_declared, copied_from, is_copy_alone, prepared, behind_first}
 use Rattle.sthread_life.specs.Laws.{CopiesAreGranted}
 use Rattle.sthread_life.specs.Local.{is_running, step, run_local, rest}
 use Rattle.sthread_life.specs.Remembering.{copied_bytes, Elsewhere, copy_target, target_among, LoadGives, StoreWrites, NeedRemembers, InstrRemembers, WordRemembers, memory_in, memory_after}
-use Rattle.sthread_life.specs.Taking.{copies_asked, has_snapped, next_start, takes, memory_made, child_of, begun}
-use Rattle.sthread_life.specs.Worlds.{WorldState, opening, actor_named, put_actor, with_begun, turn_of, Runs}
-use Rattle.sthread_life.proofs.Between.{IsPreparing, takes_name, turn_parts}
+use Rattle.sthread_life.specs.Lending.{sheet_lent}
+use Rattle.sthread_life.specs.Taking.{copies_asked, has_snapped, next_start, takes, memory_made, child_of, run_by, begun}
+use Rattle.sthread_life.specs.Worlds.{WorldState, opening, actor_named, put_actor, with_begun, turn_of, ready, resumed, Runs}
+use Rattle.sthread_life.proofs.Between.{IsPreparing, takes_name}
 use Rattle.sthread_life.proofs.ByNumber.{same_number, number_itself}
 use Rattle.sthread_life.proofs.Families.{takes_sheet}
-use Rattle.sthread_life.proofs.FamilyRuns.{Acts, ActsAlone, Starts, Joins, acts, one_begins}
-use Rattle.sthread_life.proofs.Happening.{Happens, snap_cases, Requested, Joined, Snaps, GateSnaps, Started, Opens, Releases, Numbers, OpensFile, LastJoined, Ended}
+use Rattle.sthread_life.proofs.FamilyRuns.{Acts, ActsAlone, Starts, Enters, Joins, acts, one_begins}
+use Rattle.sthread_life.proofs.Happening.{Happens, snap_cases, Requested, Joined, Snaps, GateSnaps, Started, Opens, Releases, Numbers, OpensFile, LastJoined, Ended, AtEnter, EntersGate, LeavesGate}
 use Rattle.sthread_life.proofs.Keeping.{step_remembers, event_copies}
-use Rattle.sthread_life.proofs.Named.{found_name}
 use Rattle.sthread_life.proofs.Preparing.{was_preparing}
 use Rattle.sthread_life.proofs.Resting.{IsCalm, steps_step, rests, stays, goes_on, rest-stays, rest-name}
-use Rattle.sthread_life.proofs.Settling.{AllReady, turn_happens, turn_ready, opening_ready}
+use Rattle.sthread_life.proofs.Settling.{AllReady, turn_happens, turn_ready, opening_ready, turned_there}
 use Rattle.sthread_life.proofs.Trees.{IsPut, IsDoer, IsOther, FoundPut, find_put, found_or_last}
 use Rattle.sthread_life.proofs.GrantedPreparing.{or_true, copied_granted, without_granted, AreAllGranted, IsGranted, grants_granted, prepared_granted, child_grants}
+use Rattle.sthread_life.proofs.GateRuns.{each_entered, entry_begins}
+use Rattle.sthread_life.proofs.GrantedRuns.{grants_lent}
+use Rattle.sthread_life.proofs.Turns.{ready_is, ready_name, turn_from}
 use Rattle.sthread_life.proofs.GrantedGates.{AreGatesGranted, gates_at_rest, event_gates_granted}
 
 -- ---- the root's copies
@@ -174,6 +178,7 @@ slot_granted gs m slot r q all = all
 
 memory_granted : (gs : Map Grant) (m : PrivateMemory) (e : Event) → AreGranted gs m.copies → AreGranted gs (memory_after m e).copies
 memory_granted gs m (event.Lives (lives_ask.Release x) r) all = λ slot there. absurd cc
+memory_granted gs m (event.Leave x) all = λ slot there. absurd cc
 memory_granted gs m (event.Slot slot q r) all = slot_granted gs m slot r q all
 memory_granted gs m e all = all
 
@@ -249,6 +254,8 @@ event_granted w b e (Numbers n) h p is = by_cause w b e p is (was_preparing w.im
 event_granted w b e (OpensFile f) h p is = by_cause w b e p is (was_preparing w.image b e (subst IsPreparing (sym is) tt)) (λ k. subst IsPreparing f.at k)
 event_granted w b e (LastJoined j) h p is = by_cause w b e p is (was_preparing w.image b e (subst IsPreparing (sym is) tt)) (λ k. subst IsPreparing j.at k)
 event_granted w b e (Ended f) h p is = by_cause w b e p is (was_preparing w.image b e (subst IsPreparing (sym is) tt)) (λ k. subst IsPreparing f.at k)
+event_granted w b e (EntersGate x) h p is = by_cause w b e p is (was_preparing w.image b e (subst IsPreparing (sym is) tt)) (λ k. subst IsPreparing x.at k)
+event_granted w b e (LeavesGate l) h p is = by_cause w b e p is (was_preparing w.image b e (subst IsPreparing (sym is) tt)) (λ k. subst IsPreparing l.at k)
 
 doer_granted : (w : WorldState) (b : ActorState) (e : Event) → Happens w b e → HasGranted b → HasGranted (takes w.image b e)
 doer_granted w b e happens h =
@@ -264,12 +271,28 @@ child_granted i b name p at h = record {
   gates = h.gates;
 }
 
+-- the run of a gate begins with the gate's copies
+run_of_granted : (b : ActorState) (e : Event) (x : AtEnter b e) (name : List ℕ) → HasGranted b → HasGranted (run_by b name x.entrance)
+run_of_granted b e x name h = record {
+  own = λ slot there.
+      ap (λ (s : Sheet). grants_copy s.tags slot) x.may.sheet
+      ∙ grants_lent x.entrance.gate.sheet (sheet_lent b x.may.lent) slot (each_entered AreGateCopiesGranted b (a0 b) x.entrance.gate h.gates x.may.held slot there);
+  child = λ p is. absurd cc;
+  making = λ p is. absurd cc;
+  gates = h.gates;
+}
+
 begins_granted : (w : WorldState) (b : ActorState) (e : Event) → Acts w b e → HasGranted b → (c : ActorState) → begun w.image b e ≡ Some c → HasGranted c
 begins_granted w b e (ActsAlone one) h c is = let f : None ≡ Some c = sym (one_begins w.image b e one) ∙ is in absurd cc
 begins_granted w b e (Starts s) h c is =
     let both : Some (child_of w.image b (child_name b.name (next_start b))) ≡ Some c = sym (ap (begun w.image b) s.is) ∙ is in
     let same_one : child_of w.image b (child_name b.name (next_start b)) ≡ c = cc in
     subst HasGranted same_one (child_granted w.image b (child_name b.name (next_start b)) s.preparation s.at h)
+begins_granted w b e (Enters x) h c is =
+    let run = run_by b (child_name b.name (next_start b)) x.entrance in
+    let both : Some run ≡ Some c = sym (entry_begins w.image b e x) ∙ is in
+    let same_one : run ≡ c = cc in
+    subst HasGranted same_one (run_of_granted b e x (child_name b.name (next_start b)) h)
 begins_granted w b e (Joins k listed j) h c is = let f : None ≡ Some c = sym (ap (begun w.image b) j.is) ∙ is in absurd cc
 
 -- ---- runs
@@ -289,16 +312,26 @@ begun_granted w a x all put doer (Some c) child m y found = elim (found_or_last 
   | inr is ↦ subst HasGranted (sym is) (child c refl)
 ]
 
+-- an actor that goes on has the copies that it had
+resumed_granted : (w : WorldState) (a : ActorState) → AllGranted w → actor_named w.actors a.name ≡ Some a → AllGranted (resumed w a)
+resumed_granted w a all there m y found =
+    let h = all a.name a there in
+    let put : IsPut w.actors a (ready w.actors a) = record { name = ready_name w.actors a; there = there } in
+    let goes = ready_is HasGranted w.actors a h (λ k e fuel. record { own = h.own; child = λ p is. absurd cc; making = λ p is. absurd cc; gates = h.gates }) in
+    put_granted w a (ready w.actors a) all put goes m y (find_put w.actors a (ready w.actors a) m y put found)
+
 turn_granted : (w : WorldState) (name : List ℕ) (e : Event) (new : WorldState) → AllReady w → AllGranted w → turn_of w name ≡ Some (record { event = e; world = new }) → AllGranted new
-turn_granted w name e new ready all t =
-    let p = turn_parts w name e new t in
-    let a = p.actor in
+turn_granted w name e new all_ready all t =
+    let p = turn_from w name e new t in
+    let v = resumed w p.actor in
+    let a = p.parts.actor in
     let b = rest w.image a in
-    let h = turn_happens w name e new ready p in
-    let there : actor_named w.actors a.name ≡ Some a = ap (actor_named w.actors) (found_name w.actors name a p.named) ∙ p.named in
-    let put : IsPut w.actors a (takes w.image b e) = record { name = takes_name w.image b e ∙ rest-name w.image a; there = there } in
-    let rested = rest_granted w.image a _ refl (all a.name a there) in
-    subst AllGranted (sym p.new_is) (begun_granted w a (takes w.image b e) all put (doer_granted w b e h rested) (begun w.image b e) (begins_granted w b e (acts w b e h) rested))
+    let h = turn_happens w name e new all_ready p in
+    let goes = resumed_granted w p.actor all (turned_there w name p.actor p.named) in
+    let there = turned_there v name a p.parts.named in
+    let put : IsPut v.actors a (takes w.image b e) = record { name = takes_name w.image b e ∙ rest-name w.image a; there = there } in
+    let rested = rest_granted w.image a _ refl (goes a.name a there) in
+    subst AllGranted (sym p.parts.new_is) (begun_granted v a (takes w.image b e) goes put (doer_granted v b e h rested) (begun w.image b e) (begins_granted v b e (acts v b e h) rested))
 
 opening_granted : (i : Image) → AllGranted (opening i)
 opening_granted i m y found = by_name (same root_name m) (opening_found m y found)
@@ -319,8 +352,8 @@ opening_granted i m y found = by_name (same root_name m) (opening_found m y foun
     opening_found n z e = unfold root in e
 
 runs_granted : (old : WorldState) (turns : List Turn) (new : WorldState) → AllReady old → AllGranted old → Runs old turns new → AllGranted new
-runs_granted old [] new ready all run = subst AllGranted (sym run) all
-runs_granted old (t ∷ ts) new ready all run = runs_granted run.0 ts new (turn_ready old t.actor t.event run.0 ready run.1) (turn_granted old t.actor t.event run.0 ready all run.1) run.2
+runs_granted old [] new all_ready all run = subst AllGranted (sym run) all
+runs_granted old (t ∷ ts) new all_ready all run = runs_granted run.0 ts new (turn_ready old t.actor t.event run.0 all_ready run.1) (turn_granted old t.actor t.event run.0 all_ready all run.1) run.2
 
 pub copies_granted : CopiesAreGranted
 copies_granted i turns new run name a named = let h = runs_granted (opening i) turns new (opening_ready i) (opening_granted i) run name a named in record { own = h.own; gates = h.gates }

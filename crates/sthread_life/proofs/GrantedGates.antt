@@ -19,17 +19,16 @@ use Rattle.sthread_life.proofs.Happening.{Happens}
 use Rattle.sthread_life.specs.Calls.{a0, draft_at}
 use Rattle.sthread_life.specs.Taking.{takes}
 use Rattle.wedge_base.specs.Images.{Image}
-use Rattle.sthread_life.specs.Worlds.{WorldState, opening}
+use Rattle.sthread_life.specs.Worlds.{WorldState, opening, with_actor}
 use Rattle.wedge_base.specs.declared.events.Event.{Event}
 use Rattle.sthread_life.specs.Cells.{slot_in}
 use Rattle.sthread_life.specs.Actors.{ActorState, pristine}
 use Rattle.sthread_life.proofs.Resting.{stays, goes_on}
 use Rattle.std.specs.List.{AllByRecursion}
-use Rattle.sthread_life.specs.Moments.{with_actor}
 use Rattle.sthread_life.specs.GateCalls.{NotMaking, KeepsGates, MakesWith, PreparesGate, BeginsUnless, GatesByRequest, InstrMakesGates, SnapsForGate, EventMakesGates}
 use Rattle.sthread_life.specs.Local.{is_running, step, run_local, rest}
 use Rattle.wedge_base.specs.Sheets.{Sheet, granted}
-use Rattle.sthread_life.specs.Requests.{Request, Loads, Stores, Reads, Appends, Closes, Opens, Creates, Makes, Deletes, Allots, Frees, request_at}
+use Rattle.sthread_life.specs.Requests.{Request, Loads, Stores, Reads, Appends, Closes, Opens, Creates, Makes, Enters, Deletes, Allots, Frees, request_at}
 use Rattle.sthread_life.specs.declared.phase.Phase.{Phase}
 use Rattle.sthread_life.specs.CopiesGranted.{AreGateCopiesGranted}
 use Rattle.sthread_life.proofs.GrantedPreparing.{copied_granted, AreAllGranted, IsGranted, grants_granted, so_prepared, child_grants}
@@ -95,6 +94,7 @@ request_granted i a b (Some (Appends fd s bytes)) drafted gates h = keeps_grante
 request_granted i a b (Some (Closes fd s)) drafted gates h = keeps_granted a b h gates
 request_granted i a b (Some (Opens path f bits)) drafted gates h = keeps_granted a b h gates
 request_granted i a b (Some (Creates d)) drafted gates h = keeps_granted a b h gates
+request_granted i a b (Some (Enters entry lent)) drafted gates h = keeps_granted a b h gates
 request_granted i a b (Some (Deletes tag)) drafted gates h = keeps_granted a b h gates
 request_granted i a b (Some (Allots tag size)) drafted gates h = keeps_granted a b h gates
 request_granted i a b (Some (Frees p g)) drafted gates h = keeps_granted a b h gates
@@ -144,6 +144,8 @@ event_gates_granted w b e happens h = by_phase b.phase refl (event_makes_gates w
     by_phase (phase.Starting p) at k = keeps_granted b x k h.gates
     by_phase (phase.Opening slot tag) at k = keeps_granted b x k h.gates
     by_phase (phase.Releasing slot) at k = keeps_granted b x k h.gates
+    by_phase (phase.Entering entrance) at k = keeps_granted b x k h.gates
+    by_phase (phase.Waiting number) at k = keeps_granted b x k h.gates
     by_phase (phase.OpeningFile o) at k = keeps_granted b x k h.gates
     by_phase (phase.Ending y) at k = keeps_granted b x k h.gates
     by_phase (phase.Ended y) at k = keeps_granted b x k h.gates

@@ -1,4 +1,4 @@
--- What an actor at rest comes to: the event of its request, the join of a child, the start of one, or its end.
+-- What an actor at rest comes to: the event of its request, the join of a child, the start of one, the entry of a gate, or its end.
 use Rattle.std.proofs.Common.{◌≡◌, ℕ, ◌+◌, ◌<◌, ◌≤◌, Bool, true, List, [], ◌∷◌, refl, sym, ap, subst, ◌∙◌}
 use Rattle.std.specs.Prelude.{Option, Some, None, false, ◌==◌, if◌then◌else◌}
 use Rattle.wedge_base.specs.Directories.{directory_reply as directory_reply_of}
@@ -37,10 +37,13 @@ use Rattle.sthread_life.specs.declared.copy_grant.CopyGrant.{CopyGrant}
 use Rattle.cow_pages.specs.Listed.{bytes_listed}
 use Rattle.sthread_life.specs.Taking.{next_start, starting_want, ending_want, wanted, wanted_at, has_snapped, opening_want, answered_end, takes, making_want, copied_on}
 use Rattle.sthread_life.specs.Worlds.{WorldState, event_at}
-use Rattle.sthread_life.proofs.Between.{event_for, IsJoin, ComesOf, comes_of, Leaves, IsPreparing, MayPrepare, MayNumber, numbered_is, takes_between, IsMaking, made_is}
+use Rattle.sthread_life.proofs.Between.{event_for, IsJoin, ComesOf, comes_of, Leaves, IsPreparing, MayPrepare, MayNumber, numbered_is, takes_between, IsMaking, made_is, entered_is, waiting_is, MayWait}
 use Rattle.sthread_life.proofs.Directing.{claimed_inside}
 use Rattle.sthread_life.proofs.Meeting.{request_for, refusal_for, slots_in, fds_in, NumberIn, AsksForPages, IsRequest, IsWanted, IsStartable, startable_at, ReadsAs, LoadsAt}
 use Rattle.sthread_life.proofs.MakingGates.{IsMakeable, takes_granting}
+use Rattle.sthread_life.proofs.EnteringGates.{IsEnterable}
+use Rattle.sthread_life.specs.Entrances.{Entrance}
+use Rattle.callgate.specs.declared.gate.Gate.{Gate}
 
 -- the event of a request
 pub record AtRequest (w : WorldState) (b : ActorState) (e : Event) : Type 0 where
@@ -132,10 +135,27 @@ pub record AtLastJoin (w : WorldState) (b : ActorState) (e : Event) : Type 0 whe
   pub left : b.unjoined ≡ first ∷ others
   pub join : IsJoin w b first.0 e
 
--- the end of an actor with no children
+-- the entry of a gate
+pub record AtEnter (b : ActorState) (e : Event) : Type 0 where
+  pub entrance : Entrance
+  pub at : b.phase ≡ phase.Entering entrance
+  pub may : IsEnterable b entrance
+  pub is : e ≡ event.Enter (child_name b.name (next_start b))
+
+-- the leave of the run of a gate with no children
+pub record AtLeave (b : ActorState) (e : Event) : Type 0 where
+  pub end_ : End
+  pub gate : Gate
+  pub at : b.phase ≡ phase.Ending end_
+  pub own : b.run_of ≡ Some gate
+  pub left : b.unjoined ≡ []
+  pub is : e ≡ event.Leave end_
+
+-- the end of any other actor with no children
 pub record AtEnd (b : ActorState) (e : Event) : Type 0 where
   pub end_ : End
   pub at : b.phase ≡ phase.Ending end_
+  pub own : b.run_of ≡ None
   pub left : b.unjoined ≡ []
   pub is : e ≡ event.Lives (lives_ask.Release end_) lives_reply.Released
 
@@ -151,6 +171,8 @@ pub data Happens (w : WorldState) (b : ActorState) (e : Event) : Type 0 where
   OpensFile : AtFile w b e → Happens w b e
   LastJoined : AtLastJoin w b e → Happens w b e
   Ended : AtEnd b e → Happens w b e
+  EntersGate : AtEnter b e → Happens w b e
+  LeavesGate : AtLeave b e → Happens w b e
 
 -- whatever lives in a slot, a tag is opened there
 pub opens_so : (g : Option Segment) (tag pages : ℕ) → slot_reply_of g (slot_ask.Open tag pages) ≡ slot_reply.Opened
@@ -193,9 +215,10 @@ module _ (w : WorldState) (b : ActorState) (e : Event) where
   within (want.Enter run) rd s at asked own later comes = absurd own
   within (want.Leave end) rd s at asked own later comes = absurd own
 
-  ending : (cs : Children) (x : End) (q : Want) → b.phase ≡ phase.Ending x → b.unjoined ≡ cs → ending_want cs x ≡ q → ComesOf w b q e → Happens w b e
-  ending [] x q at left is comes = Ended (record { end_ = x; at = at; left = left; is = subst (λ y. ComesOf w b y e) (sym is) comes })
-  ending (c ∷ cs) x q at left is comes = LastJoined (record { end_ = x; first = c; others = cs; at = at; left = left; join = subst (λ y. ComesOf w b y e) (sym is) comes })
+  ending : (g : Option Gate) (cs : Children) (x : End) (q : Want) → b.phase ≡ phase.Ending x → b.run_of ≡ g → b.unjoined ≡ cs → ending_want g cs x ≡ q → ComesOf w b q e → Happens w b e
+  ending None [] x q at own left is comes = Ended (record { end_ = x; at = at; own = own; left = left; is = subst (λ y. ComesOf w b y e) (sym is) comes })
+  ending (Some g) [] x q at own left is comes = LeavesGate (record { end_ = x; gate = g; at = at; own = own; left = left; is = subst (λ y. ComesOf w b y e) (sym is) comes })
+  ending g (c ∷ cs) x q at own left is comes = LastJoined (record { end_ = x; first = c; others = cs; at = at; left = left; join = subst (λ y. ComesOf w b y e) (sym is) comes })
 
   preparing : (pre : Preparation) (gs : List CopyGrant) (q : Want) → b.phase ≡ phase.Starting pre → pre.left ≡ gs → starting_want b gs ≡ q → IsStartable b → ComesOf w b q e → Happens w b e
   preparing pre [] q at left is ready comes = Started (record { preparation = pre; at = at; complete = left; ready = ready; is = subst (λ y. ComesOf w b y e) (sym is) comes })
@@ -228,8 +251,12 @@ module _ (w : WorldState) (b : ActorState) (e : Event) where
   by_phase (phase.Releasing slot) q at reads wants comes =
       let is : want.Slots (directory_ask.Release slot) ≡ q = cc in
       Releases (record { slot = slot; at = at; is = subst (λ y. ComesOf w b y e) (sym is) comes })
+  by_phase (phase.Entering x) q at reads wants comes =
+      let is : want.Enter (child_name b.name (next_start b)) ≡ q = cc in
+      EntersGate (record { entrance = x; at = at; may = reads; is = subst (λ y. ComesOf w b y e) (sym is) comes })
+  by_phase (phase.Waiting k) q at reads wants comes = absurd cc
   by_phase (phase.OpeningFile o) q at reads wants comes = let is : opening_want o o.number ≡ q = cc in opening_at o o.number q at refl is reads comes
-  by_phase (phase.Ending x) q at reads wants comes = let is : ending_want b.unjoined x ≡ q = cc in ending b.unjoined x q at refl is comes
+  by_phase (phase.Ending x) q at reads wants comes = let is : ending_want b.run_of b.unjoined x ≡ q = cc in ending b.run_of b.unjoined x q at refl refl is comes
   by_phase (phase.Ended x) q at reads wants comes = absurd cc
 
 pub happens : (w : WorldState) (b : ActorState) (q : Want) (e : Event) → ReadsAs w.image b b.phase → wanted b ≡ Some q → event_at w b q ≡ Some e → Happens w b e
@@ -244,6 +271,8 @@ between_reads i x (phase.Starting pre) h = absurd h
 between_reads i x (phase.MakingGate pre) h = absurd h
 between_reads i x (phase.Opening slot tag) h = absurd h
 between_reads i x (phase.Releasing slot) h = absurd h
+between_reads i x (phase.Entering entrance) h = absurd h
+between_reads i x (phase.Waiting number) h = absurd h
 between_reads i x (phase.OpeningFile o) h = absurd h
 between_reads i x (phase.Ending e) h = tt
 between_reads i x (phase.Ended e) h = tt
@@ -255,6 +284,8 @@ preparing_reads i x (phase.Starting pre) h ready granting = ready tt
 preparing_reads i x (phase.MakingGate pre) h ready granting = granting pre refl
 preparing_reads i x (phase.Opening slot tag) h ready granting = absurd h
 preparing_reads i x (phase.Releasing slot) h ready granting = absurd h
+preparing_reads i x (phase.Entering entrance) h ready granting = absurd h
+preparing_reads i x (phase.Waiting number) h ready granting = absurd h
 preparing_reads i x (phase.OpeningFile o) h ready granting = absurd h
 preparing_reads i x (phase.Ending e) h ready granting = tt
 preparing_reads i x (phase.Ended e) h ready granting = tt
@@ -266,6 +297,8 @@ may_prepare (phase.Starting pre) h = tt
 may_prepare (phase.MakingGate pre) h = absurd h
 may_prepare (phase.Opening slot tag) h = absurd h
 may_prepare (phase.Releasing slot) h = absurd h
+may_prepare (phase.Entering entrance) h = absurd h
+may_prepare (phase.Waiting number) h = absurd h
 may_prepare (phase.OpeningFile o) h = absurd h
 may_prepare (phase.Ending e) h = absurd h
 may_prepare (phase.Ended e) h = absurd h
@@ -277,6 +310,8 @@ numbered_reads i x fd (phase.Starting pre) h paid = absurd h
 numbered_reads i x fd (phase.MakingGate pre) h paid = absurd h
 numbered_reads i x fd (phase.Opening slot tag) h paid = absurd h
 numbered_reads i x fd (phase.Releasing slot) h paid = absurd h
+numbered_reads i x fd (phase.Entering entrance) h paid = absurd h
+numbered_reads i x fd (phase.Waiting number) h paid = absurd h
 numbered_reads i x fd (phase.OpeningFile o) h paid = (paid.0, subst (NumberIn i) (sym h) paid.1)
 numbered_reads i x fd (phase.Ending e) h paid = absurd h
 numbered_reads i x fd (phase.Ended e) h paid = absurd h
@@ -303,6 +338,7 @@ leaves_reads i x (event.Slot slot q slot_reply.Closed) p h ready granting opens 
 leaves_reads i x (event.Slot slot q (slot_reply.Snapped pages)) p h ready granting opens numbers = preparing_reads i x p h ready granting
 leaves_reads i x (event.Slot slot q slot_reply.Gone) p h ready granting opens numbers = preparing_reads i x p h ready granting
 leaves_reads i x (event.Slot slot q r) p h ready granting opens numbers = between_reads i x p h
+leaves_reads i x (event.Enter run) p h ready granting opens numbers = waiting_is (ReadsAs i x) p h tt (λ k. tt)
 leaves_reads i x e p h ready granting opens numbers = between_reads i x p h
 
 -- an actor is about to open a tag only once it claimed the slot for it
@@ -327,6 +363,7 @@ opens_by_claim (event.Slot s q slot_reply.Closed) p slot tag h is = let f : phas
 opens_by_claim (event.Slot s q (slot_reply.Snapped pages)) p slot tag h is = absurd (subst MayPrepare is h)
 opens_by_claim (event.Slot s q slot_reply.Gone) p slot tag h is = absurd (subst MayPrepare is h)
 opens_by_claim (event.Slot s q r) p slot tag h is = absurd (subst IsBetween is h)
+opens_by_claim (event.Enter run) p slot tag h is = absurd (subst MayWait is h)
 opens_by_claim e p slot tag h is = absurd (subst IsBetween is h)
 
 -- a life is claimed by an actor that is about to start a child, and by no other
@@ -349,6 +386,8 @@ happens_ready w b e (Numbers n) is = let f = sym n.is ∙ is in absurd cc
 happens_ready w b e (OpensFile f) is = let g = sym f.is ∙ is in absurd cc
 happens_ready w b e (LastJoined j) is = let f = sym j.join.is ∙ is in absurd cc
 happens_ready w b e (Ended f) is = let g = sym f.is ∙ is in absurd cc
+happens_ready w b e (EntersGate x) is = let g = sym x.is ∙ is in absurd cc
+happens_ready w b e (LeavesGate l) is = let g = sym l.is ∙ is in absurd cc
 
 -- so it is by whoever prepares a child
 happens_preparing : (w : WorldState) (b : ActorState) (e : Event) → Happens w b e → IsPreparing b.phase → IsStartable b
@@ -363,6 +402,8 @@ happens_preparing w b e (Numbers n) h = absurd (subst IsPreparing n.at h)
 happens_preparing w b e (OpensFile f) h = absurd (subst IsPreparing f.at h)
 happens_preparing w b e (LastJoined j) h = absurd (subst IsPreparing j.at h)
 happens_preparing w b e (Ended f) h = absurd (subst IsPreparing f.at h)
+happens_preparing w b e (EntersGate x) h = absurd (subst IsPreparing x.at h)
+happens_preparing w b e (LeavesGate l) h = absurd (subst IsPreparing l.at h)
 
 pub no_preparing : {X : Type 0} (p : Phase) → IsBetween p → IsPreparing p → X
 no_preparing phase.Running h k = absurd k
@@ -371,6 +412,8 @@ no_preparing (phase.Starting pre) h k = absurd h
 no_preparing (phase.MakingGate pre) h k = absurd h
 no_preparing (phase.Opening slot tag) h k = absurd h
 no_preparing (phase.Releasing slot) h k = absurd h
+no_preparing (phase.Entering entrance) h k = absurd h
+no_preparing (phase.Waiting number) h k = absurd h
 no_preparing (phase.OpeningFile o) h k = absurd h
 no_preparing (phase.Ending e) h k = absurd k
 no_preparing (phase.Ended e) h k = absurd k
@@ -382,6 +425,8 @@ snapped_startable b (phase.Starting pre) slot bytes at ready k = startable_at b 
 snapped_startable b (phase.MakingGate pre) slot bytes at ready k = absurd (made_is (λ x. IsPreparing x.phase → ⊥) b (draft_at b.drafts (a0 b)) (copied_on b pre slot bytes) (λ x y. y) (λ g y. y) k)
 snapped_startable b (phase.Opening s tag) slot bytes at ready k = absurd k
 snapped_startable b (phase.Releasing s) slot bytes at ready k = absurd k
+snapped_startable b (phase.Entering entrance) slot bytes at ready k = absurd k
+snapped_startable b (phase.Waiting number) slot bytes at ready k = absurd k
 snapped_startable b (phase.OpeningFile o) slot bytes at ready k = absurd k
 snapped_startable b (phase.Ending e) slot bytes at ready k = absurd k
 snapped_startable b (phase.Ended e) slot bytes at ready k = absurd k
@@ -404,6 +449,7 @@ takes_startable i b (event.Fds directory_ask.Claim directory_reply.Full) first r
 takes_startable i b (event.Fds directory_ask.Claim directory_reply.Released) first ready k = absurd k
 takes_startable i b (event.Fds (directory_ask.Release place) r) first ready k = absurd k
 takes_startable i b (event.Slot slot q r) first ready k = no_preparing (takes i b (event.Slot slot q r)).phase (takes_between i b (event.Slot slot q r)) k
+takes_startable i b (event.Enter run) first ready k = absurd (entered_is (λ x. IsPreparing x.phase → ⊥) b b.phase (λ y. y) (λ x y. y) k)
 takes_startable i b e first ready k = no_preparing (takes i b e).phase (takes_between i b e) k
 
 -- whoever makes a gate may give it its sheet
@@ -419,6 +465,8 @@ happens_making w b e (Numbers n) x at = absurd (subst IsMaking (sym at ∙ n.at)
 happens_making w b e (OpensFile f) x at = absurd (subst IsMaking (sym at ∙ f.at) tt)
 happens_making w b e (LastJoined j) x at = absurd (subst IsMaking (sym at ∙ j.at) tt)
 happens_making w b e (Ended f) x at = absurd (subst IsMaking (sym at ∙ f.at) tt)
+happens_making w b e (EntersGate y) x at = absurd (subst IsMaking (sym at ∙ y.at) tt)
+happens_making w b e (LeavesGate l) x at = absurd (subst IsMaking (sym at ∙ l.at) tt)
 
 -- a slot is claimed by an actor that asks for pages that a tag may have, and is one of the directory's
 claims_slot : (b : ActorState) (x : Want) (c : Cells) (N : ℕ → Type 0) (slot tag : ℕ) → IsRequest N b x → event_for c b x ≡ event.Slots directory_ask.Claim (directory_reply.Claimed slot tag)
@@ -443,6 +491,8 @@ happens_claim w b e slot tag (Numbers n) is = let f = sym n.is ∙ is in absurd 
 happens_claim w b e slot tag (OpensFile f) is = let g = sym f.is ∙ is in absurd cc
 happens_claim w b e slot tag (LastJoined j) is = let f = sym j.join.is ∙ is in absurd cc
 happens_claim w b e slot tag (Ended f) is = let g = sym f.is ∙ is in absurd cc
+happens_claim w b e slot tag (EntersGate x) is = let g = sym x.is ∙ is in absurd cc
+happens_claim w b e slot tag (LeavesGate l) is = let g = sym l.is ∙ is in absurd cc
 
 claimed_pages : (i : Image) (b : ActorState) (e : Event) (slot tag : ℕ) → e ≡ event.Slots directory_ask.Claim (directory_reply.Claimed slot tag) → AsksForPages b → AsksForPages (takes i b e)
 unfolding takes
@@ -469,6 +519,8 @@ happens_number w b e fd number (Numbers n) is = let f = sym n.is ∙ is in (n.pa
 happens_number w b e fd number (OpensFile o) is = let g = sym o.is ∙ is in absurd cc
 happens_number w b e fd number (LastJoined j) is = let f = sym j.join.is ∙ is in absurd cc
 happens_number w b e fd number (Ended f) is = let g = sym f.is ∙ is in absurd cc
+happens_number w b e fd number (EntersGate x) is = let g = sym x.is ∙ is in absurd cc
+happens_number w b e fd number (LeavesGate l) is = let g = sym l.is ∙ is in absurd cc
 
 numbered_pays : (i : Image) (b : ActorState) (e : Event) (fd number : ℕ) → e ≡ event.Fds directory_ask.Claim (directory_reply.Claimed fd number) → a1 b ≤ b.fuel → a1 (takes i b e) ≤ (takes i b e).fuel
 unfolding takes

@@ -1,5 +1,5 @@
 -- Where the cells look alike to an actor in two worlds, its loads, stores, reads and appends go the same way in both.
-use Rattle.std.proofs.Common.{◌≡◌, ℕ, Bool, true, false, List, [], refl, sym, ap, subst, ◌∙◌}
+use Rattle.std.proofs.Common.{◌≡◌, ℕ, Bool, true, false, List, [], refl, sym, ap, ◌∙◌}
 use Rattle.std.specs.Prelude.{Option, Some, None, is_some, option_map, length, ◌==◌, if◌then◌else◌}
 use Rattle.wedge_base.specs.Bytes.{written, bytes_of}
 use Rattle.wedge_base.specs.Images.{Image}
@@ -32,15 +32,16 @@ use Rattle.sthread_life.specs.Families.{made_by}
 use Rattle.sthread_life.specs.Isolation.{Sight, sight, seen, has_bit, LookAlike, IsSeen}
 use Rattle.sthread_life.specs.Laws.{AccessesAreIsolated}
 use Rattle.sthread_life.specs.Local.{rest}
-use Rattle.sthread_life.specs.Taking.{pair, wanted_at, takes, begun}
-use Rattle.sthread_life.specs.Worlds.{WorldState, actor_named, put_actor, with_begun, wanting, turn_with, turn_of, happened, event_at}
+use Rattle.sthread_life.specs.Taking.{pair, wanted, wanted_at, takes, begun}
+use Rattle.sthread_life.specs.Worlds.{WorldState, actor_named, put_actor, with_begun, wanting, ready, resumed, at_rest, turn_with, turn_of, happened, event_at}
 use Rattle.sthread_life.proofs.Between.{takes_name}
 use Rattle.sthread_life.proofs.Families.{takes_sheet, takes_made, IsNoOpening, made_same, made_within}
 use Rattle.sthread_life.proofs.Named.{found_name}
 use Rattle.sthread_life.proofs.OneCell.{follows}
 use Rattle.sthread_life.proofs.Resting.{rest-name}
 use Rattle.sthread_life.proofs.Trees.{IsPut, found_put}
-use Rattle.sthread_life.proofs.Writing.{SameRights, rest_rights}
+use Rattle.sthread_life.proofs.Turns.{ready_name, ready_named}
+use Rattle.sthread_life.proofs.Writing.{SameRights, at_rest_rights}
 
 -- ---- an actor with the same rights sees the same
 
@@ -247,43 +248,42 @@ seen_at_rest c a b (want.Fd fd (stream_ask.Read bits count)) same is = ap has_bi
 seen_at_rest c a b (want.Fd fd (stream_ask.Append bits bytes)) same is = ap has_bit (same.bits fd) ∙ is
 seen_at_rest c a b q same is = absurd is
 
--- the turn of an actor that is within a want
-turns_by : (w : WorldState) (name : List ℕ) (a : ActorState) (q : Want) (e : Event) → actor_named w.actors name ≡ Some a → (rest w.image a).phase ≡ phase.Within q → event_at w (rest w.image a) q ≡ Some e
-    → turn_of w name ≡ Some (happened w (rest w.image a) e)
+-- the turn of an actor that is within a want once it has gone on
+turns_by : (w : WorldState) (name : List ℕ) (a b : ActorState) (q : Want) (e : Event) → actor_named w.actors name ≡ Some a → at_rest w a ≡ b → b.phase ≡ phase.Within q → event_at (resumed w a) b q ≡ Some e
+    → turn_of w name ≡ Some (happened (resumed w a) b e)
 unfolding turn_of
-turns_by w name a q e there at comes_so =
-    ap (turn_with w) there ∙ (ap (λ p. wanting w (rest w.image a) (wanted_at (rest w.image a) p)) at ∙ ap (option_map (happened w (rest w.image a))) comes_so)
+turns_by w name a b q e there rests at comes_so =
+    ap (turn_with w) there ∙ (ap (λ (x : ActorState). wanting (resumed w a) x (wanted x)) rests
+    ∙ (ap (λ p. wanting (resumed w a) b (wanted_at b p)) at ∙ ap (option_map (happened (resumed w a) b)) comes_so))
 
-doer_after : (w : WorldState) (name : List ℕ) (a : ActorState) (e : Event) → actor_named w.actors name ≡ Some a → begun w.image (rest w.image a) e ≡ None
-    → actor_named (happened w (rest w.image a) e).world.actors name ≡ Some (takes w.image (rest w.image a) e)
-doer_after w name a e there nobody =
-    let b = rest w.image a in
+doer_after : (w : WorldState) (name : List ℕ) (a b : ActorState) (e : Event) → actor_named w.actors name ≡ Some a → at_rest w a ≡ b → begun w.image b e ≡ None
+    → actor_named (happened (resumed w a) b e).world.actors name ≡ Some (takes w.image b e)
+doer_after w name a b e there rests nobody =
+    let v = resumed w a in
+    let on = ready w.actors a in
     let x = takes w.image b e in
-    let own : a.name ≡ name = found_name w.actors name a there in
-    let put : IsPut w.actors a x = record { name = takes_name w.image b e ∙ rest-name w.image a; there = ap (actor_named w.actors) own ∙ there } in
-    ap (λ o. actor_named (with_begun (put_actor w.actors x) o) name) nobody ∙ (ap (actor_named (put_actor w.actors x)) (sym own) ∙ found_put w.actors a x put)
+    let own : on.name ≡ name = ready_name w.actors a ∙ found_name w.actors name a there in
+    let put : IsPut v.actors on x = record {
+      name = takes_name w.image b e ∙ (ap (λ (y : ActorState). y.name) (sym rests) ∙ rest-name w.image on);
+      there = ap (actor_named v.actors) own ∙ ready_named w name a there;
+    } in
+    ap (λ o. actor_named (with_begun (put_actor v.actors x) o) name) nobody ∙ (ap (actor_named (put_actor v.actors x)) (sym own) ∙ found_put v.actors on x put)
 
 pub isolated : AccessesAreIsolated
 isolated v w name a q access =
-    let b = rest v.image a in
-    let kept = rest_rights v.image a _ refl in
-    let c = comes v w b q access.within (looks a b v.cells w.cells kept access.alike) (seen_at_rest v.cells a b q kept access.is_seen) in
+    let b = at_rest v a in
+    let kept = at_rest_rights v a in
+    let c = comes (resumed v a) (resumed w a) b q access.within (looks a b v.cells w.cells kept access.alike) (seen_at_rest v.cells a b q kept access.is_seen) in
     let x = takes v.image b c.event in
-    let same_image = sym access.image in
-    let second : turn_of w name ≡ Some (happened w b c.event) =
-    subst (λ i. (rest i a).phase ≡ phase.Within q → event_at w (rest i a) q ≡ Some c.event → turn_of w name ≡ Some (happened w (rest i a) c.event)) same_image
-    (λ at so. turns_by w name a q c.event access.in_second at so) access.within c.in_second in
-    let second_doer : actor_named (happened w b c.event).world.actors name ≡ Some x =
-    subst (λ i. actor_named (happened w (rest i a) c.event).world.actors name ≡ Some (takes i (rest i a) c.event)) same_image
-    (doer_after w name a c.event access.in_second (c.nobody w.image (rest w.image a))) in
+    let second : at_rest w a ≡ b = ap (λ i. rest i (ready w.actors a)) (sym access.image) ∙ ap (rest v.image) (sym access.going) in
     record {
       event = c.event;
-      first = (happened v b c.event).world;
-      second = (happened w b c.event).world;
-      in_first = turns_by v name a q c.event access.in_first access.within c.in_first;
-      in_second = second;
+      first = (happened (resumed v a) b c.event).world;
+      second = (happened (resumed w a) b c.event).world;
+      in_first = turns_by v name a b q c.event access.in_first refl access.within c.in_first;
+      in_second = turns_by w name a b q c.event access.in_second second access.within c.in_second;
       after = x;
-      first_after = doer_after v name a c.event access.in_first (c.nobody v.image b);
-      second_after = second_doer;
+      first_after = doer_after v name a b c.event access.in_first refl (c.nobody v.image b);
+      second_after = doer_after w name a b c.event access.in_second second (c.nobody w.image b) ∙ ap (λ i. Some (takes i b c.event)) (sym access.image);
       alike = looks b x (cells_after v.cells c.event) (cells_after w.cells c.event) (same_rights v.image b c.event c.made) c.alike;
     }

@@ -29,7 +29,7 @@ use Rattle.rv_hart.specs.declared.Need.TheVariants as need
 use Rattle.rv_hart.specs.Local.{local}
 use Rattle.wedge_base.specs.Files.{may_open}
 use Rattle.wedge_base.specs.declared.image.FileEntry.{FileEntry}
-use Rattle.sthread_life.specs.Actors.{ActorState, right_of, denies, ends, refuses}
+use Rattle.sthread_life.specs.Actors.{ActorState, right_of, denies, ends, refuses, gate_held}
 use Rattle.cow_pages.specs.Copies.{copy_at, holds_copy, read_copy}
 use Rattle.cow_pages.specs.Listed.{bytes_listed}
 use Rattle.cow_pages.specs.PrivateMemory.{PrivateMemory}
@@ -46,21 +46,26 @@ use Rattle.wedge_base.specs.declared.rights.FdBits.{FdBits}
 use Rattle.wedge_base.specs.declared.rights.Right.{Right}
 use Rattle.wedge_base.specs.declared.rights.Right.TheVariants as right
 use Rattle.sthread_life.specs.Children.{is_child, without_child}
-use Rattle.sthread_life.proofs.Between.{event_for, joined_is, numbered_is, opened_is, snapped_is}
-use Rattle.sthread_life.proofs.Happening.{Happens, Requested, Joined, Snaps, GateSnaps, Started, Opens, Releases, Numbers, OpensFile, LastJoined, Ended}
+use Rattle.sthread_life.proofs.Between.{event_for, joined_is, numbered_is, opened_is, snapped_is, entered_is}
+use Rattle.sthread_life.proofs.Happening.{Happens, Requested, Joined, Snaps, GateSnaps, Started, Opens, Releases, Numbers, OpensFile, LastJoined, Ended, EntersGate, LeavesGate}
 use Rattle.sthread_life.proofs.Meeting.{IsRequest}
 use Rattle.sthread_life.proofs.StreamCalls.{IsStreamRequest, append_cases, close_cases}
 use Rattle.sthread_life.proofs.Reading.{read_remembers}
 use Rattle.sthread_life.specs.Cells.{Cells, stream_in}
 use Rattle.sthread_life.specs.Worlds.{WorldState}
 use Rattle.sthread_life.proofs.WritingCopies.{copied_there}
-use Rattle.sthread_life.specs.Calls.{serves, exit, is_procedure, create, create_with, create_checked, join, are_pages, tag_new, tag_delete, smalloc, free_at, sfree, fd_read, fd_append, fd_close, most_drafts, sc_new, right_asked, bits_asked, add_right, add_right_to, sc_mem_add, add_bits, add_bits_to, sc_fd_add, add_gate_to, sc_cgate_add, draft_call, a0, a1, a2, a3, a7, set_user, sc_user, path_in, put_root, set_root, sc_root, file_at, mode_asked, suits, open_file, open_path, file_open, makes_or_waits, may_be_gate, make_checked, make_with, cgate_make}
+use Rattle.sthread_life.specs.Calls.{serves, exit, is_procedure, create, create_with, create_checked, join, are_pages, tag_new, tag_delete, smalloc, free_at, sfree, fd_read, fd_append, fd_close, most_drafts, sc_new, right_asked, bits_asked, add_right, add_right_to, sc_mem_add, add_bits, add_bits_to, sc_fd_add, add_gate_to, sc_cgate_add, draft_call, a0, a1, a2, a3, a7, set_user, sc_user, path_in, put_root, set_root, sc_root, file_at, mode_asked, suits, open_file, open_path, file_open, makes_or_waits, may_be_gate, make_checked, make_with, cgate_make, enter_kind, enter_checked, enter_lending, enter_held, cgate, lent_asked}
 use Rattle.sthread_life.specs.Local.{needed, executed, fuelled, fetched, step}
 use Rattle.sthread_life.specs.Taking.{runs, loads_by, loads_at, takes}
 use Rattle.sthread_life.specs.Remembering.{copied_bytes, copy_target, target_among, Elsewhere, LoadGives, StoreWrites, NeedRemembers, InstrRemembers, WordRemembers, EventRemembers, memory_after}
 use Rattle.sthread_life.proofs.WritingRanges.{length-bytes_of, written_at}
 use Rattle.sthread_life.specs.Copying.{Preparation}
 use Rattle.sthread_life.specs.declared.copy_grant.CopyGrant.{CopyGrant}
+use Rattle.sthread_life.specs.Lending.{may_lend, excess_lent}
+use Rattle.sthread_life.specs.Entrances.{Entrance}
+use Rattle.callgate.specs.declared.gate.Gate.{Gate}
+use Rattle.wedge_base.specs.declared.grants.GateKind.{GateKind}
+use Rattle.wedge_base.specs.declared.grants.GateKind.TheVariants as gate_kind
 
 -- what keeps private memory
 abbrev Keeps : ActorState → ActorState → Type 0
@@ -185,6 +190,23 @@ make_keeps : (i : Image) (a : ActorState) (d : Option Draft) → Keeps a (make_w
 make_keeps i a None = refl
 make_keeps i a (Some d) = keeps_if a (refuses a code.Bad) _ (not (may_be_gate i a d)) refl (make_checked_keeps i a d (first_excess a.sheet a.made d))
 
+kind_keeps : (a : ActorState) (k : GateKind) (x : Entrance) → Keeps a (enter_kind a k x)
+kind_keeps a gate_kind.Fresh x = refl
+kind_keeps a gate_kind.Recycled x = refl
+
+entry_keeps : (a : ActorState) (g : Gate) (lent : Option Draft) (d : Option Denial) → Keeps a (enter_checked a g lent d)
+entry_keeps a g lent (Some d) = refl
+entry_keeps a g lent None =
+    keeps_if a (refuses a code.Deep) _ (nat_le most_parts (length a.name)) refl (keeps_if a (refuses a code.FuelShort) _ (nat_lt a.fuel g.fuel) refl (kind_keeps a g.kind _))
+
+lending_keeps : (a : ActorState) (g : Gate) (lent : Option (Option Draft)) → Keeps a (enter_lending a g lent)
+lending_keeps a g None = refl
+lending_keeps a g (Some lent) = keeps_if a (refuses a code.Bad) _ (not (may_lend lent)) refl (entry_keeps a g lent (excess_lent a lent))
+
+enter_keeps : (a : ActorState) (g : Option Gate) → Keeps a (enter_held a g)
+enter_keeps a None = refl
+enter_keeps a (Some g) = lending_keeps a g (lent_asked a.drafts (a2 a))
+
 create_keeps : (i : Image) (a : ActorState) (d : Option Draft) → Keeps a (create_with i a d)
 create_keeps i a None = refl
 create_keeps i a (Some d) = keeps_if a (refuses a code.Bad) _ (not (is_procedure i (a1 a))) refl (checked_keeps (first_excess a.sheet a.made d))
@@ -223,10 +245,11 @@ call_keeps i a n =
     (keeps_if a (smalloc a) _ (n == 5) (smalloc_keeps a)
     (keeps_if a (sfree a) _ (n == 6) (free_keeps a (slot_of (a0 a)))
     (keeps_if a (cgate_make i a) _ (n == 13) (make_keeps i a (slice_get a.drafts (a0 a)))
+    (keeps_if a (cgate a) _ (n == 14) (enter_keeps a (gate_held a (a0 a)))
     (keeps_if a (fd_read a) _ (n == 15) (read_keeps a)
     (keeps_if a (fd_append i a) _ (n == 16) (append_keeps i a)
     (keeps_if a (fd_close a) _ (n == 17) (keeps_if a (refuses a code.NoSuch) _ (nat_le most_fds (a0 a)) refl refl)
-    (keeps_if a (file_open i a) _ (n == 18) (open_keeps i a (mode_asked (a2 a)) (path_in i a (a0 a) (a1 a))) (draft_keeps i a n))))))))))))
+    (keeps_if a (file_open i a) _ (n == 18) (open_keeps i a (mode_asked (a2 a)) (path_in i a (a0 a) (a1 a))) (draft_keeps i a n)))))))))))))
 
 -- an instruction
 need_remembers : (i : Image) (ins : Instr) (a : ActorState) (h : Hart) (n : Need) → NeedRemembers i ins.rd a n (needed i ins a h n)
@@ -296,6 +319,7 @@ memory_is i a (event.Lives lives_ask.Claim lives_reply.Full) k = refl
 memory_is i a (event.Lives lives_ask.Claim lives_reply.Released) k = refl
 memory_is i a (event.Lives (lives_ask.Release x) r) k = refl
 memory_is i a (event.Join child e fuel) k = joined_is (λ x. x.memory ≡ a.memory) (record a { fuel = a.fuel + fuel; unjoined = without_child a.unjoined child }) a.phase e refl refl
+memory_is i a (event.Enter run) k = entered_is (λ x. x.memory ≡ a.memory) a a.phase refl (λ x. refl)
 memory_is i a e k = refl
 
 -- no event but an opening, or an end, changes the copies
@@ -313,6 +337,7 @@ event_copies i a (event.Slots q r) = ap (λ (m : PrivateMemory). m.copies) (memo
 event_copies i a (event.Slot slot q r) = ap (λ (m : PrivateMemory). m.copies) (memory_is i a (event.Slot slot q r) tt)
 event_copies i a (event.Lives q r) = ap (λ (m : PrivateMemory). m.copies) (memory_is i a (event.Lives q r) tt)
 event_copies i a (event.Join k x fuel) = ap (λ (m : PrivateMemory). m.copies) (memory_is i a (event.Join k x fuel) tt)
+event_copies i a (event.Enter run) = ap (λ (m : PrivateMemory). m.copies) (memory_is i a (event.Enter run) tt)
 event_copies i a e = refl
 
 -- an event that gives nothing is remembered as one
@@ -359,3 +384,5 @@ event_remembers w b e (Numbers n) = gift_free w.image b e n.is tt
 event_remembers w b e (OpensFile f) = gift_free w.image b e f.is tt
 event_remembers w b e (LastJoined j) = gift_free w.image b e j.join.is tt
 event_remembers w b e (Ended f) = gift_free w.image b e f.is tt
+event_remembers w b e (EntersGate x) = gift_free w.image b e x.is tt
+event_remembers w b e (LeavesGate l) = gift_free w.image b e l.is tt

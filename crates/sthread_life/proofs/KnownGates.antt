@@ -20,25 +20,27 @@ use Rattle.sthread_life.specs.declared.copy_grant.CopyGrant.{CopyGrant}
 use Rattle.sthread_life.specs.declared.phase.Phase.{Phase}
 use Rattle.sthread_life.specs.declared.phase.Phase.TheVariants as phase
 use Rattle.sthread_life.specs.Actors.{ActorState, root}
+use Rattle.sthread_life.specs.Calls.{a0}
 use Rattle.sthread_life.specs.Children.{child_name}
 use Rattle.sthread_life.specs.Copying.{Preparation}
 use Rattle.sthread_life.specs.GateCalls.{KeepsGates, MakesWith, PreparesGate, BeginsUnless, GatesByRequest, InstrMakesGates, SnapsForGate, EventMakesGates}
 use Rattle.sthread_life.specs.KnownGates.{AreAmong, IsMadeAfter, AreInOrder, KnowsItsGates, IsOfItsMaker}
 use Rattle.sthread_life.specs.Laws.{GatesAreKept}
 use Rattle.sthread_life.specs.Local.{is_running, step, run_local, rest}
-use Rattle.sthread_life.specs.Moments.{with_actor}
-use Rattle.sthread_life.specs.Requests.{Request, Loads, Stores, Reads, Appends, Closes, Opens, Creates, Makes, Deletes, Allots, Frees, request_at}
-use Rattle.sthread_life.specs.Taking.{next_start, takes, child_of, begun}
-use Rattle.sthread_life.specs.Worlds.{WorldState, opening, actor_named, put_actor, with_begun, turn_of, Runs}
-use Rattle.sthread_life.proofs.Between.{takes_name, turn_parts}
+use Rattle.sthread_life.specs.Requests.{Request, Loads, Stores, Reads, Appends, Closes, Opens, Creates, Makes, Enters as EntersAt, Deletes, Allots, Frees, request_at}
+use Rattle.sthread_life.specs.Taking.{next_start, takes, child_of, run_by, begun}
+use Rattle.sthread_life.specs.Worlds.{WorldState, opening, actor_named, put_actor, with_begun, turn_of, ready, resumed, Runs, with_actor}
+use Rattle.sthread_life.proofs.Between.{takes_name, entered_is}
 use Rattle.sthread_life.proofs.Bounding.{with_same, with_other}
-use Rattle.sthread_life.proofs.Families.{takes_sheet, child_begins}
-use Rattle.sthread_life.proofs.FamilyRuns.{Acts, ActsAlone, Starts, Joins, acts, one_begins}
+use Rattle.sthread_life.proofs.Families.{takes_sheet, child_begins, run_begins}
+use Rattle.sthread_life.proofs.FamilyRuns.{Acts, ActsAlone, Starts, Enters, Joins, acts, one_begins}
+use Rattle.sthread_life.proofs.Turns.{ready_is, ready_name, ready_sheet, turn_from}
+use Rattle.sthread_life.proofs.GateRuns.{held_is, entry_begins}
 use Rattle.sthread_life.proofs.GateMoments.{step_makes_gates, event_makes_gates}
-use Rattle.sthread_life.proofs.Happening.{AtStart}
-use Rattle.sthread_life.proofs.Named.{same_self, same_equal, found_name, put_put, named_begun}
+use Rattle.sthread_life.proofs.Happening.{AtStart, AtEnter}
+use Rattle.sthread_life.proofs.Named.{same_self, same_equal, put_put, named_begun}
 use Rattle.sthread_life.proofs.Resting.{steps_step, stays, goes_on, running_is, rest-name}
-use Rattle.sthread_life.proofs.Settling.{AllReady, turn_happens, turn_ready, opening_ready}
+use Rattle.sthread_life.proofs.Settling.{AllReady, turn_happens, turn_ready, opening_ready, turned_there}
 use Rattle.sthread_life.proofs.Trees.{IsPut, IsDoer, IsOther, find_put, found_put, found_else, found_or_last}
 
 -- ---- gates by their identities
@@ -110,6 +112,25 @@ order_with before [] g order after = (subst (λ xs. IsMadeAfter xs g) (without_m
 order_with before (x ∷ xs) g order after =
     (order.0, order_with (before ++ x ∷ []) xs g order.1 (subst (λ ys. IsMadeAfter ys g) (sym (one_by_one before x xs)) after))
 
+-- a gate of a list names none but those before it
+named_more : (xs ys : List Gate) (id : GateId) → is_some (gate_named xs id) ≡ true → is_some (gate_named (xs ++ ys) id) ≡ true
+named_more [] ys id e = absurd cc
+named_more (x ∷ xs) ys id e = by_id (same_gate x.id id) (named_more xs ys id) e
+  where
+    by_id : (t : Bool) → (is_some (gate_named xs id) ≡ true → is_some (gate_named (xs ++ ys) id) ≡ true) → is_some (if t then Some x else gate_named xs id) ≡ true → is_some (if t then Some x else gate_named (xs ++ ys) id) ≡ true
+    by_id true others k = refl
+    by_id false others k = others k
+
+order_known : (before gs : List Gate) (id : GateId) (g : Gate) → AreInOrder before gs → gate_named gs id ≡ Some g → AreAmong (before ++ gs) g.sheet.gates
+order_known before [] id g order e = absurd cc
+order_known before (x ∷ xs) id g order e = by_id (same_gate x.id id) e (order_known (before ++ x ∷ []) xs id g order.1)
+  where
+    by_id : (t : Bool) → (if t then Some x else gate_named xs id) ≡ Some g → (gate_named xs id ≡ Some g → AreAmong ((before ++ x ∷ []) ++ xs) g.sheet.gates) → AreAmong (before ++ x ∷ xs) g.sheet.gates
+    by_id true k others =
+        let is : x ≡ g = cc in
+        subst (λ (y : Gate). AreAmong (before ++ x ∷ xs) y.sheet.gates) is (λ entry y there. named_more before (x ∷ xs) y (order.0.older entry y there))
+    by_id false k others = subst (λ ys. AreAmong ys g.sheet.gates) (one_by_one before x xs) (others k)
+
 -- ---- what a moment makes of an actor's gates: nothing, or one gate more
 
 pub data Grows (a b : ActorState) : Type 0 where
@@ -142,6 +163,7 @@ by_request i a b (Some (Appends fd s bytes)) h = keeping a b h
 by_request i a b (Some (Closes fd s)) h = keeping a b h
 by_request i a b (Some (Opens path f bits)) h = keeping a b h
 by_request i a b (Some (Creates d)) h = keeping a b h
+by_request i a b (Some (EntersAt entry lent)) h = keeping a b h
 by_request i a b (Some (Deletes tag)) h = keeping a b h
 by_request i a b (Some (Allots tag size)) h = keeping a b h
 by_request i a b (Some (Frees p g)) h = keeping a b h
@@ -168,6 +190,8 @@ by_phase w a b (phase.Starting p) e h = keeping a b h
 by_phase w a b (phase.MakingGate p) e h = by_snap w a b p p.left e h
 by_phase w a b (phase.Opening slot tag) e h = keeping a b h
 by_phase w a b (phase.Releasing slot) e h = keeping a b h
+by_phase w a b (phase.Entering entrance) e h = keeping a b h
+by_phase w a b (phase.Waiting number) e h = keeping a b h
 by_phase w a b (phase.OpeningFile o) e h = keeping a b h
 by_phase w a b (phase.Ending x) e h = keeping a b h
 by_phase w a b (phase.Ended x) e h = keeping a b h
@@ -363,33 +387,65 @@ child_held w b e s done doer knows =
     })
     (λ id g k. done.makers x.name x id g doer (ap (λ gs. gate_named gs id) same_gates ∙ k))
 
+-- the run of a gate knows what its caller knows, and so the gates of its own
+entered_gates : (i : Image) (b : ActorState) (run : List ℕ) → (takes i b (event.Enter run)).gates ≡ b.gates
+unfolding takes
+entered_gates i b run = entered_is (λ x. x.gates ≡ b.gates) b b.phase refl (λ x. refl)
+
+run_given : (b : ActorState) (e : Event) (y : AtEnter b e) → KnowsItsGates b → AreAmong b.gates y.entrance.sheet.gates
+run_given b e y knows =
+    let run = run_begins b y.entrance y.at y.may in
+    let h = held_is b (a0 b) run.entrance.gate run.held in
+    subst (AreAmong b.gates) (sym run.sheet.gates) (order_known [] b.gates h.id run.entrance.gate knows.order h.known)
+
+run_begins_held : (w : WorldState) (b : ActorState) (e : Event) (y : AtEnter b e) → AreHeld (put_actor w.actors (takes w.image b e))
+    → actor_named (put_actor w.actors (takes w.image b e)) (takes w.image b e).name ≡ Some (takes w.image b e) → KnowsItsGates b
+    → AreHeld (put_actor w.actors (takes w.image b e) ++ run_by b (child_name b.name (next_start b)) y.entrance ∷ [])
+run_begins_held w b e y done doer knows =
+    let x = takes w.image b e in
+    let name = child_name b.name (next_start b) in
+    let same_gates : x.gates ≡ b.gates = ap (λ z. (takes w.image b z).gates) y.is ∙ entered_gates w.image b name in
+    begins (put_actor w.actors x) (run_by b name y.entrance) done
+    (record { given = run_given b e y knows; made = λ entry id k. absurd cc; order = knows.order })
+    (λ id g k. done.makers x.name x id g doer (ap (λ gs. gate_named gs id) same_gates ∙ k))
+
+-- an actor that goes on has the gates that it had
+resumed_held : (w : WorldState) (a : ActorState) → actor_named w.actors a.name ≡ Some a → AreHeld w.actors → AreHeld (resumed w a).actors
+resumed_held w a there h =
+    goes w.actors a (ready w.actors a) (record { name = ready_name w.actors a; there = there }) (ready_sheet w.actors a) h
+    (ready_is (Grows a) w.actors a (Keeps refl refl refl) (λ k e fuel. Keeps refl refl refl))
+
 turn_held : (w : WorldState) (name : List ℕ) (e : Event) (new : WorldState) → AllReady w → AreHeld w.actors → turn_of w name ≡ Some (record { event = e; world = new }) → AreHeld new.actors
-turn_held w name e new ready h t =
-    let p = turn_parts w name e new t in
-    let a = p.actor in
+turn_held w name e new all_ready h t =
+    let p = turn_from w name e new t in
+    let v = resumed w p.actor in
+    let a = p.parts.actor in
     let b = rest w.image a in
     let x = takes w.image b e in
-    let happens = turn_happens w name e new ready p in
-    let there : actor_named w.actors a.name ≡ Some a = ap (actor_named w.actors) (found_name w.actors name a p.named) ∙ p.named in
-    let rests : IsPut w.actors a b = record { name = rest-name w.image a; there = there } in
-    let at_rest = rest_held w a there h in
-    let found : actor_named (put_actor w.actors b) b.name ≡ Some b = ap (actor_named (put_actor w.actors b)) (rest-name w.image a) ∙ found_put w.actors a b rests in
-    let put : IsPut (put_actor w.actors b) b x = record { name = takes_name w.image b e; there = found } in
-    let grows = by_phase (with_actor w b) b x b.phase e (event_makes_gates w b e happens) in
-    let after = goes (put_actor w.actors b) b x put (takes_sheet w.image b e) at_rest grows in
-    let done = subst AreHeld (put_put w.actors b x (takes_name w.image b e)) after in
-    let doer : actor_named (put_actor w.actors x) x.name ≡ Some x =
-    ap (λ (y : List ActorState). actor_named y x.name) (sym (put_put w.actors b x (takes_name w.image b e)))
-    ∙ (ap (actor_named (put_actor (put_actor w.actors b) x)) (takes_name w.image b e) ∙ found_put (put_actor w.actors b) b x put) in
-    subst (λ (y : WorldState). AreHeld y.actors) (sym p.new_is) (by_begun (acts w b e happens) done doer at_rest found)
+    let happens = turn_happens w name e new all_ready p in
+    let there = turned_there v name a p.parts.named in
+    let rests : IsPut v.actors a b = record { name = rest-name w.image a; there = there } in
+    let at_rest = rest_held v a there (resumed_held w p.actor (turned_there w name p.actor p.named) h) in
+    let found : actor_named (put_actor v.actors b) b.name ≡ Some b = ap (actor_named (put_actor v.actors b)) (rest-name w.image a) ∙ found_put v.actors a b rests in
+    let put : IsPut (put_actor v.actors b) b x = record { name = takes_name w.image b e; there = found } in
+    let grows = by_phase (with_actor v b) b x b.phase e (event_makes_gates v b e happens) in
+    let after = goes (put_actor v.actors b) b x put (takes_sheet w.image b e) at_rest grows in
+    let done = subst AreHeld (put_put v.actors b x (takes_name w.image b e)) after in
+    let doer : actor_named (put_actor v.actors x) x.name ≡ Some x =
+    ap (λ (y : List ActorState). actor_named y x.name) (sym (put_put v.actors b x (takes_name w.image b e)))
+    ∙ (ap (actor_named (put_actor (put_actor v.actors b) x)) (takes_name w.image b e) ∙ found_put (put_actor v.actors b) b x put) in
+    subst (λ (y : WorldState). AreHeld y.actors) (sym p.parts.new_is) (by_begun v (acts v b e happens) done doer at_rest found)
   where
-    by_begun : {b : ActorState} → Acts w b e → AreHeld (put_actor w.actors (takes w.image b e)) → actor_named (put_actor w.actors (takes w.image b e)) (takes w.image b e).name ≡ Some (takes w.image b e)
-        → AreHeld (put_actor w.actors b) → actor_named (put_actor w.actors b) b.name ≡ Some b → AreHeld (with_begun (put_actor w.actors (takes w.image b e)) (begun w.image b e))
-    by_begun {b} (ActsAlone one) done doer at_rest found = subst (λ o. AreHeld (with_begun (put_actor w.actors (takes w.image b e)) o)) (sym (one_begins w.image b e one)) done
-    by_begun {b} (Starts s) done doer at_rest found =
-        subst (λ o. AreHeld (with_begun (put_actor w.actors (takes w.image b e)) o)) (sym (ap (begun w.image b) s.is))
-        (child_held w b e s done doer (at_rest.each b.name b found))
-    by_begun {b} (Joins k listed j) done doer at_rest found = subst (λ o. AreHeld (with_begun (put_actor w.actors (takes w.image b e)) o)) (sym (ap (begun w.image b) j.is)) done
+    by_begun : (v : WorldState) {b : ActorState} → Acts v b e → AreHeld (put_actor v.actors (takes v.image b e)) → actor_named (put_actor v.actors (takes v.image b e)) (takes v.image b e).name ≡ Some (takes v.image b e)
+        → AreHeld (put_actor v.actors b) → actor_named (put_actor v.actors b) b.name ≡ Some b → AreHeld (with_begun (put_actor v.actors (takes v.image b e)) (begun v.image b e))
+    by_begun v {b} (ActsAlone one) done doer at_rest found = subst (λ o. AreHeld (with_begun (put_actor v.actors (takes v.image b e)) o)) (sym (one_begins v.image b e one)) done
+    by_begun v {b} (Starts s) done doer at_rest found =
+        subst (λ o. AreHeld (with_begun (put_actor v.actors (takes v.image b e)) o)) (sym (ap (begun v.image b) s.is))
+        (child_held v b e s done doer (at_rest.each b.name b found))
+    by_begun v {b} (Enters y) done doer at_rest found =
+        subst (λ o. AreHeld (with_begun (put_actor v.actors (takes v.image b e)) o)) (sym (entry_begins v.image b e y))
+        (run_begins_held v b e y done doer (at_rest.each b.name b found))
+    by_begun v {b} (Joins k listed j) done doer at_rest found = subst (λ o. AreHeld (with_begun (put_actor v.actors (takes v.image b e)) o)) (sym (ap (begun v.image b) j.is)) done
 
 -- ---- the root
 
@@ -415,8 +471,8 @@ opening_held i = record {
 }
 
 runs_held : (old : WorldState) (turns : List Turn) (new : WorldState) → AllReady old → AreHeld old.actors → Runs old turns new → AreHeld new.actors
-runs_held old [] new ready h run = subst (λ (w : WorldState). AreHeld w.actors) (sym run) h
-runs_held old (t ∷ ts) new ready h run = runs_held run.0 ts new (turn_ready old t.actor t.event run.0 ready run.1) (turn_held old t.actor t.event run.0 ready h run.1) run.2
+runs_held old [] new all_ready h run = subst (λ (w : WorldState). AreHeld w.actors) (sym run) h
+runs_held old (t ∷ ts) new all_ready h run = runs_held run.0 ts new (turn_ready old t.actor t.event run.0 all_ready run.1) (turn_held old t.actor t.event run.0 all_ready h run.1) run.2
 
 one_gate : (actors : List ActorState) → AreHeld actors → (m n : List ℕ) (a b : ActorState) (id : GateId) (g h : Gate) → actor_named actors m ≡ Some a → actor_named actors n ≡ Some b
     → gate_named a.gates id ≡ Some g → gate_named b.gates id ≡ Some h → g ≡ h

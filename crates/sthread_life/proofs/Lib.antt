@@ -12,10 +12,13 @@ pub mod StreamFits
 pub mod StreamCalls
 pub mod FilesAscend
 pub mod MakingGates
+pub mod EnteringGates
 pub mod Meeting
 pub mod Happening
+pub mod Turns
 pub mod Settling
 pub mod Families
+pub mod Waits
 pub mod Walking
 pub mod Going
 pub mod Paying
@@ -27,6 +30,8 @@ pub mod GatesMade
 pub mod Preparing
 pub mod GrantedPreparing
 pub mod GrantedGates
+pub mod GateRuns
+pub mod GrantedRuns
 pub mod GrantedCopies
 pub mod Creating
 pub mod Reading
@@ -48,6 +53,7 @@ pub mod FamilyKept
 pub mod FuelSums
 pub mod FamilyRuns
 pub mod Bounding
+pub mod SlotsKnown
 pub mod Occupying
 pub mod OccupiedRuns
 pub mod WorkLeft

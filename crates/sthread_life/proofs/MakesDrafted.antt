@@ -15,10 +15,12 @@ use Rattle.rv_isa.specs.Table.{decode}
 use Rattle.rv_hart.specs.declared.Need.{Need}
 use Rattle.rv_hart.specs.declared.Need.TheVariants as need
 use Rattle.rv_hart.specs.Local.{local, reg}
-use Rattle.sthread_life.specs.Actors.{ActorState}
+use Rattle.callgate.specs.declared.gate.Gate.{Gate}
+use Rattle.sthread_life.specs.Actors.{ActorState, gate_held}
 use Rattle.sthread_life.specs.Calls.{a0, a7}
 use Rattle.sthread_life.specs.Cells.{Cells, slot_in, stream_in}
-use Rattle.sthread_life.specs.Requests.{Access, Request, Loads, Stores, Reads, Appends, Closes, Opens, Creates, Makes, Allots, Frees, reaches_window, in_tag, in_window, bytes_at, path_at, in_stream, is_room, append_of, bits_to_open, file_of, open_of, create_of, suits_gate, make_of, free_of, call_request, needed_request, instr_request, word_request, request_at}
+use Rattle.sthread_life.specs.Lending.{may_lend}
+use Rattle.sthread_life.specs.Requests.{Access, Request, Loads, Stores, Reads, Appends, Closes, Opens, Creates, Makes, Enters, Allots, Frees, reaches_window, in_tag, in_window, bytes_at, path_at, in_stream, is_room, append_of, bits_to_open, file_of, open_of, create_of, suits_gate, make_of, lending_of, enter_of, free_of, lent_of, call_request, needed_request, instr_request, word_request, request_at}
 
 if_makes : {X : Type 0} (t : Bool) (x y : Option Request) (d : Draft) → (x ≡ Some (Makes d) → X) → (y ≡ Some (Makes d) → X) → (if t then x else y) ≡ Some (Makes d) → X
 if_makes true x y d first second e = first e
@@ -64,6 +66,14 @@ open_not i a n (Some b) (Some path) d e = if_makes (nat_le n a.fuel) (option_map
     by_file None k = cc
     by_file (Some f) k = cc
 
+lending_not : (entry : ℕ) (o : Option (Option Draft)) (d : Draft) → lending_of entry o ≡ Some (Makes d) → ⊥
+lending_not entry None d e = cc
+lending_not entry (Some lent) d e = if_makes (may_lend lent) (Some (Enters entry lent)) None d (λ k. cc) (λ k. cc) e
+
+enter_not : (entry : ℕ) (g : Option Gate) (o : Option (Option Draft)) (d : Draft) → enter_of entry g o ≡ Some (Makes d) → ⊥
+enter_not entry None o d e = cc
+enter_not entry (Some g) o d e = lending_not entry o d e
+
 make_drafted : (i : Image) (entry kind : ℕ) (o : Option Draft) (d : Draft) → make_of i entry kind o ≡ Some (Makes d) → o ≡ Some d
 make_drafted i entry kind None d e = absurd cc
 make_drafted i entry kind (Some x) d e = if_makes (suits_gate i entry kind x) (Some (Makes x)) None d (λ k. cc) (λ k. absurd cc) e
@@ -76,12 +86,13 @@ call_drafted i c a n d =
     (if_makes (n == 5) _ _ d (λ k. absurd (if_makes (r 11 == 0) None (Some (Allots (r 10) (r 11))) d (λ j. cc) (λ j. cc) k))
     (if_makes (n == 6) _ _ d (λ k. absurd (free_not c (slot_of (r 10)) d k))
     (if_makes (n == 13) _ _ d (make_drafted i (r 11) (r 14) (slice_get a.drafts (r 10)) d)
+    (if_makes (n == 14) _ _ d (λ k. absurd (enter_not (r 10) (gate_held a (r 10)) (lent_of a.drafts (r 12)) d k))
     (if_makes (n == 15) _ _ d
     (λ k. absurd (if_makes (is_room a (r 11) (r 12) && (nat_le (r 12) a.fuel && nat_lt (r 10) most_fds)) (in_stream (λ s. Reads (r 10) s (r 12)) (stream_in c (r 10))) None d (in_stream_not (λ s. Reads (r 10) s (r 12)) (stream_in c (r 10)) d (λ x j. cc)) (λ j. cc) k))
     (if_makes (n == 16) _ _ d (λ k. absurd (append_not c a (r 10) (r 12) (bytes_at i a (r 11) (r 12)) d k))
     (if_makes (n == 17) _ _ d
     (λ k. absurd (if_makes (nat_lt (r 10) most_fds) (in_stream (Closes (r 10)) (stream_in c (r 10))) None d (in_stream_not (Closes (r 10)) (stream_in c (r 10)) d (λ x j. cc)) (λ j. cc) k))
-    (if_makes (n == 18) _ None d (λ k. absurd (open_not i a (r 11) (bits_to_open (r 12)) (path_at i a (r 10) (r 11)) d k)) (λ k. absurd cc)))))))))
+    (if_makes (n == 18) _ None d (λ k. absurd (open_not i a (r 11) (bits_to_open (r 12)) (path_at i a (r 10) (r 11)) d k)) (λ k. absurd cc))))))))))
 
 need_drafted : (i : Image) (c : Cells) (a : ActorState) (rd : ℕ) (n : Need) (d : Draft) → needed_request i c a rd n ≡ Some (Makes d) → slice_get a.drafts (a0 a) ≡ Some d
 need_drafted i c a rd need.Call d e = call_drafted i c a (a7 a) d e

@@ -24,7 +24,7 @@ use Rattle.sthread_life.specs.Calls.{a0, draft_at, makes_or_waits}
 use Rattle.sthread_life.specs.ChildCopies.{snap_reply}
 use Rattle.sthread_life.specs.Copying.{Preparation, is_copy_alone, copied_from, prepared, behind_first}
 use Rattle.sthread_life.specs.Taking.{copies_asked, copied_on, has_snapped, takes}
-use Rattle.sthread_life.proofs.Between.{IsPreparing, IsMaking, MayNumber, Leaves, takes_between}
+use Rattle.sthread_life.proofs.Between.{IsPreparing, IsMaking, MayNumber, Leaves, takes_between, waiting_is}
 
 pub longer : {X : Type 0} (xs : List X) (x : X) → xs ++ x ∷ [] ≡ xs → ⊥
 longer [] x e = absurd cc
@@ -79,6 +79,8 @@ no_making (phase.Starting pre) h k = absurd h
 no_making (phase.MakingGate pre) h k = absurd h
 no_making (phase.Opening slot tag) h k = absurd h
 no_making (phase.Releasing slot) h k = absurd h
+no_making (phase.Entering entrance) h k = absurd h
+no_making (phase.Waiting number) h k = absurd h
 no_making (phase.OpeningFile o) h k = absurd h
 no_making (phase.Ending e) h k = absurd k
 no_making (phase.Ended e) h k = absurd k
@@ -90,6 +92,8 @@ not_both (phase.Starting pre) h k = absurd k
 not_both (phase.MakingGate pre) h k = absurd h
 not_both (phase.Opening slot tag) h k = absurd h
 not_both (phase.Releasing slot) h k = absurd h
+not_both (phase.Entering entrance) h k = absurd h
+not_both (phase.Waiting number) h k = absurd h
 not_both (phase.OpeningFile o) h k = absurd h
 not_both (phase.Ending e) h k = absurd h
 not_both (phase.Ended e) h k = absurd h
@@ -101,6 +105,8 @@ nor_numbered fd (phase.Starting pre) h k = absurd h
 nor_numbered fd (phase.MakingGate pre) h k = absurd h
 nor_numbered fd (phase.Opening slot tag) h k = absurd h
 nor_numbered fd (phase.Releasing slot) h k = absurd h
+nor_numbered fd (phase.Entering entrance) h k = absurd h
+nor_numbered fd (phase.Waiting number) h k = absurd h
 nor_numbered fd (phase.OpeningFile o) h k = absurd k
 nor_numbered fd (phase.Ending e) h k = absurd h
 nor_numbered fd (phase.Ended e) h k = absurd h
@@ -130,6 +136,7 @@ leaves_making (event.Slot slot q slot_reply.Closed) p h k = absurd (subst IsMaki
 leaves_making (event.Slot slot q (slot_reply.Snapped pages)) p h k = record { slot = slot; ask = q; pages = Some pages; is = refl }
 leaves_making (event.Slot slot q slot_reply.Gone) p h k = record { slot = slot; ask = q; pages = None; is = refl }
 leaves_making (event.Slot slot q r) p h k = no_making p h k
+leaves_making (event.Enter run) p h k = absurd (waiting_is (λ q. IsMaking q → ⊥) p h (λ x. x) (λ n x. x) k)
 leaves_making e p h k = no_making p h k
 
 snapped_as : (i : Image) (b : ActorState) (slot : ℕ) (q : SlotAsk) (o : Option (List PageAt)) → takes i b (event.Slot slot q (snap_reply o)) ≡ has_snapped b b.phase slot (option_map bytes_listed o)
@@ -144,6 +151,8 @@ snap_was_making b (phase.Starting pre) slot bytes k = absurd k
 snap_was_making b (phase.MakingGate pre) slot bytes k = tt
 snap_was_making b (phase.Opening s tag) slot bytes k = absurd k
 snap_was_making b (phase.Releasing s) slot bytes k = absurd k
+snap_was_making b (phase.Entering entrance) slot bytes k = absurd k
+snap_was_making b (phase.Waiting number) slot bytes k = absurd k
 snap_was_making b (phase.OpeningFile o) slot bytes k = absurd k
 snap_was_making b (phase.Ending e) slot bytes k = absurd k
 snap_was_making b (phase.Ended e) slot bytes k = absurd k
@@ -173,6 +182,8 @@ snap_granting b (phase.Within w) slot bytes granting q is = absurd (subst IsMaki
 snap_granting b (phase.Starting x) slot bytes granting q is = absurd (subst IsMaking (sym is) tt)
 snap_granting b (phase.Opening s tag) slot bytes granting q is = absurd (subst IsMaking (sym is) tt)
 snap_granting b (phase.Releasing s) slot bytes granting q is = absurd (subst IsMaking (sym is) tt)
+snap_granting b (phase.Entering entrance) slot bytes granting q is = absurd (subst IsMaking (sym is) tt)
+snap_granting b (phase.Waiting number) slot bytes granting q is = absurd (subst IsMaking (sym is) tt)
 snap_granting b (phase.OpeningFile o) slot bytes granting q is = absurd (subst IsMaking (sym is) tt)
 snap_granting b (phase.Ending e) slot bytes granting q is = absurd (subst IsMaking (sym is) tt)
 snap_granting b (phase.Ended e) slot bytes granting q is = absurd (subst IsMaking (sym is) tt)

@@ -1,7 +1,7 @@
 -- Each moment of a run: each request is mediated, and each end has its cause.
 use Rattle.std.proofs.Common.{◌≡◌, ◌+◌, ℕ, zero, suc, Bool, true, false, List, [], ◌∷◌, refl, sym, ap, subst, ◌∙◌, inl, inr}
 use Rattle.wedge_base.specs.Lives.{most_lives, lives_next}
-use Rattle.std.specs.Prelude.{Option, Some, None, nat_lt, IsSomeAnd, option_map, not, ◌+◌, slice_get, slice_set, slice_range, option_and_then, if◌then◌else◌}
+use Rattle.std.specs.Prelude.{Option, Some, None, nat_lt, IsSomeAnd, option_map, not, ◌+◌, slice_get, slice_set, slice_range, option_and_then, if◌then◌else◌, ◌++◌}
 use Rattle.wedge_base.specs.Bytes.{number_of}
 use Rattle.wedge_base.specs.Images.{Image, fetch}
 use Rattle.wedge_base.specs.Slots.{Segment, slot_reply as slot_reply_of, slot_after}
@@ -48,12 +48,12 @@ use Rattle.cow_pages.specs.Listed.{bytes_listed}
 use Rattle.sthread_life.specs.ChildCopies.{NotPreparing, PreparesBy}
 use Rattle.sthread_life.specs.Copying.{Preparation}
 use Rattle.sthread_life.proofs.Preparing.{step_unprepared, event_prepares}
-use Rattle.sthread_life.specs.Taking.{pair, runs, loads_by, loads_at, has_snapped, answered_end, has_started, takes_lives, takes, child_of, begun, copied_on}
+use Rattle.sthread_life.specs.Taking.{pair, runs, loads_by, loads_at, has_snapped, answered_end, has_started, takes_lives, takes, child_of, begun, copied_on, has_entered, run_by, wanted, wanted_at}
 use Rattle.sthread_life.specs.Cells.{Cells, held, slot_in, stream_in, cells_after}
-use Rattle.sthread_life.specs.Worlds.{WorldState, opening, actor_named, put_actor, with_begun, turn_of, Runs}
-use Rattle.sthread_life.specs.Requests.{Access, Request, Loads, Stores, Reads, Appends, Closes, Opens, Creates, Deletes, Allots, Frees, request_at, in_tag, Makes}
-use Rattle.sthread_life.specs.Allowed.{may_use, lacks, is_refused, next_word, IsDone, denied, HasBegunGate}
-use Rattle.sthread_life.specs.Moments.{EachMoment, TurnHas, with_actor, is_use, slot_used, NothingDenied, IsChecked, ComesToEvent, IsMet, IsAnswered, MeetsWith, AnswersAt}
+use Rattle.sthread_life.specs.Worlds.{WorldState, opening, actor_named, put_actor, with_begun, turn_of, Runs, with_actor, ready, resumed}
+use Rattle.sthread_life.specs.Requests.{Access, Request, Loads, Stores, Reads, Appends, Closes, Opens, Creates, Deletes, Allots, Frees, request_at, in_tag, Makes, Enters}
+use Rattle.sthread_life.specs.Allowed.{may_use, lacks, is_refused, next_word, IsDone, denied, HasBegunGate, IsAboutToEnter}
+use Rattle.sthread_life.specs.Moments.{EachMoment, TurnHas, is_use, slot_used, NothingDenied, IsChecked, ComesToEvent, IsMet, IsAnswered, MeetsWith, AnswersAt, GoesOnAs, EachMomentOf}
 use Rattle.sthread_life.specs.Ends.{GoesTo, is_end_event, end_of, end_at, end_by, reply_end}
 use Rattle.sthread_life.specs.Refusals.{full, RefusesIn, RefusesAfter, slot_refuses, is_refusal, refused}
 use Rattle.sthread_life.specs.Remembering.{WordRemembers, EventRemembers}
@@ -72,13 +72,17 @@ use Rattle.sthread_life.proofs.Paying.{step_pays, event_pays}
 use Rattle.sthread_life.specs.Drafting.{drafts_after}
 use Rattle.sthread_life.proofs.DraftEdits.{step_edits, event_edits}
 use Rattle.sthread_life.proofs.Going.{IsNext, step_goes}
-use Rattle.sthread_life.proofs.Resting.{steps_step, stays, goes_on, running_is, rest-stops}
-use Rattle.sthread_life.proofs.Between.{event_for, IsJoin, joined_is, opened_is, snapped_is, takes_name, turn_parts, loaded_runs, made_is}
-use Rattle.sthread_life.proofs.Happening.{Happens, snap_cases, Requested, Joined, Snaps, GateSnaps, Started, Opens as OpensTag, Releases, Numbers, OpensFile, LastJoined, Ended, joined_at}
-use Rattle.sthread_life.proofs.Families.{step_family, event_family}
+use Rattle.sthread_life.proofs.Resting.{steps_step, stays, goes_on, running_is, rest-stops, rest-stays}
+use Rattle.sthread_life.proofs.Between.{event_for, IsJoin, joined_is, opened_is, snapped_is, takes_name, loaded_runs, made_is, entered_is, entered_by, TurnParts}
+use Rattle.sthread_life.proofs.Happening.{Happens, snap_cases, Requested, Joined, Snaps, GateSnaps, Started, Opens as OpensTag, Releases, Numbers, OpensFile, LastJoined, Ended, joined_at, EntersGate, LeavesGate}
+use Rattle.sthread_life.proofs.Families.{step_family, event_family, ended_so}
 use Rattle.sthread_life.specs.GateCalls.{InstrMakesGates, EventMakesGates}
 use Rattle.sthread_life.proofs.GateMoments.{step_makes_gates, event_makes_gates}
 use Rattle.sthread_life.proofs.MakingGates.{longer}
+use Rattle.sthread_life.specs.Entrances.{Entrance}
+use Rattle.sthread_life.specs.Families.{joined}
+use Rattle.sthread_life.proofs.FamilyRuns.{entered_world}
+use Rattle.sthread_life.proofs.Turns.{Readies, Stays, Back, readies, turn_from}
 
 -- ---- an instruction
 
@@ -138,6 +142,36 @@ checked_make w b p x a d named pn pd xn now = by_denial (first_excess p.sheet p.
         let is = now.done lack refl in
         checked_allowed (with_actor w b) p (Makes d) None (with_actor w x) false lack refl (λ e. refl, λ e. (refl, subst (λ o. IsSomeAnd o (HasBegunGate p d)) (sym found) is)) (kept w w.cells b x xn (begun_quiet p x d is ∙ pd)) (λ z. absurd cc)
 
+-- the call that enters a gate
+about_quiet : (p x : ActorState) (entry : ℕ) (lent : Option Draft) → IsAboutToEnter p entry lent x → (x.denials ≡ p.denials) × (x.phase ≡ phase.Running → ⊥)
+about_quiet p x entry lent (entrance, held, sheet, is) = (ap (λ (y : ActorState). y.denials) is, λ runs. let f : phase.Entering entrance ≡ phase.Running = sym (ap (λ (y : ActorState). y.phase) is) ∙ runs in absurd cc)
+
+checked_enter : (w : WorldState) (b p x a : ActorState) (entry : ℕ) (lent : Option Draft) → actor_named w.actors b.name ≡ Some a → p.name ≡ b.name → p.denials ≡ b.denials → x.name ≡ b.name → IsCheckedNow p (Enters entry lent) x
+    → IsChecked (with_actor w b) p (Enters entry lent) None (with_actor w x)
+checked_enter w b p x a entry lent named pn pd xn now = by_denial (lacks p r) refl (is_refused p r) refl
+  where
+    r : Request
+    r = Enters entry lent
+
+    found : actor_named (put_actor w.actors x) p.name ≡ Some x
+    found = subst (λ m. actor_named (put_actor w.actors x) m ≡ Some x) (sym pn) (put_there w b x a named xn)
+
+    put_again_at : (y : ActorState) → y.name ≡ b.name → x ≡ y → with_actor w x ≡ with_actor (with_actor w b) y
+    put_again_at y yn is = ap (with_actor w) is ∙ ap (λ (as_ : List ActorState). record w { actors = as_ }) (sym (put_put w.actors b y yn))
+
+    not_about : x.phase ≡ phase.Running → IsSomeAnd (actor_named (put_actor w.actors x) p.name) (IsAboutToEnter p entry lent) → ⊥
+    not_about runs e = (about_quiet p x entry lent (subst (λ o. IsSomeAnd o (IsAboutToEnter p entry lent)) found e)).1 runs
+
+    by_denial : (o : Option Denial) → lacks p r ≡ o → (t : Bool) → is_refused p r ≡ t → IsChecked (with_actor w b) p r None (with_actor w x)
+    by_denial (Some y) lack t refused =
+        checked_denied (with_actor w b) p r None (with_actor w x) y lack (λ e. not_about (ap (λ (z : ActorState). z.phase) (now.denied y lack)) e.1) (put_again_at (denied p r y) pn (now.denied y lack))
+    by_denial None lack false refused =
+        let is = now.done lack refused in
+        checked_allowed (with_actor w b) p r None (with_actor w x) false lack refused (λ e. refl, λ e. (refl, subst (λ o. IsSomeAnd o (IsAboutToEnter p entry lent)) (sym found) is)) (kept w w.cells b x xn ((about_quiet p x entry lent is).0 ∙ pd)) (λ z. absurd cc)
+    by_denial None lack true refused =
+        let is = now.refused lack refused in
+        checked_allowed (with_actor w b) p r None (with_actor w x) true lack refused (λ e. absurd (not_about is.0 e.1), λ e. absurd cc) (kept w w.cells b x xn (is.1 ∙ pd)) (λ z. refl)
+
 comes_there : (w : WorldState) (b p x : ActorState) → p.name ≡ b.name → (q : Want) × (x ≡ record p { phase = phase.Within q }) → ComesToEvent (with_actor w b) p (with_actor w x)
 comes_there w b p x pn q = (q.0, ap (with_actor w) q.1 ∙ ap (λ (as_ : List ActorState). record w { actors = as_ }) (sym (put_put w.actors b (record p { phase = phase.Within q.0 }) pn)))
 
@@ -150,6 +184,7 @@ met_by w b p x a (Closes fd s) named pn pd xn run m = comes_there w b p x pn m
 met_by w b p x a (Opens path f c) named pn pd xn run m = checked_now w b p x a (Opens path f c) named pn pd xn run (λ o e. e.1) (λ o e. (refl, e)) (λ e. absurd cc) (λ y. refl) (λ y. refl) (λ e. e) m
 met_by w b p x a (Creates d) named pn pd xn run m = checked_now w b p x a (Creates d) named pn pd xn run (λ o e. e.1) (λ o e. (refl, e)) (λ e. absurd cc) (λ y. refl) (λ y. refl) (λ e. e) m
 met_by w b p x a (Makes d) named pn pd xn run m = checked_make w b p x a d named pn pd xn m
+met_by w b p x a (Enters entry lent) named pn pd xn run m = checked_enter w b p x a entry lent named pn pd xn m
 met_by w b p x a (Deletes tag) named pn pd xn run m = checked_now w b p x a (Deletes tag) named pn pd xn run (λ o e. e.1) (λ o e. (refl, e)) (λ e. absurd cc) (λ y. refl) (λ y. refl) (λ e. e) m
 met_by w b p x a (Allots tag size) named pn pd xn run m = checked_now w b p x a (Allots tag size) named pn pd xn run (λ o e. e.1) (λ o e. (refl, e)) (λ e. absurd cc) (λ y. refl) (λ y. refl) (λ e. e) m
 met_by w b p x a (Frees q g) named pn pd xn run m = comes_there w b p x pn m
@@ -324,6 +359,11 @@ start_unasked : (w : WorldState) (b : ActorState) (child : List ℕ) → Nothing
 unfolding takes
 start_unasked w b child name = begun_noted (put_actor w.actors (has_started b)) (Some (child_of w.image b child)) name refl ∙ kept w w.cells b (has_started b) refl refl name
 
+enter_unasked : (w : WorldState) (b : ActorState) (x : Entrance) (run : List ℕ) → b.phase ≡ phase.Entering x → NothingDenied (with_actor w b) (after w b (event.Enter run))
+enter_unasked w b x run at =
+    let is : after w b (event.Enter run) ≡ record w { actors = put_actor w.actors (entered_by b x) ++ run_by b run x ∷ [] } = entered_world w b run x at in
+    subst (NothingDenied (with_actor w b)) (sym is) (λ name. begun_noted (put_actor w.actors (entered_by b x)) (Some (run_by b run x)) name refl ∙ kept w w.cells b (entered_by b x) refl refl name)
+
 snap_denials : (i : Image) (b : ActorState) (slot tag : ℕ) (g : Option Segment) → (takes i b (event.Slot slot (slot_ask.Snap tag) (slot_reply_of g (slot_ask.Snap tag)))).denials ≡ b.denials
 unfolding takes
 snap_denials i b slot tag g =
@@ -368,6 +408,15 @@ answered_at w b a e named (OpensFile f) =
     (subst (λ y. NothingDenied (with_actor w b) (after w b y) × (is_use y ≡ false)) (sym f.is) (unasked w b (event.Fd f.fd (stream_ask.Open f.opening.kind f.opening.bytes) reply.Opened) refl (file_denials w.image b f.fd _), refl))
 answered_at w b a e named (LastJoined j) =
     subst (λ ph. AnswersAt (with_actor w b) b ph e (after w b e)) (sym j.at) (join_unasked w b j.first.0 e j.join)
+answered_at w b a e named (EntersGate x) =
+    subst (λ ph. AnswersAt (with_actor w b) b ph e (after w b e)) (sym x.at)
+    (subst (λ y. NothingDenied (with_actor w b) (after w b y) × (is_use y ≡ false)) (sym x.is) (enter_unasked w b x.entrance _ x.at, refl))
+answered_at w b a e named (LeavesGate l) =
+    subst (λ ph. AnswersAt (with_actor w b) b ph e (after w b e)) (sym l.at)
+    (subst (λ y. NothingDenied (with_actor w b) (after w b y) × (is_use y ≡ false)) (sym l.is) (unasked w b (event.Leave l.end_) refl (left_denials w.image b l.end_), refl))
+  where
+    left_denials : (i : Image) (b : ActorState) (x : End) → (takes i b (event.Leave x)).denials ≡ b.denials
+    left_denials i b x = unfold takes in refl
 answered_at w b a e named (Ended f) =
     subst (λ ph. AnswersAt (with_actor w b) b ph e (after w b e)) (sym f.at)
     (subst (λ y. NothingDenied (with_actor w b) (after w b y) × (is_use y ≡ false)) (sym f.is) (unasked w b (event.Lives (lives_ask.Release f.end_) lives_reply.Released) refl (end_denials w.image b f.end_), refl))
@@ -430,6 +479,8 @@ join_end i b (phase.Starting pre) k x fuel at live = ap (λ (y : ActorState). en
 join_end i b (phase.MakingGate pre) k x fuel at live = ap (λ (y : ActorState). end_of y.phase) (joined_at b (phase.MakingGate pre) x k fuel at)
 join_end i b (phase.Opening slot tag) k x fuel at live = ap (λ (y : ActorState). end_of y.phase) (joined_at b (phase.Opening slot tag) x k fuel at)
 join_end i b (phase.Releasing slot) k x fuel at live = ap (λ (y : ActorState). end_of y.phase) (joined_at b (phase.Releasing slot) x k fuel at)
+join_end i b (phase.Entering entrance) k x fuel at live = ap (λ (y : ActorState). end_of y.phase) (joined_at b (phase.Entering entrance) x k fuel at)
+join_end i b (phase.Waiting number) k x fuel at live = ap (λ (y : ActorState). end_of y.phase) (joined_at b (phase.Waiting number) x k fuel at)
 join_end i b (phase.OpeningFile o) k x fuel at live = ap (λ (y : ActorState). end_of y.phase) (joined_at b (phase.OpeningFile o) x k fuel at)
 join_end i b (phase.Ending y) k x fuel at live = ap (λ (z : ActorState). end_of z.phase) (joined_at b (phase.Ending y) x k fuel at) ∙ ap end_of at
 join_end i b (phase.Ended y) k x fuel at live = absurd cc
@@ -449,6 +500,13 @@ released_end i b slot = unfold takes in refl
 last_end : (i : Image) (b : ActorState) (x : End) → EndsBy i b (phase.Ending x) (event.Lives (lives_ask.Release x) lives_reply.Released)
 last_end i b x = unfold takes in refl
 
+enter_end : (i : Image) (b : ActorState) (x : Entrance) (run : List ℕ) → EndsBy i b (phase.Entering x) (event.Enter run)
+unfolding takes
+enter_end i b x run = entered_is (λ y. end_of y.phase ≡ None) b b.phase refl (λ y. refl)
+
+leave_end : (i : Image) (b : ActorState) (x : End) → EndsBy i b (phase.Ending x) (event.Leave x)
+leave_end i b x = unfold takes in refl
+
 ends_by : (w : WorldState) (b : ActorState) (e : Event) → Happens w b e → EndsBy w.image b b.phase e
 ends_by w b e (Requested r) = subst (λ p. EndsBy w.image b p e) (sym r.at) (subst (EndsBy w.image b (phase.Within r.want)) (sym r.is) (want_end w b _ r.want r.own))
 ends_by w b e (Joined j) = subst (λ p. EndsBy w.image b p e) (sym j.at) (subst (EndsBy w.image b (phase.Within (want.Join j.number))) (sym j.join.is) (join_end w.image b _ j.number j.join.how j.join.child.fuel j.at refl))
@@ -460,6 +518,8 @@ ends_by w b e (Releases r) = subst (λ p. EndsBy w.image b p e) (sym r.at) (subs
 ends_by w b e (Numbers n) = subst (λ p. EndsBy w.image b p e) (sym n.at) (subst (EndsBy w.image b (phase.OpeningFile n.opening)) (sym n.is) (number_end w.image b directory_ask.Claim _).0)
 ends_by w b e (OpensFile f) = subst (λ p. EndsBy w.image b p e) (sym f.at) (subst (EndsBy w.image b (phase.OpeningFile f.opening)) (sym f.is) (file_end w.image b f.fd _).0)
 ends_by w b e (LastJoined j) = subst (λ p. EndsBy w.image b p e) (sym j.at) (subst (EndsBy w.image b (phase.Ending j.end_)) (sym j.join.is) (join_end w.image b _ j.first.0 j.join.how j.join.child.fuel j.at refl))
+ends_by w b e (EntersGate x) = subst (λ p. EndsBy w.image b p e) (sym x.at) (subst (EndsBy w.image b (phase.Entering x.entrance)) (sym x.is) (enter_end w.image b x.entrance _))
+ends_by w b e (LeavesGate l) = subst (λ p. EndsBy w.image b p e) (sym l.at) (subst (EndsBy w.image b (phase.Ending l.end_)) (sym l.is) (leave_end w.image b l.end_))
 ends_by w b e (Ended f) = subst (λ p. EndsBy w.image b p e) (sym f.at) (subst (EndsBy w.image b (phase.Ending f.end_)) (sym f.is) (last_end w.image b f.end_))
 
 -- the hart after an event
@@ -507,6 +567,8 @@ join_next i b (phase.Starting pre) k x fuel at = subst (IsNext b.hart) (sym (joi
 join_next i b (phase.MakingGate pre) k x fuel at = subst (IsNext b.hart) (sym (joined_at b (phase.MakingGate pre) x k fuel at)) (λ e. refl, λ e. absurd cc)
 join_next i b (phase.Opening slot tag) k x fuel at = subst (IsNext b.hart) (sym (joined_at b (phase.Opening slot tag) x k fuel at)) (λ e. refl, λ e. absurd cc)
 join_next i b (phase.Releasing slot) k x fuel at = subst (IsNext b.hart) (sym (joined_at b (phase.Releasing slot) x k fuel at)) (λ e. refl, λ e. absurd cc)
+join_next i b (phase.Entering entrance) k x fuel at = subst (IsNext b.hart) (sym (joined_at b (phase.Entering entrance) x k fuel at)) (λ e. refl, λ e. absurd cc)
+join_next i b (phase.Waiting number) k x fuel at = subst (IsNext b.hart) (sym (joined_at b (phase.Waiting number) x k fuel at)) (λ e. refl, λ e. absurd cc)
 join_next i b (phase.OpeningFile o) k x fuel at = subst (IsNext b.hart) (sym (joined_at b (phase.OpeningFile o) x k fuel at)) (λ e. refl, λ e. absurd cc)
 join_next i b (phase.Ending y) k x fuel at =
     subst (IsNext b.hart) (sym (joined_at b (phase.Ending y) x k fuel at)) (λ e. let f : false ≡ true = sym (ap is_running at) ∙ e in absurd cc, λ e. refl)
@@ -533,6 +595,13 @@ start_next i b child = unfold takes in (λ e. refl, λ e. absurd cc)
 last_next : (i : Image) (b : ActorState) (x : End) → IsNext b.hart (takes i b (event.Lives (lives_ask.Release x) lives_reply.Released))
 last_next i b x = unfold takes in (λ e. absurd cc, λ e. refl)
 
+enter_next : (i : Image) (b : ActorState) (x : Entrance) (run : List ℕ) → b.phase ≡ phase.Entering x → IsNext b.hart (takes i b (event.Enter run))
+unfolding takes
+enter_next i b x run at = subst (λ p. IsNext b.hart (has_entered b p)) (sym at) (λ e. absurd cc, λ e. refl)
+
+leave_next : (i : Image) (b : ActorState) (x : End) → IsNext b.hart (takes i b (event.Leave x))
+leave_next i b x = unfold takes in (λ e. absurd cc, λ e. refl)
+
 next_by : (w : WorldState) (b : ActorState) (e : Event) → Happens w b e → IsNext b.hart (takes w.image b e)
 next_by w b e (Requested r) = subst (λ y. IsNext b.hart (takes w.image b y)) (sym r.is) (want_next w b r.rd r.is_signed r.want r.own)
 next_by w b e (Joined j) = subst (λ y. IsNext b.hart (takes w.image b y)) (sym j.join.is) (join_next w.image b _ j.number j.join.how j.join.child.fuel j.at)
@@ -544,6 +613,8 @@ next_by w b e (Releases r) = subst (λ y. IsNext b.hart (takes w.image b y)) (sy
 next_by w b e (Numbers n) = subst (λ y. IsNext b.hart (takes w.image b y)) (sym n.is) (number_next w.image b n.opening (claim w.cells.numbers) w.cells.numbers n.at)
 next_by w b e (OpensFile f) = subst (λ y. IsNext b.hart (takes w.image b y)) (sym f.is) (file_next w.image b f.opening f.fd _ f.at)
 next_by w b e (LastJoined j) = subst (λ y. IsNext b.hart (takes w.image b y)) (sym j.join.is) (join_next w.image b _ j.first.0 j.join.how j.join.child.fuel j.at)
+next_by w b e (EntersGate x) = subst (λ y. IsNext b.hart (takes w.image b y)) (sym x.is) (enter_next w.image b x.entrance _ x.at)
+next_by w b e (LeavesGate l) = subst (λ y. IsNext b.hart (takes w.image b y)) (sym l.is) (leave_next w.image b l.end_)
 next_by w b e (Ended f) = subst (λ y. IsNext b.hart (takes w.image b y)) (sym f.is) (last_next w.image b f.end_)
 
 -- an end is reached by its event alone
@@ -554,6 +625,8 @@ joined_live a (phase.Starting pre) x at = refl
 joined_live a (phase.MakingGate pre) x at = refl
 joined_live a (phase.Opening slot tag) x at = refl
 joined_live a (phase.Releasing slot) x at = refl
+joined_live a (phase.Entering entrance) x at = refl
+joined_live a (phase.Waiting number) x at = refl
 joined_live a (phase.OpeningFile o) x at = refl
 joined_live a (phase.Ending y) x at = ap has_ended at
 joined_live a (phase.Ended y) x at = refl
@@ -583,6 +656,7 @@ reached i b (event.Lives lives_ask.Claim lives_reply.Full) = refl
 reached i b (event.Lives lives_ask.Claim lives_reply.Released) = refl
 reached i b (event.Lives (lives_ask.Release x) r) = refl
 reached i b (event.Join k x fuel) = joined_live (record b { fuel = b.fuel + fuel; unjoined = without_child b.unjoined k }) b.phase x refl
+reached i b (event.Enter run) = entered_is (λ x. has_ended x.phase ≡ false) b b.phase refl (λ x. refl)
 reached i b e = refl
 
 -- ---- refusals
@@ -669,6 +743,8 @@ refuses_after w b e (Releases r) = subst (λ ph. RefusesAfter (with_actor w b) b
 refuses_after w b e (Numbers n) = subst (λ ph. RefusesAfter (with_actor w b) b ph e (after w b e)) (sym n.at) (number_refuses w b e n)
 refuses_after w b e (OpensFile f) = subst (λ ph. RefusesAfter (with_actor w b) b ph e (after w b e)) (sym f.at) (file_refuses w b e f)
 refuses_after w b e (LastJoined j) = subst (λ ph. RefusesAfter (with_actor w b) b ph e (after w b e)) (sym j.at) (ap is_refusal j.join.is)
+refuses_after w b e (EntersGate x) = subst (λ ph. RefusesAfter (with_actor w b) b ph e (after w b e)) (sym x.at) (ap is_refusal x.is)
+refuses_after w b e (LeavesGate l) = subst (λ ph. RefusesAfter (with_actor w b) b ph e (after w b e)) (sym l.at) (ap is_refusal l.is)
 refuses_after w b e (Ended f) = subst (λ ph. RefusesAfter (with_actor w b) b ph e (after w b e)) (sym f.at) (ap is_refusal f.is)
 
 -- ---- what an event makes
@@ -694,6 +770,10 @@ event_makes w b e (Numbers n) = subst (λ ph. MakesAt (with_actor w b) b ph e (a
 event_makes w b e (OpensFile f) = subst (λ ph. MakesAt (with_actor w b) b ph e (after w b e)) (sym f.at) (opens_file w b e f)
 event_makes w b e (LastJoined j) =
     subst (λ ph. MakesAt (with_actor w b) b ph e (after w b e)) (sym j.at) (subst (λ y. MakesAt (with_actor w b) b (phase.Ending j.end_) y (after w b y)) (sym j.join.is) refl)
+event_makes w b e (EntersGate x) =
+    subst (λ ph. MakesAt (with_actor w b) b ph e (after w b e)) (sym x.at) (subst (λ y. MakesAt (with_actor w b) b (phase.Entering x.entrance) y (after w b y)) (sym x.is) refl)
+event_makes w b e (LeavesGate l) =
+    subst (λ ph. MakesAt (with_actor w b) b ph e (after w b e)) (sym l.at) (subst (λ y. MakesAt (with_actor w b) b (phase.Ending l.end_) y (after w b y)) (sym l.is) refl)
 event_makes w b e (Ended f) =
     subst (λ ph. MakesAt (with_actor w b) b ph e (after w b e)) (sym f.at) (subst (λ y. MakesAt (with_actor w b) b (phase.Ending f.end_) y (after w b y)) (sym f.is) refl)
 
@@ -709,33 +789,70 @@ done_such Q w b a e named q =
 
 -- ---- turns
 
--- what holds of the moments of a turn, from what holds of an instruction and of an event
-turn_has : (P : WorldState → ActorState → Option Event → WorldState → Type 0) (w : WorldState) (t : Turn) (new : WorldState) → AllReady w → turn_of w t.actor ≡ Some (record { event = t.event; world = new })
+-- what holds of the moments of an actor that has gone on, from what holds of an instruction and of an event
+moments_of : (P : WorldState → ActorState → Option Event → WorldState → Type 0) (w : WorldState) (name : List ℕ) (e : Event) (new : WorldState) (p : TurnParts w name e new) → Happens w (rest w.image p.actor) e
     → ((a b : ActorState) → actor_named w.actors b.name ≡ Some a → b.phase ≡ phase.Running → P (with_actor w b) b None (with_actor w (step w.image b)))
     → ((a b : ActorState) (e : Event) → actor_named w.actors b.name ≡ Some a → Happens w b e → P (with_actor w b) b (Some e) (after w b e))
-    → TurnHas P w t new
+    → EachMomentOf P w p.actor e new
 unfolding rest
-turn_has P w t new all e instructs happens a named =
-    let name = found_name w.actors t.actor a named in
-    let here : (n : ℕ) → actor_named w.actors (run_local w.image n a).name ≡ Some a = λ n. subst (λ m. actor_named w.actors m ≡ Some a) (sym (run_name w.image n a _ refl ∙ name)) named in
-    let p = turn_parts w t.actor t.event new e in
-    let same_actor : p.actor ≡ a = let f : Some p.actor ≡ Some a = sym p.named ∙ named in cc in
+moments_of P w name e new p h instructs happens =
+    let a = p.actor in
+    let own = found_name w.actors name a p.named in
+    let here : (n : ℕ) → actor_named w.actors (run_local w.image n a).name ≡ Some a = λ n. subst (λ m. actor_named w.actors m ≡ Some a) (sym (run_name w.image n a _ refl ∙ own)) p.named in
     let b = rest w.image a in
-    let happens_so : Happens w b t.event = subst (λ (x : ActorState). Happens w (rest w.image x) t.event) same_actor (turn_happens w t.actor t.event new all p) in
-    let new_is : new ≡ after w b t.event = p.new_is ∙ ap (λ (x : ActorState). after w (rest w.image x) t.event) same_actor in
-    let done = happens a b t.event (here (a.fuel + 1)) happens_so in
+    let done = happens a b e (here (a.fuel + 1)) h in
     record {
       instructions = λ n runs.
           let x = run_local w.image n a in
           subst (λ y. P (with_actor w x) x None (with_actor w y)) (sym (one_more w.image n a _ refl runs)) (instructs a x (here n) (running_is x.phase runs));
-      event = (a.fuel + 1, rest-stops w.image a, subst (λ y. P (with_actor w b) b (Some t.event) y) (sym new_is) done);
+      event = (a.fuel + 1, rest-stops w.image a, subst (λ y. P (with_actor w b) b (Some e) y) (sym p.new_is) done);
     }
+
+-- whoever takes a turn goes on as it is, or from the run for which it waits
+goes_as : (w : WorldState) (a : ActorState) (q : Want) → wanted (rest w.image (ready w.actors a)) ≡ Some q → GoesOnAs w.actors a a.phase (ready w.actors a)
+goes_as w a q wants = by_case (readies w.actors a)
+  where
+    by_phase : (p : Phase) → a.phase ≡ p → ready w.actors a ≡ a → GoesOnAs w.actors a p (ready w.actors a)
+    by_phase phase.Running at is = is
+    by_phase (phase.Within x) at is = is
+    by_phase (phase.Starting pre) at is = is
+    by_phase (phase.MakingGate pre) at is = is
+    by_phase (phase.Opening slot tag) at is = is
+    by_phase (phase.Releasing slot) at is = is
+    by_phase (phase.OpeningFile o) at is = is
+    by_phase (phase.Entering entrance) at is = is
+    by_phase (phase.Waiting k) at is =
+        let stays_so : rest w.image (ready w.actors a) ≡ a = ap (rest w.image) is ∙ rest-stays w.image a (ap is_running at) in
+        let none : None ≡ Some q = sym (ap (wanted_at a) at) ∙ (sym (ap (λ (x : ActorState). wanted x) stays_so) ∙ wants) in
+        absurd cc
+    by_phase (phase.Ending x) at is = is
+    by_phase (phase.Ended x) at is = is
+
+    by_case : Readies w.actors a → GoesOnAs w.actors a a.phase (ready w.actors a)
+    by_case (Stays is) = by_phase a.phase refl is
+    by_case (Back k at r is) =
+        subst (λ p. GoesOnAs w.actors a p (ready w.actors a)) (sym at)
+        (subst (λ o. IsSomeAnd o (λ c. (e : End) × (c.phase ≡ phase.Ended e) × (ready w.actors a ≡ joined a (phase.Waiting k) k e c.fuel))) (sym r.there) (r.how, ended_so r.run.phase r.how r.ended, is))
+
+-- of the moments of a turn
+turn_has : (P : WorldState → ActorState → Option Event → WorldState → Type 0) (w : WorldState) (t : Turn) (new : WorldState) → AllReady w → turn_of w t.actor ≡ Some (record { event = t.event; world = new })
+    → ((v : WorldState) (a b : ActorState) → actor_named v.actors b.name ≡ Some a → b.phase ≡ phase.Running → P (with_actor v b) b None (with_actor v (step v.image b)))
+    → ((v : WorldState) (a b : ActorState) (e : Event) → actor_named v.actors b.name ≡ Some a → Happens v b e → P (with_actor v b) b (Some e) (after v b e))
+    → TurnHas P w t new
+turn_has P w t new all e instructs happens a named =
+    let p = turn_from w t.actor t.event new e in
+    let same_actor : p.actor ≡ a = let f : Some p.actor ≡ Some a = sym p.named ∙ named in cc in
+    let v = resumed w p.actor in
+    let moments = moments_of P v t.actor t.event new p.parts (turn_happens w t.actor t.event new all p) (instructs v) (happens v) in
+    let goes = goes_as w p.actor p.parts.want (subst (λ (x : ActorState). wanted (rest w.image x) ≡ Some p.parts.want) p.is p.parts.wants) in
+    subst (λ (x : ActorState). (b : ActorState) × GoesOnAs w.actors x x.phase b × EachMomentOf P (with_actor w b) b t.event new) same_actor
+    (ready w.actors p.actor, goes, subst (λ (x : ActorState). EachMomentOf P v x t.event new) p.is moments)
 
 -- a turn of a world whose actors rest as those of a run do is lawful
 pub turn_lawful : (w : WorldState) (t : Turn) (new : WorldState) → AllReady w → turn_of w t.actor ≡ Some (record { event = t.event; world = new }) → TurnHas IsLawful w t new
 turn_lawful w t new all e =
     turn_has IsLawful w t new all e
-    (λ a b named run.
+    (λ w a b named run.
     let x = step w.image b in
     let name = (steps_step w.image b).name in
     record {
@@ -751,7 +868,7 @@ turn_lawful w t new all e =
       copies = put_such (λ y. NotPreparing y.phase) w b x a named name (step_unprepared w.image b run);
       gates = put_such (InstrMakesGates (with_actor w b) b b.fuel) w b x a named name (step_makes_gates (with_actor w b) b run);
     })
-    (λ a b e named h. record {
+    (λ w a b e named h. record {
       mediated = answered_at w b a e named h;
       ends = done_such (λ y. (end_of y.phase ≡ end_by b.phase e) × (has_ended y.phase ≡ is_end_event (Some e))) w b a e named (ends_by w b e h, reached w.image b e);
       goes = done_such (GoesTo b (next_word b)) w b a e named (next_by w b e h);

@@ -33,7 +33,7 @@ use Rattle.wedge_base.specs.declared.image.FileEntry.{FileEntry}
 use Rattle.wedge_base.specs.declared.rights.FdBits.{FdBits}
 use Rattle.wedge_base.specs.declared.rights.StreamKind.{StreamKind}
 use Rattle.wedge_base.specs.declared.rights.StreamKind.TheVariants as kind
-use Rattle.sthread_life.specs.Actors.{ActorState, answers, bits_of, slot_held, code_number, denies, ends, refuses, wants, spends, pristine}
+use Rattle.sthread_life.specs.Actors.{ActorState, answers, bits_of, slot_held, code_number, denies, ends, refuses, wants, spends, pristine, gate_held}
 use Rattle.cow_pages.specs.Copies.{copy_at, holds_copy}
 use Rattle.sthread_life.specs.Private.{load_bytes, load_copy, load_window, load_range, store_copy, store_window, store_range, has_loaded, fits_read, fits_write, buffer}
 use Rattle.wedge_base.specs.Sheets.{Draft, empty_draft, takes_tag, takes_fd, takes_gate, with_gate, first_excess, granted}
@@ -43,14 +43,14 @@ use Rattle.wedge_base.specs.declared.rights.Denial.TheVariants as denial
 use Rattle.wedge_base.specs.declared.cells.LivesAsk.TheVariants as lives_ask
 use Rattle.wedge_base.specs.declared.rights.Right.TheVariants as right
 use Rattle.sthread_life.proofs.Buffers.{buffer_is, path_is}
-use Rattle.sthread_life.specs.Calls.{serves, is_procedure, create_with, create_checked, create_allowed, are_pages, free_at, fd_read, fd_append, fd_close, sc_new, add_right, add_right_to, sc_mem_add, add_bits, add_bits_to, sc_fd_add, add_gate_to, sc_cgate_add, with_draft, bits, a0, a1, a2, a3, a7, set_user, sc_user, path_in, set_root, sc_root, draft_call, file_at, mode_asked, suits, open_file, open_path, file_open, a4, new_gate, has_gate, makes_or_waits, may_be_gate, make_checked, make_with}
+use Rattle.sthread_life.specs.Calls.{serves, is_procedure, create_with, create_checked, create_allowed, are_pages, free_at, fd_read, fd_append, fd_close, sc_new, add_right, add_right_to, sc_mem_add, add_bits, add_bits_to, sc_fd_add, add_gate_to, sc_cgate_add, with_draft, bits, a0, a1, a2, a3, a7, set_user, sc_user, path_in, set_root, sc_root, draft_call, file_at, mode_asked, suits, open_file, open_path, file_open, a4, new_gate, has_gate, makes_or_waits, may_be_gate, make_checked, make_with, enter_kind, enter_allowed, enter_checked, enter_lending, enter_held, lent_asked, entrance_of}
 use Rattle.sthread_life.specs.Local.{needed, executed, fuelled, fetched, step, is_running, run_local, rest}
 use Rattle.sthread_life.proofs.Resting.{stays, goes_on, running_is}
 use Rattle.sthread_life.proofs.StreamCalls.{stream_request, stream_refusal, IsStreamRequest, request_at_phase, refusal_at_phase, stream_event}
 use Rattle.sthread_life.specs.Cells.{Cells, slot_in, stream_in}
-use Rattle.sthread_life.specs.Refusals.{fuel_short, full, deep, no_such, bad, start_refusal, create_refusal, pages_refusal, address_refusal, life_refusal, slots_refusal, close_refusal, place_refusal, block_refusal, free_refusal, call_refusal, call_refusal_after, right_refusal, bits_refusal, gate_refusal, number_refusal, read_refusal, append_refusal, need_refusal, instr_refusal, word_refusal, refusal_at, read_refusal_after, append_refusal_after, stream_close_refusal, need_refusal_after, instr_refusal_after, word_refusal_after, refusal_after, refused, user_refusal, root_refusal, draft_refusal, file_refusal, open_refusal, make_refusal}
-use Rattle.sthread_life.specs.Requests.{Access, Request, Loads, Stores, Reads, Appends, Closes, Creates, Deletes, Allots, Frees, create_of, in_tag, in_window, bytes_at, in_stream, is_room, read_of, append_of, close_of, free_of, call_request, needed_request, instr_request, word_request, request_at, Opens, bits_to_open, file_of, path_at, open_of, Makes, suits_gate, make_of}
-use Rattle.sthread_life.specs.Allowed.{may_use, lacks, is_refused, is_checked_at_event, denied as denied_of, fits_kind, opened_as, HasBegunGate}
+use Rattle.sthread_life.specs.Refusals.{fuel_short, full, deep, no_such, bad, start_refusal, create_refusal, pages_refusal, address_refusal, life_refusal, slots_refusal, close_refusal, place_refusal, block_refusal, free_refusal, call_refusal, call_refusal_after, right_refusal, bits_refusal, gate_refusal, number_refusal, read_refusal, append_refusal, need_refusal, instr_refusal, word_refusal, refusal_at, read_refusal_after, append_refusal_after, stream_close_refusal, need_refusal_after, instr_refusal_after, word_refusal_after, refusal_after, refused, user_refusal, root_refusal, draft_refusal, file_refusal, open_refusal, make_refusal, entry_refusal, lending_refusal, enter_refusal}
+use Rattle.sthread_life.specs.Requests.{Access, Request, Loads, Stores, Reads, Appends, Closes, Creates, Deletes, Allots, Frees, create_of, in_tag, in_window, bytes_at, in_stream, is_room, read_of, append_of, close_of, free_of, call_request, needed_request, instr_request, word_request, request_at, Opens, bits_to_open, file_of, path_at, open_of, Makes, suits_gate, make_of, Enters, lent_of, lending_of, enter_of}
+use Rattle.sthread_life.specs.Allowed.{may_use, lacks, is_refused, is_checked_at_event, denied as denied_of, fits_kind, opened_as, HasBegunGate, IsAboutToEnter, enter_lacks, enter_refused, is_recycled}
 use Rattle.sthread_life.specs.Children.{is_child}
 use Rattle.sthread_life.specs.Ends.{end_of, copy_end, window_end, needed_end, instr_end, fuel_end, word_end, end_at}
 use Rattle.sthread_life.specs.MadeGates.{IsGateOf}
@@ -60,6 +60,11 @@ use Rattle.sthread_life.specs.declared.copy_grant.CopyGrant.{CopyGrant}
 use Rattle.sthread_life.proofs.MakingGates.{MayGrant, IsMakeable, granting_at, prepared_left}
 use Rattle.cow_pages.specs.PrivateMemory.{PrivateMemory}
 use Rattle.grant_sheet.proofs.SheetWithin.{sheet_within}
+use Rattle.sthread_life.specs.Lending.{may_lend, excess_lent}
+use Rattle.callgate.specs.declared.gate.Gate.{Gate}
+use Rattle.wedge_base.specs.declared.grants.GateKind.{GateKind}
+use Rattle.wedge_base.specs.declared.grants.GateKind.TheVariants as gate_kind
+use Rattle.sthread_life.proofs.EnteringGates.{IsEnterable, enterable_at}
 
 -- the request that is in question in what an actor wants
 abbrev pub request_for : Cells → ActorState → ℕ → Bool → Want → Option Request
@@ -130,6 +135,8 @@ WantsAs N a asked later x (phase.Starting pre) = ⊥
 WantsAs N a asked later x (phase.MakingGate pre) = (x ≡ record a { phase = phase.MakingGate pre }) × IsMakeable a pre
 WantsAs N a asked later x (phase.Opening slot tag) = ⊥
 WantsAs N a asked later x (phase.Releasing slot) = ⊥
+WantsAs N a asked later x (phase.Entering entrance) = (x ≡ record a { phase = phase.Entering entrance }) × IsEnterable a entrance
+WantsAs N a asked later x (phase.Waiting number) = ⊥
 WantsAs N a asked later x (phase.OpeningFile o) = (x ≡ record a { phase = phase.OpeningFile o }) × (o.number ≡ None) × (a1 a ≤ a.fuel)
 WantsAs N a asked later x (phase.Ending e) = Unit {0}
 WantsAs N a asked later x (phase.Ended e) = Unit {0}
@@ -141,9 +148,10 @@ phase_for a (Allots tag size) = phase.Within (want.Slot (slot_held a tag) (slot_
 phase_for a (Opens path f b) = phase.OpeningFile (opened_as path f b)
 phase_for a r = phase.Within (want.Lives lives_ask.Claim)
 
--- what is left of one that is done: its actor comes to its event, and has made a gate or waits for copies of tags for it
+-- what is left of one that is done: its actor comes to its event, has made a gate or waits for copies of tags for it, or is about to enter one
 abbrev pub DoneNow : ActorState → Request → ActorState → Type 0
 DoneNow a (Makes d) x = HasBegunGate a d x
+DoneNow a (Enters entry lent) x = IsAboutToEnter a entry lent x
 DoneNow a r x = x ≡ record a { phase = phase_for a r }
 
 -- a request that is checked at once: the actor is denied, or comes to its event, or is refused
@@ -205,6 +213,8 @@ wants_as N a asked told later x (phase.Starting pre) same w = w
 wants_as N a asked told later x (phase.MakingGate pre) same w = w
 wants_as N a asked told later x (phase.Opening slot tag) same w = w
 wants_as N a asked told later x (phase.Releasing slot) same w = w
+wants_as N a asked told later x (phase.Entering entrance) same w = w
+wants_as N a asked told later x (phase.Waiting number) same w = w
 wants_as N a asked told later x (phase.OpeningFile o) same w = w
 wants_as N a asked told later x (phase.Ending e) same w = tt
 wants_as N a asked told later x (phase.Ended e) same w = tt
@@ -229,6 +239,7 @@ met_at_event a x q (Closes fd s) is e = (q, is)
 met_at_event a x q (Opens path f b) is e = absurd cc
 met_at_event a x q (Creates d) is e = absurd cc
 met_at_event a x q (Makes d) is e = absurd cc
+met_at_event a x q (Enters entry lent) is e = absurd cc
 met_at_event a x q (Deletes tag) is e = absurd cc
 met_at_event a x q (Allots tag size) is e = absurd cc
 met_at_event a x q (Frees p g) is e = (q, is)
@@ -605,6 +616,7 @@ met_now (Closes fd s) now h = absurd cc
 met_now (Opens path f b) now h = h
 met_now (Creates d) now h = h
 met_now (Makes d) now h = h
+met_now (Enters entry lent) now h = h
 met_now (Deletes tag) now h = h
 met_now (Allots tag size) now h = h
 met_now (Frees p g) now h = absurd cc
@@ -801,6 +813,82 @@ make_comes N i a (Some d) drafted =
     subst (λ t. Comes N a (λ c. if t then Some (Makes d) else None) (λ c. None) None (if t then None else Some bad) (make_with i a (Some d))) (sym (suits_so i a d))
     (gate_tests N i a d (is_procedure i (a1 a)) (nat_le (a4 a) 1) (is_none d.user) (is_none d.root) drafted refl refl)
 
+-- ---- the call that enters a gate: it is checked at once
+-- one that is refused for a cause behind its denial
+entry_refused : (N : ℕ → Bool → ℕ → Type 0) (a : ActorState) (entry : ℕ) (lent : Option Draft) (k : Code) → lacks a (Enters entry lent) ≡ None → is_refused a (Enters entry lent) ≡ true
+    → Comes N a (λ c. Some (Enters entry lent)) (λ c. None) None (Some (code_number k)) (refuses a k)
+entry_refused N a entry lent k none is = record {
+  name = refl;
+  quiet = λ c h. absurd cc;
+  met = λ c r h. subst (λ y. MetBy a y (refuses a k)) (same_some (Enters entry lent) r h)
+      (record { denied = λ y e. let g : None ≡ Some y = sym none ∙ e in absurd cc; done = λ e g. absurd (true≢false (sym is ∙ g)); refused = λ e g. (refl, refl) });
+  ends = refl;
+  wants = tt;
+  codes = refused_as a k;
+}
+
+-- a gate that an actor holds at the entry, and what it may lend to its run
+record Entry (a : ActorState) (g : Gate) (lent : Option Draft) : Type 0 where
+  held : gate_held a (a0 a) ≡ Some g
+  asked : lent_asked a.drafts (a2 a) ≡ Some lent
+  lendable : may_lend lent ≡ true
+  allowed : excess_lent a lent ≡ None
+
+entry_tests : (N : ℕ → Bool → ℕ → Type 0) (a : ActorState) (g : Gate) (lent : Option Draft) (t u : Bool) (k : GateKind) → Entry a g lent → nat_lt (length a.name) 32 ≡ not t → nat_lt a.fuel g.fuel ≡ u → g.kind ≡ k
+    → Comes N a (λ c. Some (Enters (a0 a) lent)) (λ c. None) None (if t then Some deep else if u then Some fuel_short else if is_recycled k then Some bad else None)
+    (if t then refuses a code.Deep else if u then refuses a code.FuelShort else enter_kind a k (entrance_of a g lent))
+entry_tests N a g lent t u k h room short kind = by_tests t u k room short kind (ap (enter_refused a) h.held ∙ refused_so t u k room short kind)
+  where
+    none : lacks a (Enters (a0 a) lent) ≡ None
+    none = ap (enter_lacks a (a0 a) lent) h.held ∙ h.allowed
+
+    refused_so : (t u : Bool) (k : GateKind) → nat_lt (length a.name) 32 ≡ not t → nat_lt a.fuel g.fuel ≡ u → g.kind ≡ k → enter_refused a (Some g) ≡ (t || (u || is_recycled k))
+    refused_so t u k room short kind =
+        refused_if (nat_lt (length a.name) 32) t (nat_lt a.fuel g.fuel || is_recycled g.kind) room
+        ∙ (ap (λ v. t || (v || is_recycled g.kind)) short ∙ ap (λ v. t || (u || is_recycled v)) kind)
+
+    by_tests : (t u : Bool) (k : GateKind) → nat_lt (length a.name) 32 ≡ not t → nat_lt a.fuel g.fuel ≡ u → g.kind ≡ k → is_refused a (Enters (a0 a) lent) ≡ (t || (u || is_recycled k))
+        → Comes N a (λ c. Some (Enters (a0 a) lent)) (λ c. None) None (if t then Some deep else if u then Some fuel_short else if is_recycled k then Some bad else None)
+        (if t then refuses a code.Deep else if u then refuses a code.FuelShort else enter_kind a k (entrance_of a g lent))
+    by_tests true u k room short kind is = entry_refused N a (a0 a) lent code.Deep none is
+    by_tests false true k room short kind is = entry_refused N a (a0 a) lent code.FuelShort none is
+    by_tests false false gate_kind.Recycled room short kind is = entry_refused N a (a0 a) lent code.Bad none is
+    by_tests false false gate_kind.Fresh room short kind is = record {
+      name = refl;
+      quiet = λ c e. absurd cc;
+      met = λ c r e. subst (λ y. MetBy a y (record a { phase = phase.Entering (entrance_of a g lent) })) (same_some (Enters (a0 a) lent) r e)
+          (record { denied = λ y f. let x : None ≡ Some y = sym none ∙ f in absurd cc; done = λ e f. (entrance_of a g lent, h.held, refl, refl); refused = λ e f. absurd (true≢false (sym f ∙ is)) });
+      ends = refl;
+      wants = (refl, record { held = h.held; lent = lent; asked = h.asked; lendable = h.lendable; allowed = h.allowed; sheet = refl; shallow = room; enough = enough a.fuel g.fuel short });
+      codes = λ n e. absurd cc;
+    }
+
+entry_coded : (a : ActorState) (g : Gate) (t : Bool) → nat_lt (length a.name) 32 ≡ not t
+    → entry_refusal a g None ≡ (if t then Some deep else if nat_lt a.fuel g.fuel then Some fuel_short else if is_recycled g.kind then Some bad else None)
+entry_coded a g t room = if_not (nat_lt (length a.name) 32) t (Some deep) _ room
+
+entry_checked : (N : ℕ → Bool → ℕ → Type 0) (a : ActorState) (g : Gate) (lent : Option Draft) (o : Option Denial) → gate_held a (a0 a) ≡ Some g → lent_asked a.drafts (a2 a) ≡ Some lent → may_lend lent ≡ true → excess_lent a lent ≡ o
+    → Comes N a (λ c. Some (Enters (a0 a) lent)) (λ c. None) None (entry_refusal a g o) (enter_checked a g lent o)
+entry_checked N a g lent (Some y) held asked may excess = denied_now N a (Enters (a0 a) lent) y _ refl (ap (enter_lacks a (a0 a) lent) held ∙ excess) refl
+entry_checked N a g lent None held asked may excess =
+    comes_as N a _ _ _ None _ _ (enter_allowed a g lent) (λ c. refl) (entry_coded a g (nat_le 32 (length a.name)) (not_over_32 (length a.name)))
+    (entry_tests N a g lent (nat_le 32 (length a.name)) (nat_lt a.fuel g.fuel) g.kind (record { held = held; asked = asked; lendable = may; allowed = excess }) (not_over_32 (length a.name)) refl refl)
+
+lending_comes : (N : ℕ → Bool → ℕ → Type 0) (a : ActorState) (g : Gate) (lent : Option (Option Draft)) → gate_held a (a0 a) ≡ Some g → lent_asked a.drafts (a2 a) ≡ lent
+    → Comes N a (λ c. lending_of (a0 a) lent) (λ c. None) None (lending_refusal a g lent) (enter_lending a g lent)
+lending_comes N a g None held asked = comes_refused N a _ _ code.NoSuch (λ c. refl)
+lending_comes N a g (Some lent) held asked = by_test (may_lend lent) refl
+  where
+    by_test : (t : Bool) → may_lend lent ≡ t
+        → Comes N a (λ c. if t then Some (Enters (a0 a) lent) else None) (λ c. None) None (if not t then Some bad else entry_refusal a g (excess_lent a lent)) (if not t then refuses a code.Bad else enter_checked a g lent (excess_lent a lent))
+    by_test false may = comes_refused N a _ _ code.Bad (λ c. refl)
+    by_test true may = entry_checked N a g lent (excess_lent a lent) held asked may refl
+
+enter_comes : (N : ℕ → Bool → ℕ → Type 0) (a : ActorState) (g : Option Gate) → gate_held a (a0 a) ≡ g
+    → Comes N a (λ c. enter_of (a0 a) g (lent_of a.drafts (a2 a))) (λ c. None) None (enter_refusal a g (lent_of a.drafts (a2 a))) (enter_held a g)
+enter_comes N a None held = denied_now N a (Enters (a0 a) None) (denial.Gate (a0 a)) _ refl (ap (enter_lacks a (a0 a) None) held) refl
+enter_comes N a (Some g) held = lending_comes N a g (lent_asked a.drafts (a2 a)) held refl
+
 -- ---- a call by its number
 
 abbrev CallComes : (ℕ → Bool → ℕ → Type 0) → Image → ActorState → ℕ → Type 0
@@ -813,25 +901,29 @@ call_comes N i a n = by_0 (n == 0) refl
     at : (k : ℕ) → (n == k) ≡ true → CallComes N i a k → CallComes N i a n
     at k e h = subst (CallComes N i a) (sym (eqb-true n k e)) h
 
-    by_18 : (t : Bool) → (n == 18) ≡ t → (n == 0) ≡ false → (n == 1) ≡ false → (n == 2) ≡ false → (n == 3) ≡ false → (n == 4) ≡ false → (n == 5) ≡ false → (n == 6) ≡ false → (n == 13) ≡ false → (n == 15) ≡ false → (n == 16) ≡ false → (n == 17) ≡ false → CallComes N i a n
-    by_18 true e e0 e1 e2 e3 e4 e5 e6 e13 e15 e16 e17 = at 18 e (open_comes N i a)
-    by_18 false e e0 e1 e2 e3 e4 e5 e6 e13 e15 e16 e17 = rw (e0, e1, e2, e3, e4, e5, e6, e13, e15, e16, e17, e) (draft_comes N i a n)
+    by_18 : (t : Bool) → (n == 18) ≡ t → (n == 0) ≡ false → (n == 1) ≡ false → (n == 2) ≡ false → (n == 3) ≡ false → (n == 4) ≡ false → (n == 5) ≡ false → (n == 6) ≡ false → (n == 13) ≡ false → (n == 14) ≡ false → (n == 15) ≡ false → (n == 16) ≡ false → (n == 17) ≡ false → CallComes N i a n
+    by_18 true e e0 e1 e2 e3 e4 e5 e6 e13 e14 e15 e16 e17 = at 18 e (open_comes N i a)
+    by_18 false e e0 e1 e2 e3 e4 e5 e6 e13 e14 e15 e16 e17 = rw (e0, e1, e2, e3, e4, e5, e6, e13, e14, e15, e16, e17, e) (draft_comes N i a n)
 
-    by_17 : (t : Bool) → (n == 17) ≡ t → (n == 0) ≡ false → (n == 1) ≡ false → (n == 2) ≡ false → (n == 3) ≡ false → (n == 4) ≡ false → (n == 5) ≡ false → (n == 6) ≡ false → (n == 13) ≡ false → (n == 15) ≡ false → (n == 16) ≡ false → CallComes N i a n
-    by_17 true e e0 e1 e2 e3 e4 e5 e6 e13 e15 e16 = at 17 e (close_comes N a)
-    by_17 false e e0 e1 e2 e3 e4 e5 e6 e13 e15 e16 = by_18 (n == 18) refl e0 e1 e2 e3 e4 e5 e6 e13 e15 e16 e
+    by_17 : (t : Bool) → (n == 17) ≡ t → (n == 0) ≡ false → (n == 1) ≡ false → (n == 2) ≡ false → (n == 3) ≡ false → (n == 4) ≡ false → (n == 5) ≡ false → (n == 6) ≡ false → (n == 13) ≡ false → (n == 14) ≡ false → (n == 15) ≡ false → (n == 16) ≡ false → CallComes N i a n
+    by_17 true e e0 e1 e2 e3 e4 e5 e6 e13 e14 e15 e16 = at 17 e (close_comes N a)
+    by_17 false e e0 e1 e2 e3 e4 e5 e6 e13 e14 e15 e16 = by_18 (n == 18) refl e0 e1 e2 e3 e4 e5 e6 e13 e14 e15 e16 e
 
-    by_16 : (t : Bool) → (n == 16) ≡ t → (n == 0) ≡ false → (n == 1) ≡ false → (n == 2) ≡ false → (n == 3) ≡ false → (n == 4) ≡ false → (n == 5) ≡ false → (n == 6) ≡ false → (n == 13) ≡ false → (n == 15) ≡ false → CallComes N i a n
-    by_16 true e e0 e1 e2 e3 e4 e5 e6 e13 e15 = at 16 e (append_comes N i a)
-    by_16 false e e0 e1 e2 e3 e4 e5 e6 e13 e15 = by_17 (n == 17) refl e0 e1 e2 e3 e4 e5 e6 e13 e15 e
+    by_16 : (t : Bool) → (n == 16) ≡ t → (n == 0) ≡ false → (n == 1) ≡ false → (n == 2) ≡ false → (n == 3) ≡ false → (n == 4) ≡ false → (n == 5) ≡ false → (n == 6) ≡ false → (n == 13) ≡ false → (n == 14) ≡ false → (n == 15) ≡ false → CallComes N i a n
+    by_16 true e e0 e1 e2 e3 e4 e5 e6 e13 e14 e15 = at 16 e (append_comes N i a)
+    by_16 false e e0 e1 e2 e3 e4 e5 e6 e13 e14 e15 = by_17 (n == 17) refl e0 e1 e2 e3 e4 e5 e6 e13 e14 e15 e
 
-    by_15 : (t : Bool) → (n == 15) ≡ t → (n == 0) ≡ false → (n == 1) ≡ false → (n == 2) ≡ false → (n == 3) ≡ false → (n == 4) ≡ false → (n == 5) ≡ false → (n == 6) ≡ false → (n == 13) ≡ false → CallComes N i a n
-    by_15 true e e0 e1 e2 e3 e4 e5 e6 e13 = at 15 e (read_comes N a)
-    by_15 false e e0 e1 e2 e3 e4 e5 e6 e13 = by_16 (n == 16) refl e0 e1 e2 e3 e4 e5 e6 e13 e
+    by_15 : (t : Bool) → (n == 15) ≡ t → (n == 0) ≡ false → (n == 1) ≡ false → (n == 2) ≡ false → (n == 3) ≡ false → (n == 4) ≡ false → (n == 5) ≡ false → (n == 6) ≡ false → (n == 13) ≡ false → (n == 14) ≡ false → CallComes N i a n
+    by_15 true e e0 e1 e2 e3 e4 e5 e6 e13 e14 = at 15 e (read_comes N a)
+    by_15 false e e0 e1 e2 e3 e4 e5 e6 e13 e14 = by_16 (n == 16) refl e0 e1 e2 e3 e4 e5 e6 e13 e14 e
+
+    by_14 : (t : Bool) → (n == 14) ≡ t → (n == 0) ≡ false → (n == 1) ≡ false → (n == 2) ≡ false → (n == 3) ≡ false → (n == 4) ≡ false → (n == 5) ≡ false → (n == 6) ≡ false → (n == 13) ≡ false → CallComes N i a n
+    by_14 true e e0 e1 e2 e3 e4 e5 e6 e13 = at 14 e (enter_comes N a (gate_held a (a0 a)) refl)
+    by_14 false e e0 e1 e2 e3 e4 e5 e6 e13 = by_15 (n == 15) refl e0 e1 e2 e3 e4 e5 e6 e13 e
 
     by_13 : (t : Bool) → (n == 13) ≡ t → (n == 0) ≡ false → (n == 1) ≡ false → (n == 2) ≡ false → (n == 3) ≡ false → (n == 4) ≡ false → (n == 5) ≡ false → (n == 6) ≡ false → CallComes N i a n
     by_13 true e e0 e1 e2 e3 e4 e5 e6 = at 13 e (make_comes N i a (slice_get a.drafts (a0 a)) refl)
-    by_13 false e e0 e1 e2 e3 e4 e5 e6 = by_15 (n == 15) refl e0 e1 e2 e3 e4 e5 e6 e
+    by_13 false e e0 e1 e2 e3 e4 e5 e6 = by_14 (n == 14) refl e0 e1 e2 e3 e4 e5 e6 e
 
     by_6 : (t : Bool) → (n == 6) ≡ t → (n == 0) ≡ false → (n == 1) ≡ false → (n == 2) ≡ false → (n == 3) ≡ false → (n == 4) ≡ false → (n == 5) ≡ false → CallComes N i a n
     by_6 true e e0 e1 e2 e3 e4 e5 = at 6 e (free_comes N a (slot_of (a0 a)))
@@ -938,6 +1030,8 @@ ReadsAs i a (phase.Starting pre) = IsStartable a
 ReadsAs i a (phase.MakingGate pre) = IsMakeable a pre
 ReadsAs i a (phase.Opening slot tag) = (slot < slots_in i) × AsksForPages a
 ReadsAs i a (phase.Releasing slot) = Unit {0}
+ReadsAs i a (phase.Entering entrance) = IsEnterable a entrance
+ReadsAs i a (phase.Waiting number) = Unit {0}
 ReadsAs i a (phase.OpeningFile o) = (a1 a ≤ a.fuel) × NumberIn i o.number
 ReadsAs i a (phase.Ending e) = Unit {0}
 ReadsAs i a (phase.Ended e) = Unit {0}
@@ -980,6 +1074,8 @@ reads_of i p x (phase.Starting pre) w = absurd w
 reads_of i p x (phase.MakingGate pre) w = subst (λ y. ReadsAs i y (phase.MakingGate pre)) (sym w.0) (granting_at p (phase.MakingGate pre) pre w.1)
 reads_of i p x (phase.Opening slot tag) w = absurd w
 reads_of i p x (phase.Releasing slot) w = absurd w
+reads_of i p x (phase.Entering entrance) w = subst (λ y. ReadsAs i y (phase.Entering entrance)) (sym w.0) (enterable_at p (phase.Entering entrance) entrance w.1)
+reads_of i p x (phase.Waiting number) w = absurd w
 reads_of i p x (phase.OpeningFile o) w = subst (λ y. ReadsAs i y (phase.OpeningFile o)) (sym w.0) (w.2, subst (NumberIn i) (sym w.1) tt)
 reads_of i p x (phase.Ending e) w = tt
 reads_of i p x (phase.Ended e) w = tt

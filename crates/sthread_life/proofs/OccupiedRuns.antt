@@ -1,10 +1,10 @@
 -- Every turn of a run leaves the slots and the tags as they should be, and so does every run.
-use Rattle.std.proofs.Common.{◌≡◌, ℕ, zero, suc, ◌+◌, ◌<◌, ◌≤◌, ◌==◌, Bool, true, false, true≢false, List, [], ◌∷◌, length, refl, sym, ap, subst, ◌∙◌, arith}
-use Rattle.std.proofs.lemmas.Bool.{eqb-true}
+use Rattle.std.proofs.Common.{◌≡◌, ℕ, zero, suc, ◌+◌, ◌<◌, ◌≤◌, ◌==◌, Bool, true, false, true≢false, List, [], ◌∷◌, length, refl, sym, ap, subst, ◌∙◌, arith, inl, inr}
+use Rattle.std.proofs.lemmas.Bool.{eqb-true, eq-eqb}
 use Rattle.std.proofs.lemmas.Bool.Decides.{nat_tests}
 use Rattle.std.specs.Option.{option_or}
 use Rattle.std.specs.Ordering.{nat_cmp, eq_by_cmp}
-use Rattle.std.specs.Prelude.{Option, Some, None, option_map, not, ◌&&◌, ◌||◌, nat_lt, slice_get, slice_range, if◌then◌else◌}
+use Rattle.std.specs.Prelude.{Option, Some, None, option_map, not, ◌&&◌, ◌||◌, ◌⊎◌, nat_lt, slice_get, slice_range, if◌then◌else◌}
 use Rattle.wedge_base.specs.Blocks.{rounded, first_fit}
 use Rattle.wedge_base.specs.Bytes.{number_of}
 use Rattle.wedge_base.specs.Directories.{Directory, Claim, claim, claim_reply, claim_next, is_among, is_claimed, release}
@@ -34,33 +34,38 @@ use Rattle.wedge_base.specs.declared.cells.SlotReply.{SlotReply}
 use Rattle.wedge_base.specs.declared.cells.SlotReply.TheVariants as slot_reply
 use Rattle.sthread_life.specs.declared.phase.Phase.{Phase}
 use Rattle.sthread_life.specs.declared.phase.Phase.TheVariants as phase
-use Rattle.sthread_life.specs.Actors.{ActorState, root, but_gates}
+use Rattle.sthread_life.specs.Actors.{ActorState, root}
 use Rattle.sthread_life.specs.Between.{IsBetween}
 use Rattle.sthread_life.specs.Calls.{a0, are_pages}
 use Rattle.sthread_life.specs.CellHistories.{Occupant, occupant, occupant_in, occupant_by, occupant_after_event, places_after_event}
 use Rattle.sthread_life.specs.Cells.{Cells, opening_cells, slot_in, tag_in, cells_after}
 use Rattle.sthread_life.specs.Children.{child_name}
-use Rattle.sthread_life.specs.Families.{IsChild, made_under, made_by}
+use Rattle.sthread_life.specs.Families.{made_under, made_by}
 use Rattle.sthread_life.specs.Laws.{SlotsAreOccupied}
 use Rattle.sthread_life.specs.Local.{rest}
 use Rattle.sthread_life.specs.Moments.{EachStep}
-use Rattle.sthread_life.specs.Occupancy.{slot_of_call, tag_of_call, slot_known, AreOccupied, AskSuits, SlotsSuit}
-use Rattle.sthread_life.specs.Taking.{next_start, takes, begun, child_of}
-use Rattle.sthread_life.specs.Worlds.{WorldState, opening, actor_named, turn_of, Runs}
-use Rattle.sthread_life.proofs.Between.{IsPreparing, MayPrepare, MayNumber, Leaves, event_for, takes_name, takes_between, turn_parts}
+use Rattle.sthread_life.specs.GateCalls.{EventMakesGates}
+use Rattle.sthread_life.specs.Occupancy.{slot_of_call, tag_of_call, slot_known, GateHasIn, HasIn, AreOccupied, AskSuits, SlotsSuit}
+use Rattle.sthread_life.specs.Taking.{next_start, takes, begun, child_of, run_by}
+use Rattle.sthread_life.specs.Worlds.{WorldState, opening, actor_named, with_actor, resumed, turn_of, Runs}
+use Rattle.sthread_life.proofs.Between.{IsPreparing, MayPrepare, MayNumber, Leaves, event_for, takes_name, takes_between, MayWait}
 use Rattle.sthread_life.proofs.Bounding.{equal_keys, with_same, with_other}
 use Rattle.sthread_life.proofs.CellChanging.{IsChanged, event_changes}
 use Rattle.sthread_life.proofs.Directing.{claimed_rises}
-use Rattle.sthread_life.proofs.Families.{takes_made, takes_sheet, made_same, want_made, child_begins}
-use Rattle.sthread_life.proofs.FamilyRuns.{Acts, ActsAlone, Starts, Joins, acts, one_begins, kept_at_rest}
-use Rattle.sthread_life.proofs.Happening.{Happens, snap_cases, Requested, Joined, Snaps, GateSnaps, Started, Opens, Releases, Numbers, OpensFile, LastJoined, Ended}
+use Rattle.sthread_life.proofs.Families.{takes_made, takes_sheet, made_same, want_made, child_begins, run_begins}
+use Rattle.sthread_life.proofs.FamilyRuns.{Acts, ActsAlone, Starts, Enters, Joins, acts, one_begins, kept_at_rest}
+use Rattle.sthread_life.proofs.GateMoments.{event_makes_gates}
+use Rattle.sthread_life.proofs.GateRuns.{entry_begins}
+use Rattle.sthread_life.proofs.Happening.{Happens, snap_cases, Requested, Joined, Snaps, GateSnaps, Started, Opens, Releases, Numbers, OpensFile, LastJoined, Ended, EntersGate, LeavesGate}
+use Rattle.sthread_life.proofs.KnownGates.{Grows, Keeps, by_phase}
 use Rattle.sthread_life.proofs.Meeting.{IsRequest}
-use Rattle.sthread_life.proofs.Named.{found_name}
 use Rattle.sthread_life.proofs.Occupying.{Turns, IsPlain, occupied_after, stays_so, claims_so, opens_so, closes_so, releases_so}
 use Rattle.sthread_life.proofs.Opening.{cells_open}
 use Rattle.sthread_life.proofs.Resting.{rest-name, rest-uncalm}
-use Rattle.sthread_life.proofs.Settling.{AllReady, turn_happens, turn_ready, opening_ready}
-use Rattle.sthread_life.proofs.Trees.{IsPut}
+use Rattle.sthread_life.proofs.Settling.{AreCells, AllReady, turn_happens, turn_ready, opening_ready, turned_there}
+use Rattle.sthread_life.proofs.SlotsKnown.{grown_has, rest_has, same_has, child_has, run_of_has}
+use Rattle.sthread_life.proofs.Trees.{IsPut, put_same}
+use Rattle.sthread_life.proofs.Turns.{Readies, Stays, Back, back, readies, turn_from}
 use Rattle.tag_directory.specs.Laws.{AreReleased}
 use Rattle.tag_directory.proofs.Places.{given_apart}
 
@@ -124,6 +129,8 @@ between_calls (phase.Starting pre) h = absurd h
 between_calls (phase.MakingGate pre) h = absurd h
 between_calls (phase.Opening slot tag) h = absurd h
 between_calls (phase.Releasing slot) h = absurd h
+between_calls (phase.Entering entrance) h = absurd h
+between_calls (phase.Waiting number) h = absurd h
 between_calls (phase.OpeningFile o) h = absurd h
 between_calls (phase.Ending e) h = (refl, refl)
 between_calls (phase.Ended e) h = (refl, refl)
@@ -139,6 +146,8 @@ prepared_calls (phase.Starting pre) h = (refl, refl)
 prepared_calls (phase.MakingGate pre) h = (refl, refl)
 prepared_calls (phase.Opening slot tag) h = absurd h
 prepared_calls (phase.Releasing slot) h = absurd h
+prepared_calls (phase.Entering entrance) h = absurd h
+prepared_calls (phase.Waiting number) h = absurd h
 prepared_calls (phase.OpeningFile o) h = absurd h
 prepared_calls (phase.Ending e) h = (refl, refl)
 prepared_calls (phase.Ended e) h = (refl, refl)
@@ -151,8 +160,15 @@ numbered_calls fd (phase.Starting pre) h = absurd h
 numbered_calls fd (phase.MakingGate pre) h = absurd h
 numbered_calls fd (phase.Opening slot tag) h = absurd h
 numbered_calls fd (phase.Releasing slot) h = absurd h
+numbered_calls fd (phase.Entering entrance) h = absurd h
+numbered_calls fd (phase.Waiting number) h = absurd h
 numbered_calls fd (phase.Ending x) h = absurd h
 numbered_calls fd (phase.Ended x) h = absurd h
+
+waiting_calls : (p : Phase) → MayWait p → (slot_of_call p ≡ None) × (tag_of_call p ≡ None)
+waiting_calls phase.Running h = (refl, refl)
+waiting_calls (phase.Waiting k) h = (refl, refl)
+waiting_calls p h = absurd h
 
 quiet_calls : (e : Event) (p : Phase) → IsQuiet e → Leaves e p → (slot_of_call p ≡ None) × (tag_of_call p ≡ None)
 quiet_calls (event.Lives lives_ask.Claim lives_reply.Claimed) p k h = preparing_calls p h
@@ -168,6 +184,7 @@ quiet_calls (event.Fds directory_ask.Claim directory_reply.Released) p k h = bet
 quiet_calls (event.Fds (directory_ask.Release place) r) p k h = between_calls p h
 quiet_calls (event.Slot slot q slot_reply.Closed) p k h = absurd k
 quiet_calls (event.Slot slot q r) p k h = between_calls p h
+quiet_calls (event.Enter run) p k h = waiting_calls p h
 quiet_calls e p k h = between_calls p h
 
 -- ---- the replies to requests that are quiet
@@ -213,13 +230,21 @@ snap_quiet g tag = snap_cases (λ r. IsQuietSlot r (slot_ask.Snap tag)) g tag (�
 
 -- ---- what an actor holds
 
--- the slots in which an actor has its tags, where it made none more
-same_known : (i : Image) (a : ActorState) (e : Event) → (made_by (rest i a) (Some e)).tags ≡ (rest i a).made.tags → (tag : ℕ) → slot_known (takes i (rest i a) e) tag ≡ slot_known a tag
-same_known i a e none tag =
+-- what an event makes of the cells, and of the gates of its actor
+record Leads (w : WorldState) (a : ActorState) (e : Event) : Type 0 where
+  changed : IsChanged w.cells e (cells_after w.cells e)
+  grows : Grows (rest w.image a) (takes w.image (rest w.image a) e)
+
+leads : (w : WorldState) (a : ActorState) (e : Event) → AreCells w.image w.cells → Happens w (rest w.image a) e → Leads w a e
+leads w a e cells h =
+    let b = rest w.image a in
+    record { changed = event_changes w b e cells h; grows = by_phase (with_actor w b) b (takes w.image b e) b.phase e (event_makes_gates w b e h) }
+
+-- an actor has no tag in another slot, where it made none more
+still_has : (i : Image) (a : ActorState) (e : Event) → (made_by (rest i a) (Some e)).tags ≡ (rest i a).made.tags → Grows (rest i a) (takes i (rest i a) e) → (tag slot : ℕ) → HasIn (takes i (rest i a) e) tag slot → HasIn a tag slot
+still_has i a e none grows tag slot h =
     let b = rest i a in
-    let k = kept_at_rest i a _ refl in
-    ap (λ (s : Sheet). slot_on s (takes i b e).made tag) (takes_sheet i b e ∙ k.sheet)
-    ∙ ap (λ (m : Map ℕ). option_or (at m tag) (option_map (λ g. g.slot) (at a.sheet.tags tag))) (ap (λ (m : Made). m.tags) (takes_made i b e) ∙ (none ∙ ap (λ (m : Made). m.tags) k.made))
+    rest_has i a tag slot (grown_has b (takes i b e) (takes_sheet i b e) (ap (λ (m : Made). m.tags) (takes_made i b e) ∙ none) grows tag slot h)
 
 opened_made : (i : Image) (a : ActorState) (slot tag pages : ℕ) → (takes i (rest i a) (event.Slot slot (slot_ask.Open tag pages) slot_reply.Opened)).made.tags ≡ (made_tag a.made tag slot).tags
 opened_made i a slot tag pages =
@@ -227,6 +252,10 @@ opened_made i a slot tag pages =
 
 opened_sheet : (i : Image) (a : ActorState) (e : Event) → (takes i (rest i a) e).sheet ≡ a.sheet
 opened_sheet i a e = takes_sheet i (rest i a) e ∙ (kept_at_rest i a _ refl).sheet
+
+opened_gates : (i : Image) (a : ActorState) (slot tag pages : ℕ) → (takes i (rest i a) (event.Slot slot (slot_ask.Open tag pages) slot_reply.Opened)).gates ≡ (rest i a).gates
+unfolding takes
+opened_gates i a slot tag pages = refl
 
 opened_other : (i : Image) (a : ActorState) (slot tag pages t : ℕ) → (t ≡ tag → ⊥) → slot_known (takes i (rest i a) (event.Slot slot (slot_ask.Open tag pages) slot_reply.Opened)) t ≡ slot_known a t
 opened_other i a slot tag pages t ne =
@@ -238,6 +267,20 @@ opened_own i a slot tag pages =
     ap (λ (ts : Map ℕ). option_or (at ts tag) (option_map (λ g. g.slot) (at (takes i (rest i a) (event.Slot slot (slot_ask.Open tag pages) slot_reply.Opened)).sheet.tags tag))) (opened_made i a slot tag pages)
     ∙ ap (λ o. option_or o (option_map (λ g. g.slot) (at (takes i (rest i a) (event.Slot slot (slot_ask.Open tag pages) slot_reply.Opened)).sheet.tags tag))) (with_same a.made.tags tag slot)
 
+-- who opens a tag has it in the slot in which it was opened
+opened_has : (i : Image) (a : ActorState) (slot tag pages : ℕ) (t s : ℕ) → HasIn (takes i (rest i a) (event.Slot slot (slot_ask.Open tag pages) slot_reply.Opened)) t s → ((t ≡ tag) × (s ≡ slot)) ⊎ HasIn a t s
+opened_has i a slot tag pages t s (inr gate) = inr (rest_has i a t s (inr (subst (λ gs. GateHasIn gs t s) (opened_gates i a slot tag pages) gate)))
+opened_has i a slot tag pages t s (inl own) = by_tag (t == tag) refl
+  where
+    by_tag : (b : Bool) → (t == tag) ≡ b → ((t ≡ tag) × (s ≡ slot)) ⊎ HasIn a t s
+    by_tag true is =
+        let the_tag : t ≡ tag = eqb-true t tag is in
+        let x = takes i (rest i a) (event.Slot slot (slot_ask.Open tag pages) slot_reply.Opened) in
+        let both : Some slot ≡ Some s = sym (opened_own i a slot tag pages) ∙ (ap (slot_known x) (sym the_tag) ∙ own) in
+        let the_slot : s ≡ slot = cc in
+        inl (the_tag, the_slot)
+    by_tag false is = inr (inl (sym (opened_other i a slot tag pages t (λ e. true≢false (sym (eq-eqb t tag e) ∙ is))) ∙ own))
+
 -- ---- each kind of turn
 
 -- a turn of the actor a in the world w, by this event
@@ -248,21 +291,21 @@ pub record Occupied (w : WorldState) : Type 0 where
   pub occupied : AreOccupied w.cells w.actors
   pub released : AreReleased w.cells.places.unused w.cells.places.released
 
-quiet_turn : (w : WorldState) (a : ActorState) (e : Event) → Occupied w → actor_named w.actors a.name ≡ Some a → IsQuiet e → (made_by (rest w.image a) (Some e)).tags ≡ (rest w.image a).made.tags → IsChanged w.cells e (cells_after w.cells e) → TurnsBy w a e
-quiet_turn w a e occ there quiet none changed =
+quiet_turn : (w : WorldState) (a : ActorState) (e : Event) → Occupied w → actor_named w.actors a.name ≡ Some a → IsQuiet e → (made_by (rest w.image a) (Some e)).tags ≡ (rest w.image a).made.tags → Leads w a e → TurnsBy w a e
+quiet_turn w a e occ there quiet none l =
     let calls = quiet_calls e (takes w.image (rest w.image a) e).phase quiet (takes_between w.image (rest w.image a) e) in
-    stays_so w.cells (cells_after w.cells e) w.actors a (takes w.image (rest w.image a) e) occ.occupied there (changed.places ∙ quiet_places w.cells.places e quiet)
-    (λ slot. tag_seen (cells_after w.cells e) slot ∙ (ap tag_of (changed.occupants slot) ∙ (quiet_tags slot (occupant_in w.cells slot) e quiet ∙ sym (tag_seen w.cells slot))))
-    calls.0 calls.1 (same_known w.image a e none)
+    stays_so w.cells (cells_after w.cells e) w.actors a (takes w.image (rest w.image a) e) occ.occupied there (l.changed.places ∙ quiet_places w.cells.places e quiet)
+    (λ slot. tag_seen (cells_after w.cells e) slot ∙ (ap tag_of (l.changed.occupants slot) ∙ (quiet_tags slot (occupant_in w.cells slot) e quiet ∙ sym (tag_seen w.cells slot))))
+    calls.0 calls.1 (still_has w.image a e none l.grows)
 
 -- the claim of a slot
 claim_turn : (w : WorldState) (a : ActorState) (o : Option Claim) → Occupied w → actor_named w.actors a.name ≡ Some a → claim w.cells.places ≡ o
     → Turns (record w.cells { places = claim_next w.cells.places o }) w.actors a (takes w.image (rest w.image a) (event.Slots directory_ask.Claim (claim_reply w.cells.places o)))
 unfolding takes
-claim_turn w a None occ there is = stays_so w.cells w.cells w.actors a _ occ.occupied there refl (λ slot. refl) refl refl (same_known w.image a (event.Slots directory_ask.Claim directory_reply.Full) refl)
+claim_turn w a None occ there is = stays_so w.cells w.cells w.actors a _ occ.occupied there refl (λ slot. refl) refl refl (still_has w.image a (event.Slots directory_ask.Claim directory_reply.Full) refl (Keeps refl refl refl))
 claim_turn w a (Some k) occ there is =
     claims_so w.cells (record w.cells { places = k.left }) w.actors a _ k occ.occupied there (given_apart.gives w.cells.places k occ.released is) (claimed_rises w.cells.places k is) refl (λ slot. refl) refl refl
-    (same_known w.image a (event.Slots directory_ask.Claim (directory_reply.Claimed k.place w.cells.places.number)) refl)
+    (still_has w.image a (event.Slots directory_ask.Claim (directory_reply.Claimed k.place w.cells.places.number)) refl (Keeps refl refl refl))
 
 if_tag : (t : Bool) (o p : Option Occupant) → tag_of (if t then o else p) ≡ (if t then tag_of o else tag_of p)
 if_tag true o p = refl
@@ -270,24 +313,24 @@ if_tag false o p = refl
 
 -- the close of a tag
 close_turn : (w : WorldState) (a : ActorState) (slot tag : ℕ) (g : Option Segment) → Occupied w → actor_named w.actors a.name ≡ Some a → slot_in w.cells slot ≡ g
-    → IsChanged w.cells (event.Slot slot (slot_ask.Close tag) (slot_reply_of g (slot_ask.Close tag))) (cells_after w.cells (event.Slot slot (slot_ask.Close tag) (slot_reply_of g (slot_ask.Close tag))))
+    → Leads w a (event.Slot slot (slot_ask.Close tag) (slot_reply_of g (slot_ask.Close tag)))
     → TurnsBy w a (event.Slot slot (slot_ask.Close tag) (slot_reply_of g (slot_ask.Close tag)))
 unfolding takes tag_of
-close_turn w a slot tag None occ there lives changed = quiet_turn w a (event.Slot slot (slot_ask.Close tag) slot_reply.NoSuch) occ there tt refl changed
-close_turn w a slot tag (Some g) occ there lives changed = by_test (g.tag == tag) refl changed
+close_turn w a slot tag None occ there lives l = quiet_turn w a (event.Slot slot (slot_ask.Close tag) slot_reply.NoSuch) occ there tt refl l
+close_turn w a slot tag (Some g) occ there lives l = by_test (g.tag == tag) refl l
   where
-    closed : (g.tag == tag) ≡ true → IsChanged w.cells (event.Slot slot (slot_ask.Close tag) slot_reply.Closed) (cells_after w.cells (event.Slot slot (slot_ask.Close tag) slot_reply.Closed)) → TurnsBy w a (event.Slot slot (slot_ask.Close tag) slot_reply.Closed)
-    closed is c =
+    closed : (g.tag == tag) ≡ true → Leads w a (event.Slot slot (slot_ask.Close tag) slot_reply.Closed) → TurnsBy w a (event.Slot slot (slot_ask.Close tag) slot_reply.Closed)
+    closed is l =
         closes_so w.cells (cells_after w.cells (event.Slot slot (slot_ask.Close tag) slot_reply.Closed)) w.actors a (takes w.image (rest w.image a) (event.Slot slot (slot_ask.Close tag) slot_reply.Closed)) slot tag occ.occupied there
         (ap (option_map (λ x. x.tag)) lives ∙ ap Some (eqb-true g.tag tag is)) refl
-        (λ s. tag_seen (cells_after w.cells (event.Slot slot (slot_ask.Close tag) slot_reply.Closed)) s ∙ (ap tag_of (c.occupants s) ∙ (if_tag (slot == s) None (occupant_in w.cells s) ∙ ap (λ o. if slot == s then None else o) (sym (tag_seen w.cells s)))))
-        refl refl (same_known w.image a (event.Slot slot (slot_ask.Close tag) slot_reply.Closed) refl)
+        (λ s. tag_seen (cells_after w.cells (event.Slot slot (slot_ask.Close tag) slot_reply.Closed)) s ∙ (ap tag_of (l.changed.occupants s) ∙ (if_tag (slot == s) None (occupant_in w.cells s) ∙ ap (λ o. if slot == s then None else o) (sym (tag_seen w.cells s)))))
+        refl refl (still_has w.image a (event.Slot slot (slot_ask.Close tag) slot_reply.Closed) refl l.grows)
 
     by_test : (t : Bool) → (g.tag == tag) ≡ t
-        → IsChanged w.cells (event.Slot slot (slot_ask.Close tag) (if t then slot_reply.Closed else slot_reply.NoSuch)) (cells_after w.cells (event.Slot slot (slot_ask.Close tag) (if t then slot_reply.Closed else slot_reply.NoSuch)))
+        → Leads w a (event.Slot slot (slot_ask.Close tag) (if t then slot_reply.Closed else slot_reply.NoSuch))
         → TurnsBy w a (event.Slot slot (slot_ask.Close tag) (if t then slot_reply.Closed else slot_reply.NoSuch))
-    by_test true is c = closed is c
-    by_test false is c = quiet_turn w a (event.Slot slot (slot_ask.Close tag) slot_reply.NoSuch) occ there tt refl c
+    by_test true is l = closed is l
+    by_test false is l = quiet_turn w a (event.Slot slot (slot_ask.Close tag) slot_reply.NoSuch) occ there tt refl l
 
 -- the opening of a tag
 open_turn : (w : WorldState) (a : ActorState) (slot tag pages : ℕ) → Occupied w → actor_named w.actors a.name ≡ Some a → a.phase ≡ phase.Opening slot tag
@@ -297,7 +340,7 @@ unfolding takes tag_of
 open_turn w a slot tag pages occ there at_ c =
     opens_so w.cells (cells_after w.cells (event.Slot slot (slot_ask.Open tag pages) slot_reply.Opened)) w.actors a (takes w.image (rest w.image a) (event.Slot slot (slot_ask.Open tag pages) slot_reply.Opened)) slot tag occ.occupied there (ap slot_of_call at_) (ap tag_of_call at_) refl
     (λ s. tag_seen (cells_after w.cells (event.Slot slot (slot_ask.Open tag pages) slot_reply.Opened)) s ∙ (ap tag_of (c.occupants s) ∙ (if_tag (slot == s) (Some (occupant tag [])) (occupant_in w.cells s) ∙ ap (λ o. if slot == s then Some tag else o) (sym (tag_seen w.cells s)))))
-    refl refl (opened_other w.image a slot tag pages) (opened_own w.image a slot tag pages)
+    refl refl (opened_has w.image a slot tag pages)
 
 -- the release of a slot
 released_claims : (d : Directory) (slot s : ℕ) (t : Bool) → (slot == s) ≡ false → is_claimed (if t then record d { released = slot ∷ d.released } else d) s ≡ is_claimed d s
@@ -312,7 +355,7 @@ release_turn : (w : WorldState) (a : ActorState) (slot : ℕ) → Occupied w →
 unfolding takes
 release_turn w a slot occ there at_ =
     releases_so w.cells (record w.cells { places = release w.cells.places slot }) w.actors a _ slot occ.occupied there (ap slot_of_call at_) (released_number w.cells.places slot (is_claimed w.cells.places slot))
-    (λ s apart. released_claims w.cells.places slot s (is_claimed w.cells.places slot) apart) (λ s. refl) refl refl (same_known w.image a (event.Slots (directory_ask.Release slot) directory_reply.Released) refl)
+    (λ s apart. released_claims w.cells.places slot s (is_claimed w.cells.places slot) apart) (λ s. refl) refl refl (still_has w.image a (event.Slots (directory_ask.Release slot) directory_reply.Released) refl (Keeps refl refl refl))
 
 -- ---- any turn
 
@@ -324,6 +367,8 @@ tags_under m (phase.Starting pre) fd = refl
 tags_under m (phase.MakingGate pre) fd = refl
 tags_under m (phase.Opening slot tag) fd = refl
 tags_under m (phase.Releasing slot) fd = refl
+tags_under m (phase.Entering entrance) fd = refl
+tags_under m (phase.Waiting number) fd = refl
 tags_under m (phase.OpeningFile o) fd = refl
 tags_under m (phase.Ending x) fd = refl
 tags_under m (phase.Ended x) fd = refl
@@ -331,70 +376,67 @@ tags_under m (phase.Ended x) fd = refl
 -- no tag is made by a request
 want_turn : (w : WorldState) (a : ActorState) (N : ℕ → Type 0) (q : Want) → Occupied w → actor_named w.actors a.name ≡ Some a → IsRequest N (rest w.image a) q
     → (made_by (rest w.image a) (Some (event_for w.cells (rest w.image a) q))).tags ≡ (rest w.image a).made.tags
-    → IsChanged w.cells (event_for w.cells (rest w.image a) q) (cells_after w.cells (event_for w.cells (rest w.image a) q)) → TurnsBy w a (event_for w.cells (rest w.image a) q)
-want_turn w a N (want.Slots directory_ask.Claim) occ there own none changed = claim_turn w a (claim w.cells.places) occ there refl
-want_turn w a N (want.Slot slot (slot_want.Close tag)) occ there own none changed = close_turn w a slot tag (slot_in w.cells slot) occ there refl changed
-want_turn w a N (want.Slot slot (slot_want.Load offset width)) occ there own none changed = quiet_turn w a _ occ there (load_quiet (slot_in w.cells slot) offset width _) none changed
-want_turn w a N (want.Slot slot (slot_want.Store offset width value)) occ there own none changed = quiet_turn w a _ occ there (store_quiet (slot_in w.cells slot) offset width value _) none changed
-want_turn w a N (want.Slot slot (slot_want.Smalloc tag size)) occ there own none changed = quiet_turn w a _ occ there (place_quiet (slot_in w.cells slot) tag size) none changed
-want_turn w a N (want.Slot slot (slot_want.Sfree offset)) occ there own none changed = quiet_turn w a _ occ there (free_quiet (slot_in w.cells slot) offset _) none changed
-want_turn w a N (want.Fd fd q) occ there own none changed = quiet_turn w a _ occ there tt none changed
-want_turn w a N (want.Lives lives_ask.Claim) occ there own none changed = quiet_turn w a _ occ there tt none changed
-want_turn w a N q occ there own none changed = absurd own
+    → Leads w a (event_for w.cells (rest w.image a) q) → TurnsBy w a (event_for w.cells (rest w.image a) q)
+want_turn w a N (want.Slots directory_ask.Claim) occ there own none l = claim_turn w a (claim w.cells.places) occ there refl
+want_turn w a N (want.Slot slot (slot_want.Close tag)) occ there own none l = close_turn w a slot tag (slot_in w.cells slot) occ there refl l
+want_turn w a N (want.Slot slot (slot_want.Load offset width)) occ there own none l = quiet_turn w a _ occ there (load_quiet (slot_in w.cells slot) offset width _) none l
+want_turn w a N (want.Slot slot (slot_want.Store offset width value)) occ there own none l = quiet_turn w a _ occ there (store_quiet (slot_in w.cells slot) offset width value _) none l
+want_turn w a N (want.Slot slot (slot_want.Smalloc tag size)) occ there own none l = quiet_turn w a _ occ there (place_quiet (slot_in w.cells slot) tag size) none l
+want_turn w a N (want.Slot slot (slot_want.Sfree offset)) occ there own none l = quiet_turn w a _ occ there (free_quiet (slot_in w.cells slot) offset _) none l
+want_turn w a N (want.Fd fd q) occ there own none l = quiet_turn w a _ occ there tt none l
+want_turn w a N (want.Lives lives_ask.Claim) occ there own none l = quiet_turn w a _ occ there tt none l
+want_turn w a N q occ there own none l = absurd own
 
-by_happening : (w : WorldState) (a : ActorState) (e : Event) → AllReady w → Occupied w → actor_named w.actors a.name ≡ Some a → Happens w (rest w.image a) e → TurnsBy w a e
-by_happening w a e all occ there (Requested r) =
-    let h = Requested r in
-    subst (TurnsBy w a) (sym r.is) (want_turn w a _ r.want occ there r.own (ap (λ (m : Made). m.tags) (want_made _ w.cells (rest w.image a) r.want r.own r.at)) (subst (λ y. IsChanged w.cells y (cells_after w.cells y)) r.is (event_changes w (rest w.image a) e all.cells h)))
-by_happening w a e all occ there (Joined j) =
-    let changed = subst (λ y. IsChanged w.cells y (cells_after w.cells y)) j.join.is (event_changes w (rest w.image a) e all.cells (Joined j)) in
-    subst (TurnsBy w a) (sym j.join.is) (quiet_turn w a _ occ there tt refl changed)
-by_happening w a e all occ there (Snaps s) =
-    let changed = subst (λ y. IsChanged w.cells y (cells_after w.cells y)) s.is (event_changes w (rest w.image a) e all.cells (Snaps s)) in
-    subst (TurnsBy w a) (sym s.is) (quiet_turn w a _ occ there (snap_quiet (slot_in w.cells s.grant.slot) s.grant.tag) (ap (λ (m : Made). m.tags) (made_same (rest w.image a).made s.grant.slot _ _ tt)) changed)
-by_happening w a e all occ there (GateSnaps s) =
-    let changed = subst (λ y. IsChanged w.cells y (cells_after w.cells y)) s.is (event_changes w (rest w.image a) e all.cells (GateSnaps s)) in
-    subst (TurnsBy w a) (sym s.is) (quiet_turn w a _ occ there (snap_quiet (slot_in w.cells s.grant.slot) s.grant.tag) (ap (λ (m : Made). m.tags) (made_same (rest w.image a).made s.grant.slot _ _ tt)) changed)
-by_happening w a e all occ there (Started s) =
-    let changed = subst (λ y. IsChanged w.cells y (cells_after w.cells y)) s.is (event_changes w (rest w.image a) e all.cells (Started s)) in
-    subst (TurnsBy w a) (sym s.is) (quiet_turn w a _ occ there tt refl changed)
-by_happening w a e all occ there (Opens o) =
-    let changed = subst (λ y. IsChanged w.cells y (cells_after w.cells y)) o.is (event_changes w (rest w.image a) e all.cells (Opens o)) in
-    subst (TurnsBy w a) (sym o.is) (open_turn w a o.slot o.tag (a0 (rest w.image a)) occ there (rest-uncalm w.image a (phase.Opening o.slot o.tag) (λ h. h) o.at) changed)
-by_happening w a e all occ there (Releases r) =
+by_happening : (w : WorldState) (a : ActorState) (e : Event) → AreCells w.image w.cells → Occupied w → actor_named w.actors a.name ≡ Some a → Happens w (rest w.image a) e → TurnsBy w a e
+by_happening w a e cells occ there (Requested r) =
+    subst (TurnsBy w a) (sym r.is)
+    (want_turn w a _ r.want occ there r.own (ap (λ (m : Made). m.tags) (want_made _ w.cells (rest w.image a) r.want r.own r.at)) (subst (Leads w a) r.is (leads w a e cells (Requested r))))
+by_happening w a e cells occ there (Joined j) = subst (TurnsBy w a) (sym j.join.is) (quiet_turn w a _ occ there tt refl (subst (Leads w a) j.join.is (leads w a e cells (Joined j))))
+by_happening w a e cells occ there (Snaps s) =
+    subst (TurnsBy w a) (sym s.is)
+    (quiet_turn w a _ occ there (snap_quiet (slot_in w.cells s.grant.slot) s.grant.tag) (ap (λ (m : Made). m.tags) (made_same (rest w.image a).made s.grant.slot _ _ tt)) (subst (Leads w a) s.is (leads w a e cells (Snaps s))))
+by_happening w a e cells occ there (GateSnaps s) =
+    subst (TurnsBy w a) (sym s.is)
+    (quiet_turn w a _ occ there (snap_quiet (slot_in w.cells s.grant.slot) s.grant.tag) (ap (λ (m : Made). m.tags) (made_same (rest w.image a).made s.grant.slot _ _ tt)) (subst (Leads w a) s.is (leads w a e cells (GateSnaps s))))
+by_happening w a e cells occ there (Started s) = subst (TurnsBy w a) (sym s.is) (quiet_turn w a _ occ there tt refl (subst (Leads w a) s.is (leads w a e cells (Started s))))
+by_happening w a e cells occ there (Opens o) =
+    let l = subst (Leads w a) o.is (leads w a e cells (Opens o)) in
+    subst (TurnsBy w a) (sym o.is) (open_turn w a o.slot o.tag (a0 (rest w.image a)) occ there (rest-uncalm w.image a (phase.Opening o.slot o.tag) (λ h. h) o.at) l.changed)
+by_happening w a e cells occ there (Releases r) =
     subst (TurnsBy w a) (sym r.is) (release_turn w a r.slot occ there (rest-uncalm w.image a (phase.Releasing r.slot) (λ h. h) r.at))
-by_happening w a e all occ there (Numbers n) =
-    let changed = subst (λ y. IsChanged w.cells y (cells_after w.cells y)) n.is (event_changes w (rest w.image a) e all.cells (Numbers n)) in
-    subst (TurnsBy w a) (sym n.is) (quiet_turn w a _ occ there tt refl changed)
-by_happening w a e all occ there (OpensFile f) =
-    let changed = subst (λ y. IsChanged w.cells y (cells_after w.cells y)) f.is (event_changes w (rest w.image a) e all.cells (OpensFile f)) in
-    subst (TurnsBy w a) (sym f.is) (quiet_turn w a _ occ there tt (tags_under (rest w.image a).made (rest w.image a).phase f.fd) changed)
-by_happening w a e all occ there (LastJoined j) =
-    let changed = subst (λ y. IsChanged w.cells y (cells_after w.cells y)) j.join.is (event_changes w (rest w.image a) e all.cells (LastJoined j)) in
-    subst (TurnsBy w a) (sym j.join.is) (quiet_turn w a _ occ there tt refl changed)
-by_happening w a e all occ there (Ended f) =
-    let changed = subst (λ y. IsChanged w.cells y (cells_after w.cells y)) f.is (event_changes w (rest w.image a) e all.cells (Ended f)) in
-    subst (TurnsBy w a) (sym f.is) (quiet_turn w a _ occ there tt refl changed)
+by_happening w a e cells occ there (Numbers n) = subst (TurnsBy w a) (sym n.is) (quiet_turn w a _ occ there tt refl (subst (Leads w a) n.is (leads w a e cells (Numbers n))))
+by_happening w a e cells occ there (OpensFile f) =
+    subst (TurnsBy w a) (sym f.is) (quiet_turn w a _ occ there tt (tags_under (rest w.image a).made (rest w.image a).phase f.fd) (subst (Leads w a) f.is (leads w a e cells (OpensFile f))))
+by_happening w a e cells occ there (LastJoined j) = subst (TurnsBy w a) (sym j.join.is) (quiet_turn w a _ occ there tt refl (subst (Leads w a) j.join.is (leads w a e cells (LastJoined j))))
+by_happening w a e cells occ there (Ended f) = subst (TurnsBy w a) (sym f.is) (quiet_turn w a _ occ there tt refl (subst (Leads w a) f.is (leads w a e cells (Ended f))))
+by_happening w a e cells occ there (EntersGate x) = subst (TurnsBy w a) (sym x.is) (quiet_turn w a _ occ there tt refl (subst (Leads w a) x.is (leads w a e cells (EntersGate x))))
+by_happening w a e cells occ there (LeavesGate f) = subst (TurnsBy w a) (sym f.is) (quiet_turn w a _ occ there tt refl (subst (Leads w a) f.is (leads w a e cells (LeavesGate f))))
 
--- a child holds what its starter does, in the slots in which its starter has it
-child_plain : (i : Image) (b k : ActorState) → IsChild b k → (tag slot : ℕ) → slot_known k tag ≡ Some slot → slot_known b tag ≡ Some slot
-child_plain i b k child tag slot e = by_grant (at k.sheet.tags tag) refl (ap (λ (m : Made). slot_on k.sheet m tag) (sym child.fresh.0) ∙ e)
-  where
-    by_grant : (o : Option Grant) → at k.sheet.tags tag ≡ o → option_map (λ g. g.slot) (at k.sheet.tags tag) ≡ Some slot → slot_known b tag ≡ Some slot
-    by_grant None there f = let g : None ≡ Some slot = sym (ap (option_map (λ (g : Grant). g.slot)) there) ∙ f in absurd cc
-    by_grant (Some g) there f = child.within.slots tag g there ∙ (sym (ap (option_map (λ (x : Grant). x.slot)) there) ∙ f)
-
-begins_plain : (w : WorldState) (a : ActorState) (e : Event) → Acts w (rest w.image a) e → (k : ActorState) → begun w.image (rest w.image a) e ≡ Some k → IsPlain (takes w.image (rest w.image a) e) k
-begins_plain w a e (ActsAlone one) k is = let f : None ≡ Some k = sym (one_begins w.image (rest w.image a) e one) ∙ is in absurd cc
-begins_plain w a e (Joins n listed j) k is = let f : None ≡ Some k = sym (ap (begun w.image (rest w.image a)) j.is) ∙ is in absurd cc
-begins_plain w a e (Starts s) k is =
+-- who starts a child, and who enters a gate, has what it had
+begins_plain : (w : WorldState) (a : ActorState) (e : Event) → EventMakesGates (with_actor w (rest w.image a)) (rest w.image a) (rest w.image a).phase e (takes w.image (rest w.image a) e) → Acts w (rest w.image a) e
+    → (k : ActorState) → begun w.image (rest w.image a) e ≡ Some k → IsPlain (takes w.image (rest w.image a) e) k
+begins_plain w a e gates (ActsAlone one) k is = let f : None ≡ Some k = sym (one_begins w.image (rest w.image a) e one) ∙ is in absurd cc
+begins_plain w a e gates (Joins n listed j) k is = let f : None ≡ Some k = sym (ap (begun w.image (rest w.image a)) j.is) ∙ is in absurd cc
+begins_plain w a e gates (Starts s) k is =
     let b = rest w.image a in
+    let x = takes w.image b e in
     let child = child_of w.image b (child_name b.name (next_start b)) in
     let both : Some child ≡ Some k = sym (ap (begun w.image b) s.is) ∙ is in
     let same_child : child ≡ k = cc in
     let begins = child_begins w.image b s.preparation s.at s.complete s.ready in
-    let known : (tag : ℕ) → slot_known (takes w.image b e) tag ≡ slot_known b tag = λ tag. ap (λ (s : Sheet). slot_on s (takes w.image b e).made tag) (takes_sheet w.image b e) ∙ ap (λ (m : Made). slot_on b.sheet m tag) (takes_made w.image b e ∙ ap (λ y. but_gates (made_by b (Some y))) s.is) in
-    subst (IsPlain (takes w.image b e)) same_child (record { calls = refl; opens = refl; holds = λ tag slot f. known tag ∙ child_plain w.image b child begins tag slot f })
+    let known = (subst (λ p. EventMakesGates (with_actor w b) b p e x) s.at gates).known in
+    let tags : x.made.tags ≡ b.made.tags = ap (λ (m : Made). m.tags) (takes_made w.image b e) ∙ ap (λ y. (made_by b (Some y)).tags) s.is in
+    subst (IsPlain x) same_child (record { calls = refl; opens = refl; holds = λ tag slot h. same_has b x (takes_sheet w.image b e) tags known tag slot (child_has b child begins tag slot h) })
+begins_plain w a e gates (Enters y) k is =
+    let b = rest w.image a in
+    let x = takes w.image b e in
+    let run = run_by b (child_name b.name (next_start b)) y.entrance in
+    let both : Some run ≡ Some k = sym (entry_begins w.image b e y) ∙ is in
+    let same_run : run ≡ k = cc in
+    let begins = run_begins b y.entrance y.at y.may in
+    let known = (subst (λ p. EventMakesGates (with_actor w b) b p e x) y.at gates).known in
+    let tags : x.made.tags ≡ b.made.tags = ap (λ (m : Made). m.tags) (takes_made w.image b e) ∙ ap (λ z. (made_by b (Some z)).tags) y.is in
+    subst (IsPlain x) same_run (record { calls = refl; opens = refl; holds = λ tag slot h. same_has b x (takes_sheet w.image b e) tags known tag slot (run_of_has b run begins tag slot h) })
 
 cells_released : (c : Cells) (e : Event) → AreReleased c.places.unused c.places.released → AreReleased (cells_after c e).places.unused (cells_after c e).places.released
 cells_released c (event.Slots q r) h = given_apart.keeps c.places q h
@@ -408,17 +450,32 @@ cells_released c (event.Join k end fuel) h = h
 cells_released c (event.Enter run) h = h
 cells_released c (event.Leave end) h = h
 
+-- an actor that goes on is in no such call, and has what it had
+resumed_occupied : (w : WorldState) (a : ActorState) → Occupied w → actor_named w.actors a.name ≡ Some a → Occupied (resumed w a)
+resumed_occupied w a occ there = by_case (readies w.actors a)
+  where
+    by_case : Readies w.actors a → Occupied (resumed w a)
+    by_case (Stays is) = subst Occupied (sym (ap (λ (x : ActorState). with_actor w x) is ∙ ap (λ actors. record w { actors = actors }) (put_same w.actors a there))) occ
+    by_case (Back k at r is) =
+        let x = back a k r.how r.run.fuel in
+        let put : IsPut w.actors a x = record { name = refl; there = there } in
+        let goes = stays_so w.cells w.cells w.actors a x occ.occupied there refl (λ slot. refl) refl refl (λ tag slot h. h) in
+        subst (λ (y : ActorState). Occupied (with_actor w y)) (sym is)
+        (record { occupied = occupied_after w.cells w.cells w.actors a x None occ.occupied put goes (λ c e. absurd cc); released = occ.released })
+
 turn_occupied : (w : WorldState) (name : List ℕ) (e : Event) (new : WorldState) → AllReady w → Occupied w → turn_of w name ≡ Some (record { event = e; world = new }) → Occupied new
 turn_occupied w name e new all occ t =
-    let p = turn_parts w name e new t in
-    let a = p.actor in
+    let p = turn_from w name e new t in
+    let v = resumed w p.actor in
+    let a = p.parts.actor in
     let b = rest w.image a in
     let x = takes w.image b e in
     let h = turn_happens w name e new all p in
-    let there : actor_named w.actors a.name ≡ Some a = ap (actor_named w.actors) (found_name w.actors name a p.named) ∙ p.named in
-    let put : IsPut w.actors a x = record { name = takes_name w.image b e ∙ rest-name w.image a; there = there } in
-    let after = occupied_after w.cells (cells_after w.cells e) w.actors a x (begun w.image b e) occ.occupied put (by_happening w a e all occ there h) (begins_plain w a e (acts w b e h)) in
-    subst Occupied (sym p.new_is) (record { occupied = after; released = cells_released w.cells e occ.released })
+    let goes = resumed_occupied w p.actor occ (turned_there w name p.actor p.named) in
+    let there = turned_there v name a p.parts.named in
+    let put : IsPut v.actors a x = record { name = takes_name w.image b e ∙ rest-name w.image a; there = there } in
+    let after = occupied_after w.cells (cells_after w.cells e) v.actors a x (begun w.image b e) goes.occupied put (by_happening v a e all.cells goes there h) (begins_plain v a e (event_makes_gates v b e h) (acts v b e h)) in
+    subst Occupied (sym p.parts.new_is) (record { occupied = after; released = cells_released w.cells e occ.released })
 
 -- ---- each ask suits
 
@@ -452,29 +509,32 @@ few_pages n e = (some n e, few n e)
     few : (n : ℕ) → are_pages n ≡ true → n ≤ most_pages
     few n e = grind (arith, nat_tests, e)
 
-suits : (w : WorldState) (a : ActorState) (e : Event) → AllReady w → Occupied w → actor_named w.actors a.name ≡ Some a → Happens w (rest w.image a) e → AskSuits w.cells e
-suits w a e all occ there (Requested r) = subst (AskSuits w.cells) (sym r.is) (suits_want w (rest w.image a) _ r.want occ r.own)
-suits w a e all occ there (Joined j) = subst (AskSuits w.cells) (sym j.join.is) tt
-suits w a e all occ there (Snaps s) = subst (AskSuits w.cells) (sym s.is) tt
-suits w a e all occ there (GateSnaps s) = subst (AskSuits w.cells) (sym s.is) tt
-suits w a e all occ there (Started s) = subst (AskSuits w.cells) (sym s.is) tt
-suits w a e all occ there (Opens o) =
+suits : (w : WorldState) (a : ActorState) (e : Event) → AreCells w.image w.cells → Occupied w → actor_named w.actors a.name ≡ Some a → Happens w (rest w.image a) e → AskSuits w.cells e
+suits w a e cells occ there (Requested r) = subst (AskSuits w.cells) (sym r.is) (suits_want w (rest w.image a) _ r.want occ r.own)
+suits w a e cells occ there (Joined j) = subst (AskSuits w.cells) (sym j.join.is) tt
+suits w a e cells occ there (Snaps s) = subst (AskSuits w.cells) (sym s.is) tt
+suits w a e cells occ there (GateSnaps s) = subst (AskSuits w.cells) (sym s.is) tt
+suits w a e cells occ there (Started s) = subst (AskSuits w.cells) (sym s.is) tt
+suits w a e cells occ there (Opens o) =
     let at_ = rest-uncalm w.image a (phase.Opening o.slot o.tag) (λ h. h) o.at in
     let h = occ.occupied.called a.name a o.slot there (ap slot_of_call at_) in
     let p = few_pages (a0 (rest w.image a)) o.pages in
-    subst (AskSuits w.cells) (sym o.is) (h.0, h.1, subst (λ n. o.slot < n) (sym all.cells.slots) o.inside, p.0, p.1)
-suits w a e all occ there (Releases r) =
+    subst (AskSuits w.cells) (sym o.is) (h.0, h.1, subst (λ n. o.slot < n) (sym cells.slots) o.inside, p.0, p.1)
+suits w a e cells occ there (Releases r) =
     let at_ = rest-uncalm w.image a (phase.Releasing r.slot) (λ h. h) r.at in
     subst (AskSuits w.cells) (sym r.is) (occ.occupied.called a.name a r.slot there (ap slot_of_call at_))
-suits w a e all occ there (Numbers n) = subst (AskSuits w.cells) (sym n.is) tt
-suits w a e all occ there (OpensFile f) = subst (AskSuits w.cells) (sym f.is) tt
-suits w a e all occ there (LastJoined j) = subst (AskSuits w.cells) (sym j.join.is) tt
-suits w a e all occ there (Ended f) = subst (AskSuits w.cells) (sym f.is) tt
+suits w a e cells occ there (Numbers n) = subst (AskSuits w.cells) (sym n.is) tt
+suits w a e cells occ there (OpensFile f) = subst (AskSuits w.cells) (sym f.is) tt
+suits w a e cells occ there (LastJoined j) = subst (AskSuits w.cells) (sym j.join.is) tt
+suits w a e cells occ there (Ended f) = subst (AskSuits w.cells) (sym f.is) tt
+suits w a e cells occ there (EntersGate x) = subst (AskSuits w.cells) (sym x.is) tt
+suits w a e cells occ there (LeavesGate l) = subst (AskSuits w.cells) (sym l.is) tt
 
 pub turn_suits : (w : WorldState) (t : Turn) (new : WorldState) → AllReady w → Occupied w → turn_of w t.actor ≡ Some (record { event = t.event; world = new }) → SlotsSuit w t new
 turn_suits w t new all occ e =
-    let p = turn_parts w t.actor t.event new e in
-    suits w p.actor t.event all occ (ap (actor_named w.actors) (found_name w.actors t.actor p.actor p.named) ∙ p.named) (turn_happens w t.actor t.event new all p)
+    let p = turn_from w t.actor t.event new e in
+    let v = resumed w p.actor in
+    suits v p.parts.actor t.event all.cells (resumed_occupied w p.actor occ (turned_there w t.actor p.actor p.named)) (turned_there v t.actor p.parts.actor p.parts.named) (turn_happens w t.actor t.event new all p)
 
 -- ---- runs
 
@@ -545,10 +605,12 @@ opening_occupied i = record {
         let is : g.slot ≡ slot = cc in
         (sym is ∙ h.0, omega (arith, h.1))
 
-    root_held : (m : List ℕ) (a : ActorState) (tag slot : ℕ) → actor_named (opening i).actors m ≡ Some a → slot_known a tag ≡ Some slot → (tag < length i.tags) × ((s : ℕ) → tag_in (opening_cells i) s ≡ Some tag → s ≡ slot)
-    root_held m a tag slot there e =
-        let h = by_grant tag slot (at (root_tags 0 i.tags) tag) refl (ap (λ (x : ActorState). slot_known x tag) (is_root m a (same root_name m) there) ∙ e) in
-        (h.1, λ s f. (declared_so i s tag f).0 ∙ sym h.0)
+    root_held : (m : List ℕ) (a : ActorState) (tag slot : ℕ) → actor_named (opening i).actors m ≡ Some a → HasIn a tag slot → (tag < length i.tags) × ((s : ℕ) → tag_in (opening_cells i) s ≡ Some tag → s ≡ slot)
+    root_held m a tag slot there e = by_root (subst (λ (x : ActorState). HasIn x tag slot) (sym (is_root m a (same root_name m) there)) e)
+      where
+        by_root : HasIn (root i) tag slot → (tag < length i.tags) × ((s : ℕ) → tag_in (opening_cells i) s ≡ Some tag → s ≡ slot)
+        by_root (inl own) = let h = by_grant tag slot (at (root_tags 0 i.tags) tag) refl own in (h.1, λ s f. (declared_so i s tag f).0 ∙ sym h.0)
+        by_root (inr gate) = absurd gate
 
 runs_occupied : (old : WorldState) (turns : List Turn) (new : WorldState) → AllReady old → Occupied old → Runs old turns new → Occupied new
 runs_occupied old [] new all occ run = subst Occupied (sym run) occ

@@ -6,7 +6,7 @@ use Rattle.wedge_base.specs.Directories.{Directory, Claim, is_claimed}
 use Rattle.wedge_base.specs.Names.{same}
 use Rattle.sthread_life.specs.Actors.{ActorState}
 use Rattle.sthread_life.specs.Cells.{Cells, tag_in}
-use Rattle.sthread_life.specs.Occupancy.{slot_of_call, tag_of_call, slot_known, AreOccupied}
+use Rattle.sthread_life.specs.Occupancy.{slot_of_call, tag_of_call, HasIn, AreOccupied}
 use Rattle.sthread_life.specs.Worlds.{actor_named, put_actor, with_begun}
 use Rattle.sthread_life.proofs.Named.{same_self}
 use Rattle.sthread_life.proofs.Trees.{IsPut, IsDoer, IsOther, FoundPut, find_put, found_or_last}
@@ -27,17 +27,17 @@ pub record Turns (d : Cells) (actors : List ActorState) (a x : ActorState) : Typ
   pub coming : (tag : ℕ) → tag_of_call x.phase ≡ Some tag → (tag < d.places.number) × ((slot : ℕ) → tag_in d slot ≡ Some tag → ⊥)
   pub coming_others : (m : List ℕ) (y : ActorState) (tag : ℕ) → IsAnother actors a m y → tag_of_call y.phase ≡ Some tag → (tag < d.places.number) × ((slot : ℕ) → tag_in d slot ≡ Some tag → ⊥)
   pub once : (m : List ℕ) (y : ActorState) (tag : ℕ) → IsAnother actors a m y → tag_of_call x.phase ≡ Some tag → tag_of_call y.phase ≡ Some tag → ⊥
-  pub held : (tag slot : ℕ) → slot_known x tag ≡ Some slot → (tag < d.places.number) × ((s : ℕ) → tag_in d s ≡ Some tag → s ≡ slot)
-  pub held_others : (m : List ℕ) (y : ActorState) (tag slot : ℕ) → IsAnother actors a m y → slot_known y tag ≡ Some slot → (tag < d.places.number) × ((s : ℕ) → tag_in d s ≡ Some tag → s ≡ slot)
-  pub unheld : (tag slot : ℕ) → tag_of_call x.phase ≡ Some tag → slot_known x tag ≡ Some slot → ⊥
-  pub unheld_by : (m : List ℕ) (y : ActorState) (tag slot : ℕ) → IsAnother actors a m y → tag_of_call x.phase ≡ Some tag → slot_known y tag ≡ Some slot → ⊥
-  pub unheld_of : (m : List ℕ) (y : ActorState) (tag slot : ℕ) → IsAnother actors a m y → tag_of_call y.phase ≡ Some tag → slot_known x tag ≡ Some slot → ⊥
+  pub held : (tag slot : ℕ) → HasIn x tag slot → (tag < d.places.number) × ((s : ℕ) → tag_in d s ≡ Some tag → s ≡ slot)
+  pub held_others : (m : List ℕ) (y : ActorState) (tag slot : ℕ) → IsAnother actors a m y → HasIn y tag slot → (tag < d.places.number) × ((s : ℕ) → tag_in d s ≡ Some tag → s ≡ slot)
+  pub unheld : (tag slot : ℕ) → tag_of_call x.phase ≡ Some tag → HasIn x tag slot → ⊥
+  pub unheld_by : (m : List ℕ) (y : ActorState) (tag slot : ℕ) → IsAnother actors a m y → tag_of_call x.phase ≡ Some tag → HasIn y tag slot → ⊥
+  pub unheld_of : (m : List ℕ) (y : ActorState) (tag slot : ℕ) → IsAnother actors a m y → tag_of_call y.phase ≡ Some tag → HasIn x tag slot → ⊥
 
 -- an actor that began: it is in no such call, and has nothing that its starter has not
 pub record IsPlain (x k : ActorState) : Type 0 where
   pub calls : slot_of_call k.phase ≡ None
   pub opens : tag_of_call k.phase ≡ None
-  pub holds : (tag slot : ℕ) → slot_known k tag ≡ Some slot → slot_known x tag ≡ Some slot
+  pub holds : (tag slot : ℕ) → HasIn k tag slot → HasIn x tag slot
 
 -- who is found then
 data Found (actors : List ActorState) (a x : ActorState) (o : Option ActorState) (m : List ℕ) (y : ActorState) : Type 0 where
@@ -93,16 +93,16 @@ module _ (c d : Cells) (actors : List ActorState) (a x : ActorState) (o : Option
   now_once m n y z tag (Begun is) g e f = none_some (tag_of_call y.phase) tag (plain y is).opens e
   now_once m n y z tag g (Begun is) e f = none_some (tag_of_call z.phase) tag (plain z is).opens f
 
-  now_held : (m : List ℕ) (y : ActorState) (tag slot : ℕ) → Found actors a x o m y → slot_known y tag ≡ Some slot → (tag < d.places.number) × ((s : ℕ) → tag_in d s ≡ Some tag → s ≡ slot)
-  now_held m y tag slot (TheDoer is same_actor) e = t.held tag slot (subst (λ (z : ActorState). slot_known z tag ≡ Some slot) same_actor e)
+  now_held : (m : List ℕ) (y : ActorState) (tag slot : ℕ) → Found actors a x o m y → HasIn y tag slot → (tag < d.places.number) × ((s : ℕ) → tag_in d s ≡ Some tag → s ≡ slot)
+  now_held m y tag slot (TheDoer is same_actor) e = t.held tag slot (subst (λ (z : ActorState). HasIn z tag slot) same_actor e)
   now_held m y tag slot (Another other) e = t.held_others m y tag slot other e
   now_held m y tag slot (Begun is) e = t.held tag slot ((plain y is).holds tag slot e)
 
-  now_unheld : (m n : List ℕ) (y z : ActorState) (tag slot : ℕ) → Found actors a x o m y → Found actors a x o n z → tag_of_call y.phase ≡ Some tag → slot_known z tag ≡ Some slot → ⊥
-  now_unheld m n y z tag slot (TheDoer is s) (TheDoer is2 s2) e f = t.unheld tag slot (subst (λ (q : ActorState). tag_of_call q.phase ≡ Some tag) s e) (subst (λ (q : ActorState). slot_known q tag ≡ Some slot) s2 f)
+  now_unheld : (m n : List ℕ) (y z : ActorState) (tag slot : ℕ) → Found actors a x o m y → Found actors a x o n z → tag_of_call y.phase ≡ Some tag → HasIn z tag slot → ⊥
+  now_unheld m n y z tag slot (TheDoer is s) (TheDoer is2 s2) e f = t.unheld tag slot (subst (λ (q : ActorState). tag_of_call q.phase ≡ Some tag) s e) (subst (λ (q : ActorState). HasIn q tag slot) s2 f)
   now_unheld m n y z tag slot (TheDoer is s) (Another other) e f = t.unheld_by n z tag slot other (subst (λ (q : ActorState). tag_of_call q.phase ≡ Some tag) s e) f
   now_unheld m n y z tag slot (TheDoer is s) (Begun b) e f = t.unheld tag slot (subst (λ (q : ActorState). tag_of_call q.phase ≡ Some tag) s e) ((plain z b).holds tag slot f)
-  now_unheld m n y z tag slot (Another other) (TheDoer is s) e f = t.unheld_of m y tag slot other e (subst (λ (q : ActorState). slot_known q tag ≡ Some slot) s f)
+  now_unheld m n y z tag slot (Another other) (TheDoer is s) e f = t.unheld_of m y tag slot other e (subst (λ (q : ActorState). HasIn q tag slot) s f)
   now_unheld m n y z tag slot (Another p) (Another q) e f = was.unheld m n y z tag slot p.1 q.1 e f
   now_unheld m n y z tag slot (Another other) (Begun b) e f = t.unheld_of m y tag slot other e ((plain z b).holds tag slot f)
   now_unheld m n y z tag slot (Begun is) g e f = none_some (tag_of_call y.phase) tag (plain y is).opens e
@@ -131,7 +131,7 @@ tag_moves c d tags slot tag e = sym (tags slot) ∙ e
 
 -- the slots and their directory stay, and the actor is in no such call
 pub stays_so : (c d : Cells) (actors : List ActorState) (a x : ActorState) → AreOccupied c actors → actor_named actors a.name ≡ Some a → d.places ≡ c.places → ((slot : ℕ) → tag_in d slot ≡ tag_in c slot)
-    → slot_of_call x.phase ≡ None → tag_of_call x.phase ≡ None → ((tag : ℕ) → slot_known x tag ≡ slot_known a tag) → Turns d actors a x
+    → slot_of_call x.phase ≡ None → tag_of_call x.phase ≡ None → ((tag slot : ℕ) → HasIn x tag slot → HasIn a tag slot) → Turns d actors a x
 stays_so c d actors a x was there places tags calls opens known = record {
   lived = λ slot tag e. claimed_so slot (was.lived slot tag (moved slot tag e));
   numbered = λ slot tag e. below tag (was.numbered slot tag (moved slot tag e));
@@ -142,11 +142,11 @@ stays_so c d actors a x was there places tags calls opens known = record {
   coming = λ tag e. none_some (tag_of_call x.phase) tag opens e;
   coming_others = λ m y tag other e. let h = was.coming m y tag other.1 e in (below tag h.0, λ slot f. h.1 slot (moved slot tag f));
   once = λ m y tag other e f. none_some (tag_of_call x.phase) tag opens e;
-  held = λ tag slot e. let h = was.held a.name a tag slot there (sym (known tag) ∙ e) in (below tag h.0, λ s f. h.1 s (moved s tag f));
+  held = λ tag slot e. let h = was.held a.name a tag slot there (known tag slot e) in (below tag h.0, λ s f. h.1 s (moved s tag f));
   held_others = λ m y tag slot other e. let h = was.held m y tag slot other.1 e in (below tag h.0, λ s f. h.1 s (moved s tag f));
   unheld = λ tag slot e f. none_some (tag_of_call x.phase) tag opens e;
   unheld_by = λ m y tag slot other e f. none_some (tag_of_call x.phase) tag opens e;
-  unheld_of = λ m y tag slot other e f. was.unheld m a.name y a tag slot other.1 there e (sym (known tag) ∙ f);
+  unheld_of = λ m y tag slot other e f. was.unheld m a.name y a tag slot other.1 there e (known tag slot f);
 }
   where
     moved : (slot tag : ℕ) → tag_in d slot ≡ Some tag → tag_in c slot ≡ Some tag
@@ -160,7 +160,7 @@ stays_so c d actors a x was there places tags calls opens known = record {
 
 -- a slot is claimed for a tag
 pub claims_so : (c d : Cells) (actors : List ActorState) (a x : ActorState) (k : Claim) → AreOccupied c actors → actor_named actors a.name ≡ Some a → IsClaimed c.places k → k.left.number ≡ c.places.number + 1
-    → d.places ≡ k.left → ((slot : ℕ) → tag_in d slot ≡ tag_in c slot) → slot_of_call x.phase ≡ Some k.place → tag_of_call x.phase ≡ Some c.places.number → ((tag : ℕ) → slot_known x tag ≡ slot_known a tag) → Turns d actors a x
+    → d.places ≡ k.left → ((slot : ℕ) → tag_in d slot ≡ tag_in c slot) → slot_of_call x.phase ≡ Some k.place → tag_of_call x.phase ≡ Some c.places.number → ((tag slot : ℕ) → HasIn x tag slot → HasIn a tag slot) → Turns d actors a x
 claims_so c d actors a x k was there new more places tags calls opens known = record {
   lived = λ slot tag e. claimed_so slot (was.lived slot tag (moved slot tag e));
   numbered = λ slot tag e. below tag (was.numbered slot tag (moved slot tag e));
@@ -171,11 +171,11 @@ claims_so c d actors a x k was there new more places tags calls opens known = re
   coming = λ tag e. let is = the_tag tag e in (top tag is, λ slot f. over tag is (was.numbered slot tag (moved slot tag f)));
   coming_others = λ m y tag other e. let h = was.coming m y tag other.1 e in (below tag h.0, λ slot f. h.1 slot (moved slot tag f));
   once = λ m y tag other e f. over tag (the_tag tag e) (was.coming m y tag other.1 f).0;
-  held = λ tag slot e. let h = was.held a.name a tag slot there (sym (known tag) ∙ e) in (below tag h.0, λ s f. h.1 s (moved s tag f));
+  held = λ tag slot e. let h = was.held a.name a tag slot there (known tag slot e) in (below tag h.0, λ s f. h.1 s (moved s tag f));
   held_others = λ m y tag slot other e. let h = was.held m y tag slot other.1 e in (below tag h.0, λ s f. h.1 s (moved s tag f));
-  unheld = λ tag slot e f. over tag (the_tag tag e) (was.held a.name a tag slot there (sym (known tag) ∙ f)).0;
+  unheld = λ tag slot e f. over tag (the_tag tag e) (was.held a.name a tag slot there (known tag slot f)).0;
   unheld_by = λ m y tag slot other e f. over tag (the_tag tag e) (was.held m y tag slot other.1 f).0;
-  unheld_of = λ m y tag slot other e f. was.unheld m a.name y a tag slot other.1 there e (sym (known tag) ∙ f);
+  unheld_of = λ m y tag slot other e f. was.unheld m a.name y a tag slot other.1 there e (known tag slot f);
 }
   where
     moved : (slot tag : ℕ) → tag_in d slot ≡ Some tag → tag_in c slot ≡ Some tag
@@ -216,8 +216,8 @@ claims_so c d actors a x k was there new more places tags calls opens known = re
 -- the tag of a slot that is claimed for it is opened there
 pub opens_so : (c d : Cells) (actors : List ActorState) (a x : ActorState) (slot tag : ℕ) → AreOccupied c actors → actor_named actors a.name ≡ Some a → slot_of_call a.phase ≡ Some slot → tag_of_call a.phase ≡ Some tag
     → d.places ≡ c.places → ((s : ℕ) → tag_in d s ≡ (if slot == s then Some tag else tag_in c s)) → slot_of_call x.phase ≡ None → tag_of_call x.phase ≡ None
-    → ((t : ℕ) → (t ≡ tag → ⊥) → slot_known x t ≡ slot_known a t) → slot_known x tag ≡ Some slot → Turns d actors a x
-opens_so c d actors a x slot tag was there holds opens places tags calls none known own = record {
+    → ((t s : ℕ) → HasIn x t s → ((t ≡ tag) × (s ≡ slot)) ⊎ HasIn a t s) → Turns d actors a x
+opens_so c d actors a x slot tag was there holds opens places tags calls none known = record {
   lived = λ s t e. elim (lives s t e) [ inl is ↦ subst (λ n. is_claimed d.places n ≡ true) is.0 (claimed_so slot (was.called a.name a slot there holds).0) | inr f ↦ claimed_so s (was.lived s t f) ];
   numbered = λ s t e. elim (lives s t e) [ inl is ↦ subst (λ n. n < d.places.number) is.1 (below tag (was.coming a.name a tag there opens).0) | inr f ↦ below t (was.numbered s t f) ];
   apart = λ s u t e f. elim (lives s t e) [
@@ -230,11 +230,14 @@ opens_so c d actors a x slot tag was there holds opens places tags calls none kn
   coming = λ t e. none_some (tag_of_call x.phase) t none e;
   coming_others = λ m y t other e. let h = was.coming m y t other.1 e in (below t h.0, λ s f. elim (lives s t f) [ inl is ↦ apart_names a m other.0 (was.once a.name m a y tag there other.1 opens (subst (λ n. tag_of_call y.phase ≡ Some n) (sym is.1) e)) | inr g ↦ h.1 s g ]);
   once = λ m y t other e f. none_some (tag_of_call x.phase) t none e;
-  held = λ t s e. by_tag t s (t == tag) refl e;
-  held_others = λ m y t s other e. let h = was.held m y t s other.1 e in (below t h.0, λ u f. elim (lives u t f) [ inl is ↦ absurd (was.unheld a.name m a y tag s there other.1 opens (subst (λ n. slot_known y n ≡ Some s) (sym is.1) e)) | inr g ↦ h.1 u g ]);
+  held = λ t s e. elim (known t s e) [ inl is ↦ opened t s is | inr old ↦ kept t s old ];
+  held_others = λ m y t s other e. let h = was.held m y t s other.1 e in (below t h.0, λ u f. elim (lives u t f) [ inl is ↦ absurd (was.unheld a.name m a y tag s there other.1 opens (subst (λ n. HasIn y n s) (sym is.1) e)) | inr g ↦ h.1 u g ]);
   unheld = λ t s e f. none_some (tag_of_call x.phase) t none e;
   unheld_by = λ m y t s other e f. none_some (tag_of_call x.phase) t none e;
-  unheld_of = λ m y t s other e f. by_held m y t s other e (t == tag) refl f;
+  unheld_of = λ m y t s other e f. elim (known t s f) [
+    | inl is ↦ apart_names a m other.0 (was.once a.name m a y tag there other.1 opens (subst (λ n. tag_of_call y.phase ≡ Some n) is.0 e))
+    | inr old ↦ was.unheld m a.name y a t s other.1 there e old
+  ];
 }
   where
     claimed_so : (s : ℕ) → is_claimed c.places s ≡ true → is_claimed d.places s ≡ true
@@ -260,26 +263,20 @@ opens_so c d actors a x slot tag was there holds opens places tags calls none kn
         by_slot true is = absurd (apart_names a m other.0 (was.alone a.name m a y s there other.1 (subst (λ n. slot_of_call a.phase ≡ Some n) (eqb-true slot s is) holds) e))
         by_slot false is = was_empty
 
-    not_tag : (t : ℕ) → (t == tag) ≡ false → t ≡ tag → ⊥
-    not_tag t ne e = true≢false (sym (eq-eqb t tag e) ∙ ne)
+    opened : (t s : ℕ) → (t ≡ tag) × (s ≡ slot) → (t < d.places.number) × ((u : ℕ) → tag_in d u ≡ Some t → u ≡ s)
+    opened t s is = (
+      subst (λ n. n < d.places.number) (sym is.0) (below tag (was.coming a.name a tag there opens).0),
+      λ u f. elim (lives u t f) [ inl here ↦ sym here.0 ∙ sym is.1 | inr g ↦ absurd (nowhere u (subst (λ n. tag_in c u ≡ Some n) is.0 g)) ],
+    )
 
-    by_tag : (t s : ℕ) (b : Bool) → (t == tag) ≡ b → slot_known x t ≡ Some s → (t < d.places.number) × ((u : ℕ) → tag_in d u ≡ Some t → u ≡ s)
-    by_tag t s true is e =
-        let the_tag : t ≡ tag = eqb-true t tag is in
-        let both : Some slot ≡ Some s = sym own ∙ (ap (slot_known x) (sym the_tag) ∙ e) in
-        let the_slot : slot ≡ s = cc in
-        (subst (λ n. n < d.places.number) (sym the_tag) (below tag (was.coming a.name a tag there opens).0), λ u f. elim (lives u t f) [ inl here ↦ sym here.0 ∙ the_slot | inr g ↦ absurd (nowhere u (subst (λ n. tag_in c u ≡ Some n) the_tag g)) ])
-    by_tag t s false ne e =
-        let h = was.held a.name a t s there (sym (known t (not_tag t ne)) ∙ e) in
-        (below t h.0, λ u f. elim (lives u t f) [ inl here ↦ absurd (not_tag t ne (sym here.1)) | inr g ↦ h.1 u g ])
-
-    by_held : (m : List ℕ) (y : ActorState) (t s : ℕ) → IsAnother actors a m y → tag_of_call y.phase ≡ Some t → (b : Bool) → (t == tag) ≡ b → slot_known x t ≡ Some s → ⊥
-    by_held m y t s other e true is f = apart_names a m other.0 (was.once a.name m a y tag there other.1 opens (subst (λ n. tag_of_call y.phase ≡ Some n) (eqb-true t tag is) e))
-    by_held m y t s other e false ne f = was.unheld m a.name y a t s other.1 there e (sym (known t (not_tag t ne)) ∙ f)
+    kept : (t s : ℕ) → HasIn a t s → (t < d.places.number) × ((u : ℕ) → tag_in d u ≡ Some t → u ≡ s)
+    kept t s old =
+        let h = was.held a.name a t s there old in
+        (below t h.0, λ u f. elim (lives u t f) [ inl here ↦ absurd (was.unheld a.name a.name a a tag s there there opens (subst (λ n. HasIn a n s) (sym here.1) old)) | inr g ↦ h.1 u g ])
 
 -- a tag is closed, and its slot is to be released
 pub closes_so : (c d : Cells) (actors : List ActorState) (a x : ActorState) (slot tag : ℕ) → AreOccupied c actors → actor_named actors a.name ≡ Some a → tag_in c slot ≡ Some tag
-    → d.places ≡ c.places → ((s : ℕ) → tag_in d s ≡ (if slot == s then None else tag_in c s)) → slot_of_call x.phase ≡ Some slot → tag_of_call x.phase ≡ None → ((t : ℕ) → slot_known x t ≡ slot_known a t) → Turns d actors a x
+    → d.places ≡ c.places → ((s : ℕ) → tag_in d s ≡ (if slot == s then None else tag_in c s)) → slot_of_call x.phase ≡ Some slot → tag_of_call x.phase ≡ None → ((t s : ℕ) → HasIn x t s → HasIn a t s) → Turns d actors a x
 closes_so c d actors a x slot tag was there live places tags calls none known = record {
   lived = λ s t e. claimed_so s (was.lived s t (moved s t e));
   numbered = λ s t e. below t (was.numbered s t (moved s t e));
@@ -290,11 +287,11 @@ closes_so c d actors a x slot tag was there live places tags calls none known = 
   coming = λ t e. none_some (tag_of_call x.phase) t none e;
   coming_others = λ m y t other e. let h = was.coming m y t other.1 e in (below t h.0, λ s f. h.1 s (moved s t f));
   once = λ m y t other e f. none_some (tag_of_call x.phase) t none e;
-  held = λ t s e. let h = was.held a.name a t s there (sym (known t) ∙ e) in (below t h.0, λ u f. h.1 u (moved u t f));
+  held = λ t s e. let h = was.held a.name a t s there (known t s e) in (below t h.0, λ u f. h.1 u (moved u t f));
   held_others = λ m y t s other e. let h = was.held m y t s other.1 e in (below t h.0, λ u f. h.1 u (moved u t f));
   unheld = λ t s e f. none_some (tag_of_call x.phase) t none e;
   unheld_by = λ m y t s other e f. none_some (tag_of_call x.phase) t none e;
-  unheld_of = λ m y t s other e f. was.unheld m a.name y a t s other.1 there e (sym (known t) ∙ f);
+  unheld_of = λ m y t s other e f. was.unheld m a.name y a t s other.1 there e (known t s f);
 }
   where
     claimed_so : (s : ℕ) → is_claimed c.places s ≡ true → is_claimed d.places s ≡ true
@@ -324,7 +321,7 @@ closes_so c d actors a x slot tag was there live places tags calls none known = 
 -- the slot of a tag that was closed is released
 pub releases_so : (c d : Cells) (actors : List ActorState) (a x : ActorState) (slot : ℕ) → AreOccupied c actors → actor_named actors a.name ≡ Some a → slot_of_call a.phase ≡ Some slot
     → d.places.number ≡ c.places.number → ((s : ℕ) → (slot == s) ≡ false → is_claimed d.places s ≡ is_claimed c.places s) → ((s : ℕ) → tag_in d s ≡ tag_in c s)
-    → slot_of_call x.phase ≡ None → tag_of_call x.phase ≡ None → ((t : ℕ) → slot_known x t ≡ slot_known a t) → Turns d actors a x
+    → slot_of_call x.phase ≡ None → tag_of_call x.phase ≡ None → ((t s : ℕ) → HasIn x t s → HasIn a t s) → Turns d actors a x
 releases_so c d actors a x slot was there holds number places tags calls none known = record {
   lived = λ s t e. claimed_so s (was.lived s t (moved s t e)) (λ is. none_some (tag_in c slot) t (was.called a.name a slot there holds).1 (subst (λ n. tag_in c n ≡ Some t) (sym is) (moved s t e)));
   numbered = λ s t e. below t (was.numbered s t (moved s t e));
@@ -337,11 +334,11 @@ releases_so c d actors a x slot was there holds number places tags calls none kn
   coming = λ t e. none_some (tag_of_call x.phase) t none e;
   coming_others = λ m y t other e. let h = was.coming m y t other.1 e in (below t h.0, λ s f. h.1 s (moved s t f));
   once = λ m y t other e f. none_some (tag_of_call x.phase) t none e;
-  held = λ t s e. let h = was.held a.name a t s there (sym (known t) ∙ e) in (below t h.0, λ u f. h.1 u (moved u t f));
+  held = λ t s e. let h = was.held a.name a t s there (known t s e) in (below t h.0, λ u f. h.1 u (moved u t f));
   held_others = λ m y t s other e. let h = was.held m y t s other.1 e in (below t h.0, λ u f. h.1 u (moved u t f));
   unheld = λ t s e f. none_some (tag_of_call x.phase) t none e;
   unheld_by = λ m y t s other e f. none_some (tag_of_call x.phase) t none e;
-  unheld_of = λ m y t s other e f. was.unheld m a.name y a t s other.1 there e (sym (known t) ∙ f);
+  unheld_of = λ m y t s other e f. was.unheld m a.name y a t s other.1 there e (known t s f);
 }
   where
     moved : (s t : ℕ) → tag_in d s ≡ Some t → tag_in c s ≡ Some t

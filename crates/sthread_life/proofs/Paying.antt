@@ -35,15 +35,16 @@ use Rattle.sthread_life.specs.Calls.{a1, a2, a3}
 use Rattle.sthread_life.specs.Children.{without_child}
 use Rattle.sthread_life.specs.Cells.{Cells, stream_in}
 use Rattle.sthread_life.specs.Local.{executed, fuelled, fetched, step}
-use Rattle.sthread_life.specs.Taking.{runs, answered_end, takes}
+use Rattle.sthread_life.specs.Taking.{runs, answered_end, takes, has_entered}
 use Rattle.sthread_life.specs.Worlds.{WorldState}
-use Rattle.sthread_life.specs.Paying.{instr_cost, cost_of_word, cost_at, cost_by, given_by, brought_by}
+use Rattle.sthread_life.specs.Paying.{instr_cost, cost_of_word, cost_at, cost_by, given_by, brought_by, given_in}
 use Rattle.sthread_life.proofs.Resting.{goes_executed}
 use Rattle.cow_pages.specs.Listed.{bytes_listed}
 use Rattle.sthread_life.proofs.Between.{event_for, loads_fuel, number_fuel, opened_at, joined_is, snapped_is}
-use Rattle.sthread_life.proofs.Happening.{Happens, Requested, Joined, Snaps, GateSnaps, Started, Opens, Releases, Numbers, OpensFile, LastJoined, Ended}
+use Rattle.sthread_life.proofs.Happening.{Happens, Requested, Joined, Snaps, GateSnaps, Started, Opens, Releases, Numbers, OpensFile, LastJoined, Ended, EntersGate, LeavesGate}
 use Rattle.sthread_life.proofs.Meeting.{IsRequest}
 use Rattle.sthread_life.proofs.StreamCalls.{IsStreamRequest, read_cases, append_cases, close_cases}
+use Rattle.sthread_life.specs.Entrances.{Entrance}
 
 -- ---- an instruction
 
@@ -136,6 +137,17 @@ join_pays i b k x fuel =
     joined_is (λ y. y.fuel ≡ b.fuel + fuel) (record b { fuel = b.fuel + fuel; unjoined = without_child b.unjoined k }) b.phase x refl refl in
     omega (arith, is)
 
+enter_pays : (i : Image) (b : ActorState) (x : Entrance) (run : List ℕ) → b.phase ≡ phase.Entering x → x.gate.fuel ≤ b.fuel → EventPays i b (event.Enter run)
+unfolding takes
+enter_pays i b x run at enough =
+    let now : (has_entered b b.phase).fuel ≡ b.fuel - x.gate.fuel = ap (λ p. (has_entered b p).fuel) at in
+    let given : given_in b.phase ≡ x.gate.fuel = ap given_in at in
+    omega (arith, now, given, enough)
+
+leave_pays : (i : Image) (b : ActorState) (x : End) → EventPays i b (event.Leave x)
+unfolding takes
+leave_pays i b x = omega arith
+
 number_pays : (i : Image) (b : ActorState) (q : DirectoryAsk) (r : DirectoryReply) → EventPays i b (event.Fds q r)
 number_pays i b q r = let same = number_fuel i b q r in omega (arith, same)
 
@@ -156,4 +168,6 @@ event_pays w b e (Releases r) = subst (EventPays w.image b) (sym r.is) (place_pa
 event_pays w b e (Numbers n) = subst (EventPays w.image b) (sym n.is) (number_pays w.image b _ _)
 event_pays w b e (OpensFile f) = subst (EventPays w.image b) (sym f.is) (file_pays w.image b f.opening f.fd f.opening.kind f.opening.bytes f.at f.paid)
 event_pays w b e (LastJoined j) = subst (EventPays w.image b) (sym j.join.is) (join_pays w.image b j.first.0 j.join.how j.join.child.fuel)
+event_pays w b e (EntersGate x) = subst (EventPays w.image b) (sym x.is) (enter_pays w.image b x.entrance _ x.at x.may.enough)
+event_pays w b e (LeavesGate l) = subst (EventPays w.image b) (sym l.is) (leave_pays w.image b l.end_)
 event_pays w b e (Ended f) = subst (EventPays w.image b) (sym f.is) (lives_pay w.image b _ _)

@@ -35,12 +35,11 @@ use Rattle.sthread_life.specs.Cells.{slot_in}
 use Rattle.sthread_life.specs.ChildCopies.{copy_asked, copies_in, own_at, IsPrepared, Prepares, pages_living, snap_reply, NotPreparing, SnapsNext, PreparesBy}
 use Rattle.sthread_life.specs.Copying.{Preparation, copy_grants, copied_from, is_copy_alone, prepared, behind_first}
 use Rattle.sthread_life.specs.Local.{step}
-use Rattle.sthread_life.specs.Moments.{with_actor}
 use Rattle.sthread_life.specs.Taking.{copies_asked, has_snapped, takes, copied_on}
-use Rattle.sthread_life.specs.Worlds.{WorldState}
-use Rattle.sthread_life.proofs.Between.{event_for, IsPreparing, numbered_is, takes_between, made_is}
+use Rattle.sthread_life.specs.Worlds.{WorldState, with_actor}
+use Rattle.sthread_life.proofs.Between.{event_for, IsPreparing, numbered_is, takes_between, made_is, entered_is}
 use Rattle.sthread_life.proofs.ByNumber.{same_number, number_itself, found_with}
-use Rattle.sthread_life.proofs.Happening.{Happens, AtSnap, Requested, Joined, Snaps, GateSnaps, Started, Opens, Releases, Numbers, OpensFile, LastJoined, Ended, no_preparing}
+use Rattle.sthread_life.proofs.Happening.{Happens, AtSnap, Requested, Joined, Snaps, GateSnaps, Started, Opens, Releases, Numbers, OpensFile, LastJoined, Ended, no_preparing, EntersGate, LeavesGate}
 use Rattle.sthread_life.proofs.Meeting.{IsRequest}
 use Rattle.sthread_life.proofs.Resting.{IsCalm, steps_step}
 
@@ -117,6 +116,8 @@ not_preparing (phase.Starting pre) h = absurd (h tt)
 not_preparing (phase.MakingGate pre) h = tt
 not_preparing (phase.Opening slot tag) h = tt
 not_preparing (phase.Releasing slot) h = tt
+not_preparing (phase.Entering entrance) h = tt
+not_preparing (phase.Waiting number) h = tt
 not_preparing (phase.OpeningFile o) h = tt
 not_preparing (phase.Ending e) h = tt
 not_preparing (phase.Ended e) h = tt
@@ -128,6 +129,8 @@ calm_unprepared (phase.Starting pre) h = absurd h
 calm_unprepared (phase.MakingGate pre) h = tt
 calm_unprepared (phase.Opening slot tag) h = tt
 calm_unprepared (phase.Releasing slot) h = tt
+calm_unprepared (phase.Entering entrance) h = tt
+calm_unprepared (phase.Waiting number) h = tt
 calm_unprepared (phase.OpeningFile o) h = tt
 calm_unprepared (phase.Ending e) h = tt
 calm_unprepared (phase.Ended e) h = tt
@@ -153,6 +156,8 @@ was_preparing i b (event.Slot slot q (slot_reply.Snapped pages)) k = inr (by_pha
     by_phase (phase.Starting pre) h = tt
     by_phase (phase.Opening s tag) h = absurd h
     by_phase (phase.Releasing s) h = absurd h
+    by_phase (phase.Entering entrance) h = absurd h
+    by_phase (phase.Waiting number) h = absurd h
     by_phase (phase.OpeningFile o) h = absurd h
     by_phase (phase.Ending x) h = absurd h
     by_phase (phase.Ended x) h = absurd h
@@ -165,6 +170,8 @@ was_preparing i b (event.Slot slot q slot_reply.Gone) k = inr (by_phase b.phase 
     by_phase (phase.Starting pre) h = tt
     by_phase (phase.Opening s tag) h = absurd h
     by_phase (phase.Releasing s) h = absurd h
+    by_phase (phase.Entering entrance) h = absurd h
+    by_phase (phase.Waiting number) h = absurd h
     by_phase (phase.OpeningFile o) h = absurd h
     by_phase (phase.Ending x) h = absurd h
     by_phase (phase.Ended x) h = absurd h
@@ -178,6 +185,7 @@ was_preparing i b (event.Fds directory_ask.Claim directory_reply.Full) k = absur
 was_preparing i b (event.Fds directory_ask.Claim directory_reply.Released) k = absurd k
 was_preparing i b (event.Fds (directory_ask.Release place) r) k = absurd k
 was_preparing i b (event.Slot slot q r) k = no_preparing (takes i b (event.Slot slot q r)).phase (takes_between i b (event.Slot slot q r)) k
+was_preparing i b (event.Enter run) k = absurd (entered_is (λ x. IsPreparing x.phase → ⊥) b b.phase (λ y. y) (λ x y. y) k)
 was_preparing i b e k = no_preparing (takes i b e).phase (takes_between i b e) k
 
 unprepared : (i : Image) (b : ActorState) (e : Event) → (IsPreparing b.phase → ⊥) → (e ≡ event.Lives lives_ask.Claim lives_reply.Claimed → ⊥) → NotPreparing (takes i b e).phase
@@ -276,6 +284,12 @@ event_prepares w b e (OpensFile f) =
 event_prepares w b e (LastJoined j) =
     subst (λ ph. PreparesBy (with_actor w b) b ph e (takes w.image b e)) (sym j.at)
     (subst (λ y. PreparesBy (with_actor w b) b (phase.Ending j.end_) y (takes w.image b y)) (sym j.join.is) (unprepared w.image b _ (λ k. subst IsPreparing j.at k) (λ is. absurd cc)))
+event_prepares w b e (EntersGate x) =
+    subst (λ ph. PreparesBy (with_actor w b) b ph e (takes w.image b e)) (sym x.at)
+    (subst (λ y. PreparesBy (with_actor w b) b (phase.Entering x.entrance) y (takes w.image b y)) (sym x.is) (unprepared w.image b _ (λ k. subst IsPreparing x.at k) (λ is. absurd cc)))
+event_prepares w b e (LeavesGate l) =
+    subst (λ ph. PreparesBy (with_actor w b) b ph e (takes w.image b e)) (sym l.at)
+    (subst (λ y. PreparesBy (with_actor w b) b (phase.Ending l.end_) y (takes w.image b y)) (sym l.is) (unprepared w.image b _ (λ k. subst IsPreparing l.at k) (λ is. absurd cc)))
 event_prepares w b e (Ended f) =
     subst (λ ph. PreparesBy (with_actor w b) b ph e (takes w.image b e)) (sym f.at)
     (subst (λ y. PreparesBy (with_actor w b) b (phase.Ending f.end_) y (takes w.image b y)) (sym f.is) (unprepared w.image b _ (λ k. subst IsPreparing f.at k) (λ is. absurd cc)))

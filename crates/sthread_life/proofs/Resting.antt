@@ -25,7 +25,7 @@ use Rattle.sthread_life.specs.declared.phase.Phase.{Phase}
 use Rattle.sthread_life.specs.declared.phase.Phase.TheVariants as phase
 use Rattle.wedge_base.specs.Files.{may_open}
 use Rattle.wedge_base.specs.declared.image.FileEntry.{FileEntry}
-use Rattle.sthread_life.specs.Actors.{ActorState, but_gates, right_of, answers, denies, ends, refuses, spends, wants}
+use Rattle.sthread_life.specs.Actors.{ActorState, but_gates, right_of, answers, denies, ends, refuses, spends, wants, gate_held}
 use Rattle.cow_pages.specs.Copies.{copy_at, holds_copy, read_copy}
 use Rattle.sthread_life.specs.Private.{loads, stores, load_bytes, load_copy, load_window, load_range, store_copy, store_window, store_range, has_loaded, fits_read, fits_write}
 use Rattle.wedge_base.specs.Names.{most_parts}
@@ -47,8 +47,12 @@ use Rattle.sthread_life.specs.Refusals.{fuel_short, root_refusal}
 use Rattle.sthread_life.specs.Requests.{path_at}
 use Rattle.sthread_life.specs.Paying.{unrefused, call_cost, need_cost, instr_cost}
 use Rattle.sthread_life.proofs.Buffers.{path_is}
-use Rattle.sthread_life.specs.Calls.{serves, exit, is_procedure, create, create_with, create_checked, create_allowed, join, are_pages, tag_new, tag_delete, smalloc, free_at, sfree, fd_read, fd_append, fd_close, most_drafts, sc_new, right_asked, bits_asked, add_right, add_right_to, sc_mem_add, add_bits, add_bits_to, sc_fd_add, add_gate_to, sc_cgate_add, makes_or_waits, may_be_gate, make_checked, make_with, cgate_make, draft_call, a0, a1, a2, a3, a7, set_user, sc_user, path_in, set_root, sc_root, file_at, mode_asked, suits, open_file, open_path, file_open}
+use Rattle.sthread_life.specs.Calls.{serves, exit, is_procedure, create, create_with, create_checked, create_allowed, join, are_pages, tag_new, tag_delete, smalloc, free_at, sfree, fd_read, fd_append, fd_close, most_drafts, sc_new, right_asked, bits_asked, add_right, add_right_to, sc_mem_add, add_bits, add_bits_to, sc_fd_add, add_gate_to, sc_cgate_add, makes_or_waits, may_be_gate, make_checked, make_with, cgate_make, draft_call, a0, a1, a2, a3, a7, set_user, sc_user, path_in, set_root, sc_root, file_at, mode_asked, suits, open_file, open_path, file_open, enter_kind, enter_allowed, enter_checked, enter_lending, enter_held, cgate, lent_asked}
 use Rattle.sthread_life.specs.Local.{needed, executed, fuelled, fetched, step, is_running, has_ended, run_local, rest}
+use Rattle.sthread_life.specs.Lending.{may_lend, excess_lent}
+use Rattle.sthread_life.specs.Entrances.{Entrance}
+use Rattle.wedge_base.specs.declared.grants.GateKind.{GateKind}
+use Rattle.wedge_base.specs.declared.grants.GateKind.TheVariants as gate_kind
 
 -- no event is still to come of a call that had one
 abbrev pub IsCalm : Phase → Type 0
@@ -58,6 +62,8 @@ IsCalm (phase.Starting pre) = ⊥
 IsCalm (phase.MakingGate pre) = Unit {0}
 IsCalm (phase.Opening slot tag) = ⊥
 IsCalm (phase.Releasing slot) = ⊥
+IsCalm (phase.Entering entrance) = Unit {0}
+IsCalm (phase.Waiting number) = ⊥
 IsCalm (phase.OpeningFile o) = o.number ≡ None
 IsCalm (phase.Ending e) = Unit {0}
 IsCalm (phase.Ended e) = Unit {0}
@@ -80,6 +86,7 @@ Unmade false p = NotMaking p
 pub record Goes (cost : ℕ) (makes : Bool) (a b : ActorState) : Type 0 where
   pub name : b.name ≡ a.name
   pub compartment : b.compartment ≡ a.compartment
+  pub run_of : b.run_of ≡ a.run_of
   pub sheet : b.sheet ≡ a.sheet
   pub fuel : b.fuel + cost ≡ a.fuel
   pub made : things makes b ≡ things makes a
@@ -98,20 +105,20 @@ goes_if a x y true p q = p
 goes_if a x y false p q = q
 
 goes_end : (a : ActorState) (e : End) → Goes 0 false a (ends a e)
-goes_end a e = record { name = refl; compartment = refl; sheet = refl; fuel = costs_nothing a.fuel; made = refl; labels = refl; starts = refl; unjoined = refl; live = λ h. refl; calm = λ h. tt; unmade = λ h. tt }
+goes_end a e = record { name = refl; compartment = refl; run_of = refl; sheet = refl; fuel = costs_nothing a.fuel; made = refl; labels = refl; starts = refl; unjoined = refl; live = λ h. refl; calm = λ h. tt; unmade = λ h. tt }
 
 goes_refused : (a : ActorState) (c : Code) → Goes 0 false a (refuses a c)
-goes_refused a c = record { name = refl; compartment = refl; sheet = refl; fuel = costs_nothing a.fuel; made = refl; labels = refl; starts = refl; unjoined = refl; live = λ h. refl; calm = λ h. tt; unmade = λ h. tt }
+goes_refused a c = record { name = refl; compartment = refl; run_of = refl; sheet = refl; fuel = costs_nothing a.fuel; made = refl; labels = refl; starts = refl; unjoined = refl; live = λ h. refl; calm = λ h. tt; unmade = λ h. tt }
 
 goes_loaded : (ins : Instr) (s : Bool) (a : ActorState) (width value : ℕ) → Goes 0 false a (has_loaded ins s a width value)
-goes_loaded ins s a width value = record { name = refl; compartment = refl; sheet = refl; fuel = costs_nothing a.fuel; made = refl; labels = refl; starts = refl; unjoined = refl; live = λ h. h; calm = λ h. h; unmade = λ h. h }
+goes_loaded ins s a width value = record { name = refl; compartment = refl; run_of = refl; sheet = refl; fuel = costs_nothing a.fuel; made = refl; labels = refl; starts = refl; unjoined = refl; live = λ h. h; calm = λ h. h; unmade = λ h. h }
 
 goes_load_bytes : (ins : Instr) (s : Bool) (a : ActorState) (width : ℕ) (o : Option (List ℕ)) → Goes 0 false a (load_bytes ins s a width o)
 goes_load_bytes ins s a width None = goes_end a end_.Unmapped
 goes_load_bytes ins s a width (Some bytes) = goes_loaded ins s a width (number_of bytes)
 
 goes_load_copy : (ins : Instr) (s : Bool) (a : ActorState) (width : ℕ) (p : Place) (o : Option (List ℕ)) → Goes 0 false a (load_copy ins s a width p o)
-goes_load_copy ins s a width p None = record { name = refl; compartment = refl; sheet = refl; fuel = costs_nothing a.fuel; made = refl; labels = refl; starts = refl; unjoined = refl; live = λ h. refl; calm = λ h. tt; unmade = λ h. tt }
+goes_load_copy ins s a width p None = record { name = refl; compartment = refl; run_of = refl; sheet = refl; fuel = costs_nothing a.fuel; made = refl; labels = refl; starts = refl; unjoined = refl; live = λ h. refl; calm = λ h. tt; unmade = λ h. tt }
 goes_load_copy ins s a width p (Some bytes) = goes_load_bytes ins s a width (read_copy p.offset width bytes)
 
 goes_load_window : (ins : Instr) (s : Bool) (a : ActorState) (width : ℕ) (p : Option Place) → Goes 0 false a (load_window ins s a width p)
@@ -129,16 +136,16 @@ goes_load i ins s a address width =
     (goes_load_range ins s a address width (range_at a.memory.ranges address width)))
 
 goes_store_copy : (a : ActorState) (width value : ℕ) (p : Place) (o : Option (List ℕ)) → Goes 0 false a (store_copy a width value p o)
-goes_store_copy a width value p None = record { name = refl; compartment = refl; sheet = refl; fuel = costs_nothing a.fuel; made = refl; labels = refl; starts = refl; unjoined = refl; live = λ h. refl; calm = λ h. tt; unmade = λ h. tt }
+goes_store_copy a width value p None = record { name = refl; compartment = refl; run_of = refl; sheet = refl; fuel = costs_nothing a.fuel; made = refl; labels = refl; starts = refl; unjoined = refl; live = λ h. refl; calm = λ h. tt; unmade = λ h. tt }
 goes_store_copy a width value p (Some bytes) =
-    goes_if a _ (ends a end_.Unmapped) (holds_copy p.offset width bytes) (record { name = refl; compartment = refl; sheet = refl; fuel = costs_nothing a.fuel; made = refl; labels = refl; starts = refl; unjoined = refl; live = λ h. h; calm = λ h. h; unmade = λ h. h }) (goes_end a end_.Unmapped)
+    goes_if a _ (ends a end_.Unmapped) (holds_copy p.offset width bytes) (record { name = refl; compartment = refl; run_of = refl; sheet = refl; fuel = costs_nothing a.fuel; made = refl; labels = refl; starts = refl; unjoined = refl; live = λ h. h; calm = λ h. h; unmade = λ h. h }) (goes_end a end_.Unmapped)
 
 goes_store_window : (a : ActorState) (width value : ℕ) (p : Option Place) → Goes 0 false a (store_window a width value p)
 goes_store_window a width value None = goes_end a end_.Unmapped
 goes_store_window a width value (Some p) = goes_store_copy a width value p (copy_at a.memory.copies p.slot)
 
 goes_store_range : (a : ActorState) (address width value : ℕ) (r : Option MemoryRange) → Goes 0 false a (store_range a address width value r)
-goes_store_range a address width value (Some r) = record { name = refl; compartment = refl; sheet = refl; fuel = costs_nothing a.fuel; made = refl; labels = refl; starts = refl; unjoined = refl; live = λ h. h; calm = λ h. h; unmade = λ h. h }
+goes_store_range a address width value (Some r) = record { name = refl; compartment = refl; run_of = refl; sheet = refl; fuel = costs_nothing a.fuel; made = refl; labels = refl; starts = refl; unjoined = refl; live = λ h. h; calm = λ h. h; unmade = λ h. h }
 goes_store_range a address width value None = goes_store_window a width value (slot_of address)
 
 goes_store : (i : Image) (a : ActorState) (address width value : ℕ) → Goes 0 false a (stores i a address width value)
@@ -152,23 +159,23 @@ goes_append i a =
     goes_if a (refuses a code.Bad) _ (not (fits_read i a (a1 a) (a2 a))) (goes_refused a code.Bad)
     (goes_if a (refuses a code.FuelShort) _ (nat_lt a.fuel (a2 a)) (goes_refused a code.FuelShort)
     (goes_if a (refuses a code.NoSuch) _ (nat_le most_fds (a0 a)) (goes_refused a code.NoSuch)
-    (record { name = refl; compartment = refl; sheet = refl; fuel = costs_nothing a.fuel; made = refl; labels = refl; starts = refl; unjoined = refl; live = λ h. refl; calm = λ h. tt; unmade = λ h. tt })))
+    (record { name = refl; compartment = refl; run_of = refl; sheet = refl; fuel = costs_nothing a.fuel; made = refl; labels = refl; starts = refl; unjoined = refl; live = λ h. refl; calm = λ h. tt; unmade = λ h. tt })))
 
 goes_read : (a : ActorState) → Goes 0 false a (fd_read a)
 goes_read a =
     goes_if a (refuses a code.Bad) _ (not (fits_write a (a1 a) (a2 a))) (goes_refused a code.Bad)
     (goes_if a (refuses a code.FuelShort) _ (nat_lt a.fuel (a2 a)) (goes_refused a code.FuelShort)
     (goes_if a (refuses a code.NoSuch) _ (nat_le most_fds (a0 a)) (goes_refused a code.NoSuch)
-    (record { name = refl; compartment = refl; sheet = refl; fuel = costs_nothing a.fuel; made = refl; labels = refl; starts = refl; unjoined = refl; live = λ h. refl; calm = λ h. tt; unmade = λ h. tt })))
+    (record { name = refl; compartment = refl; run_of = refl; sheet = refl; fuel = costs_nothing a.fuel; made = refl; labels = refl; starts = refl; unjoined = refl; live = λ h. refl; calm = λ h. tt; unmade = λ h. tt })))
 
 goes_close : (a : ActorState) → Goes 0 false a (fd_close a)
 goes_close a =
     goes_if a (refuses a code.NoSuch) _ (nat_le most_fds (a0 a)) (goes_refused a code.NoSuch)
-    (record { name = refl; compartment = refl; sheet = refl; fuel = costs_nothing a.fuel; made = refl; labels = refl; starts = refl; unjoined = refl; live = λ h. refl; calm = λ h. tt; unmade = λ h. tt })
+    (record { name = refl; compartment = refl; run_of = refl; sheet = refl; fuel = costs_nothing a.fuel; made = refl; labels = refl; starts = refl; unjoined = refl; live = λ h. refl; calm = λ h. tt; unmade = λ h. tt })
 
 -- an answer to a call, with other drafts
 goes_drafted : (a : ActorState) (ds : List Draft) (value : ℕ) → Goes 0 false a (answers (record a { drafts = ds }) value)
-goes_drafted a ds value = record { name = refl; compartment = refl; sheet = refl; fuel = costs_nothing a.fuel; made = refl; labels = refl; starts = refl; unjoined = refl; live = λ h. refl; calm = λ h. tt; unmade = λ h. tt }
+goes_drafted a ds value = record { name = refl; compartment = refl; run_of = refl; sheet = refl; fuel = costs_nothing a.fuel; made = refl; labels = refl; starts = refl; unjoined = refl; live = λ h. refl; calm = λ h. tt; unmade = λ h. tt }
 
 goes_right : (a : ActorState) (d : Draft) (r : Option Right) → Goes 0 false a (add_right a d r)
 goes_right a d None = goes_refused a code.Bad
@@ -196,11 +203,11 @@ goes_allowed : (a : ActorState) → Goes 0 false a (create_allowed a)
 goes_allowed a =
     goes_if a (refuses a code.Deep) _ (nat_le most_parts (length a.name)) (goes_refused a code.Deep)
     (goes_if a (refuses a code.FuelShort) _ (nat_lt a.fuel (a3 a)) (goes_refused a code.FuelShort)
-    (record { name = refl; compartment = refl; sheet = refl; fuel = costs_nothing a.fuel; made = refl; labels = refl; starts = refl; unjoined = refl; live = λ h. refl; calm = λ h. tt; unmade = λ h. tt }))
+    (record { name = refl; compartment = refl; run_of = refl; sheet = refl; fuel = costs_nothing a.fuel; made = refl; labels = refl; starts = refl; unjoined = refl; live = λ h. refl; calm = λ h. tt; unmade = λ h. tt }))
 
 goes_checked : (a : ActorState) (d : Option Denial) → Goes 0 false a (create_checked a d)
 goes_checked a None = goes_allowed a
-goes_checked a (Some d) = record { name = refl; compartment = refl; sheet = refl; fuel = costs_nothing a.fuel; made = refl; labels = refl; starts = refl; unjoined = refl; live = λ h. refl; calm = λ h. tt; unmade = λ h. tt }
+goes_checked a (Some d) = record { name = refl; compartment = refl; run_of = refl; sheet = refl; fuel = costs_nothing a.fuel; made = refl; labels = refl; starts = refl; unjoined = refl; live = λ h. refl; calm = λ h. tt; unmade = λ h. tt }
 
 goes_create : (i : Image) (a : ActorState) (d : Option Draft) → Goes 0 false a (create_with i a d)
 goes_create i a None = goes_refused a code.NoSuch
@@ -209,14 +216,14 @@ goes_create i a (Some d) = goes_if a (refuses a code.Bad) _ (not (is_procedure i
 goes_join : (a : ActorState) → Goes 0 false a (join a)
 goes_join a =
     goes_if a _ (refuses a code.NoSuch) (is_child a.unjoined (a0 a))
-    (record { name = refl; compartment = refl; sheet = refl; fuel = costs_nothing a.fuel; made = refl; labels = refl; starts = refl; unjoined = refl; live = λ h. refl; calm = λ h. tt; unmade = λ h. tt }) (goes_refused a code.NoSuch)
+    (record { name = refl; compartment = refl; run_of = refl; sheet = refl; fuel = costs_nothing a.fuel; made = refl; labels = refl; starts = refl; unjoined = refl; live = λ h. refl; calm = λ h. tt; unmade = λ h. tt }) (goes_refused a code.NoSuch)
 
 -- calls on tags
 goes_denied : (a : ActorState) (d : Denial) → Goes 0 false a (denies a d)
-goes_denied a d = record { name = refl; compartment = refl; sheet = refl; fuel = costs_nothing a.fuel; made = refl; labels = refl; starts = refl; unjoined = refl; live = λ h. refl; calm = λ h. tt; unmade = λ h. tt }
+goes_denied a d = record { name = refl; compartment = refl; run_of = refl; sheet = refl; fuel = costs_nothing a.fuel; made = refl; labels = refl; starts = refl; unjoined = refl; live = λ h. refl; calm = λ h. tt; unmade = λ h. tt }
 
 goes_wanting : (a : ActorState) (q : Want) → Goes 0 false a (wants a q)
-goes_wanting a q = record { name = refl; compartment = refl; sheet = refl; fuel = costs_nothing a.fuel; made = refl; labels = refl; starts = refl; unjoined = refl; live = λ h. refl; calm = λ h. tt; unmade = λ h. tt }
+goes_wanting a q = record { name = refl; compartment = refl; run_of = refl; sheet = refl; fuel = costs_nothing a.fuel; made = refl; labels = refl; starts = refl; unjoined = refl; live = λ h. refl; calm = λ h. tt; unmade = λ h. tt }
 
 goes_tag_new : (a : ActorState) → Goes 0 false a (tag_new a)
 goes_tag_new a = goes_if a _ (refuses a code.Bad) (are_pages (a0 a)) (goes_wanting a _) (goes_refused a code.Bad)
@@ -243,7 +250,7 @@ goes_path : (a : ActorState) (ds : List Draft) (t : Bool) → nat_le (a2 a) a.fu
 goes_path a ds true e = rw e (goes_refused a code.FuelShort)
 goes_path a ds false e =
     let enough : a2 a ≤ a.fuel = grind (arith, nat_tests, e) in
-    rw e (record { name = refl; compartment = refl; sheet = refl; fuel = omega (arith, enough); made = refl; labels = refl; starts = refl; unjoined = refl; live = λ h. refl; calm = λ h. tt; unmade = λ h. tt })
+    rw e (record { name = refl; compartment = refl; run_of = refl; sheet = refl; fuel = omega (arith, enough); made = refl; labels = refl; starts = refl; unjoined = refl; live = λ h. refl; calm = λ h. tt; unmade = λ h. tt })
 
 goes_root : (a : ActorState) (path : Option (List ℕ)) (d : Option Draft) → Goes (unrefused (root_refusal a (a2 a) path d) (a2 a)) false a (set_root a path d)
 goes_root a path None = goes_refused a code.NoSuch
@@ -259,6 +266,7 @@ weaker cost false a b g = g
 weaker cost true a b g = record {
   name = g.name;
   compartment = g.compartment;
+  run_of = g.run_of;
   sheet = g.sheet;
   fuel = g.fuel;
   made = ap (λ (x : Things). record { made = but_gates x.made; gates = [] }) g.made;
@@ -272,8 +280,8 @@ weaker cost true a b g = record {
 
 -- the call that makes a gate
 goes_or_waits : (a : ActorState) (d : Draft) (p : Preparation) (gs : List CopyGrant) → Goes 0 true a (makes_or_waits a d p gs)
-goes_or_waits a d p [] = record { name = refl; compartment = refl; sheet = refl; fuel = costs_nothing a.fuel; made = refl; labels = refl; starts = refl; unjoined = refl; live = λ h. refl; calm = λ h. tt; unmade = λ h. tt }
-goes_or_waits a d p (g ∷ gs) = record { name = refl; compartment = refl; sheet = refl; fuel = costs_nothing a.fuel; made = refl; labels = refl; starts = refl; unjoined = refl; live = λ h. refl; calm = λ h. tt; unmade = λ h. tt }
+goes_or_waits a d p [] = record { name = refl; compartment = refl; run_of = refl; sheet = refl; fuel = costs_nothing a.fuel; made = refl; labels = refl; starts = refl; unjoined = refl; live = λ h. refl; calm = λ h. tt; unmade = λ h. tt }
+goes_or_waits a d p (g ∷ gs) = record { name = refl; compartment = refl; run_of = refl; sheet = refl; fuel = costs_nothing a.fuel; made = refl; labels = refl; starts = refl; unjoined = refl; live = λ h. refl; calm = λ h. tt; unmade = λ h. tt }
 
 goes_made : (i : Image) (a : ActorState) (d : Draft) (o : Option Denial) → Goes 0 true a (make_checked i a d o)
 goes_made i a d (Some x) = weaker 0 true a _ (goes_denied a x)
@@ -286,6 +294,28 @@ goes_make i a (Some d) = by_test (may_be_gate i a d)
     by_test : (t : Bool) → Goes 0 true a (if not t then refuses a code.Bad else make_checked i a d (first_excess a.sheet a.made d))
     by_test false = weaker 0 true a _ (goes_refused a code.Bad)
     by_test true = goes_made i a d (first_excess a.sheet a.made d)
+
+-- the call that enters a gate
+goes_kind : (a : ActorState) (k : GateKind) (x : Entrance) → Goes 0 false a (enter_kind a k x)
+goes_kind a gate_kind.Fresh x = record { name = refl; compartment = refl; run_of = refl; sheet = refl; fuel = costs_nothing a.fuel; made = refl; labels = refl; starts = refl; unjoined = refl; live = λ h. refl; calm = λ h. tt; unmade = λ h. tt }
+goes_kind a gate_kind.Recycled x = goes_refused a code.Bad
+
+goes_entry : (a : ActorState) (g : Gate) (lent : Option Draft) → Goes 0 false a (enter_allowed a g lent)
+goes_entry a g lent =
+    goes_if a (refuses a code.Deep) _ (nat_le most_parts (length a.name)) (goes_refused a code.Deep)
+    (goes_if a (refuses a code.FuelShort) _ (nat_lt a.fuel g.fuel) (goes_refused a code.FuelShort) (goes_kind a g.kind _))
+
+goes_entry_checked : (a : ActorState) (g : Gate) (lent : Option Draft) (d : Option Denial) → Goes 0 false a (enter_checked a g lent d)
+goes_entry_checked a g lent None = goes_entry a g lent
+goes_entry_checked a g lent (Some d) = goes_denied a d
+
+goes_lending : (a : ActorState) (g : Gate) (lent : Option (Option Draft)) → Goes 0 false a (enter_lending a g lent)
+goes_lending a g None = goes_refused a code.NoSuch
+goes_lending a g (Some lent) = goes_if a (refuses a code.Bad) _ (not (may_lend lent)) (goes_refused a code.Bad) (goes_entry_checked a g lent (excess_lent a lent))
+
+goes_enter : (a : ActorState) (g : Option Gate) → Goes 0 false a (enter_held a g)
+goes_enter a None = goes_denied a _
+goes_enter a (Some g) = goes_lending a g (lent_asked a.drafts (a2 a))
 
 -- a call by its number, of which that one alone costs anything, and one alone makes a gate
 abbrev GoesCall : Image → ActorState → ℕ → ActorState → Type 0
@@ -316,7 +346,7 @@ goes_file a path b None = goes_refused a code.NoSuch
 goes_file a path b (Some f) =
     goes_if a (denies a (denial.File path)) _ (not (may_open a.sheet.user f b)) (goes_denied a _)
     (goes_if a (refuses a code.Bad) _ (not (suits f.kind b)) (goes_refused a code.Bad)
-    (record { name = refl; compartment = refl; sheet = refl; fuel = costs_nothing a.fuel; made = refl; labels = refl; starts = refl; unjoined = refl; live = λ h. refl; calm = λ h. refl; unmade = λ h. tt }))
+    (record { name = refl; compartment = refl; run_of = refl; sheet = refl; fuel = costs_nothing a.fuel; made = refl; labels = refl; starts = refl; unjoined = refl; live = λ h. refl; calm = λ h. refl; unmade = λ h. tt }))
 
 goes_open : (i : Image) (a : ActorState) (b : Option FdBits) (path : Option (List ℕ)) → Goes 0 false a (open_path i a b path)
 goes_open i a None path = goes_refused a code.Bad
@@ -334,10 +364,11 @@ goes_call i a n =
     (goes_at i a (smalloc a) _ n 5 (n == 5) refl refl (goes_smalloc a)
     (goes_at i a (sfree a) _ n 6 (n == 6) refl refl (goes_free a (slot_of (a0 a)))
     (goes_at i a (cgate_make i a) _ n 13 (n == 13) refl refl (goes_make i a (slice_get a.drafts (a0 a)))
+    (goes_at i a (cgate a) _ n 14 (n == 14) refl refl (goes_enter a (gate_held a (a0 a)))
     (goes_at i a (fd_read a) _ n 15 (n == 15) refl refl (goes_read a)
     (goes_at i a (fd_append i a) _ n 16 (n == 16) refl refl (goes_append i a)
     (goes_at i a (fd_close a) _ n 17 (n == 17) refl refl (goes_close a)
-    (goes_at i a (file_open i a) _ n 18 (n == 18) refl refl (goes_open i a (mode_asked (a2 a)) (path_in i a (a0 a) (a1 a))) (goes_draft i a n))))))))))))
+    (goes_at i a (file_open i a) _ n 18 (n == 18) refl refl (goes_open i a (mode_asked (a2 a)) (path_in i a (a0 a) (a1 a))) (goes_draft i a n)))))))))))))
 
 -- whether an instruction may make a gate
 abbrev pub need_makes : ActorState → Need → Bool
@@ -349,7 +380,7 @@ instr_makes a None = false
 instr_makes a (Some ins) = need_makes a (local ins a.hart).need
 
 pub goes_needed : (i : Image) (ins : Instr) (a : ActorState) (h : Hart) (n : Need) → Goes (need_cost i a n) (need_makes a n) a (needed i ins a h n)
-goes_needed i ins a h need.Done = record { name = refl; compartment = refl; sheet = refl; fuel = costs_nothing a.fuel; made = refl; labels = refl; starts = refl; unjoined = refl; live = λ h. h; calm = λ h. h; unmade = λ h. h }
+goes_needed i ins a h need.Done = record { name = refl; compartment = refl; run_of = refl; sheet = refl; fuel = costs_nothing a.fuel; made = refl; labels = refl; starts = refl; unjoined = refl; live = λ h. h; calm = λ h. h; unmade = λ h. h }
 goes_needed i ins a h (need.Load address width s) = goes_load i ins s a address width
 goes_needed i ins a h (need.Store address width value) = goes_store i a address width value
 goes_needed i ins a h need.Call = goes_call i a (a7 a)
@@ -383,6 +414,8 @@ IsEnding (phase.Starting pre) = ⊥
 IsEnding (phase.MakingGate pre) = ⊥
 IsEnding (phase.Opening slot tag) = ⊥
 IsEnding (phase.Releasing slot) = ⊥
+IsEnding (phase.Entering entrance) = ⊥
+IsEnding (phase.Waiting number) = ⊥
 IsEnding (phase.OpeningFile o) = ⊥
 IsEnding (phase.Ending e) = Unit {0}
 IsEnding (phase.Ended e) = ⊥
@@ -391,6 +424,7 @@ IsEnding (phase.Ended e) = ⊥
 pub record Steps (a b : ActorState) : Type 0 where
   pub name : b.name ≡ a.name
   pub compartment : b.compartment ≡ a.compartment
+  pub run_of : b.run_of ≡ a.run_of
   pub sheet : b.sheet ≡ a.sheet
   pub spent : (b.fuel < a.fuel) ⊎ ((b.fuel ≡ a.fuel) × IsEnding b.phase)
   pub made : but_gates b.made ≡ but_gates a.made
@@ -401,13 +435,13 @@ pub record Steps (a b : ActorState) : Type 0 where
   pub calm : IsCalm a.phase → IsCalm b.phase
 
 steps_fuelled : (i : Image) (a : ActorState) (word n : ℕ) → a.fuel ≡ n → Steps a (fuelled i a word n)
-steps_fuelled i a word zero e = record { name = refl; compartment = refl; sheet = refl; spent = inr (refl, tt); made = refl; labels = refl; starts = refl; unjoined = refl; live = λ h. refl; calm = λ h. tt }
+steps_fuelled i a word zero e = record { name = refl; compartment = refl; run_of = refl; sheet = refl; spent = inr (refl, tt); made = refl; labels = refl; starts = refl; unjoined = refl; live = λ h. refl; calm = λ h. tt }
 steps_fuelled i a word (suc n) e =
     let g = goes_executed i (spends a 1) (decode word) in
-    record { name = g.name; compartment = g.compartment; sheet = g.sheet; spent = inl (omega (arith, g.fuel, e)); made = but_gates_same (instr_makes (spends a 1) (decode word)) (spends a 1) _ g.made; labels = g.labels; starts = g.starts; unjoined = g.unjoined; live = g.live; calm = g.calm }
+    record { name = g.name; compartment = g.compartment; run_of = g.run_of; sheet = g.sheet; spent = inl (omega (arith, g.fuel, e)); made = but_gates_same (instr_makes (spends a 1) (decode word)) (spends a 1) _ g.made; labels = g.labels; starts = g.starts; unjoined = g.unjoined; live = g.live; calm = g.calm }
 
 steps_fetched : (i : Image) (a : ActorState) (word : Option ℕ) → Steps a (fetched i a word)
-steps_fetched i a None = record { name = refl; compartment = refl; sheet = refl; spent = inr (refl, tt); made = refl; labels = refl; starts = refl; unjoined = refl; live = λ h. refl; calm = λ h. tt }
+steps_fetched i a None = record { name = refl; compartment = refl; run_of = refl; sheet = refl; spent = inr (refl, tt); made = refl; labels = refl; starts = refl; unjoined = refl; live = λ h. refl; calm = λ h. tt }
 steps_fetched i a (Some word) = steps_fuelled i a word a.fuel refl
 
 pub steps_step : (i : Image) (a : ActorState) → Steps a (step i a)
@@ -422,6 +456,8 @@ HasPaid before after (phase.Starting pre) = after < before
 HasPaid before after (phase.MakingGate pre) = after < before
 HasPaid before after (phase.Opening slot tag) = after < before
 HasPaid before after (phase.Releasing slot) = after < before
+HasPaid before after (phase.Entering entrance) = after < before
+HasPaid before after (phase.Waiting number) = after < before
 HasPaid before after (phase.OpeningFile o) = after < before
 HasPaid before after (phase.Ending e) = after ≤ before
 HasPaid before after (phase.Ended e) = after ≤ before
@@ -430,6 +466,7 @@ HasPaid before after (phase.Ended e) = after ≤ before
 pub record Rests (a b : ActorState) : Type 0 where
   pub name : b.name ≡ a.name
   pub compartment : b.compartment ≡ a.compartment
+  pub run_of : b.run_of ≡ a.run_of
   pub sheet : b.sheet ≡ a.sheet
   pub paid : HasPaid a.fuel b.fuel b.phase
   pub made : but_gates b.made ≡ but_gates a.made
@@ -446,6 +483,8 @@ paid_less before mid after (phase.Starting pre) le h = omega arith
 paid_less before mid after (phase.MakingGate pre) le h = omega arith
 paid_less before mid after (phase.Opening slot tag) le h = omega arith
 paid_less before mid after (phase.Releasing slot) le h = omega arith
+paid_less before mid after (phase.Entering entrance) le h = omega arith
+paid_less before mid after (phase.Waiting number) le h = omega arith
 paid_less before mid after (phase.OpeningFile o) le h = omega arith
 paid_less before mid after (phase.Ending e) le h = omega arith
 paid_less before mid after (phase.Ended e) le h = omega arith
@@ -462,8 +501,12 @@ paid_step before after (phase.MakingGate pre) (inr h) = absurd h.1
 paid_step before after (phase.Opening slot tag) (inl lt) = lt
 paid_step before after (phase.Opening slot tag) (inr h) = absurd h.1
 paid_step before after (phase.Releasing slot) (inl lt) = lt
+paid_step before after (phase.Entering entrance) (inl lt) = lt
+paid_step before after (phase.Waiting number) (inl lt) = lt
 paid_step before after (phase.OpeningFile o) (inl lt) = lt
 paid_step before after (phase.Releasing slot) (inr h) = absurd h.1
+paid_step before after (phase.Entering entrance) (inr h) = absurd h.1
+paid_step before after (phase.Waiting number) (inr h) = absurd h.1
 paid_step before after (phase.OpeningFile o) (inr h) = absurd h.1
 paid_step before after (phase.Ending e) (inl lt) = omega arith
 paid_step before after (phase.Ending e) (inr h) = omega arith
@@ -491,6 +534,8 @@ running_is (phase.Starting pre) e = cc
 running_is (phase.MakingGate pre) e = cc
 running_is (phase.Opening slot tag) e = cc
 running_is (phase.Releasing slot) e = cc
+running_is (phase.Entering entrance) e = cc
+running_is (phase.Waiting number) e = cc
 running_is (phase.OpeningFile o) e = cc
 running_is (phase.Ending x) e = cc
 running_is (phase.Ended x) e = cc
@@ -502,6 +547,8 @@ running_live (phase.Starting pre) e = refl
 running_live (phase.MakingGate pre) e = refl
 running_live (phase.Opening slot tag) e = refl
 running_live (phase.Releasing slot) e = refl
+running_live (phase.Entering entrance) e = refl
+running_live (phase.Waiting number) e = refl
 running_live (phase.OpeningFile o) e = refl
 running_live (phase.Ending x) e = refl
 running_live (phase.Ended x) e = cc
@@ -513,6 +560,8 @@ running_calm (phase.Starting pre) e = absurd cc
 running_calm (phase.MakingGate pre) e = tt
 running_calm (phase.Opening slot tag) e = absurd cc
 running_calm (phase.Releasing slot) e = absurd cc
+running_calm (phase.Entering entrance) e = tt
+running_calm (phase.Waiting number) e = absurd cc
 running_calm (phase.OpeningFile o) e = absurd cc
 running_calm (phase.Ending x) e = tt
 running_calm (phase.Ended x) e = tt
@@ -526,8 +575,8 @@ rests_from i (suc n) a true e =
     let le : b.fuel ≤ a.fuel = spent_le a.fuel b.fuel b.phase s.spent in
     rw (goes_on i n a e) (inl (
     elim (rests_from i n b _ refl) [
-      | inl r ↦ record { name = r.name ∙ s.name; compartment = r.compartment ∙ s.compartment; sheet = r.sheet ∙ s.sheet; made = r.made ∙ s.made; labels = r.labels ∙ s.labels; starts = r.starts ∙ s.starts; unjoined = r.unjoined ∙ s.unjoined; paid = paid_less a.fuel b.fuel _ _ le r.paid; live = r.live; calm = r.calm }
-      | inr same ↦ subst (Rests a) same (record { name = s.name; compartment = s.compartment; sheet = s.sheet; made = s.made; labels = s.labels; starts = s.starts; unjoined = s.unjoined; paid = paid_step a.fuel b.fuel b.phase s.spent; live = s.live (running_live a.phase e); calm = s.calm (running_calm a.phase e) })
+      | inl r ↦ record { name = r.name ∙ s.name; compartment = r.compartment ∙ s.compartment; run_of = r.run_of ∙ s.run_of; sheet = r.sheet ∙ s.sheet; made = r.made ∙ s.made; labels = r.labels ∙ s.labels; starts = r.starts ∙ s.starts; unjoined = r.unjoined ∙ s.unjoined; paid = paid_less a.fuel b.fuel _ _ le r.paid; live = r.live; calm = r.calm }
+      | inr same ↦ subst (Rests a) same (record { name = s.name; compartment = s.compartment; run_of = s.run_of; sheet = s.sheet; made = s.made; labels = s.labels; starts = s.starts; unjoined = s.unjoined; paid = paid_step a.fuel b.fuel b.phase s.spent; live = s.live (running_live a.phase e); calm = s.calm (running_calm a.phase e) })
     ]))
 
 -- an actor that runs rests paid
@@ -538,6 +587,8 @@ paid_running f (phase.Starting pre) e = cc
 paid_running f (phase.MakingGate pre) e = cc
 paid_running f (phase.Opening slot tag) e = cc
 paid_running f (phase.Releasing slot) e = cc
+paid_running f (phase.Entering entrance) e = cc
+paid_running f (phase.Waiting number) e = cc
 paid_running f (phase.OpeningFile o) e = cc
 paid_running f (phase.Ending x) e = omega arith
 paid_running f (phase.Ended x) e = omega arith
@@ -547,7 +598,7 @@ unfolding rest
 rests i a e =
     elim (rests_from i (a.fuel + 1) a true e) [
       | inl r ↦ r
-      | inr same ↦ subst (Rests a) same (record { name = refl; compartment = refl; sheet = refl; made = refl; labels = refl; starts = refl; unjoined = refl; paid = paid_running a.fuel a.phase e; live = running_live a.phase e; calm = running_calm a.phase e })
+      | inr same ↦ subst (Rests a) same (record { name = refl; compartment = refl; run_of = refl; sheet = refl; made = refl; labels = refl; starts = refl; unjoined = refl; paid = paid_running a.fuel a.phase e; live = running_live a.phase e; calm = running_calm a.phase e })
     ]
 
 pub rest-stays : (i : Image) (a : ActorState) → is_running a.phase ≡ false → rest i a ≡ a
@@ -570,6 +621,8 @@ ending_stops (phase.Starting pre) h = refl
 ending_stops (phase.MakingGate pre) h = refl
 ending_stops (phase.Opening slot tag) h = refl
 ending_stops (phase.Releasing slot) h = refl
+ending_stops (phase.Entering entrance) h = refl
+ending_stops (phase.Waiting number) h = refl
 ending_stops (phase.OpeningFile o) h = refl
 ending_stops (phase.Ending e) h = refl
 ending_stops (phase.Ended e) h = refl
@@ -609,6 +662,8 @@ ended_stops (phase.Starting pre) e = refl
 ended_stops (phase.MakingGate pre) e = refl
 ended_stops (phase.Opening slot tag) e = refl
 ended_stops (phase.Releasing slot) e = refl
+ended_stops (phase.Entering entrance) e = refl
+ended_stops (phase.Waiting number) e = refl
 ended_stops (phase.OpeningFile o) e = refl
 ended_stops (phase.Ending x) e = refl
 ended_stops (phase.Ended x) e = refl
@@ -650,6 +705,8 @@ left (phase.Starting pre) n = 0
 left (phase.MakingGate pre) n = 0
 left (phase.Opening slot tag) n = 0
 left (phase.Releasing slot) n = 0
+left (phase.Entering entrance) n = 0
+left (phase.Waiting number) n = 0
 left (phase.OpeningFile o) n = 0
 left (phase.Ending e) n = 0
 left (phase.Ended e) n = 0
@@ -661,6 +718,8 @@ left_ending (phase.Starting pre) n h = refl
 left_ending (phase.MakingGate pre) n h = refl
 left_ending (phase.Opening slot tag) n h = refl
 left_ending (phase.Releasing slot) n h = refl
+left_ending (phase.Entering entrance) n h = refl
+left_ending (phase.Waiting number) n h = refl
 left_ending (phase.OpeningFile o) n h = refl
 left_ending (phase.Ending e) n h = refl
 left_ending (phase.Ended e) n h = refl
@@ -672,6 +731,8 @@ left_le (phase.Starting pre) n = omega arith
 left_le (phase.MakingGate pre) n = omega arith
 left_le (phase.Opening slot tag) n = omega arith
 left_le (phase.Releasing slot) n = omega arith
+left_le (phase.Entering entrance) n = omega arith
+left_le (phase.Waiting number) n = omega arith
 left_le (phase.OpeningFile o) n = omega arith
 left_le (phase.Ending e) n = omega arith
 left_le (phase.Ended e) n = omega arith

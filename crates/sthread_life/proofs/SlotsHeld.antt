@@ -6,16 +6,20 @@ use Rattle.std.specs.Ordering.{nat_cmp}
 use Rattle.std.specs.declared.cmp.Ordering.{Ordering}
 use Rattle.std.specs.declared.cmp.Ordering.TheVariants.{Less, Equal, Greater}
 use Rattle.std.specs.FinMap.Entries.{by_order}
-use Rattle.std.specs.Prelude.{Option, Some, None, map, unwrap_or, option_map, if◌then◌else◌}
+use Rattle.std.specs.Prelude.{Option, Some, None, IfSome, map, unwrap_or, option_map, if◌then◌else◌}
+use Rattle.callgate.specs.Gates.{gate_named}
+use Rattle.callgate.specs.declared.gate.Gate.{Gate}
+use Rattle.wedge_base.specs.Gates.{same_gate}
 use Rattle.wedge_base.specs.Images.{slots}
-use Rattle.wedge_base.specs.Maps.{Map, at, with}
-use Rattle.wedge_base.specs.Sheets.{Sheet, Made, Draft, is_copy, nothing_made, with_grant, root_tags, root_sheet, slot_on, tag_granted, granted, made_tag}
+use Rattle.wedge_base.specs.Maps.{Map, at, has, with, joined}
+use Rattle.wedge_base.specs.Sheets.{Sheet, Made, Draft, is_copy, nothing_made, with_grant, root_tags, root_sheet, slot_on, tag_granted, granted, made_tag, lent_to}
 use Rattle.wedge_base.specs.declared.image.TagEntry.{TagEntry}
 use Rattle.wedge_base.specs.declared.image.FdEntry.{FdEntry}
+use Rattle.wedge_base.specs.declared.grants.GateId.{GateId}
 use Rattle.wedge_base.specs.declared.rights.Grant.{Grant}
 use Rattle.wedge_base.specs.declared.rights.Right.{Right}
 use Rattle.sthread_life.specs.declared.copy_grant.CopyGrant.{CopyGrant}
-use Rattle.sthread_life.specs.Between.{AreInSlots, HoldsInSlots}
+use Rattle.sthread_life.specs.Between.{AreInSlots, AreGatesPlaced, HoldsInSlots, IsPlaced}
 use Rattle.sthread_life.specs.Copying.{copy_grants, behind_first}
 
 -- what is found among such entries is such
@@ -75,14 +79,39 @@ behind_inside [] all = tt
 behind_inside (g ∷ gs) all = all.1
 
 -- and one that is made is where it is opened
-with_entry : (es : Map ℕ) (k slot : ℕ) → slot < slots → AllByRecursion (λ e. e.1 < slots) es → AllByRecursion (λ e. e.1 < slots) (with es k slot)
-with_entry [] k slot inside all = (inside, tt)
-with_entry (e ∷ es) k slot inside all = by_key (nat_cmp k e.0) (with_entry es k slot inside all.1)
+with_entry : {X : Type 0} (f : X → ℕ) (es : Map X) (k : ℕ) (x : X) → f x < slots → AllByRecursion (λ e. f e.1 < slots) es → AllByRecursion (λ e. f e.1 < slots) (with es k x)
+with_entry f [] k x inside all = (inside, tt)
+with_entry f (e ∷ es) k x inside all = by_key (nat_cmp k e.0) (with_entry f es k x inside all.1)
   where
-    by_key : (o : Ordering) → AllByRecursion (λ x. x.1 < slots) (with es k slot) → AllByRecursion (λ x. x.1 < slots) (by_order o ((k, slot) ∷ e ∷ es) ((e.0, slot) ∷ es) (e ∷ with es k slot))
+    by_key : (o : Ordering) → AllByRecursion (λ y. f y.1 < slots) (with es k x) → AllByRecursion (λ y. f y.1 < slots) (by_order o ((k, x) ∷ e ∷ es) ((e.0, x) ∷ es) (e ∷ with es k x))
     by_key Less others = (inside, all)
     by_key Equal others = (inside, all.1)
     by_key Greater others = (all.0, others)
 
 pub made_inside : (m new : Made) (tag slot : ℕ) → new ≡ made_tag m tag slot → slot < slots → AllByRecursion (λ e. e.1 < slots) m.tags → AllByRecursion (λ e. e.1 < slots) new.tags
-made_inside m new tag slot is inside all = subst (λ (x : Made). AllByRecursion (λ e. e.1 < slots) x.tags) (sym is) (with_entry m.tags tag slot inside all)
+made_inside m new tag slot is inside all = subst (λ (x : Made). AllByRecursion (λ e. e.1 < slots) x.tags) (sym is) (with_entry (λ n. n) m.tags tag slot inside all)
+
+-- those of a gate that is found among others are where the others' are
+pub named_inside : (gates : List Gate) (id : GateId) (g : Gate) → Some g ≡ gate_named gates id → AreGatesPlaced gates → IsPlaced g.sheet
+named_inside [] id g is all = absurd cc
+named_inside (x ∷ xs) id g is all = by_name (same_gate x.id id) is (λ h. named_inside xs id g h all.1)
+  where
+    by_name : (t : Bool) → Some g ≡ (if t then Some x else gate_named xs id) → (Some g ≡ gate_named xs id → IsPlaced g.sheet) → IsPlaced g.sheet
+    by_name true h others = let e : x ≡ g = cc in subst (λ (y : Gate). IsPlaced y.sheet) e all.0
+    by_name false h others = others h
+
+-- those of a run are where its gate's are, and those that are lent
+joined_entries : (es ls : Map Grant) → AllByRecursion (λ e. e.1.slot < slots) es → AllByRecursion (λ e. e.1.slot < slots) ls → AllByRecursion (λ e. e.1.slot < slots) (joined es ls)
+joined_entries es [] all lent = all
+joined_entries es (l ∷ ls) all lent = joined_entries (if has es l.0 then es else with es l.0 l.1) ls (by_key (has es l.0)) lent.1
+  where
+    by_key : (t : Bool) → AllByRecursion (λ e. e.1.slot < slots) (if t then es else with es l.0 l.1)
+    by_key true = all
+    by_key false = with_entry (λ g. g.slot) es l.0 l.1 lent.0 all
+
+pub run_inside : (run gate : Sheet) (lent : Option Sheet) → run ≡ lent_to gate lent → IsPlaced gate → IfSome lent IsPlaced → IsPlaced run
+run_inside run gate lent is own others = subst IsPlaced (sym is) (by_lent lent others)
+  where
+    by_lent : (o : Option Sheet) → IfSome o IsPlaced → IsPlaced (lent_to gate o)
+    by_lent None h = own
+    by_lent (Some s) h = joined_entries gate.tags s.tags own h

@@ -18,10 +18,10 @@ use Rattle.sthread_life.specs.Actors.{ActorState, bits_of, refuses, spends, answ
 use Rattle.sthread_life.specs.Calls.{a2}
 use Rattle.sthread_life.specs.Taking.{takes, has_read}
 use Rattle.sthread_life.specs.Cells.{stream_in}
-use Rattle.sthread_life.specs.Worlds.{WorldState, actor_named}
+use Rattle.sthread_life.specs.Worlds.{WorldState, actor_named, with_actor}
 use Rattle.sthread_life.specs.Requests.{Request, Reads, Appends, Closes, in_stream}
 use Rattle.sthread_life.specs.Allowed.{is_source, may_close, bit_to_close, next_bytes}
-use Rattle.sthread_life.specs.Moments.{with_actor, IsChecked, IsAnswered}
+use Rattle.sthread_life.specs.Moments.{IsChecked, IsAnswered}
 use Rattle.sthread_life.specs.Refusals.{no_such, bad, stream_refuses, refused, read_refusal_after, append_refusal_after, stream_close_refusal}
 use Rattle.sthread_life.proofs.Checking.{kept, put_there, checked_denied, checked_allowed, stayed, same_streams, stream_world}
 use Rattle.sthread_life.proofs.Going.{IsNext}

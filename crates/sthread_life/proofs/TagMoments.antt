@@ -38,12 +38,12 @@ use Rattle.sthread_life.specs.Cells.{slot_in, tag_in}
 use Rattle.sthread_life.specs.Children.{is_child}
 use Rattle.sthread_life.specs.Families.{answered_twice}
 use Rattle.sthread_life.specs.Local.{needed, executed, fuelled, fetched, step}
-use Rattle.sthread_life.specs.Moments.{with_actor, NothingDenied, is_use, gap_in, IsPlaced, IsClosed, IsChecked, IsAnswered}
+use Rattle.sthread_life.specs.Moments.{NothingDenied, is_use, gap_in, IsPlaced, IsClosed, IsChecked, IsAnswered}
 use Rattle.sthread_life.specs.Refusals.{full, no_such, bad, is_left, slots_refusal, close_refusal, gap_refusal, place_refusal, block_refusal, slot_refuses, is_refusal, refused}
 use Rattle.sthread_life.specs.Requests.{Deletes, Allots, Frees}
 use Rattle.sthread_life.specs.TagCalls.{call_want, need_want, instr_want, word_want, want_at, ComesWith, MakesAt}
 use Rattle.sthread_life.specs.Taking.{pair, takes}
-use Rattle.sthread_life.specs.Worlds.{WorldState, actor_named, put_actor}
+use Rattle.sthread_life.specs.Worlds.{WorldState, actor_named, put_actor, with_actor}
 use Rattle.sthread_life.proofs.Between.{event_for}
 use Rattle.sthread_life.proofs.Bounding.{with_same}
 use Rattle.sthread_life.proofs.Checking.{slot_cells, kept, put_there, checked_denied, checked_allowed, after, stayed, same_slots, pair_on, slot_world}

@@ -124,3 +124,12 @@ new_behind m (y ∷ ys) c h apart = (h.0, new_behind m ys c h.1 apart)
 pub distinct_behind : (actors : List ActorState) (c : ActorState) → AreDistinct actors → IsNew c.name actors → AreDistinct (actors ++ c ∷ [])
 distinct_behind [] c all new = (tt, tt)
 distinct_behind (y ∷ ys) c all new = (new_behind y.name ys c all.0 (apart_too y.name c.name new.0), distinct_behind ys c all.1 new.1)
+
+-- ---- an actor that is put as it is
+put_same_or : (y a : ActorState) (ys others : List ActorState) (t : Bool) → same y.name a.name ≡ t → (if t then Some y else actor_named ys a.name) ≡ Some a → (actor_named ys a.name ≡ Some a → others ≡ ys) → (if t then a ∷ ys else y ∷ others) ≡ y ∷ ys
+put_same_or y a ys others true e h same_others = let is : y ≡ a = cc in ap (λ z. z ∷ ys) (sym is)
+put_same_or y a ys others false e h same_others = ap (λ zs. y ∷ zs) (same_others h)
+
+pub put_same : (actors : List ActorState) (a : ActorState) → actor_named actors a.name ≡ Some a → put_actor actors a ≡ actors
+put_same [] a there = absurd (let e = there in cc)
+put_same (y ∷ ys) a there = put_same_or y a ys (put_actor ys a) (same y.name a.name) refl there (put_same ys a)

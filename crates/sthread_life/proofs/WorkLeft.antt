@@ -31,26 +31,29 @@ use Rattle.sthread_life.specs.declared.copy_grant.CopyGrant.{CopyGrant}
 use Rattle.sthread_life.specs.Actors.{ActorState, pristine, root}
 use Rattle.sthread_life.specs.Between.{IsBetween}
 use Rattle.sthread_life.specs.Children.{Children, child_name, is_number, fuel_given, is_child, with_child, without_child}
-use Rattle.sthread_life.specs.FamilyTrees.{Family}
+use Rattle.sthread_life.specs.FamilyTrees.{Family, WaitsForOwn}
 use Rattle.sthread_life.specs.Copying.{Preparation, copied_from, prepared, behind_first}
 use Rattle.sthread_life.specs.Cells.{slot_in}
-use Rattle.sthread_life.specs.Fuel.{unit_work, units_of, opening_work, phase_work, tasks_of, tasks_in, work_left, most_turns}
+use Rattle.sthread_life.specs.Fuel.{unit_work, units_of, opening_work, phase_work, tasks_of, tasks_in, work_left, most_turns, units_of_turn}
 use Rattle.sthread_life.specs.Laws.{RunsEnd}
 use Rattle.sthread_life.specs.Local.{is_running, rest}
-use Rattle.sthread_life.specs.Taking.{next_start, answered_end, copies_asked, has_snapped, takes, begun, copied_on}
-use Rattle.sthread_life.specs.Worlds.{WorldState, opening, actor_named, put_actor, with_begun, turn_of, Runs}
+use Rattle.sthread_life.specs.Taking.{next_start, answered_end, copies_asked, has_snapped, takes, begun, copied_on, has_entered, run_at, run_by}
+use Rattle.sthread_life.specs.Worlds.{WorldState, opening, actor_named, put_actor, with_begun, turn_of, Runs, ready, resumed}
 use Rattle.wedge_base.specs.Names.{same}
-use Rattle.sthread_life.proofs.Between.{IsPreparing, MayPrepare, MayNumber, Leaves, numbered_is, opened_is, takes_between, takes_name, turn_parts, IsMaking}
+use Rattle.sthread_life.proofs.Between.{IsPreparing, MayPrepare, MayNumber, Leaves, numbered_is, opened_is, takes_between, takes_name, IsMaking, MayWait, entered_by}
 use Rattle.sthread_life.proofs.DraftsFit.{AreFew, few_copies}
 use Rattle.sthread_life.proofs.Preparing.{was_preparing}
 use Rattle.sthread_life.proofs.Families.{IsOfOne, takes_same, first_child}
 use Rattle.sthread_life.proofs.FamilyRuns.{kept_at_rest, rest_units, turn_keeps, turn_family, opening_family, one_begins, request_of_one, join_keeps_starts}
-use Rattle.sthread_life.proofs.Happening.{Happens, snap_cases, Requested, Joined, Snaps, GateSnaps, Started, Opens, Releases, Numbers, OpensFile, LastJoined, Ended}
+use Rattle.sthread_life.proofs.Happening.{Happens, snap_cases, Requested, Joined, Snaps, GateSnaps, Started, Opens, Releases, Numbers, OpensFile, LastJoined, Ended, EntersGate, LeavesGate}
 use Rattle.sthread_life.proofs.Named.{found_name}
 use Rattle.sthread_life.proofs.Resting.{IsCalm, HasPaid, rests, rest-stays, rest-name, running_is}
-use Rattle.sthread_life.proofs.Settling.{AllReady, actor_few, turn_happens, turn_ready, opening_ready}
+use Rattle.sthread_life.proofs.Settling.{AllReady, actor_few, turn_happens, turn_ready, opening_ready, turned_there}
 use Rattle.sthread_life.specs.Calls.{draft_at, makes_or_waits, a0}
 use Rattle.sthread_life.proofs.MakingGates.{prepared_left, was_making}
+use Rattle.sthread_life.proofs.Turns.{back, Readies, Stays, Back, readies, turn_from}
+use Rattle.sthread_life.proofs.Trees.{put_same}
+use Rattle.sthread_life.specs.Entrances.{Entrance}
 
 -- ---- children by their count
 
@@ -119,6 +122,7 @@ record IsPaid (a b : ActorState) (units : ℕ) : Type 0 where
   opening : (slot tag : ℕ) → b.phase ≡ phase.Opening slot tag → 6 ≤ unit_work * units + phase_work a.phase
   releasing : (slot : ℕ) → b.phase ≡ phase.Releasing slot → 6 ≤ unit_work * units + phase_work a.phase
   file : (o : FileOpening) → b.phase ≡ phase.OpeningFile o → opening_work o.number ≤ unit_work * units + phase_work a.phase
+  entering : (x : Entrance) → b.phase ≡ phase.Entering x → 5 ≤ unit_work * units + phase_work a.phase
   ending : (e : End) → b.phase ≡ phase.Ending e → 1 ≤ unit_work * units + phase_work a.phase
 
 paid_within : (f g : ℕ) (p : Phase) (q : Want) → p ≡ phase.Within q → HasPaid f g p → g < f
@@ -132,6 +136,9 @@ paid_releasing f g slot p e h = subst (HasPaid f g) e h
 
 paid_making : (f g : ℕ) (x : Preparation) (p : Phase) → p ≡ phase.MakingGate x → HasPaid f g p → g < f
 paid_making f g x p e h = subst (HasPaid f g) e h
+
+paid_entering : (f g : ℕ) (x : Entrance) (p : Phase) → p ≡ phase.Entering x → HasPaid f g p → g < f
+paid_entering f g x p e h = subst (HasPaid f g) e h
 
 paid_file : (f g : ℕ) (o : FileOpening) (p : Phase) → p ≡ phase.OpeningFile o → HasPaid f g p → g < f
 paid_file f g o p e h = subst (HasPaid f g) e h
@@ -152,6 +159,7 @@ rest_paid i a true e =
       opening = λ slot tag is. let less = paid_opening a.fuel (rest i a).fuel slot tag (rest i a).phase is r.paid in omega (arith, less, units, work);
       releasing = λ slot is. let less = paid_releasing a.fuel (rest i a).fuel slot (rest i a).phase is r.paid in omega (arith, less, units, work);
       file = λ o is. let less = paid_file a.fuel (rest i a).fuel o (rest i a).phase is r.paid in let most = opening_most o.number in omega (arith, less, units, work, most);
+      entering = λ x is. let less = paid_entering a.fuel (rest i a).fuel x (rest i a).phase is r.paid in omega (arith, less, units, work);
       ending = λ x is. omega (arith, work);
     }
 rest_paid i a false e =
@@ -164,6 +172,7 @@ rest_paid i a false e =
       opening = λ slot tag is. let work : phase_work a.phase ≡ 6 = ap phase_work (sym same ∙ is) in omega (arith, work);
       releasing = λ slot is. let work : phase_work a.phase ≡ 6 = ap phase_work (sym same ∙ is) in omega (arith, work);
       file = λ o is. let work : phase_work a.phase ≡ opening_work o.number = ap phase_work (sym same ∙ is) in omega (arith, work);
+      entering = λ x is. let work : phase_work a.phase ≡ 5 = ap phase_work (sym same ∙ is) in omega (arith, work);
       ending = λ x is. let work : phase_work a.phase ≡ 1 = ap phase_work (sym same ∙ is) in omega (arith, work);
     }
 
@@ -175,6 +184,8 @@ between_work (phase.Starting pre) h = absurd h
 between_work (phase.MakingGate pre) h = absurd h
 between_work (phase.Opening slot tag) h = absurd h
 between_work (phase.Releasing slot) h = absurd h
+between_work (phase.Entering entrance) h = absurd h
+between_work (phase.Waiting number) h = absurd h
 between_work (phase.OpeningFile o) h = absurd h
 between_work (phase.Ending e) h = omega arith
 between_work (phase.Ended e) h = omega arith
@@ -191,6 +202,8 @@ not_within (phase.Starting pre) h = tt
 not_within (phase.MakingGate pre) h = tt
 not_within (phase.Opening slot tag) h = tt
 not_within (phase.Releasing slot) h = tt
+not_within (phase.Entering entrance) h = tt
+not_within (phase.Waiting number) h = tt
 not_within (phase.OpeningFile o) h = tt
 not_within (phase.Ending e) h = tt
 not_within (phase.Ended e) h = tt
@@ -215,6 +228,7 @@ leaves_none (event.Slot slot q slot_reply.Closed) p h = subst NotWithin (sym h) 
 leaves_none (event.Slot slot q (slot_reply.Snapped pages)) p h = not_within p (λ q is. subst MayPrepare is h)
 leaves_none (event.Slot slot q slot_reply.Gone) p h = not_within p (λ q is. subst MayPrepare is h)
 leaves_none (event.Slot slot q r) p h = between_one p h
+leaves_none (event.Enter run) p h = not_within p (λ q is. subst MayWait is h)
 leaves_none e p h = between_one p h
 
 work_without : (p : Phase) → NotWithin p → (IsMaking p → ⊥) → ((pre : Preparation) → p ≡ phase.Starting pre → length pre.left ≤ most_grants) → phase_work p ≤ 6 + most_grants
@@ -224,6 +238,8 @@ work_without (phase.Starting pre) h none few = let left = few pre refl in omega 
 work_without (phase.MakingGate pre) h none few = absurd (none tt)
 work_without (phase.Opening slot tag) h none few = omega arith
 work_without (phase.Releasing slot) h none few = omega arith
+work_without (phase.Entering entrance) h none few = omega arith
+work_without (phase.Waiting number) h none few = omega arith
 work_without (phase.OpeningFile o) h none few = let most = opening_most o.number in omega (arith, most)
 work_without (phase.Ending e) h none few = omega arith
 work_without (phase.Ended e) h none few = omega arith
@@ -304,6 +320,8 @@ joined_work a (phase.Starting pre) x at = omega arith
 joined_work a (phase.MakingGate pre) x at = omega arith
 joined_work a (phase.Opening slot tag) x at = omega arith
 joined_work a (phase.Releasing slot) x at = omega arith
+joined_work a (phase.Entering entrance) x at = omega arith
+joined_work a (phase.Waiting number) x at = omega arith
 joined_work a (phase.OpeningFile o) x at = omega arith
 joined_work a (phase.Ending y) x at = let work : phase_work a.phase ≡ 1 = ap phase_work at in omega (arith, work)
 joined_work a (phase.Ended y) x at = omega arith
@@ -328,6 +346,17 @@ number_work i b directory_reply.Released = omega arith
 file_work : (i : Image) (b : ActorState) (fd : ℕ) (q : StreamAsk) → phase_work (takes i b (event.Fd fd q stream_reply.Opened)).phase ≤ 2
 unfolding takes
 file_work i b fd q = opened_is (λ x. phase_work x.phase ≤ 2) b b.phase fd (omega arith) (λ o. omega arith)
+
+entered_tasks : (i : Image) (b : ActorState) (x : Entrance) (run : List ℕ) → b.phase ≡ phase.Entering x → tasks_of (takes i b (event.Enter run)) + begun_tasks (begun i b (event.Enter run)) ≤ 4 + length b.unjoined
+unfolding takes
+entered_tasks i b x run at =
+    let h = count_with b.unjoined (next_start b) x.gate.fuel in
+    let is : tasks_of (has_entered b b.phase) + begun_tasks (run_at b run b.phase) ≡ tasks_of (entered_by b x) + begun_tasks (Some (run_by b run x)) = ap (λ p. tasks_of (has_entered b p) + begun_tasks (run_at b run p)) at in
+    omega (arith, h, is)
+
+left_tasks : (i : Image) (b : ActorState) (x : End) → tasks_of (takes i b (event.Leave x)) ≡ length b.unjoined
+unfolding takes
+left_tasks i b x = omega arith
 
 event_less : (w : WorldState) (a : ActorState) (e : Event) → AreFew (rest w.image a).drafts → Happens w (rest w.image a) e
     → tasks_of (takes w.image (rest w.image a) e) + begun_tasks (begun w.image (rest w.image a) e) < unit_work * units_of w.image (a.fuel + 1) a + tasks_of a
@@ -432,6 +461,19 @@ event_less w a e drafts (LastJoined j) =
     let count : length b.unjoined ≡ length a.unjoined = ap length k.unjoined in
     omega (arith, paid, few, left, fewer, count) in
     subst (λ y. tasks_of (takes w.image b y) + begun_tasks (begun w.image b y) < unit_work * units_of w.image (a.fuel + 1) a + tasks_of a) (sym j.join.is) less
+event_less w a e drafts (EntersGate x) =
+    let b = rest w.image a in
+    let k = kept_at_rest w.image a _ refl in
+    let paid = (rest_paid w.image a _ refl).entering x.entrance x.at in
+    let few = entered_tasks w.image b x.entrance (child_name b.name (next_start b)) x.at in
+    let count : length b.unjoined ≡ length a.unjoined = ap length k.unjoined in
+    subst (λ y. tasks_of (takes w.image b y) + begun_tasks (begun w.image b y) < unit_work * units_of w.image (a.fuel + 1) a + tasks_of a) (sym x.is) (omega (arith, paid, few, count))
+event_less w a e drafts (LeavesGate l) =
+    let b = rest w.image a in
+    let paid = (rest_paid w.image a _ refl).ending l.end_ l.at in
+    let few = left_tasks w.image b l.end_ in
+    let none : length b.unjoined ≡ 0 = ap length l.left in
+    subst (λ y. tasks_of (takes w.image b y) + begun_tasks (begun w.image b y) < unit_work * units_of w.image (a.fuel + 1) a + tasks_of a) (sym l.is) (omega (arith, paid, few, none))
 event_less w a e drafts (Ended f) =
     let b = rest w.image a in
     let paid = (rest_paid w.image a _ refl).ending f.end_ f.at in
@@ -439,19 +481,37 @@ event_less w a e drafts (Ended f) =
     let none : length b.unjoined ≡ 0 = ap length f.left in
     subst (λ y. tasks_of (takes w.image b y) + begun_tasks (begun w.image b y) < unit_work * units_of w.image (a.fuel + 1) a + tasks_of a) (sym f.is) (omega (arith, paid, few, none))
 
+-- an actor that goes on has no more to do than it had
+goes_working : (w : WorldState) (a : ActorState) → Family w.actors → actor_named w.actors a.name ≡ Some a → tasks_in (resumed w a).actors ≤ tasks_in w.actors
+goes_working w a f there = by_case (readies w.actors a)
+  where
+    by_case : Readies w.actors a → tasks_in (resumed w a).actors ≤ tasks_in w.actors
+    by_case (Stays is) = let same_tasks : tasks_in (resumed w a).actors ≡ tasks_in w.actors = ap tasks_in (ap (put_actor w.actors) is ∙ put_same w.actors a there) in omega (arith, same_tasks)
+    by_case (Back k at r is) =
+        let x = back a k r.how r.run.fuel in
+        let put = tasks_put w.actors a x refl there in
+        let fewer = count_less a.unjoined k (subst (λ p. WaitsForOwn p a.unjoined) at (f.waits a.name a there)) in
+        let work : phase_work a.phase ≡ 1 = ap phase_work at in
+        let same_tasks : tasks_in (resumed w a).actors ≡ tasks_in (put_actor w.actors x) = ap (λ y. tasks_in (put_actor w.actors y)) is in
+        omega (arith, put, fewer, work, same_tasks)
+
 pub turn_works : (w : WorldState) (name : List ℕ) (e : Event) (new : WorldState) → AllReady w → Family w.actors → turn_of w name ≡ Some (record { event = e; world = new }) → work_left new < work_left w
 turn_works w name e new all f t =
-    let p = turn_parts w name e new t in
-    let a = p.actor in
+    let p = turn_from w name e new t in
+    let v = resumed w p.actor in
+    let a = p.parts.actor in
     let b = rest w.image a in
     let x = takes w.image b e in
-    let there : actor_named w.actors a.name ≡ Some a = ap (actor_named w.actors) (found_name w.actors name a p.named) ∙ p.named in
-    let put = tasks_put w.actors a x (takes_name w.image b e ∙ rest-name w.image a) there in
-    let more = tasks_begun (put_actor w.actors x) (begun w.image b e) in
-    let is : tasks_in new.actors ≡ tasks_in (with_begun (put_actor w.actors x) (begun w.image b e)) = ap (λ (v : WorldState). tasks_in v.actors) p.new_is in
-    let less = event_less w a e (actor_few w name a all p.named) (turn_happens w name e new all p) in
-    let fuel = (turn_keeps w name e new a all f p.named t).fuel in
-    omega (arith, put, more, is, less, fuel)
+    let there : actor_named v.actors a.name ≡ Some a = ap (actor_named v.actors) (found_name v.actors name a p.parts.named) ∙ p.parts.named in
+    let put = tasks_put v.actors a x (takes_name w.image b e ∙ rest-name w.image a) there in
+    let more = tasks_begun (put_actor v.actors x) (begun w.image b e) in
+    let is : tasks_in new.actors ≡ tasks_in (with_begun (put_actor v.actors x) (begun w.image b e)) = ap (λ (v : WorldState). tasks_in v.actors) p.parts.new_is in
+    let few = subst (λ (y : ActorState). AreFew (rest w.image y).drafts) (sym p.is) (actor_few w name p.actor all p.named) in
+    let less = event_less v a e few (turn_happens w name e new all p) in
+    let goes = goes_working w p.actor f (turned_there w name p.actor p.named) in
+    let units : units_of_turn w.image (ready w.actors p.actor) e ≡ units_of_turn w.image a e = ap (λ y. units_of_turn w.image y e) (sym p.is) in
+    let fuel = (turn_keeps w name e new p.actor all f p.named t).fuel in
+    omega (arith, put, more, is, less, fuel, goes, units)
 
 runs_work : (old : WorldState) (turns : List Turn) (new : WorldState) → AllReady old → Family old.actors → Runs old turns new → work_left new + length turns ≤ work_left old
 runs_work old [] new all f run = let same : work_left new ≡ work_left old = ap (λ (w : WorldState). work_left w) run in omega (arith, same)

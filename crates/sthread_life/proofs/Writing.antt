@@ -34,14 +34,15 @@ use Rattle.sthread_life.specs.Local.{rest, is_running}
 use Rattle.sthread_life.specs.Calls.{a0}
 use Rattle.sthread_life.specs.Taking.{pair}
 use Rattle.sthread_life.specs.Cells.{Cells, held, slot_in, stream_in, cells_after}
-use Rattle.sthread_life.specs.Worlds.{WorldState, opening, turn_of, Runs}
+use Rattle.sthread_life.specs.Worlds.{WorldState, opening, turn_of, ready, resumed, at_rest, Runs}
 use Rattle.sthread_life.specs.Allowed.{may_use}
 use Rattle.sthread_life.specs.Moments.{EachStep}
 use Rattle.sthread_life.specs.Written.{bytes_in, BytesFollow, stores_in, StepWritesOwn, flow_in, FlowsFollow, appends_to, StepAppendsOwn}
 use Rattle.sthread_life.specs.Laws.{RunsWriteTheirOwn}
 use Rattle.sthread_life.proofs.Resting.{rests, rest-stays}
-use Rattle.sthread_life.proofs.Between.{event_for, turn_parts}
-use Rattle.sthread_life.proofs.Happening.{Happens, Requested, Joined, Snaps, GateSnaps, Started, Opens, Releases, Numbers, OpensFile, LastJoined, Ended}
+use Rattle.sthread_life.proofs.Between.{event_for}
+use Rattle.sthread_life.proofs.Turns.{turn_from, ready_sheet, ready_made}
+use Rattle.sthread_life.proofs.Happening.{Happens, Requested, Joined, Snaps, GateSnaps, Started, Opens, Releases, Numbers, OpensFile, LastJoined, Ended, EntersGate, LeavesGate}
 use Rattle.sthread_life.proofs.Settling.{AreCells, AllReady, turn_happens, turn_ready, opening_ready}
 use Rattle.sthread_life.proofs.Meeting.{IsRequest}
 use Rattle.sthread_life.proofs.StreamCalls.{read_cases, append_cases, close_cases, unopened_stays, IsStreamRequest}
@@ -174,6 +175,8 @@ event_follows w b e cells (Numbers n) = subst (IsFollowed w.cells) (sym n.is) (r
 event_follows w b e cells (OpensFile f) = subst (IsFollowed w.cells) (sym f.is) (file_follows w.cells f.fd f.opening.kind f.opening.bytes (subst (λ n. f.fd < n) (sym cells.streams) f.inside))
 event_follows w b e cells (LastJoined j) = subst (IsFollowed w.cells) (sym j.join.is) (record { tags = λ slot. refl; streams = λ fd. refl })
 event_follows w b e cells (Ended f) = subst (IsFollowed w.cells) (sym f.is) (record { tags = λ slot. refl; streams = λ fd. refl })
+event_follows w b e cells (EntersGate x) = subst (IsFollowed w.cells) (sym x.is) (record { tags = λ slot. refl; streams = λ fd. refl })
+event_follows w b e cells (LeavesGate l) = subst (IsFollowed w.cells) (sym l.is) (record { tags = λ slot. refl; streams = λ fd. refl })
 
 record TurnFollows (w : WorldState) (e : Event) (new : WorldState) : Type 0 where
   tags : (slot : ℕ) → bytes_in new.cells slot ≡ bytes_after_event slot (bytes_in w.cells slot) e
@@ -181,9 +184,9 @@ record TurnFollows (w : WorldState) (e : Event) (new : WorldState) : Type 0 wher
 
 turn_follows : (w : WorldState) (t : Turn) (new : WorldState) → AllReady w → turn_of w t.actor ≡ Some (record { event = t.event; world = new }) → TurnFollows w t.event new
 turn_follows w t new all e =
-    let p = turn_parts w t.actor t.event new e in
+    let p = turn_from w t.actor t.event new e in
     let cells = turn_cells w t new e in
-    let f = event_follows w (rest w.image p.actor) t.event all.cells (turn_happens w t.actor t.event new all p) in
+    let f = event_follows (resumed w p.actor) (rest w.image p.parts.actor) t.event all.cells (turn_happens w t.actor t.event new all p) in
     record {
       tags = λ slot. ap (λ (c : Cells). bytes_in c slot) cells ∙ f.tags slot;
       streams = λ fd. ap (λ (c : Cells). flow_in c fd) cells ∙ f.streams fd;
@@ -269,6 +272,8 @@ event_own w b e (Numbers n) = subst (IsOwn w.cells b) (sym n.is) (record { store
 event_own w b e (OpensFile f) = subst (IsOwn w.cells b) (sym f.is) (record { stores = λ slot h. absurd (true≢false (sym h)); appends = λ fd h. absurd (true≢false (sym h)) })
 event_own w b e (LastJoined j) = subst (IsOwn w.cells b) (sym j.join.is) (record { stores = λ slot h. absurd (true≢false (sym h)); appends = λ fd h. absurd (true≢false (sym h)) })
 event_own w b e (Ended f) = subst (IsOwn w.cells b) (sym f.is) (record { stores = λ slot h. absurd (true≢false (sym h)); appends = λ fd h. absurd (true≢false (sym h)) })
+event_own w b e (EntersGate x) = subst (IsOwn w.cells b) (sym x.is) (record { stores = λ slot h. absurd (true≢false (sym h)); appends = λ fd h. absurd (true≢false (sym h)) })
+event_own w b e (LeavesGate l) = subst (IsOwn w.cells b) (sym l.is) (record { stores = λ slot h. absurd (true≢false (sym h)); appends = λ fd h. absurd (true≢false (sym h)) })
 
 -- an actor keeps its rights up to where it rests
 pub record SameRights (a b : ActorState) : Type 0 where
@@ -284,6 +289,19 @@ rest_rights i a true e =
     }
 rest_rights i a false e = subst (SameRights a) (sym (rest-stays i a e)) (record { rights = λ tag. refl; bits = λ fd. refl })
 
+-- so it does as it goes on, and rests then
+pub ready_rights : (actors : List ActorState) (a : ActorState) → SameRights a (ready actors a)
+ready_rights actors a = record {
+  rights = λ tag. ap (λ s. right_on s (ready actors a).made tag) (ready_sheet actors a) ∙ ap (λ m. right_on a.sheet m tag) (ready_made actors a);
+  bits = λ fd. ap (λ s. bits_on s (ready actors a).made fd) (ready_sheet actors a) ∙ ap (λ m. bits_on a.sheet m fd) (ready_made actors a);
+}
+
+pub at_rest_rights : (w : WorldState) (a : ActorState) → SameRights a (at_rest w a)
+at_rest_rights w a =
+    let first = ready_rights w.actors a in
+    let second = rest_rights w.image (ready w.actors a) _ refl in
+    record { rights = λ tag. second.rights tag ∙ first.rights tag; bits = λ fd. second.bits fd ∙ first.bits fd }
+
 -- whoever stores into a slot in a step may store to the tag that lives there, and whoever appends may append
 record StepOwns (w : WorldState) (t : Turn) (new : WorldState) : Type 0 where
   stores : StepWritesOwn w t new
@@ -291,9 +309,9 @@ record StepOwns (w : WorldState) (t : Turn) (new : WorldState) : Type 0 where
 
 step_owns : (w : WorldState) (t : Turn) (new : WorldState) → AllReady w → turn_of w t.actor ≡ Some (record { event = t.event; world = new }) → StepOwns w t new
 step_owns w t new all e =
-    let p = turn_parts w t.actor t.event new e in
-    let own = event_own w (rest w.image p.actor) t.event (turn_happens w t.actor t.event new all p) in
-    let same = rest_rights w.image p.actor _ refl in
+    let p = turn_from w t.actor t.event new e in
+    let own = event_own (resumed w p.actor) (rest w.image p.parts.actor) t.event (turn_happens w t.actor t.event new all p) in
+    let same : SameRights p.actor (rest w.image p.parts.actor) = subst (λ (x : ActorState). SameRights p.actor (rest w.image x)) (sym p.is) (at_rest_rights w p.actor) in
     record {
       stores = λ slot stored.
           let o = own.stores slot stored in

@@ -1,9 +1,9 @@
 -- Actors: their records, what the root begins as, and how an answer, a refusal or an end changes one.
-use Rattle.std.specs.Prelude.{ℕ, ◌+◌, ◌-◌, Bool, List, [], ◌∷◌, ◌++◌, replicate, Option, Some, unwrap_or}
+use Rattle.std.specs.Prelude.{ℕ, ◌+◌, ◌-◌, Bool, List, [], ◌∷◌, ◌++◌, replicate, Option, Some, unwrap_or, None, option_and_then}
 use Rattle.cow_pages.specs.PrivateMemory.{PrivateMemory, opening_memory}
 use Rattle.wedge_base.specs.Names.{root_name}
 use Rattle.wedge_base.specs.Images.{Image, private_base, private_size}
-use Rattle.wedge_base.specs.Sheets.{Sheet, Made, Draft, nothing_made, root_sheet, right_on, bits_on, slot_on}
+use Rattle.wedge_base.specs.Sheets.{Sheet, Made, Draft, nothing_made, root_sheet, right_on, bits_on, slot_on, gate_at}
 use Rattle.wedge_base.specs.declared.outcome.DenialAt.{DenialAt}
 use Rattle.wedge_base.specs.declared.rights.FdBits.{FdBits}
 use Rattle.wedge_base.specs.declared.rights.Right.{Right}
@@ -20,6 +20,7 @@ use Rattle.sthread_life.specs.Copying.{with_declared}
 use Rattle.sthread_life.specs.declared.files.StreamLabel.{StreamLabel}
 use Rattle.sthread_life.specs.declared.phase.Phase.{Phase}
 use Rattle.sthread_life.specs.declared.phase.Phase.TheVariants as phase
+use Rattle.callgate.specs.Gates.{gate_named}
 
 -- an actor: its sheet, what it made, the gates that it knows, the paths of the files that it opened, its drafts, its
 -- registers and private memory, its fuel, its denials, how many actors it started and those of them that it has not joined,
@@ -27,6 +28,7 @@ use Rattle.sthread_life.specs.declared.phase.Phase.TheVariants as phase
 pub record ActorState : Type 0 where
   pub name : List ℕ
   pub compartment : ℕ
+  pub run_of : Option Gate
   pub sheet : Sheet
   pub made : Made
   pub gates : List Gate
@@ -57,6 +59,7 @@ unfoldable pub root : Image → ActorState
 root i = record {
   name = root_name;
   compartment = i.entry;
+  run_of = None;
   sheet = root_sheet i.tags i.fds i.user i.root;
   made = nothing_made;
   gates = [];
@@ -82,6 +85,10 @@ bits_of a fd = bits_on a.sheet a.made fd
 -- what it made, its gates apart
 abbrev pub but_gates : Made → Made
 but_gates m = record m { gates = []; count = 0 }
+
+-- the gate that it holds at an entry
+abbrev pub gate_held : ActorState → ℕ → Option Gate
+gate_held a entry = option_and_then (gate_named a.gates) (gate_at a.sheet a.made entry)
 
 -- the slot in which a tag that it holds was opened
 abbrev pub slot_held : ActorState → ℕ → ℕ
@@ -134,6 +141,7 @@ spends a n = record a { fuel = a.fuel - n }
 pub record ActorRecord : Type 0 where
   pub name : List ℕ
   pub compartment : ℕ
+  pub run_of : Option Gate
   pub sheet : Sheet
   pub made : Made
   pub gates : List Gate
@@ -152,6 +160,7 @@ abbrev pub whole : ActorRecord → PrivateMemory → ActorState
 whole r memory = record {
   name = r.name;
   compartment = r.compartment;
+  run_of = r.run_of;
   sheet = r.sheet;
   made = r.made;
   gates = r.gates;

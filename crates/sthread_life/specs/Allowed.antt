@@ -7,7 +7,7 @@ use Rattle.wedge_base.specs.Files.{may_open}
 use Rattle.wedge_base.specs.Maps.{has}
 use Rattle.wedge_base.specs.Memory.{write_at}
 use Rattle.wedge_base.specs.Rights.{at_least, read_bit, append_bit}
-use Rattle.wedge_base.specs.Sheets.{Draft, first_excess, made_gate}
+use Rattle.wedge_base.specs.Sheets.{Draft, first_excess, made_gate, lent_to}
 use Rattle.wedge_base.specs.declared.rights.Denial.{Denial}
 use Rattle.wedge_base.specs.declared.rights.Denial.TheVariants as denial
 use Rattle.wedge_base.specs.Streams.{Stream}
@@ -37,8 +37,12 @@ use Rattle.sthread_life.specs.Copying.{Preparation}
 use Rattle.sthread_life.specs.MadeGates.{IsGateOf}
 use Rattle.sthread_life.specs.Opening.{FileOpening}
 use Rattle.sthread_life.specs.declared.phase.Phase.TheVariants as phase
-use Rattle.sthread_life.specs.Actors.{ActorState, right_of, bits_of, slot_held}
-use Rattle.sthread_life.specs.Requests.{Access, Request, Loads, Stores, Reads, Appends, Closes, Opens, Creates, Makes, Deletes, Allots, Frees}
+use Rattle.sthread_life.specs.Actors.{ActorState, right_of, bits_of, slot_held, gate_held}
+use Rattle.sthread_life.specs.Requests.{Access, Request, Loads, Stores, Reads, Appends, Closes, Opens, Creates, Makes, Deletes, Allots, Frees, Enters}
+use Rattle.sthread_life.specs.Lending.{excess_lent, sheet_lent}
+use Rattle.sthread_life.specs.Entrances.{Entrance}
+use Rattle.wedge_base.specs.declared.grants.GateKind.{GateKind}
+use Rattle.wedge_base.specs.declared.grants.GateKind.TheVariants as gate_kind
 
 -- whether a tag may be used as asked: a copy is never enough for the tag itself
 abbrev pub may_use : ActorState → ℕ → Right → Bool
@@ -55,6 +59,11 @@ may_close k bits = if is_source k then bits.read else bits.append
 abbrev pub bit_to_close : StreamKind → FdBits
 bit_to_close k = if is_source k then read_bit else append_bit
 
+-- To enter a gate lacks the gate, where the actor holds none at the entry; or else what is lent may lack a grant.
+abbrev pub enter_lacks : ActorState → ℕ → Option Draft → Option Gate → Option Denial
+enter_lacks a entry lent None = Some (denial.Gate entry)
+enter_lacks a entry lent (Some g) = excess_lent a lent
+
 -- the grant that a request lacks; one that is allowed lacks none
 abbrev pub lacks : ActorState → Request → Option Denial
 lacks a (Loads x rd s) = if may_use a x.living.tag right.Read then None else Some (denial.Tag x.living.tag right.Read)
@@ -65,6 +74,7 @@ lacks a (Closes fd s) = if may_close s.kind (bits_of a fd) then None else Some (
 lacks a (Opens path f b) = if may_open a.sheet.user f b then None else Some (denial.File path)
 lacks a (Creates d) = first_excess a.sheet a.made d
 lacks a (Makes d) = first_excess a.sheet a.made d
+lacks a (Enters entry lent) = enter_lacks a entry lent (gate_held a entry)
 lacks a (Deletes tag) = if has a.made.tags tag then None else Some (denial.NotMaker tag)
 lacks a (Allots tag size) = if may_use a tag right.ReadWrite then None else Some (denial.Tag tag right.ReadWrite)
 lacks a (Frees p g) = if may_use a g.tag right.ReadWrite then None else Some (denial.Tag g.tag right.ReadWrite)
@@ -73,8 +83,17 @@ lacks a (Frees p g) = if may_use a g.tag right.ReadWrite then None else Some (de
 abbrev pub fits_kind : StreamKind → FdBits → Bool
 fits_kind k b = if is_source k then b.read else b.append
 
+-- a gate is not entered by an actor whose name has 32 parts, or that has less fuel than the gate's; nor a recycled gate yet
+abbrev pub is_recycled : GateKind → Bool
+is_recycled gate_kind.Fresh = false
+is_recycled gate_kind.Recycled = true
+
+abbrev pub enter_refused : ActorState → Option Gate → Bool
+enter_refused a None = false
+enter_refused a (Some g) = not (nat_lt (length a.name) 32) || (nat_lt a.fuel g.fuel || is_recycled g.kind)
+
 -- whether one that is allowed is refused for a cause that comes after the denial: a stream or a file is of the other
--- kind; a name has at most 32 parts, and a child is given no more fuel than there is; no block begins at the place
+-- kind; a name has at most 32 parts, and a child or a run is given no more fuel than there is; no block begins at the place
 abbrev pub is_refused : ActorState → Request → Bool
 is_refused a (Loads x rd s) = false
 is_refused a (Stores x value) = false
@@ -84,6 +103,7 @@ is_refused a (Closes fd s) = false
 is_refused a (Opens path f b) = not (fits_kind f.kind b)
 is_refused a (Creates d) = not (nat_lt (length a.name) 32) || nat_lt a.fuel (reg a.hart.regs 13)
 is_refused a (Makes d) = false
+is_refused a (Enters entry lent) = enter_refused a (gate_held a entry)
 is_refused a (Deletes tag) = false
 is_refused a (Allots tag size) = false
 is_refused a (Frees p g) = is_none (block_at g.blocks p.offset)
@@ -98,6 +118,7 @@ is_checked_at_event (Closes fd s) = true
 is_checked_at_event (Opens path f b) = false
 is_checked_at_event (Creates d) = false
 is_checked_at_event (Makes d) = false
+is_checked_at_event (Enters entry lent) = false
 is_checked_at_event (Deletes tag) = false
 is_checked_at_event (Allots tag size) = false
 is_checked_at_event (Frees p g) = true
@@ -140,6 +161,10 @@ with_gate_made a g = record a { made = made_gate a.made g.entry g.id; gates = a.
 abbrev pub HasBegunGate : ActorState → Draft → ActorState → Type 0
 HasBegunGate a d b = ((g : Gate) × IsGateOf a d g × (b ≡ with_gate_made a g)) ⊎ ((p : Preparation) × (b ≡ record a { phase = phase.MakingGate p }))
 
+-- it is about to enter the gate that it holds at the entry: the run is to have the gate's sheet, with what is lent
+abbrev pub IsAboutToEnter : ActorState → ℕ → Option Draft → ActorState → Type 0
+IsAboutToEnter a entry lent b = (x : Entrance) × (gate_held a entry ≡ Some x.gate) × (x.sheet ≡ lent_to x.gate.sheet (sheet_lent a lent)) × (b ≡ record a { phase = phase.Entering x })
+
 abbrev pub IsDone : ActorState → Request → Option Event → Option ActorState → Type 0
 IsDone a (Loads x rd s) e now =
     (e ≡ Some (event.Slot x.place.slot (slot_ask.Load x.place.offset x.width (living_for a x)) (slot_reply.Loaded (value_in x))))
@@ -164,6 +189,7 @@ IsDone a (Closes fd s) e now =
 IsDone a (Opens path f b) e now = (e ≡ None) × (now ≡ Some (record a { phase = phase.OpeningFile (opened_as path f b) }))
 IsDone a (Creates d) e now = (e ≡ None) × (now ≡ comes_to a (want.Lives lives_ask.Claim))
 IsDone a (Makes d) e now = (e ≡ None) × IsSomeAnd now (HasBegunGate a d)
+IsDone a (Enters entry lent) e now = (e ≡ None) × IsSomeAnd now (IsAboutToEnter a entry lent)
 IsDone a (Deletes tag) e now = (e ≡ None) × (now ≡ comes_to a (want.Slot (slot_held a tag) (slot_want.Close tag)))
 IsDone a (Allots tag size) e now = (e ≡ None) × (now ≡ comes_to a (want.Slot (slot_held a tag) (slot_want.Smalloc tag size)))
 IsDone a (Frees p g) e now =
@@ -190,6 +216,7 @@ denied a (Closes fd s) d = answered_denied a d
 denied a (Opens path f b) d = answered_denied a d
 denied a (Creates draft) d = answered_denied a d
 denied a (Makes draft) d = answered_denied a d
+denied a (Enters entry lent) d = answered_denied a d
 denied a (Deletes tag) d = answered_denied a d
 denied a (Allots tag size) d = answered_denied a d
 denied a (Frees p g) d = answered_denied a d

@@ -28,6 +28,8 @@ use Rattle.sthread_life.specs.Calls.{draft_at}
 use Rattle.sthread_life.specs.declared.copy_grant.CopyGrant.{CopyGrant}
 use Rattle.sthread_life.specs.declared.phase.Phase.{Phase}
 use Rattle.sthread_life.specs.declared.phase.Phase.TheVariants as phase
+use Rattle.sthread_life.specs.Entrances.{Entrance}
+use Rattle.callgate.specs.declared.gate.Gate.{Gate}
 
 -- between instructions
 abbrev pub IsBetween : Phase → Type 0
@@ -37,6 +39,8 @@ IsBetween (phase.Starting p) = ⊥
 IsBetween (phase.MakingGate p) = ⊥
 IsBetween (phase.Opening slot tag) = ⊥
 IsBetween (phase.Releasing slot) = ⊥
+IsBetween (phase.Entering entrance) = ⊥
+IsBetween (phase.Waiting number) = ⊥
 IsBetween (phase.OpeningFile o) = ⊥
 IsBetween (phase.Ending e) = Unit {0}
 IsBetween (phase.Ended e) = Unit {0}
@@ -68,7 +72,25 @@ pub record IsGranting (sheet : Sheet) (made : Made) (drafts : List Draft) (hart 
 abbrev pub MayMake : ActorState → Type 0
 MayMake a = IsGranting a.sheet a.made a.drafts a.hart a.fuel a.starts a.unjoined
 
--- the name of the next child that an actor starts
+-- the slots in which the tags of a sheet were opened are there; so it is for each gate that an actor knows
+abbrev pub IsPlaced : Sheet → Type 0
+IsPlaced sheet = AllByRecursion (λ e. e.1.slot < slots) sheet.tags
+
+abbrev pub AreGatesPlaced : List Gate → Type 0
+AreGatesPlaced gates = AllByRecursion (λ (g : Gate). IsPlaced g.sheet) gates
+
+-- An actor that is about to enter a gate: its name has room for one more part, it has the gate's fuel, and it has paid for one more start; and
+-- the slots of the run's sheet are there.
+pub record IsEntering (name : List ℕ) (made : Made) (fuel starts : ℕ) (unjoined : Children) (entrance : Entrance) : Type 0 where
+  pub shallow : length name < most_parts
+  pub enough : entrance.gate.fuel ≤ fuel
+  pub paid : funds starts made.count fuel unjoined < most_fuel
+  pub placed : IsPlaced entrance.sheet
+
+abbrev pub EntersFrom : ActorState → Entrance → Type 0
+EntersFrom a entrance = IsEntering a.name a.made a.fuel a.starts a.unjoined entrance
+
+-- the name of the next child that an actor starts, or of the next run
 abbrev pub IsNextName : List ℕ → ℕ → List ℕ → Type 0
 IsNextName name starts child = child ≡ child_name name (starts + 1)
 
@@ -78,7 +100,7 @@ AsksPages hart = (1 ≤ reg hart.regs 10) × (reg hart.regs 10 ≤ most_pages)
 
 -- the slots in which the tags that it holds were opened are there
 abbrev pub HoldsInSlots : Sheet → Made → Type 0
-HoldsInSlots sheet made = AllByRecursion (λ e. e.1.slot < slots) sheet.tags × AllByRecursion (λ e. e.1 < slots) made.tags
+HoldsInSlots sheet made = IsPlaced sheet × AllByRecursion (λ e. e.1 < slots) made.tags
 
 -- a directory has and gives out places below a limit alone
 abbrev pub GivesBelow : ℕ → Directory → Type 0
@@ -110,7 +132,14 @@ WantFitsWhere P R S J (want.Start child) = R × S child
 WantFitsWhere P R S J (want.Join child) = J child
 WantFitsWhere P R S J q = ⊥
 
+-- To enter a gate is wanted by who is about to enter one, for its next run; and to leave it, by its run as it ends. Neither is within a call.
+abbrev pub IsAtGate : Phase → Type 0
+IsAtGate (phase.Entering entrance) = Unit {0}
+IsAtGate p = ⊥
+
 abbrev pub WantFits : ActorState → Want → Type 0
+WantFits a (want.Enter run) = IsAtGate a.phase × IsNextName a.name a.starts run
+WantFits a (want.Leave e) = Unit {0}
 WantFits a q = WantFitsWhere (AsksPages a.hart) (MayStart a) (IsNextName a.name a.starts) (λ k. is_child a.unjoined k ≡ true) q
 
 -- the slots of grants of copies are there
@@ -122,16 +151,18 @@ abbrev pub NumberFits : Option ℕ → Type 0
 NumberFits None = Unit {0}
 NumberFits (Some fd) = fd < most_fds
 
-abbrev pub PhaseFitsWhere : Type 0 → Type 0 → Type 0 → (List ℕ → Type 0) → (ℕ → Type 0) → Phase → Type 0
-PhaseFitsWhere P R M S J phase.Running = Unit {0}
-PhaseFitsWhere P R M S J (phase.Within w) = WantFitsWhere P R S J w
-PhaseFitsWhere P R M S J (phase.Starting p) = R × AreInSlots p.left
-PhaseFitsWhere P R M S J (phase.MakingGate p) = M × AreInSlots p.left × (1 ≤ length p.left)
-PhaseFitsWhere P R M S J (phase.Opening slot tag) = (slot < slots) × P
-PhaseFitsWhere P R M S J (phase.Releasing slot) = slot < slots
-PhaseFitsWhere P R M S J (phase.OpeningFile o) = NumberFits o.number
-PhaseFitsWhere P R M S J (phase.Ending e) = Unit {0}
-PhaseFitsWhere P R M S J (phase.Ended e) = Unit {0}
+abbrev pub PhaseFitsWhere : Type 0 → Type 0 → Type 0 → (Entrance → Type 0) → (List ℕ → Type 0) → (ℕ → Type 0) → Phase → Type 0
+PhaseFitsWhere P R M E S J phase.Running = Unit {0}
+PhaseFitsWhere P R M E S J (phase.Within w) = WantFitsWhere P R S J w
+PhaseFitsWhere P R M E S J (phase.Starting p) = R × AreInSlots p.left
+PhaseFitsWhere P R M E S J (phase.MakingGate p) = M × AreInSlots p.left × (1 ≤ length p.left)
+PhaseFitsWhere P R M E S J (phase.Opening slot tag) = (slot < slots) × P
+PhaseFitsWhere P R M E S J (phase.Releasing slot) = slot < slots
+PhaseFitsWhere P R M E S J (phase.OpeningFile o) = NumberFits o.number
+PhaseFitsWhere P R M E S J (phase.Entering entrance) = E entrance
+PhaseFitsWhere P R M E S J (phase.Waiting number) = J number
+PhaseFitsWhere P R M E S J (phase.Ending e) = Unit {0}
+PhaseFitsWhere P R M E S J (phase.Ended e) = Unit {0}
 
 -- a read gives at most as many bytes as were asked for, and nothing else gives any
 abbrev pub GivesWithin : StreamAsk → List ℕ → Type 0

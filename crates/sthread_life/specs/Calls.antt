@@ -1,5 +1,5 @@
 -- The service calls: what the actor itself decides, up to the event that a call wants.
-use Rattle.std.specs.Prelude.{ℕ, ◌+◌, ◌==◌, Bool, true, false, not, ◌&&◌, nat_lt, nat_le, List, [], ◌∷◌, ◌++◌, length, slice_get, slice_set, find, Option, Some, None, is_none, unwrap_or, if◌then◌else◌}
+use Rattle.std.specs.Prelude.{ℕ, ◌+◌, ◌==◌, Bool, true, false, not, ◌&&◌, nat_lt, nat_le, List, [], ◌∷◌, ◌++◌, length, slice_get, slice_set, find, Option, Some, None, is_none, unwrap_or, if◌then◌else◌, option_map}
 use Rattle.wedge_base.specs.Images.{Image, most_pages, slot_of}
 use Rattle.wedge_base.specs.Maps.{has}
 use Rattle.wedge_base.specs.Paths.{resolve}
@@ -8,7 +8,7 @@ use Rattle.wedge_base.specs.Services.{service_number}
 use Rattle.wedge_base.specs.declared.service.Service.TheVariants as service
 use Rattle.wedge_base.specs.Files.{may_open}
 use Rattle.wedge_base.specs.Names.{same, most_parts}
-use Rattle.wedge_base.specs.Sheets.{Draft, empty_draft, takes_tag, takes_fd, takes_gate, with_tag, with_fd, with_gate, first_excess, granted, made_gate}
+use Rattle.wedge_base.specs.Sheets.{Draft, empty_draft, takes_tag, takes_fd, takes_gate, with_tag, with_fd, with_gate, first_excess, granted, made_gate, lent_to}
 use Rattle.wedge_base.specs.Streams.{most_fds}
 use Rattle.wedge_base.specs.declared.cells.LivesAsk.TheVariants as lives_ask
 use Rattle.wedge_base.specs.declared.address.Place.{Place}
@@ -32,13 +32,15 @@ use Rattle.callgate.specs.declared.gate.Gate.{Gate}
 use Rattle.cow_pages.specs.PrivateMemory.{PrivateMemory}
 use Rattle.image_form.specs.Rules.{begins_at}
 use Rattle.rv_hart.specs.Local.{reg}
-use Rattle.sthread_life.specs.Actors.{ActorState, pristine, right_of, bits_of, slot_held, answers, refuses, denies, ends, wants, spends}
+use Rattle.sthread_life.specs.Actors.{ActorState, pristine, right_of, bits_of, slot_held, answers, refuses, denies, ends, wants, spends, gate_held}
 use Rattle.sthread_life.specs.Children.{is_child}
 use Rattle.sthread_life.specs.Copying.{Preparation, copy_grants, prepared}
 use Rattle.sthread_life.specs.Opening.{FileOpening}
 use Rattle.sthread_life.specs.declared.copy_grant.CopyGrant.{CopyGrant}
 use Rattle.sthread_life.specs.declared.phase.Phase.TheVariants as phase
 use Rattle.sthread_life.specs.Private.{fits_read, fits_write, buffer}
+use Rattle.sthread_life.specs.Lending.{sheet_lent, excess_lent, may_lend}
+use Rattle.sthread_life.specs.Entrances.{Entrance}
 
 -- the arguments of a call, and its number
 abbrev pub a0 : ActorState → ℕ
@@ -339,6 +341,45 @@ make_with i a (Some d) = if not (may_be_gate i a d) then refuses a code.Bad else
 abbrev pub cgate_make : Image → ActorState → ActorState
 cgate_make i a = make_with i a (slice_get a.drafts (a0 a))
 
+-- the number that lends nothing
+abbrev pub no_draft : ℕ
+no_draft = 4294967295
+
+-- what an argument says is lent: nothing, or the draft of a number, if there is one
+abbrev pub lent_asked : List Draft → ℕ → Option (Option Draft)
+lent_asked ds n = if n == no_draft then Some None else option_map (λ d. Some d) (slice_get ds n)
+
+-- The entrance to a gate: its run has the gate's sheet, with what is lent.
+abbrev pub entrance_of : ActorState → Gate → Option Draft → Entrance
+entrance_of a g lent = record { gate = g; sheet = lent_to g.sheet (sheet_lent a lent) }
+
+-- a fresh gate is entered next; a recycled one can't be entered yet
+abbrev pub enter_kind : ActorState → GateKind → Entrance → ActorState
+enter_kind a gate_kind.Fresh entrance = record a { phase = phase.Entering entrance }
+enter_kind a gate_kind.Recycled entrance = refuses a code.Bad
+
+-- cgate: entry, argument, lent. Behind the denial come a name without room, and less fuel than the gate's.
+abbrev pub enter_allowed : ActorState → Gate → Option Draft → ActorState
+enter_allowed a g lent =
+    if nat_le most_parts (length a.name) then refuses a code.Deep
+    else if nat_lt a.fuel g.fuel then refuses a code.FuelShort
+    else enter_kind a g.kind (entrance_of a g lent)
+
+abbrev pub enter_checked : ActorState → Gate → Option Draft → Option Denial → ActorState
+enter_checked a g lent (Some d) = denies a d
+enter_checked a g lent None = enter_allowed a g lent
+
+abbrev pub enter_lending : ActorState → Gate → Option (Option Draft) → ActorState
+enter_lending a g None = refuses a code.NoSuch
+enter_lending a g (Some lent) = if not (may_lend lent) then refuses a code.Bad else enter_checked a g lent (excess_lent a lent)
+
+abbrev pub enter_held : ActorState → Option Gate → ActorState
+enter_held a None = denies a (denial.Gate (a0 a))
+enter_held a (Some g) = enter_lending a g (lent_asked a.drafts (a2 a))
+
+abbrev pub cgate : ActorState → ActorState
+cgate a = enter_held a (gate_held a (a0 a))
+
 -- a call on drafts by its number; any other number is refused
 abbrev pub draft_call : Image → ActorState → ℕ → ActorState
 draft_call i a n =
@@ -361,6 +402,7 @@ serves i a n =
     else if n == service_number service.Smalloc then smalloc a
     else if n == service_number service.Sfree then sfree a
     else if n == service_number service.CgateMake then cgate_make i a
+    else if n == service_number service.Cgate then cgate a
     else if n == service_number service.FdRead then fd_read a
     else if n == service_number service.FdAppend then fd_append i a
     else if n == service_number service.FdClose then fd_close a

@@ -24,9 +24,8 @@ use Rattle.sthread_life.specs.declared.phase.Phase.TheVariants as phase
 use Rattle.sthread_life.specs.Actors.{ActorState}
 use Rattle.rv_hart.specs.declared.Hart.{Hart}
 use Rattle.sthread_life.specs.Local.{is_running, has_ended}
-use Rattle.sthread_life.specs.Worlds.{WorldState, actor_named}
+use Rattle.sthread_life.specs.Worlds.{WorldState, actor_named, with_actor}
 use Rattle.sthread_life.specs.Allowed.{next_word}
-use Rattle.sthread_life.specs.Moments.{with_actor}
 
 -- the end of an actor, decided or reached
 abbrev pub end_of : Phase → Option End
@@ -36,6 +35,8 @@ end_of (phase.Starting p) = None
 end_of (phase.MakingGate p) = None
 end_of (phase.Opening slot tag) = None
 end_of (phase.Releasing slot) = None
+end_of (phase.Entering entrance) = None
+end_of (phase.Waiting number) = None
 end_of (phase.OpeningFile o) = None
 end_of (phase.Ending e) = Some e
 end_of (phase.Ended e) = Some e
@@ -104,6 +105,7 @@ end_after i a (Some e) = end_by a.phase e
 -- whether an event is that of an end
 abbrev pub is_end_event : Option Event → Bool
 is_end_event (Some (event.Lives (lives_ask.Release x) r)) = true
+is_end_event (Some (event.Leave x)) = true
 is_end_event e = false
 
 -- an end is decided exactly by its cause, and reached exactly by its event

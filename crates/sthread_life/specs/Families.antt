@@ -1,5 +1,5 @@
 -- Starts, joins and ends among actors, read off the registers, the drafts and the child: a second statement, beside the step.
-use Rattle.std.specs.Prelude.{◌≡◌, ℕ, ◌+◌, ◌-◌, true, List, [], ◌∷◌, ◌++◌, replicate, slice_get, slice_set, Option, Some, None, IsSomeAnd}
+use Rattle.std.specs.Prelude.{◌≡◌, ℕ, ◌+◌, ◌-◌, true, List, [], ◌∷◌, ◌++◌, replicate, slice_get, slice_set, Option, Some, None, IsSomeAnd, is_some, IfSome}
 use Rattle.wedge_base.specs.Sheets.{Made, Draft, nothing_made, made_tag, made_fd, first_excess, granted}
 use Rattle.wedge_base.specs.declared.rights.End.{End}
 use Rattle.wedge_base.specs.declared.events.Event.{Event}
@@ -15,13 +15,19 @@ use Rattle.rv_hart.specs.Local.{reg}
 use Rattle.sthread_life.specs.declared.files.StreamLabel.{StreamLabel}
 use Rattle.sthread_life.specs.declared.phase.Phase.{Phase}
 use Rattle.sthread_life.specs.declared.phase.Phase.TheVariants as phase
-use Rattle.sthread_life.specs.Actors.{ActorState, but_gates}
+use Rattle.sthread_life.specs.Actors.{ActorState, but_gates, gate_held}
 use Rattle.sthread_life.specs.Allowed.{answered}
 use Rattle.sthread_life.specs.Children.{Children, is_child, with_child, without_child}
 use Rattle.sthread_life.specs.Copying.{Preparation}
 use Rattle.sthread_life.specs.Ends.{is_end_event}
 use Rattle.sthread_life.specs.Taking.{end_value, end_number}
 use Rattle.sthread_life.specs.Worlds.{WorldState, actor_named, put_actor}
+use Rattle.sthread_life.specs.Entrances.{Entrance}
+use Rattle.sthread_life.specs.Lending.{sheet_lent, excess_lent, may_lend}
+use Rattle.sthread_life.specs.Requests.{lent_of}
+use Rattle.callgate.specs.Runs.{IsRunSheet}
+use Rattle.callgate.specs.declared.gate.Gate.{Gate}
+use Rattle.wedge_base.specs.declared.cells.LivesAsk.TheVariants as lives_ask
 
 -- ---- a start
 
@@ -39,6 +45,7 @@ pub record IsChild (a c : ActorState) : Type 0 where
   pub within : IsWithin a.sheet a.made c.sheet
   pub name : c.name ≡ a.name ++ (a.starts + 1) ∷ []
   pub compartment : c.compartment ≡ reg a.hart.regs 11
+  pub own : c.run_of ≡ None
   pub hart : c.hart ≡ record { pc = reg a.hart.regs 11; regs = slice_set (slice_set (replicate 32 0) 2 0x20020000) 10 (reg a.hart.regs 12) }
   pub prepared : Preparation
   pub preparing : a.phase ≡ phase.Starting prepared
@@ -63,6 +70,48 @@ pub record IsStart (old : WorldState) (a : ActorState) (name : List ℕ) (new : 
   pub begins : IsChild a child
   pub named : name ≡ child.name
   pub actors : new.actors ≡ put_actor old.actors (started a) ++ child ∷ []
+
+-- ---- the entry of a gate
+
+-- The run of a gate as it begins, by the call of the actor that enters the gate: the entry, an argument and what is lent. The caller holds the
+-- gate at that entry, and lends grants on tags and descriptors alone, each of which it holds. The run has the gate's sheet, and what is
+-- lent where that sheet names nothing; the gate's argument beside its caller's; and the gate's fuel and private memory.
+pub record IsRun (a c : ActorState) : Type 0 where
+  pub entrance : Entrance
+  pub entering : a.phase ≡ phase.Entering entrance
+  pub held : gate_held a (reg a.hart.regs 10) ≡ Some entrance.gate
+  pub lent : Option Draft
+  pub asked : lent_of a.drafts (reg a.hart.regs 12) ≡ Some lent
+  pub lendable : may_lend lent ≡ true
+  pub allowed : excess_lent a lent ≡ None
+  pub within : IfSome (sheet_lent a lent) (IsWithin a.sheet a.made)
+  pub sheet : IsRunSheet entrance.gate.sheet (sheet_lent a lent) c.sheet
+  pub name : c.name ≡ a.name ++ (a.starts + 1) ∷ []
+  pub compartment : c.compartment ≡ entrance.gate.entry
+  pub own : c.run_of ≡ Some entrance.gate
+  pub hart : c.hart ≡ record {
+    pc = entrance.gate.entry;
+    regs = slice_set (slice_set (slice_set (replicate 32 0) 2 0x20020000) 10 (reg a.hart.regs 11)) 11 entrance.gate.argument;
+  }
+  pub memory : c.memory ≡ entrance.gate.memory
+  pub fuel : c.fuel ≡ entrance.gate.fuel
+  pub gates : c.gates ≡ a.gates
+  pub fresh : IsFresh c
+
+-- its caller: the gate's fuel goes from its own, and it waits for the run
+abbrev pub entered : ActorState → ℕ → ActorState
+entered a fuel = record a {
+  starts = a.starts + 1;
+  unjoined = with_child a.unjoined (a.starts + 1) fuel;
+  fuel = a.fuel - fuel;
+  phase = phase.Waiting (a.starts + 1);
+}
+
+pub record IsEnter (old : WorldState) (a : ActorState) (name : List ℕ) (new : WorldState) : Type 0 where
+  pub run : ActorState
+  pub begins : IsRun a run
+  pub named : name ≡ run.name
+  pub actors : new.actors ≡ put_actor old.actors (entered a run.fuel) ++ run ∷ []
 
 -- ---- a join
 
@@ -115,6 +164,12 @@ abbrev pub labels_by : ActorState → Option Event → List StreamLabel
 labels_by a (Some (event.Fd fd q stream_reply.Opened)) = labelled_under a.labels a.phase fd
 labels_by a e = a.labels
 
+-- the run of a gate leaves the gate as it ends, and no other actor does
+abbrev pub EndsAsIs : Option Gate → Option Event → Type 0
+EndsAsIs gate (Some (event.Lives (lives_ask.Release x) r)) = gate ≡ None
+EndsAsIs gate (Some (event.Leave x)) = is_some gate ≡ true
+EndsAsIs gate e = Unit {0}
+
 -- Nothing else changes another actor, nor what an actor may do and whom it started, but that it has made a tag or a descriptor that
 -- it opened; which gates it makes is said apart.
 -- A child whose memory is prepared is started next, and who ends has joined all its children.
@@ -123,6 +178,7 @@ pub record ActsAlone (old : WorldState) (a : ActorState) (e : Option Event) (new
   pub actors : new.actors ≡ put_actor old.actors after
   pub name : after.name ≡ a.name
   pub compartment : after.compartment ≡ a.compartment
+  pub run_of : after.run_of ≡ a.run_of
   pub sheet : after.sheet ≡ a.sheet
   pub made : but_gates after.made ≡ but_gates (made_by a e)
   pub labels : after.labels ≡ labels_by a e
@@ -130,8 +186,10 @@ pub record ActsAlone (old : WorldState) (a : ActorState) (e : Option Event) (new
   pub unjoined : after.unjoined ≡ a.unjoined
   pub starting : (p : Preparation) → a.phase ≡ phase.Starting p → p.left ≡ [] → ⊥
   pub childless : is_end_event e ≡ true → a.unjoined ≡ []
+  pub leaving : EndsAsIs a.run_of e
 
 abbrev pub KeepsFamily : WorldState → ActorState → Option Event → WorldState → Type 0
 KeepsFamily old a (Some (event.Start child)) new = IsStart old a child new
+KeepsFamily old a (Some (event.Enter run)) new = IsEnter old a run new
 KeepsFamily old a (Some (event.Join k e fuel)) new = IsJoined old a k e fuel new
 KeepsFamily old a e new = ActsAlone old a e new

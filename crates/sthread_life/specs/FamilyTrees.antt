@@ -3,11 +3,13 @@
 use Rattle.std.specs.Prelude.{◌≡◌, ℕ, ◌+◌, ◌≤◌, true, false, List, [], ◌∷◌, Option, Some, IsSomeAnd, ◌⊎◌}
 use Rattle.wedge_base.specs.Names.{root_name}
 use Rattle.sthread_life.specs.Actors.{ActorState}
-use Rattle.sthread_life.specs.Children.{fuel_given, all_given, child_name}
+use Rattle.sthread_life.specs.Children.{fuel_given, all_given, child_name, Children, is_child}
 use Rattle.sthread_life.specs.Fuel.{is_unjoined}
 use Rattle.sthread_life.specs.Local.{has_ended}
 use Rattle.sthread_life.specs.Names.{AreDistinct}
 use Rattle.sthread_life.specs.Worlds.{actor_named}
+use Rattle.sthread_life.specs.declared.phase.Phase.{Phase}
+use Rattle.sthread_life.specs.declared.phase.Phase.TheVariants as phase
 
 -- what an actor may still spend: its fuel, and what its children began with
 abbrev pub worth : ActorState → ℕ
@@ -32,8 +34,14 @@ pub record IsChildOf (actors : List ActorState) (m : List ℕ) : Type 0 where
 abbrev pub IsOfTree : List ActorState → List ℕ → Type 0
 IsOfTree actors m = (m ≡ root_name) ⊎ IsChildOf actors m
 
+-- a run for which its caller waits is among those that the caller has not joined
+abbrev pub WaitsForOwn : Phase → Children → Type 0
+WaitsForOwn (phase.Waiting k) unjoined = is_child unjoined k ≡ true
+WaitsForOwn p unjoined = Unit {0}
+
 pub record Family (actors : List ActorState) : Type 0 where
   pub tree : (m : List ℕ) (x : ActorState) → actor_named actors m ≡ Some x → IsOfTree actors m
   pub distinct : AreDistinct actors
   pub behind : AllBehind actors
+  pub waits : (m : List ℕ) (x : ActorState) → actor_named actors m ≡ Some x → WaitsForOwn x.phase x.unjoined
   pub live : (m : List ℕ) (x : ActorState) → actor_named actors m ≡ Some x → has_ended x.phase ≡ false → is_unjoined actors m ≡ true

@@ -11,7 +11,7 @@ use Rattle.sthread_life.specs.Actors.{ActorState}
 use Rattle.sthread_life.specs.Children.{is_child}
 use Rattle.sthread_life.specs.Local.{step, is_running, rest}
 use Rattle.sthread_life.specs.Paying.{cost_at, cost_by}
-use Rattle.sthread_life.specs.Worlds.{WorldState, actor_named}
+use Rattle.sthread_life.specs.Worlds.{WorldState, actor_named, ready}
 
 -- the name of the actor that started the actor of a name, and the number of that start
 abbrev pub starter_of : List ℕ → List ℕ
@@ -54,7 +54,8 @@ units_of_turn i a e = units_of i (a.fuel + 1) a + cost_by (rest i a) e
 
 -- a turn lowers the fuel of its world by exactly its units
 abbrev pub TakesItsUnits : WorldState → Turn → WorldState → Type 0
-TakesItsUnits old t new = (a : ActorState) → actor_named old.actors t.actor ≡ Some a → fuel_of new + units_of_turn old.image a t.event ≡ fuel_of old
+TakesItsUnits old t new = (a : ActorState) → actor_named old.actors t.actor ≡ Some a
+    → fuel_of new + units_of_turn old.image (ready old.actors a) t.event ≡ fuel_of old
 
 -- ---- the work that is left
 
@@ -74,6 +75,8 @@ phase_work (phase.Starting p) = 6 + length p.left
 phase_work (phase.MakingGate p) = 6 + length p.left
 phase_work (phase.Opening slot tag) = 6
 phase_work (phase.Releasing slot) = 6
+phase_work (phase.Entering entrance) = 5
+phase_work (phase.Waiting number) = 1
 phase_work (phase.OpeningFile o) = opening_work o.number
 phase_work (phase.Ending e) = 1
 phase_work (phase.Ended e) = 0

@@ -13,7 +13,7 @@ use Rattle.sthread_life.specs.Actors.{ActorState, bits_of}
 use Rattle.sthread_life.specs.Allowed.{may_use}
 use Rattle.sthread_life.specs.Cells.{Cells, slot_in, stream_in}
 use Rattle.sthread_life.specs.Local.{rest}
-use Rattle.sthread_life.specs.Worlds.{WorldState, actor_named, turn_of}
+use Rattle.sthread_life.specs.Worlds.{WorldState, actor_named, turn_of, ready}
 
 -- a tag as it is seen by who may load from it: its number and its bytes
 pub record Sight : Type 0 where
@@ -59,11 +59,12 @@ pub record TakesSameTurns (v w : WorldState) (name : List ℕ) : Type 0 where
   pub second_after : actor_named second.actors name ≡ Some after
   pub alike : LookAlike after first.cells second.cells
 
--- two worlds of one image in which an actor is the same, whatever else they hold: at rest it is within such an access
+-- two worlds of one image in which an actor is the same and goes on the same way, whatever else they hold: at rest it is within such an access
 pub record IsAccess (v w : WorldState) (name : List ℕ) (a : ActorState) (q : Want) : Type 0 where
   pub image : v.image ≡ w.image
   pub in_first : actor_named v.actors name ≡ Some a
   pub in_second : actor_named w.actors name ≡ Some a
   pub alike : LookAlike a v.cells w.cells
-  pub within : (rest v.image a).phase ≡ phase.Within q
+  pub going : ready v.actors a ≡ ready w.actors a
+  pub within : (rest v.image (ready v.actors a)).phase ≡ phase.Within q
   pub is_seen : IsSeen v.cells a q

@@ -1,6 +1,8 @@
 pub mod Children
 pub mod Copying
+pub mod Entrances
 pub mod Actors
+pub mod Lending
 pub mod Private
 pub mod Opening
 pub mod Calls

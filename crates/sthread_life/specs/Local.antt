@@ -58,6 +58,11 @@ abbrev pub end_reached : Phase → Option End
 end_reached (phase.Ended e) = Some e
 end_reached p = None
 
+-- the number of the run for which an actor waits
+abbrev pub run_awaited : Phase → Option ℕ
+run_awaited (phase.Waiting k) = Some k
+run_awaited p = None
+
 -- at most so many instructions, while the actor runs
 unfoldable pub run_local : Image → ℕ → ActorState → ActorState
 run_local i zero a = a

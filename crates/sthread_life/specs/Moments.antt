@@ -1,7 +1,7 @@
 -- The moments of a run: each instruction of each turn, and its event; and what holds of each. An
 -- instruction that makes a request comes to the event at which the request is checked, or is checked in it;
 -- where no request is in question, nothing is denied.
-use Rattle.std.specs.Prelude.{◌≡◌, ◌↔◌, ℕ, zero, suc, ◌==◌, Bool, true, false, not, ◌&&◌, List, [], ◌∷◌, length, Option, Some, None, is_none, if◌then◌else◌}
+use Rattle.std.specs.Prelude.{◌≡◌, ◌↔◌, ℕ, zero, suc, ◌==◌, Bool, true, false, not, ◌&&◌, List, [], ◌∷◌, length, Option, Some, None, is_none, if◌then◌else◌, IsSomeAnd, ◌++◌}
 use Rattle.wedge_base.specs.Blocks.{rounded, first_fit}
 use Rattle.wedge_base.specs.Images.{address_of}
 use Rattle.wedge_base.specs.Slots.{Segment}
@@ -21,18 +21,16 @@ use Rattle.sthread_life.specs.declared.phase.Phase.TheVariants as phase
 use Rattle.sthread_life.specs.Actors.{ActorState, slot_held}
 use Rattle.sthread_life.specs.Cells.{slot_in, tag_in}
 use Rattle.sthread_life.specs.Local.{is_running, run_local}
-use Rattle.sthread_life.specs.Worlds.{WorldState, actor_named, put_actor, turn_of}
+use Rattle.sthread_life.specs.Worlds.{WorldState, actor_named, turn_of, with_actor}
 use Rattle.sthread_life.specs.Requests.{Request, Deletes, Allots, request_at}
 use Rattle.sthread_life.specs.Allowed.{lacks, is_refused, is_checked_at_event, IsDone, denied, answered}
+use Rattle.sthread_life.specs.Families.{joined}
+use Rattle.wedge_base.specs.declared.rights.End.{End}
 
 -- of each step of a run
 abbrev pub EachStep : (WorldState → Turn → WorldState → Type 0) → WorldState → List Turn → Type 0
 EachStep P old [] = Unit {0}
 EachStep P old (t ∷ ts) = (mid : WorldState) × (turn_of old t.actor ≡ Some (record { event = t.event; world = mid })) × P old t mid × EachStep P mid ts
-
--- the world with an actor as it now is
-abbrev pub with_actor : WorldState → ActorState → WorldState
-with_actor w a = record w { actors = put_actor w.actors a }
 
 -- Of each moment of a turn by the actor a: P says what holds of a world, its actor, the event if there is
 -- one, and the world after. Each instruction is a moment while the actor runs; once it runs no more, the event is.
@@ -41,8 +39,15 @@ pub record EachMomentOf (P : WorldState → ActorState → Option Event → Worl
       → P (with_actor old (run_local old.image n a)) (run_local old.image n a) None (with_actor old (run_local old.image (suc n) a))
   pub event : (n : ℕ) × (is_running (run_local old.image n a).phase ≡ false) × P (with_actor old (run_local old.image n a)) (run_local old.image n a) (Some e) new
 
+-- An actor that waits for the run of a gate goes on with the end and the fuel of that very run, which has ended; any other goes on as it is.
+abbrev pub GoesOnAs : List ActorState → ActorState → Phase → ActorState → Type 0
+GoesOnAs actors a (phase.Waiting k) b =
+    IsSomeAnd (actor_named actors (a.name ++ k ∷ [])) (λ c. (e : End) × (c.phase ≡ phase.Ended e) × (b ≡ joined a (phase.Waiting k) k e c.fuel))
+GoesOnAs actors a p b = b ≡ a
+
 abbrev pub TurnHas : (WorldState → ActorState → Option Event → WorldState → Type 0) → WorldState → Turn → WorldState → Type 0
-TurnHas P old t new = (a : ActorState) → actor_named old.actors t.actor ≡ Some a → EachMomentOf P old a t.event new
+TurnHas P old t new = (a : ActorState) → actor_named old.actors t.actor ≡ Some a
+    → (b : ActorState) × GoesOnAs old.actors a a.phase b × EachMomentOf P (with_actor old b) b t.event new
 
 -- of each moment of a run
 abbrev pub EachMoment : (WorldState → ActorState → Option Event → WorldState → Type 0) → WorldState → List Turn → Type 0

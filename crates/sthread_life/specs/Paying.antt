@@ -19,6 +19,8 @@ use Rattle.sthread_life.specs.Actors.{ActorState}
 use Rattle.sthread_life.specs.Refusals.{root_refusal}
 use Rattle.sthread_life.specs.Requests.{path_at}
 use Rattle.sthread_life.specs.Worlds.{WorldState, actor_named}
+use Rattle.sthread_life.specs.declared.phase.Phase.{Phase}
+use Rattle.sthread_life.specs.declared.phase.Phase.TheVariants as phase
 
 -- what a call costs in its instruction beside the unit: sc_root one for each byte of the path, where it is not refused
 abbrev pub unrefused : Option ℕ → ℕ → ℕ
@@ -57,9 +59,14 @@ abbrev pub cost : Image → ActorState → Option Event → ℕ
 cost i a None = cost_at i a
 cost i a (Some e) = cost_by a e
 
--- what is given to a child, and what comes back from one
+-- what is given to a child, or to the run of a gate that is entered, and what comes back from a child
+abbrev pub given_in : Phase → ℕ
+given_in (phase.Entering entrance) = entrance.gate.fuel
+given_in p = 0
+
 abbrev pub given_by : ActorState → Option Event → ℕ
 given_by a (Some (event.Start child)) = reg a.hart.regs 13
+given_by a (Some (event.Enter run)) = given_in a.phase
 given_by a e = 0
 
 abbrev pub brought_by : Option Event → ℕ

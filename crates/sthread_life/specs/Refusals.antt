@@ -30,13 +30,14 @@ use Rattle.rv_hart.specs.declared.Need.TheVariants as need
 use Rattle.rv_hart.specs.Local.{local, reg}
 use Rattle.sthread_life.specs.declared.phase.Phase.{Phase}
 use Rattle.sthread_life.specs.declared.phase.Phase.TheVariants as phase
-use Rattle.sthread_life.specs.Actors.{ActorState, bits_of, slot_held}
+use Rattle.sthread_life.specs.Actors.{ActorState, bits_of, slot_held, gate_held}
 use Rattle.sthread_life.specs.Cells.{Cells, slot_in, stream_in}
 use Rattle.sthread_life.specs.Children.{is_child}
-use Rattle.sthread_life.specs.Worlds.{WorldState}
-use Rattle.sthread_life.specs.Requests.{bytes_at, path_at, is_room, bits_to_open, file_of, suits_gate}
-use Rattle.sthread_life.specs.Allowed.{may_use, is_source, fits_kind, answered}
-use Rattle.sthread_life.specs.Moments.{with_actor}
+use Rattle.sthread_life.specs.Worlds.{WorldState, with_actor}
+use Rattle.sthread_life.specs.Requests.{bytes_at, path_at, is_room, bits_to_open, file_of, suits_gate, lent_of}
+use Rattle.sthread_life.specs.Allowed.{may_use, is_source, fits_kind, answered, is_recycled}
+use Rattle.sthread_life.specs.Lending.{excess_lent, may_lend}
+use Rattle.callgate.specs.declared.gate.Gate.{Gate}
 
 abbrev pub fuel_short : ℕ
 fuel_short = 3
@@ -98,6 +99,24 @@ create_refusal i a entry (Some d) = if not (list_any (λ p. p.address == entry) 
 abbrev pub make_refusal : Image → ℕ → ℕ → Option Draft → Option ℕ
 make_refusal i entry kind None = Some no_such
 make_refusal i entry kind (Some d) = if suits_gate i entry kind d then None else Some bad
+
+-- cgate: where the actor holds a gate at the entry, no such draft; a draft that may not be lent; and where every grant of it may be given, a
+-- name that has 32 parts already, or less fuel than the gate's. A recycled gate can't be entered yet.
+abbrev pub entry_refusal : ActorState → Gate → Option Denial → Option ℕ
+entry_refusal a g (Some d) = None
+entry_refusal a g None =
+    if not (nat_lt (length a.name) 32) then Some deep
+    else if nat_lt a.fuel g.fuel then Some fuel_short
+    else if is_recycled g.kind then Some bad
+    else None
+
+abbrev pub lending_refusal : ActorState → Gate → Option (Option Draft) → Option ℕ
+lending_refusal a g None = Some no_such
+lending_refusal a g (Some lent) = if not (may_lend lent) then Some bad else entry_refusal a g (excess_lent a lent)
+
+abbrev pub enter_refusal : ActorState → Option Gate → Option (Option Draft) → Option ℕ
+enter_refusal a None lent = None
+enter_refusal a (Some g) lent = lending_refusal a g lent
 
 -- sthread_join: a number that is of no child to be joined
 abbrev pub join_refusal : ActorState → ℕ → Option ℕ
@@ -170,6 +189,7 @@ call_refusal i a regs n =
     else if n == 5 then size_refusal (reg regs 11)
     else if n == 6 then address_refusal (slot_of (reg regs 10))
     else if n == 13 then make_refusal i (reg regs 11) (reg regs 14) (slice_get a.drafts (reg regs 10))
+    else if n == 14 then enter_refusal a (gate_held a (reg regs 10)) (lent_of a.drafts (reg regs 12))
     else if n == 15 then read_refusal a (reg regs 10) (reg regs 12) (is_room a (reg regs 11) (reg regs 12))
     else if n == 16 then append_refusal a (reg regs 10) (reg regs 12) (bytes_at i a (reg regs 11) (reg regs 12))
     else if n == 17 then number_refusal (reg regs 10)

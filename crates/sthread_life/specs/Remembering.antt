@@ -121,6 +121,7 @@ memory_in m slot r q = m
 
 abbrev pub memory_after : PrivateMemory → Event → PrivateMemory
 memory_after m (event.Lives (lives_ask.Release x) r) = no_memory
+memory_after m (event.Leave x) = no_memory
 memory_after m (event.Slot slot q r) = memory_in m slot r q
 memory_after m e = m
 

@@ -20,8 +20,10 @@ use Rattle.rv_isa.specs.Table.{decode}
 use Rattle.rv_hart.specs.declared.Need.{Need}
 use Rattle.rv_hart.specs.declared.Need.TheVariants as need
 use Rattle.rv_hart.specs.Local.{local, reg}
-use Rattle.sthread_life.specs.Actors.{ActorState}
+use Rattle.sthread_life.specs.Actors.{ActorState, gate_held}
 use Rattle.sthread_life.specs.Cells.{Cells, slot_in, stream_in}
+use Rattle.sthread_life.specs.Lending.{may_lend}
+use Rattle.callgate.specs.declared.gate.Gate.{Gate}
 
 -- an access: its place in a window, how many bytes, and the tag that lives there
 pub record Access : Type 0 where
@@ -31,7 +33,7 @@ pub record Access : Type 0 where
 
 -- a request that a sheet may forbid: to load into a register, with a sign or without, to store a value, to read so many
 -- bytes of a live stream, to append bytes to one, to close one, to open the file of a path with bits, to start a child
--- with the sheet of a draft, to make a gate with one, to delete a tag, to place a block of so many bytes in a tag, and to free the block at a
+-- with the sheet of a draft, to make a gate with one, to enter the gate at an entry and lend it a draft or nothing, to delete a tag, to place a block of so many bytes in a tag, and to free the block at a
 -- place of a tag that lives there
 pub data Request : Type 0 where
   Loads : Access → (rd : ℕ) → (is_signed : Bool) → Request
@@ -42,6 +44,7 @@ pub data Request : Type 0 where
   Opens : (path : List ℕ) → FileEntry → FdBits → Request
   Creates : Draft → Request
   Makes : Draft → Request
+  Enters : (entry : ℕ) → (lent : Option Draft) → Request
   Deletes : (tag : ℕ) → Request
   Allots : (tag size : ℕ) → Request
   Frees : Place → Segment → Request
@@ -127,6 +130,18 @@ abbrev pub make_of : Image → ℕ → ℕ → Option Draft → Option Request
 make_of i entry kind None = None
 make_of i entry kind (Some d) = if suits_gate i entry kind d then Some (Makes d) else None
 
+-- cgate: where the actor holds a gate at the entry, there is such a draft, or nothing is lent, and the draft may be lent
+abbrev pub lent_of : List Draft → ℕ → Option (Option Draft)
+lent_of ds n = if n == 4294967295 then Some None else option_map (λ d. Some d) (slice_get ds n)
+
+abbrev pub lending_of : ℕ → Option (Option Draft) → Option Request
+lending_of entry None = None
+lending_of entry (Some lent) = if may_lend lent then Some (Enters entry lent) else None
+
+abbrev pub enter_of : ℕ → Option Gate → Option (Option Draft) → Option Request
+enter_of entry None lent = Some (Enters entry None)
+enter_of entry (Some g) lent = lending_of entry lent
+
 -- smalloc: the size is not 0; the tag need not live
 abbrev pub allot_of : ℕ → ℕ → Option Request
 allot_of tag size = if size == 0 then None else Some (Allots tag size)
@@ -144,6 +159,7 @@ call_request i c a regs n =
     else if n == 5 then allot_of (reg regs 10) (reg regs 11)
     else if n == 6 then free_of c (slot_of (reg regs 10))
     else if n == 13 then make_of i (reg regs 11) (reg regs 14) (slice_get a.drafts (reg regs 10))
+    else if n == 14 then enter_of (reg regs 10) (gate_held a (reg regs 10)) (lent_of a.drafts (reg regs 12))
     else if n == 15 then read_of c a (reg regs 10) (reg regs 11) (reg regs 12)
     else if n == 16 then append_of c a (reg regs 10) (reg regs 12) (bytes_at i a (reg regs 11) (reg regs 12))
     else if n == 17 then close_of c (reg regs 10)

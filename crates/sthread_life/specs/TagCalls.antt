@@ -28,8 +28,7 @@ use Rattle.sthread_life.specs.Allowed.{answered}
 use Rattle.sthread_life.specs.Children.{is_child}
 use Rattle.sthread_life.specs.Families.{answered_twice}
 use Rattle.sthread_life.specs.FileCalls.{OpensAt}
-use Rattle.sthread_life.specs.Moments.{with_actor}
-use Rattle.sthread_life.specs.Worlds.{WorldState, put_actor}
+use Rattle.sthread_life.specs.Worlds.{WorldState, put_actor, with_actor}
 
 -- ---- in the instruction, once its unit of fuel is taken: the event to which a call comes
 

@@ -48,18 +48,24 @@ use Rattle.sthread_life.specs.Calls.{a0, a1, a2, a3, draft_at, making}
 use Rattle.sthread_life.specs.Children.{Children, least_child, with_child, without_child, child_name}
 use Rattle.sthread_life.specs.Copying.{Preparation, copy_grants, copied_from, prepared, behind_first}
 use Rattle.sthread_life.specs.declared.copy_grant.CopyGrant.{CopyGrant}
+use Rattle.callgate.specs.declared.gate.Gate.{Gate}
+use Rattle.sthread_life.specs.Entrances.{Entrance}
 
 -- the number of the next actor that it starts
 abbrev pub next_start : ActorState → ℕ
 next_start a = a.starts + 1
 
--- an actor whose end is decided joins its children, the least number first, and then ends
-abbrev pub ending_by : Option ℕ → End → Want
-ending_by None e = want.Lives (lives_ask.Release e)
-ending_by (Some k) e = want.Join k
+-- an actor whose end is decided joins its children, the least number first, and then ends: the run of a gate leaves the gate
+abbrev pub last_want : Option Gate → End → Want
+last_want None e = want.Lives (lives_ask.Release e)
+last_want (Some g) e = want.Leave e
 
-abbrev pub ending_want : Children → End → Want
-ending_want cs e = ending_by (least_child cs) e
+abbrev pub ending_by : Option Gate → Option ℕ → End → Want
+ending_by gate None e = last_want gate e
+ending_by gate (Some k) e = want.Join k
+
+abbrev pub ending_want : Option Gate → Children → End → Want
+ending_want gate cs e = ending_by gate (least_child cs) e
 
 -- an actor that is about to start a child asks for a copy of the first tag of which one is to be made, and then for the start
 abbrev pub starting_want : ActorState → List CopyGrant → Want
@@ -85,7 +91,9 @@ wanted_at a (phase.MakingGate p) = making_want p.left
 wanted_at a (phase.Opening slot tag) = Some (want.Slot slot (slot_want.Open tag (a0 a)))
 wanted_at a (phase.OpeningFile o) = Some (opening_want o o.number)
 wanted_at a (phase.Releasing slot) = Some (want.Slots (directory_ask.Release slot))
-wanted_at a (phase.Ending e) = Some (ending_want a.unjoined e)
+wanted_at a (phase.Entering entrance) = Some (want.Enter (child_name a.name (next_start a)))
+wanted_at a (phase.Waiting number) = None
+wanted_at a (phase.Ending e) = Some (ending_want a.run_of a.unjoined e)
 wanted_at a (phase.Ended e) = None
 
 abbrev pub wanted : ActorState → Option Want
@@ -207,6 +215,17 @@ takes_lives i a lives_ask.Claim lives_reply.Released = runs a
 abbrev pub has_started : ActorState → ActorState
 has_started a = answers (record a { starts = next_start a; unjoined = with_child a.unjoined (next_start a) (a3 a); fuel = a.fuel - a3 a }) (next_start a)
 
+-- A gate is entered: there is one start more, and the run, to which the gate's fuel goes, is to be joined like a child. Its caller waits
+-- for it.
+abbrev pub has_entered : ActorState → Phase → ActorState
+has_entered a (phase.Entering entrance) = record a {
+  starts = next_start a;
+  unjoined = with_child a.unjoined (next_start a) entrance.gate.fuel;
+  fuel = a.fuel - entrance.gate.fuel;
+  phase = phase.Waiting (next_start a);
+}
+has_entered a p = runs a
+
 -- the value of an actor that ended so, and the number of its end
 abbrev pub end_value : End → ℕ
 end_value (end_.Exited value) = value
@@ -241,6 +260,8 @@ takes i a (event.Fd fd q r) = takes_stream a fd r
 takes i a (event.Lives q r) = takes_lives i a q r
 takes i a (event.Start child) = has_started a
 takes i a (event.Join k e fuel) = has_joined a k e fuel
+takes i a (event.Enter run) = has_entered a a.phase
+takes i a (event.Leave e) = record a { memory = no_memory; phase = phase.Ended e }
 takes i a e = runs a
 
 -- ---- the actor that an event begins
@@ -256,6 +277,7 @@ abbrev pub child_of : Image → ActorState → List ℕ → ActorState
 child_of i a name = record {
   name = name;
   compartment = a1 a;
+  run_of = None;
   sheet = granted a.sheet a.made (draft_at a.drafts (a0 a));
   made = nothing_made;
   gates = a.gates;
@@ -270,7 +292,33 @@ child_of i a name = record {
   phase = phase.Running;
 }
 
+-- The run of a gate as it begins: at the gate's entry, with the argument of its caller and the trusted one, and with the gate's fuel and
+-- private memory.
+abbrev pub run_by : ActorState → List ℕ → Entrance → ActorState
+run_by a name entrance = record {
+  name = name;
+  compartment = entrance.gate.entry;
+  run_of = Some entrance.gate;
+  sheet = entrance.sheet;
+  made = nothing_made;
+  gates = a.gates;
+  labels = [];
+  drafts = [];
+  hart = record (opening_hart entrance.gate.entry) { regs = put (put (opening_hart entrance.gate.entry).regs 10 (a1 a)) 11 entrance.gate.argument };
+  memory = entrance.gate.memory;
+  fuel = entrance.gate.fuel;
+  denials = [];
+  starts = 0;
+  unjoined = [];
+  phase = phase.Running;
+}
+
+abbrev pub run_at : ActorState → List ℕ → Phase → Option ActorState
+run_at a name (phase.Entering entrance) = Some (run_by a name entrance)
+run_at a name p = None
+
 -- the actor that an event of this one begins, if it begins one
 abbrev pub begun : Image → ActorState → Event → Option ActorState
 begun i a (event.Start child) = Some (child_of i a child)
+begun i a (event.Enter run) = run_at a run a.phase
 begun i a e = None

@@ -1,5 +1,5 @@
 -- An actor's entries as a walk of its own: each is an event that it asks at rest, and its own part of each makes it what
--- it is at the next. Nothing here knows of cells or of other actors.
+-- it is at the next. Nothing here knows of cells or of other actors, but that the run of a gate ended somehow for which the actor waits.
 use Rattle.std.specs.Prelude.{◌≡◌, ◌<◌, ℕ, List, [], ◌∷◌, Option, Some, if◌then◌else◌}
 use Rattle.wedge_base.specs.Images.{Image}
 use Rattle.wedge_base.specs.Names.{same, root_name}
@@ -10,8 +10,11 @@ use Rattle.wedge_base.specs.declared.events.LogEntry.{LogEntry}
 use Rattle.wedge_base.specs.declared.events.Turn.{Turn}
 use Rattle.sthread_life.specs.Actors.{ActorState, root}
 use Rattle.sthread_life.specs.Local.{rest}
-use Rattle.sthread_life.specs.Taking.{wanted, asks, takes}
+use Rattle.sthread_life.specs.Taking.{wanted, asks, takes, has_joined}
 use Rattle.sthread_life.specs.Worlds.{WorldState, opening, actor_named, Runs}
+use Rattle.wedge_base.specs.declared.rights.End.{End}
+use Rattle.sthread_life.specs.declared.phase.Phase.{Phase}
+use Rattle.sthread_life.specs.declared.phase.Phase.TheVariants as phase
 
 -- an actor at rest asks an event: it is that of its want, with some tag that may live there
 pub record Asks (a : ActorState) (e : Event) : Type 0 where
@@ -26,15 +29,16 @@ pub record IsEntryOf (a : ActorState) (clock : ℕ) (e : LogEntry) : Type 0 wher
   pub own : e.actor ≡ a.name
   pub event : Asks a e.event
 
--- what entries make of an actor
-abbrev pub gone : Image → ActorState → List LogEntry → ActorState
-gone i a [] = a
-gone i a (e ∷ es) = gone i (takes i (rest i a) e.event) es
+-- an actor goes on as it is, or where it waits for the run of a gate, with some end and some fuel of that run
+abbrev pub GoesOnBy : ActorState → Phase → ActorState → Type 0
+GoesOnBy a (phase.Waiting k) b = (e : End) × (fuel : ℕ) × (b ≡ has_joined a k e fuel)
+GoesOnBy a p b = b ≡ a
 
--- entries are a walk of an actor, from a clock on
-abbrev pub IsWalk : Image → ActorState → ℕ → List LogEntry → Type 0
-IsWalk i a clock [] = Unit {0}
-IsWalk i a clock (e ∷ es) = IsEntryOf (rest i a) clock e × IsWalk i (takes i (rest i a) e.event) e.stamp es
+-- entries are a walk of an actor, from a clock on, to what it is at the last
+abbrev pub IsWalk : Image → ActorState → ℕ → List LogEntry → ActorState → Type 0
+IsWalk i a clock [] last = last ≡ a
+IsWalk i a clock (e ∷ es) last =
+    (b : ActorState) × GoesOnBy a a.phase b × IsEntryOf (rest i b) clock e × IsWalk i (takes i (rest i b) e.event) e.stamp es last
 
 -- the entries of the actor of a name
 abbrev pub entries_of : List ℕ → List LogEntry → List LogEntry
@@ -47,8 +51,9 @@ entries_in name stamp turns = entries_of name (numbered stamp turns)
 
 -- in each run the entries of the root are a walk of the root, which leads to what it is in the end
 pub record Walked (i : Image) (turns : List Turn) (new : WorldState) : Type 0 where
-  pub walk : IsWalk i (root i) 0 (entries_in root_name 1 turns)
-  pub leads : actor_named new.actors root_name ≡ Some (gone i (root i) (entries_in root_name 1 turns))
+  pub last : ActorState
+  pub walk : IsWalk i (root i) 0 (entries_in root_name 1 turns) last
+  pub leads : actor_named new.actors root_name ≡ Some last
 
 abbrev pub RootsWalk : Type 0
 RootsWalk = (i : Image) (turns : List Turn) (new : WorldState) → Runs (opening i) turns new → Walked i turns new

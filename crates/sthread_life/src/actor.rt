@@ -11,7 +11,7 @@ ghost use Rattle.wedge_base.specs.Sheets.{root_sheet, nothing_made};
 ghost use Rattle.sthread_life.specs.declared.phase.Phase.TheVariants as phase;
 ghost use Rattle.sthread_life.specs.Actors as actors;
 ghost use Rattle.sthread_life.specs.Actors.{whole};
-ghost use Rattle.sthread_life.specs.Local.{has_ended, end_reached};
+ghost use Rattle.sthread_life.specs.Local.{has_ended, end_reached, run_awaited};
 ghost use Rattle.sthread_life.specs.Taking.{pair, asks};
 
 use crate::copy_grant::is_copy_alone;
@@ -33,15 +33,18 @@ use wedge_base::{
 };
 
 /// The register of the stack pointer.
-const SP: u8 = 2;
+pub(crate) const SP: u8 = 2;
 
-/// An actor: its sheet, its registers, its fuel, the children that it has not joined, and what it is at. Its private memory stands beside it. Once
-/// it ran out of memory it has stopped, and takes no further part in a run.
+/// An actor: its sheet, its registers, its fuel, the children that it has not joined, and what it is
+/// at. Its private memory stands beside it. Once it ran out of memory it has stopped, and takes no
+/// further part in a run.
 #[derive(Debug, Drop)]
 pub struct Actor {
     pub(crate) alloc: Global,
     pub(crate) name: ActorName,
     pub(crate) compartment: u32,
+    /// The gate, if it is the run of one.
+    pub(crate) run_of: Option<Arc<Gate>>,
     pub(crate) sheet: Sheet,
     pub(crate) made: Made,
     /// The gates that it knows: those that its starter knew when it started it, and those that it made. That a gate is among
@@ -63,16 +66,17 @@ pub struct Actor {
 impl Model for Actor {
     ghost use Rattle.sthread_life.specs.Actors.{ActorRecord};
     ghost use Rattle.std.specs.Arc.{arc_value};
-    ghost use Rattle.std.specs.Prelude.{◌≡◌, ◌≤◌, true, map};
+    ghost use Rattle.std.specs.Prelude.{◌≡◌, ◌≤◌, true, map, option_map};
     ghost use Rattle.sthread_life.specs.Children.{is_child};
     ghost use Rattle.image_form.specs.Rules.{most_fuel};
-    ghost use Rattle.sthread_life.specs.Between.{AsksPages, HoldsInSlots, IsReady, IsGranting, IsNextName, PhaseFitsWhere, funds};
+    ghost use Rattle.sthread_life.specs.Between.{AreGatesPlaced, AsksPages, HoldsInSlots, IsEntering, IsReady, IsGranting, IsNextName, PhaseFitsWhere, funds};
 
     ghost Value = { ActorRecord };
 
     ghost view = { λ a. record {
       name = a.name;
       compartment = a.compartment;
+      run_of = option_map arc_value a.run_of;
       sheet = a.sheet;
       made = a.made;
       gates = map arc_value a.gates.items;
@@ -90,9 +94,11 @@ impl Model for Actor {
     ghost invariant = { λ a. record {
       fits : PhaseFitsWhere (AsksPages a.hart) (IsReady a.name a.sheet a.made a.drafts.items a.hart
           a.fuel a.starts a.unjoined) (IsGranting a.sheet a.made a.drafts.items a.hart a.fuel
-          a.starts a.unjoined) (IsNextName a.name a.starts)
+          a.starts a.unjoined)
+          (IsEntering a.name a.made a.fuel a.starts a.unjoined) (IsNextName a.name a.starts)
           (λ k. is_child a.unjoined k ≡ true) a.phase;
       placed : HoldsInSlots a.sheet a.made;
+      gates : AreGatesPlaced (map arc_value a.gates.items);
       funded : funds a.starts a.made.count a.fuel a.unjoined ≤ most_fuel;
     } };
 }
@@ -121,6 +127,7 @@ impl Actor {
             alloc,
             name: ActorName::root(alloc)?,
             compartment: image.entry(),
+            run_of: None,
             sheet: root_sheet(alloc, image)?,
             made: Made::new(alloc),
             gates: Vec::new(alloc),
@@ -199,6 +206,16 @@ impl Actor {
     {
         match &self.phase {
             Phase::Ended(end) => Some(*end),
+            _ => None,
+        }
+    }
+
+    /// The number among its starts of the run for which it waits.
+    pub fn run_awaited(&self) -> Option<u32>
+        ensures { result ≡ run_awaited self.now.phase }
+    {
+        match &self.phase {
+            Phase::Waiting { run } => Some(*run),
             _ => None,
         }
     }

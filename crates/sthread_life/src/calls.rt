@@ -59,6 +59,8 @@ impl Actor {
             self.sfree();
         } else if number == Service::CgateMake.number() {
             self.cgate_make(program, memory)?;
+        } else if number == Service::Cgate.number() {
+            self.cgate()?;
         } else if number == Service::FdRead.number() {
             self.fd_read(memory);
         } else if number == Service::FdAppend.number() {

@@ -12,7 +12,10 @@ ghost use Rattle.sthread_life.specs.Walks.{RootsWalk};
 /// costs: a unit of fuel for an instruction, and one for each byte that it reads or appends, and of the path of a root
 /// directory or of a file that it opens. Its drafts are as its calls made them. Its private bytes are those that it stored, and
 /// a load gives them. It starts and joins its own children alone, each with no more rights than it has itself, and makes
-/// tags, gates and the copies with which children and the runs of gates begin by its own calls alone.
+/// tags, gates and the copies with which children and the runs of gates begin by its own calls alone. It enters a gate that
+/// it holds alone, and the run begins with the sheet, the argument, the fuel and the memory that the gate's maker fixed, and with
+/// what the caller lends of its own where that sheet names nothing. Each turn of an actor that waited for such a run begins with the
+/// value, the end and the fuel that this run left, and each other turn with the actor as it was.
 pub fn moments_are_lawful()
     ensures { MomentsAreLawful }
 {}
@@ -45,8 +48,8 @@ pub fn actors_walk()
 
 /// In every run the fuel of the actors that are not joined yet is in sum that of the image, less exactly the units that the
 /// turns took: a unit for each instruction, and one for each byte that was read or appended, and of the path of a root
-/// directory or of a file that was opened. A start gives fuel to a child, and a join brings back what is left, so neither
-/// changes the sum.
+/// directory or of a file that was opened. A start gives fuel to a child, and the entry of a gate to its run; a join, or the
+/// end of a run, brings back what is left: none of them changes the sum.
 /// So every run ends: 1,029 turns for each unit of fuel, and two, are more than it can have.
 pub fn fuel_is_kept()
     ensures sum { FuelIsKept }

@@ -7,6 +7,8 @@ mod actor;
 mod calls;
 mod copy_grant;
 mod drafting;
+mod entering;
+mod entrance;
 mod file_open;
 mod files;
 mod laws;
@@ -24,6 +26,7 @@ mod unjoined;
 
 pub use actor::Actor;
 pub use copy_grant::CopyGrant;
+pub use entrance::Entrance;
 pub use files::{FileOpening, StreamLabel};
 pub use laws::{
     accesses_are_isolated, actors_walk, cells_open_by_their_rules, copies_are_granted,

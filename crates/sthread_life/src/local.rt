@@ -9,9 +9,9 @@ ghost use Rattle.sthread_life.specs.Local as local;
 ghost use Rattle.image_form.specs.Rules.{most_fuel};
 ghost use Rattle.cow_pages.specs.PrivateMemory.{PrivateMemory, no_memory};
 ghost use Rattle.sthread_life.specs.Between.{funds};
-ghost use Rattle.sthread_life.specs.Local.{end_reached};
+ghost use Rattle.sthread_life.specs.Local.{end_reached, run_awaited};
 ghost use Rattle.sthread_life.specs.Taking.{wanted};
-ghost use Rattle.sthread_life.specs.Resting.{want_in, end_in, NextFits};
+ghost use Rattle.sthread_life.specs.Resting.{want_in, end_in, run_in, NextFits};
 
 use crate::actor::Actor;
 use crate::making::making_want;
@@ -30,11 +30,14 @@ pub enum Next {
     Shared(Want),
     /// It has ended.
     Ended(End),
+    /// It waits for the run of a gate: that of this number among its starts.
+    Waiting { run: u32 },
 }
 
 impl Actor {
-    /// Makes the actor's local events up to its next shared event, and returns which it wants, or its end. An
-    /// actor that runs out of memory has stopped: from then on each call of it answers `NoMemory`.
+    /// Makes the actor's local events up to its next shared event, and returns which it wants, its
+    /// end, or the run of a gate for which it waits. An actor that runs out of memory has stopped:
+    /// from then on each call of it answers `NoMemory`.
     #[inline(always)]
     pub fn local(
         &mut self,
@@ -45,6 +48,7 @@ impl Actor {
             ≡ local.rest program.now (whole self.old memory.old)) }
         ensures next { IfOk result (λ n. want_in n ≡ wanted (whole self.new memory.new)) }
         ensures ended { IfOk result (λ n. end_in n ≡ end_reached self.new.phase) }
+        ensures waits { IfOk result (λ n. run_in n ≡ run_awaited self.new.phase) }
         ensures name { OnOk result (self.new.name ≡ self.old.name) }
         ensures live { OnOk result (local.has_ended self.new.phase ≡ local.has_ended self.old.phase) }
         ensures fits { IfOk result (NextFits (whole self.new no_memory)) }
@@ -72,6 +76,7 @@ impl Actor {
             ≡ local.rest program.now (whole self.old memory.old)) }
         ensures next { IfOk result (λ n. want_in n ≡ wanted (whole self.new memory.new)) }
         ensures ended { IfOk result (λ n. end_in n ≡ end_reached self.new.phase) }
+        ensures waits { IfOk result (λ n. run_in n ≡ run_awaited self.new.phase) }
         ensures name { OnOk result (self.new.name ≡ self.old.name) }
         ensures live { OnOk result (local.has_ended self.new.phase ≡ local.has_ended self.old.phase) }
         ensures fits { IfOk result (NextFits (whole self.new no_memory)) }
@@ -101,6 +106,7 @@ impl Actor {
         requires { local.is_running self.now.phase ≡ false }
         ensures wants { IfOk result (λ n. (m : PrivateMemory) → want_in n ≡ wanted (whole self.now m)) }
         ensures ended { IfOk result (λ n. end_in n ≡ end_reached self.now.phase) }
+        ensures waits { IfOk result (λ n. run_in n ≡ run_awaited self.now.phase) }
         ensures fits { IfOk result (NextFits (whole self.now no_memory)) }
     {
         match &self.phase {
@@ -110,6 +116,8 @@ impl Actor {
             Phase::Opening { slot, tag } => Ok(Next::Shared(self.opening_want(*slot, *tag))),
             Phase::Releasing { slot } => Ok(Next::Shared(releasing_want(*slot))),
             Phase::OpeningFile(opening) => Ok(Next::Shared(opening.want()?)),
+            Phase::Entering(_) => Ok(Next::Shared(self.entering_want()?)),
+            Phase::Waiting { run } => Ok(Next::Waiting { run: *run }),
             Phase::Ending(end) => Ok(Next::Shared(self.ending_want(*end))),
             Phase::Ended(end) => Ok(Next::Ended(*end)),
             Phase::Running => unreachable!(),

@@ -1,5 +1,6 @@
 //! What an actor is at.
 
+use crate::entrance::Entrance;
 use crate::files::FileOpening;
 use crate::preparation::Preparation;
 use wedge_base::{End, Slot, TagNo, Want};
@@ -22,6 +23,10 @@ pub enum Phase {
     Releasing { slot: Slot },
     /// It opens a file: it wants a number for the descriptor, and then to open the stream behind it.
     OpeningFile(FileOpening),
+    /// It is about to enter a gate.
+    Entering(Entrance),
+    /// It has entered a gate, and waits for the run of this number among its starts.
+    Waiting { run: u32 },
     /// Its end is decided: it joins the children that it has not joined, and wants the event that ends it.
     Ending(End),
     /// It has ended.

@@ -15,7 +15,7 @@ ghost use Rattle.sthread_life.specs.Calls as calls;
 ghost use Rattle.sthread_life.specs.Children.{child_name, fuel_given};
 ghost use Rattle.sthread_life.specs.Taking as taking;
 
-use crate::actor::Actor;
+use crate::actor::{Actor, SP};
 use crate::calls::{A0, A1, A2, A3};
 use crate::copy_grant::{CopyGrant, copy_grants};
 use crate::phase::Phase;
@@ -102,14 +102,16 @@ impl Actor {
         }
     }
 
-    /// What it wants once its end is decided: to join its children, the least number first, and then to end.
+    /// What it wants once its end is decided: to join its children, the least number first, and
+    /// then to end; the run of a gate leaves the gate.
     pub(crate) fn ending_want(&self, end: End) -> Want
-        ensures is { result ≡ taking.ending_want self.now.unjoined end }
+        ensures is { result ≡ taking.ending_want self.now.run_of self.now.unjoined end }
         ensures fits { WantFits (whole self.now no_memory) result }
     {
-        match self.unjoined.least() {
-            Some(child) => Want::Join { child },
-            None => Want::Lives(LivesAsk::Release { end }),
+        match (self.unjoined.least(), &self.run_of) {
+            (Some(child), _) => Want::Join { child },
+            (None, None) => Want::Lives(LivesAsk::Release { end }),
+            (None, Some(_)) => Want::Leave { end },
         }
     }
 
@@ -216,12 +218,13 @@ impl Actor {
         let draft = &self.drafts[self.hart.reg(A0) as usize];
         let sheet = sheet_of(alloc, &self.sheet, &self.made, draft)?;
         let mut hart = Hart::new(entry);
-        hart.put(2, PRIVATE_BASE + PRIVATE_SIZE);
+        hart.put(SP, PRIVATE_BASE + PRIVATE_SIZE);
         hart.put(A0, self.hart.reg(A2));
         Ok(Actor {
             alloc,
             name: name.copy()?,
             compartment: entry,
+            run_of: None,
             sheet,
             made: Made::new(alloc),
             gates: copy_of_gates(&self.gates)?,
@@ -308,14 +311,14 @@ impl Actor {
 }
 
 /// The same gates, which both know then.
-fn copy_of_gates(gates: &Vec<Arc<Gate>>) -> Result<Vec<Arc<Gate>>, NoMemory>
+pub(crate) fn copy_of_gates(gates: &Vec<Arc<Gate>>) -> Result<Vec<Arc<Gate>>, NoMemory>
     ensures { IfOk result (λ v. map arc_value v.items ≡ map arc_value gates.now.items) }
 {
     Ok(gates.clone()?)
 }
 
 /// The value of an actor that ended so: 0 unless it exited with another.
-fn end_value(end: End) -> u32
+pub(crate) fn end_value(end: End) -> u32
     ensures { result ≡ taking.end_value end }
 {
     match end {
@@ -325,7 +328,7 @@ fn end_value(end: End) -> u32
 }
 
 /// The number of an end, as programs see it.
-fn end_number(end: End) -> u32
+pub(crate) fn end_number(end: End) -> u32
     ensures { result ≡ taking.end_number end }
 {
     match end {

@@ -92,7 +92,12 @@ impl Actor {
                 self.take_join(*child, *end, *fuel);
                 Ok(None)
             }
-            _ => {
+            Event::Enter { run } => self.enter(run),
+            Event::Leave { end } => {
+                self.leave(memory, *end);
+                Ok(None)
+            }
+            Event::Gate { .. } => {
                 self.phase = Phase::Running;
                 Ok(None)
             }

@@ -44,9 +44,10 @@ impl Children {
     }
 
     /// Adds a child with the fuel that it is given. When out of memory, they are as before.
-    #[tactic(auto, using(crate::proofs::FuelGiven::given_with))]
+    #[tactic(auto, using(crate::proofs::FuelGiven::given_with, crate::proofs::FuelGiven::given_there, crate::proofs::FuelGiven::number_self))]
     pub fn add(&mut self, number: u32, fuel: u32) -> Result<(), NoMemory>
         ensures ok { OnOk result (self.new ≡ children.with_child self.old number fuel) }
+        ensures child { OnOk result (children.is_child self.new number ≡ true) }
         ensures given { OnOk result (children.all_given self.new ≤ children.all_given self.old + fuel) }
         ensures err { OnErr result (self.new ≡ self.old) }
     {

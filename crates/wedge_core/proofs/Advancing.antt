@@ -9,13 +9,15 @@ use Rattle.wedge_base.specs.declared.events.Turn.{Turn}
 use Rattle.sthread_life.specs.Actors.{ActorState}
 use Rattle.sthread_life.specs.Cells.{Cells}
 use Rattle.sthread_life.specs.Worlds.{WorldState, opening, Runs, settled}
-use Rattle.sthread_life.proofs.Settling.{AllReady, ready_alike, run_ready}
-use Rattle.wedge_core.specs.Progress.{Progress, IsRun, IsTurn, HasEnded, IsWaiting, GoesOnBy, state_of}
+use Rattle.sthread_life.specs.FamilyTrees.{Family}
+use Rattle.sthread_life.proofs.FamilyRuns.{turn_family}
+use Rattle.sthread_life.proofs.Settling.{AllReady, all_alike, run_ready}
+use Rattle.wedge_core.specs.Progress.{Progress, IsRun, IsTurn, HasEnded, IsWaiting, GoesOnBy, state_of, rested_in}
 use Rattle.wedge_core.specs.declared.turns.Went.{Went}
 use Rattle.wedge_core.specs.declared.turns.Went.TheVariants as went
 use Rattle.wedge_core.specs.Serial.{IsNumbered}
-use Rattle.wedge_core.specs.Turning.{IsFamilyAtRest, WasTaken, HasWaited}
-use Rattle.wedge_core.proofs.AtRest.{family_alike}
+use Rattle.wedge_core.specs.Turning.{WasTaken, HasWaited}
+use Rattle.wedge_core.proofs.AtRest.{family_at_rest}
 use Rattle.wedge_core.proofs.Numbering.{entry, numbered-push, turns_of-numbered, is_numbered, notes_turns, notes_numbered}
 use Rattle.wedge_core.proofs.Replays.{has_ended_turn, waiting_turn, waiting_lives}
 use Rattle.wedge_core.proofs.Turning.{run_goes_on, rested_settled, not_ended}
@@ -24,15 +26,19 @@ use Rattle.wedge_core.proofs.Turning.{run_goes_on, rested_settled, not_ended}
 pub record IsKept (i : Image) (cells : Cells) (actors : List ActorState) (entries : List LogEntry) (stopped : Bool) : Type 0 where
   pub numbered : IsNumbered entries
   pub run : IsRun (record { state = state_of i cells actors; turns = turns_of entries; stopped = stopped })
+  pub family : stopped ≡ false → Family actors
 
-pub kept_family : (i : Image) (cells : Cells) (actors : List ActorState) (entries : List LogEntry) (stopped : Bool) → IsKept i cells actors entries stopped → stopped ≡ false → IsFamilyAtRest i actors
-kept_family i cells actors entries stopped k going = family_alike i (turns_of entries) (state_of i cells actors) k.run.last k.run.run (k.run.current going)
+-- the actors of a world that has not stopped rest as those of a run do
+pub run_is_ready : (p : Progress) → IsRun p → p.stopped ≡ false → AllReady p.state
+run_is_ready p r going = all_alike p.state r.last (r.current going) (run_ready p.state.image p.turns r.last r.run)
 
 pub kept_taken : (i : Image) (cells new_cells : Cells) (actors new : List ActorState) (entries new_entries : List LogEntry) (name : List ℕ) (stopped : Bool)
     → IsKept i cells actors entries stopped → stopped ≡ false → WasTaken i cells actors entries name new_cells new new_entries → IsKept i new_cells new new_entries stopped
 kept_taken i cells new_cells actors new entries new_entries name stopped k going t = record {
   numbered = notes_numbered entries new_entries name t.event t.noted k.numbered;
   run = run_goes_on i cells new_cells actors new (turns_of entries) (turns_of new_entries) name t.event stopped k.run going t.turn (notes_turns entries new_entries name t.event t.noted);
+  family = λ on. turn_family (state_of i cells actors) name t.event (state_of i new_cells new)
+      (run_is_ready (record { state = state_of i cells actors; turns = turns_of entries; stopped = stopped }) k.run going) (k.family going) t.turn;
 }
 
 -- where it goes on
@@ -59,6 +65,8 @@ kept_waited i cells new_cells actors new entries new_entries name stopped k h sa
         run = k.run.run;
         current = λ going. (ap settled h.rests ∙ rested_settled w name h.waits.actor h.waits.named) ∙ k.run.current going;
       };
+      family = λ going. subst Family (sym (ap (λ (x : WorldState). x.actors) h.rests ∙ ap (rested_in i actors) h.waits.named))
+          (family_at_rest w name h.waits.actor (k.family going) h.waits.named (waiting_lives w name h.waits));
     })
 
 pub kept_same : (i : Image) (cells new_cells : Cells) (actors new : List ActorState) (entries new_entries : List LogEntry) (stopped : Bool)
@@ -77,10 +85,6 @@ pub kept_by : (r : Went) (i : Image) (cells new_cells : Cells) (actors new : Lis
 kept_by went.Took i cells new_cells actors new entries new_entries name stopped k going took ended waits same = kept_taken i cells new_cells actors new entries new_entries name stopped k going (took refl)
 kept_by went.Ended i cells new_cells actors new entries new_entries name stopped k going took ended waits same = let e = ended refl in kept_same i cells new_cells actors new entries new_entries stopped k e.1 e.2 (same (inl refl))
 kept_by went.Waits i cells new_cells actors new entries new_entries name stopped k going took ended waits same = kept_waited i cells new_cells actors new entries new_entries name stopped k (waits refl) (same (inr refl))
-
--- the actors of a world that has not stopped rest as those of a run do
-pub run_is_ready : (p : Progress) → IsRun p → p.stopped ≡ false → AllReady p.state
-run_is_ready p r going = ready_alike p.state r.last (r.current going) (run_ready p.state.image p.turns r.last r.run)
 
 -- ---- who has ended, or waits, takes no turn
 

@@ -1,104 +1,104 @@
--- What holds of the actors of a run once each is at rest: a rest keeps names, starts and children, and takes fuel alone.
-use Rattle.std.proofs.Common.{◌≡◌, ℕ, ◌≤◌, List, [], ◌∷◌, map, refl, sym, ap, subst, ◌∙◌, arith, inl, inr}
-use Rattle.std.specs.Prelude.{Option, Some, None, option_map, ◌||◌}
-use Rattle.wedge_base.specs.Images.{Image}
-use Rattle.wedge_base.specs.Names.{same, root_name}
-use Rattle.wedge_base.specs.declared.events.Turn.{Turn}
-use Rattle.sthread_life.specs.Actors.{ActorState}
-use Rattle.sthread_life.specs.Children.{fuel_given, all_given, is_child, child_name}
-use Rattle.sthread_life.specs.FamilyTrees.{worth, Holds, AllBehind, IsChildOf, IsOfTree, Family}
-use Rattle.sthread_life.specs.Fuel.{starter_of, number_in, has_child, is_unjoined}
-use Rattle.sthread_life.specs.Local.{rest, is_running, has_ended}
-use Rattle.sthread_life.specs.Names.{IsNew, AreDistinct}
-use Rattle.sthread_life.specs.Worlds.{WorldState, opening, actor_named, Runs, settled}
-use Rattle.sthread_life.proofs.FamilyRuns.{kept_at_rest, rest_units, run_family}
-use Rattle.sthread_life.proofs.Resting.{rest-name, rest-ended}
-use Rattle.sthread_life.proofs.Settling.{map_named}
+-- The actors of a world of which one goes on, or comes to rest.
 
-starts_at_rest : (i : Image) (a : ActorState) → (rest i a).starts ≡ a.starts
-starts_at_rest i a = (kept_at_rest i a (is_running a.phase) refl).starts
+use Rattle.std.proofs.Common.{◌≡◌, ℕ, Bool, true, false, true≢false, List, refl, sym, ap, subst, ◌∙◌, arith, inl, inr}
+use Rattle.std.specs.Prelude.{Option, Some, None, is_some, option_map, ◌⊎◌}
+use Rattle.wedge_base.specs.Images.{Image}
+use Rattle.wedge_base.specs.declared.rights.End.{End}
+use Rattle.sthread_life.specs.declared.phase.Phase.{Phase}
+use Rattle.sthread_life.specs.declared.phase.Phase.TheVariants as phase
+use Rattle.sthread_life.specs.Actors.{ActorState}
+use Rattle.sthread_life.specs.FamilyTrees.{Family}
+use Rattle.sthread_life.specs.Local.{rest, is_running, has_ended, end_reached, run_awaited}
+use Rattle.sthread_life.specs.Worlds.{WorldState, actor_named, put_actor, is_ended, ended_with, ready, resumed, at_rest}
+use Rattle.sthread_life.proofs.FamilyKept.{family_alone}
+use Rattle.sthread_life.proofs.FamilyRuns.{kept_at_rest, rest_units, resumed_family}
+use Rattle.sthread_life.proofs.Named.{put_put, found_name}
+use Rattle.sthread_life.proofs.Resting.{rest-name, rest-ended, rest-stays, rest-uncalm, ended-stays}
+use Rattle.sthread_life.proofs.Settling.{none_ended}
+use Rattle.sthread_life.proofs.Turns.{ready_named, ready_ended, waits_or}
+use Rattle.sthread_life.proofs.Waits.{IsAwake, waits_none}
 
 pub unjoined_at_rest : (i : Image) (a : ActorState) → (rest i a).unjoined ≡ a.unjoined
 unjoined_at_rest i a = (kept_at_rest i a (is_running a.phase) refl).unjoined
 
-worth_at_rest : (i : Image) (a : ActorState) → worth (rest i a) ≤ worth a
-worth_at_rest i a = let given : all_given (rest i a).unjoined ≡ all_given a.unjoined = ap all_given (unjoined_at_rest i a) in omega (arith, given, rest_units i a)
+-- ---- who waits for no run
+pub awake_of : (p : Phase) → run_awaited p ≡ None → IsAwake p
+awake_of p none k is = let f : Some k ≡ None = sym (ap run_awaited is) ∙ none in absurd cc
 
--- whoever is found was found before
-pub record WasFound (i : Image) (actors : List ActorState) (m : List ℕ) (y : ActorState) : Type 0 where
-  pub actor : ActorState
-  pub there : actor_named actors m ≡ Some actor
-  pub rests : rest i actor ≡ y
+pub none_awaited : (p : Phase) → IsAwake p → run_awaited p ≡ None
+none_awaited phase.Running h = refl
+none_awaited (phase.Within q) h = refl
+none_awaited (phase.Starting pre) h = refl
+none_awaited (phase.MakingGate pre) h = refl
+none_awaited (phase.Opening slot tag) h = refl
+none_awaited (phase.Releasing slot) h = refl
+none_awaited (phase.OpeningFile o) h = refl
+none_awaited (phase.Entering x) h = refl
+none_awaited (phase.Waiting k) h = absurd (h k refl)
+none_awaited (phase.Ending e) h = refl
+none_awaited (phase.Ended e) h = refl
 
-pub was_found : (i : Image) (actors : List ActorState) (m : List ℕ) (y : ActorState) → actor_named (map (rest i) actors) m ≡ Some y → WasFound i actors m y
-was_found i actors m y found = by_option (actor_named actors m) refl (sym (map_named i actors m) ∙ found)
+pub rests_awake : (i : Image) (a : ActorState) → IsAwake a.phase → IsAwake (rest i a).phase
+rests_awake i a h k is = h k (rest-uncalm i a (phase.Waiting k) (λ x. x) is)
+
+pub rest_none : (i : Image) (a : ActorState) → run_awaited a.phase ≡ None → run_awaited (rest i a).phase ≡ None
+rest_none i a none = none_awaited (rest i a).phase (rests_awake i a (awake_of a.phase none))
+
+-- ---- who has ended
+pub ended_is : (o : Option ActorState) → is_some (ended_with o) ≡ is_ended o
+ended_is None = refl
+ended_is (Some c) = by_phase c.phase
   where
-    by_option : (o : Option ActorState) → actor_named actors m ≡ o → option_map (rest i) o ≡ Some y → WasFound i actors m y
-    by_option None e is = absurd cc
-    by_option (Some x) e is = record { actor = x; there = e; rests = cc }
+    by_phase : (p : Phase) → is_some (option_map {U = End × ℕ} (λ (e : End). (e, c.fuel)) (end_reached p)) ≡ has_ended p
+    by_phase phase.Running = refl
+    by_phase (phase.Within q) = refl
+    by_phase (phase.Starting pre) = refl
+    by_phase (phase.MakingGate pre) = refl
+    by_phase (phase.Opening slot tag) = refl
+    by_phase (phase.Releasing slot) = refl
+    by_phase (phase.OpeningFile o) = refl
+    by_phase (phase.Entering x) = refl
+    by_phase (phase.Waiting k) = refl
+    by_phase (phase.Ending e) = refl
+    by_phase (phase.Ended e) = refl
 
-pub found_at_rest : (i : Image) (actors : List ActorState) (m : List ℕ) (x : ActorState) → actor_named actors m ≡ Some x → actor_named (map (rest i) actors) m ≡ Some (rest i x)
-found_at_rest i actors m x found = map_named i actors m ∙ ap (option_map (rest i)) found
-
-pub none_at_rest : (i : Image) (actors : List ActorState) (m : List ℕ) → actor_named (map (rest i) actors) m ≡ None → actor_named actors m ≡ None
-none_at_rest i actors m none = by_option (actor_named actors m) refl (sym (map_named i actors m) ∙ none)
+pub none_with : (o : Option ActorState) → is_ended o ≡ false → ended_with o ≡ None
+none_with o e = by_option (ended_with o) refl
   where
-    by_option : (o : Option ActorState) → actor_named actors m ≡ o → option_map (rest i) o ≡ None → actor_named actors m ≡ None
-    by_option None e is = e
-    by_option (Some x) e is = absurd cc
+    by_option : (x : Option (End × ℕ)) → ended_with o ≡ x → ended_with o ≡ None
+    by_option None is = is
+    by_option (Some y) is = absurd (true≢false (sym (ap is_some is) ∙ (ended_is o ∙ e)))
 
-new_at_rest : (i : Image) (actors : List ActorState) (m : List ℕ) → IsNew m actors → IsNew m (map (rest i) actors)
-new_at_rest i [] m new = tt
-new_at_rest i (a ∷ as_) m new = (ap (λ n. same n m) (rest-name i a) ∙ new.0, new_at_rest i as_ m new.1)
+pub rest_end : (i : Image) (a : ActorState) → ended_with (Some (rest i a)) ≡ ended_with (Some a)
+rest_end i a = by_end (has_ended a.phase) refl
+  where
+    by_end : (t : Bool) → has_ended a.phase ≡ t → ended_with (Some (rest i a)) ≡ ended_with (Some a)
+    by_end true e = ap (λ x. ended_with (Some x)) (ended-stays i a e)
+    by_end false e = none_ended (rest i a) (rest-ended i a ∙ e) ∙ sym (none_ended a e)
 
-distinct_at_rest : (i : Image) (actors : List ActorState) → AreDistinct actors → AreDistinct (map (rest i) actors)
-distinct_at_rest i [] all = tt
-distinct_at_rest i (a ∷ as_) all = (subst (λ n. IsNew n (map (rest i) as_)) (sym (rest-name i a)) (new_at_rest i as_ a.name all.0), distinct_at_rest i as_ all.1)
+-- ---- what holds of the actors of every run
+pub family_rests : (i : Image) (actors : List ActorState) (a : ActorState) → Family actors → actor_named actors a.name ≡ Some a → has_ended a.phase ≡ false → IsAwake a.phase → Family (put_actor actors (rest i a))
+family_rests i actors a f there live awake =
+    let k = kept_at_rest i a (is_running a.phase) refl in
+    let units = rest_units i a in
+    family_alone actors a (rest i a) f (record { name = rest-name i a; there = there }) live k.starts k.unjoined (omega (arith, units)) (waits_none (rest i a).phase (rest i a).unjoined (rests_awake i a awake))
 
-holds_at_rest : (i : Image) (o p : Option ActorState) (g : ℕ) → p ≡ option_map (rest i) o → Holds o g → Holds p g
-holds_at_rest i None p g is h = absurd h
-holds_at_rest i (Some x) p g is h = let less : worth (rest i x) ≤ g = omega (arith, worth_at_rest i x, h) in subst (λ q. Holds q g) (sym is) less
+-- where one has gone on and come to rest
+pub family_at_rest : (w : WorldState) (name : List ℕ) (a : ActorState) → Family w.actors → actor_named w.actors name ≡ Some a → has_ended a.phase ≡ false → Family (put_actor w.actors (at_rest w a))
+family_at_rest w name a f named live = by_phase (waits_or b.phase)
+  where
+    b : ActorState
+    b = ready w.actors a
 
-behind_at_rest : (i : Image) (actors : List ActorState) → AllBehind actors → AllBehind (map (rest i) actors)
-behind_at_rest i [] all = tt
-behind_at_rest i (a ∷ as_) all = (
-  λ k g given. holds_at_rest i (actor_named as_ (child_name a.name k)) (actor_named (map (rest i) as_) (child_name (rest i a).name k)) g
-      (map_named i as_ (child_name (rest i a).name k) ∙ ap (λ n. option_map (rest i) (actor_named as_ (child_name n k))) (rest-name i a))
-      (all.0 k g (ap (λ cs. fuel_given cs k) (sym (unjoined_at_rest i a)) ∙ given)),
-  behind_at_rest i as_ all.1,
-)
+    goes : Family (resumed w a).actors
+    goes = resumed_family w name a f named
 
-child_at_rest : (i : Image) (actors : List ActorState) (m : List ℕ) → IsChildOf actors m → IsChildOf (map (rest i) actors) m
-child_at_rest i actors m c = record {
-  starter = c.starter;
-  number = c.number;
-  actor = rest i c.actor;
-  named = c.named;
-  there = found_at_rest i actors c.starter c.actor c.there;
-  counted = subst (λ n. c.number ≤ n) (sym (starts_at_rest i c.actor)) c.counted;
-}
+    there : actor_named (resumed w a).actors b.name ≡ Some b
+    there = subst (λ n. actor_named (resumed w a).actors n ≡ Some b) (found (resumed w a).actors name b (ready_named w name a named)) (ready_named w name a named)
+      where
+        found : (actors : List ActorState) (n : List ℕ) (c : ActorState) → actor_named actors n ≡ Some c → n ≡ c.name
+        found actors n c e = sym (found_name actors n c e)
 
-tree_at_rest : (i : Image) (actors : List ActorState) (m : List ℕ) → IsOfTree actors m → IsOfTree (map (rest i) actors) m
-tree_at_rest i actors m (inl e) = inl e
-tree_at_rest i actors m (inr c) = inr (child_at_rest i actors m c)
-
-unjoined_by : (i : Image) (o : Option ActorState) (k : ℕ) → has_child (option_map (rest i) o) k ≡ has_child o k
-unjoined_by i None k = refl
-unjoined_by i (Some a) k = ap (λ cs. is_child cs k) (unjoined_at_rest i a)
-
-is_unjoined_at_rest : (i : Image) (actors : List ActorState) (m : List ℕ) → is_unjoined (map (rest i) actors) m ≡ is_unjoined actors m
-is_unjoined_at_rest i actors m =
-    ap (λ t. same m root_name || t) (ap (λ o. has_child o (number_in m)) (map_named i actors (starter_of m)) ∙ unjoined_by i (actor_named actors (starter_of m)) (number_in m))
-
-pub family_at_rest : (i : Image) (actors : List ActorState) → Family actors → Family (map (rest i) actors)
-family_at_rest i actors f = record {
-  tree = λ m y found. let was = was_found i actors m y found in tree_at_rest i actors m (f.tree m was.actor was.there);
-  distinct = distinct_at_rest i actors f.distinct;
-  behind = behind_at_rest i actors f.behind;
-  live = λ m y found alive. let was = was_found i actors m y found in is_unjoined_at_rest i actors m
-      ∙ f.live m was.actor was.there (sym (rest-ended i was.actor) ∙ (ap (λ (x : ActorState). has_ended x.phase) was.rests ∙ alive));
-}
-
--- those of a world that differs from the last of a run in local events alone
-pub family_alike : (i : Image) (turns : List Turn) (w last : WorldState) → Runs (opening i) turns last → settled w ≡ settled last → Family (settled w).actors
-family_alike i turns w last run alike = subst (λ (x : WorldState). Family x.actors) (sym alike) (family_at_rest last.image last.actors (run_family i turns last run))
+    by_phase : ((k : ℕ) × (b.phase ≡ phase.Waiting k)) ⊎ ((k : ℕ) → b.phase ≡ phase.Waiting k → ⊥) → Family (put_actor w.actors (at_rest w a))
+    by_phase (inl (k, at)) = subst (λ x. Family (put_actor w.actors x)) (sym (rest-stays w.image b (ap is_running at))) goes
+    by_phase (inr awake) = subst Family (put_put w.actors b (rest w.image b) (rest-name w.image b)) (family_rests w.image (resumed w a).actors b goes there (ready_ended w.actors a ∙ live) awake)

@@ -1,5 +1,5 @@
--- A start and a join by the actor at an index.
-use Rattle.std.proofs.Common.{◌≡◌, ℕ, zero, suc, ◌+◌, ◌<◌, ◌≤◌, Bool, true, false, List, [], ◌∷◌, ◌++◌, map, refl, sym, ap, subst, ◌∙◌, arith}
+-- What the actor at an index wants of actors alone.
+use Rattle.std.proofs.Common.{◌≡◌, ℕ, zero, suc, ◌+◌, ◌≤◌, Bool, true, false, List, [], ◌∷◌, ◌++◌, refl, sym, ap, subst, ◌∙◌, arith, inl}
 use Rattle.std.specs.Prelude.{Result, Ok, Err, IfOk, IfSome, IfNone, Option, Some, None, IsSomeAnd, is_some, option_map, slice_get, slice_set, if◌then◌else◌}
 use Rattle.wedge_base.specs.Images.{Image}
 use Rattle.wedge_base.specs.Names.{same}
@@ -12,24 +12,25 @@ use Rattle.wedge_base.specs.declared.events.LogEntry.{LogEntry}
 use Rattle.sthread_life.specs.declared.phase.Phase.{Phase}
 use Rattle.sthread_life.specs.declared.phase.Phase.TheVariants as phase
 use Rattle.sthread_life.specs.Actors.{ActorState}
-use Rattle.sthread_life.specs.Between.{TakesFit}
+use Rattle.sthread_life.specs.Between.{IsAtGate}
 use Rattle.sthread_life.specs.Cells.{Cells, cells_after}
-use Rattle.sthread_life.specs.Children.{fuel_given, child_name}
+use Rattle.sthread_life.specs.Children.{fuel_given, is_child, child_name}
 use Rattle.sthread_life.specs.FamilyTrees.{worth, Family}
 use Rattle.sthread_life.specs.Local.{rest, has_ended, end_reached}
-use Rattle.sthread_life.specs.Taking.{wanted, takes, begun, child_of}
-use Rattle.sthread_life.specs.Worlds.{actor_named, put_actor, with_begun, join_event, is_ended}
+use Rattle.sthread_life.specs.Taking.{wanted, takes, begun, child_of, run_by, run_at}
+use Rattle.sthread_life.specs.Worlds.{actor_named, put_actor, with_begun, event_at, join_event, is_ended, ended_with, ready}
 use Rattle.sthread_life.proofs.Between.{takes_name}
 use Rattle.sthread_life.proofs.FamilyKept.{brings_back, next_is_new}
-use Rattle.sthread_life.proofs.FamilyRuns.{kept_at_rest}
-use Rattle.sthread_life.proofs.Named.{found_name, named_put}
-use Rattle.sthread_life.proofs.Resting.{rest-name, rest-ended, ended-stays}
-use Rattle.sthread_life.proofs.Settling.{map_named}
+use Rattle.sthread_life.proofs.Named.{found_name}
+use Rattle.sthread_life.proofs.Resting.{rest-name}
+use Rattle.sthread_life.proofs.Settling.{put_ends}
+use Rattle.sthread_life.proofs.Turns.{ready_else}
+use Rattle.sthread_life.proofs.Waits.{IsAwake}
 use Rattle.wedge_core.specs.Progress.{IsFound, IsTurn, state_of, rested_in}
 use Rattle.wedge_core.specs.Serial.{Notes}
-use Rattle.wedge_core.specs.Turning.{IsFamilyAtRest, IsOfCell, IsMade, IsLeft, WantsOfFamily, IsStarting, IsJoining, HasTaken, IsDoneAt, WasTaken, HasWaited}
-use Rattle.wedge_core.proofs.AtRest.{found_at_rest, none_at_rest, unjoined_at_rest}
-use Rattle.wedge_core.proofs.Turning.{set_get, set_length, set_rest, cell_turn, family_turn}
+use Rattle.wedge_core.specs.Turning.{IsOfCell, IsMade, IsLeft, WantsOfFamily, IsBeginning, IsGoingAlone, IsJoining, HasTaken, HasDone, IsDoneAt, WasTaken, HasWaited}
+use Rattle.wedge_core.proofs.AtRest.{family_rests, rest_end}
+use Rattle.wedge_core.proofs.Turning.{found_set, cell_turn, family_turn, ended_alike}
 
 -- a name that no actor has, where one goes on under its own
 pub none_set : (actors : List ActorState) (place : ℕ) (a new : ActorState) (m : List ℕ) → slice_get actors place ≡ Some a → new.name ≡ a.name → actor_named actors m ≡ None
@@ -52,132 +53,174 @@ none_set (y ∷ ys) place a new m there own none = by_name (same y.name m) refl 
     by_name false e is zero at others = first e at ∙ is
     by_name false e is (suc n) at others = skip e (slice_set ys n new) ∙ others n at is
 
--- ---- a start
-
--- the actor that a start begins has its name
-pub begun_named : (i : Image) (actors : List ActorState) (place : ℕ) (child : List ℕ) (c : ActorState) (mid : List ActorState) → HasTaken i actors place (event.Start child) (Some c) mid → c.name ≡ child
-begun_named i actors place child c mid t = let is : c ≡ child_of i t.actor child = one_of t.begins in ap (λ (x : ActorState). x.name) is
+-- ---- an event by which another begins
+-- no actor had its name, and none has
+pub begun_fresh : (i : Image) (actors : List ActorState) (place : ℕ) (e : Event) (c : ActorState) (mid : List ActorState) → IsBeginning i actors place e → HasTaken i actors place e (Some c) mid → actor_named mid c.name ≡ None
+begun_fresh i actors place e c mid b t =
+    let is : t.actor ≡ b.actor = one_of (sym t.there ∙ b.there) in
+    let same_one : b.begun_ ≡ c = one_of (sym b.begins ∙ (ap (λ x. begun i x e) (sym is) ∙ sym t.begins)) in
+    ap (λ as_. actor_named as_ c.name) t.new_is ∙ none_set actors place t.actor (takes i t.actor e) c.name t.there (takes_name i t.actor e) (ap (λ (x : ActorState). actor_named actors x.name) (sym same_one) ∙ b.fresh)
   where
     one_of : {x y : ActorState} → Some x ≡ Some y → x ≡ y
-    one_of e = cc
+    one_of h = cc
 
--- no actor had it, and none has
-pub begun_fresh : (i : Image) (actors : List ActorState) (place : ℕ) (child : List ℕ) (c : ActorState) (mid : List ActorState) → IsStarting actors place child → HasTaken i actors place (event.Start child) (Some c) mid
-    → actor_named mid c.name ≡ None
-begun_fresh i actors place child c mid s t =
-    let e = event.Start child in
-    ap (actor_named mid) (begun_named i actors place child c mid t) ∙ (ap (λ as_. actor_named as_ child) t.new_is
-    ∙ none_set actors place t.actor (takes i t.actor e) child t.there (takes_name i t.actor e) s.fresh)
+-- one always begins
+pub begins_some : (i : Image) (actors : List ActorState) (place : ℕ) (e : Event) (o : Option ActorState) (mid : List ActorState) → IsBeginning i actors place e → HasTaken i actors place e o mid → o ≡ None → ⊥
+begins_some i actors place e o mid b t none =
+    let is : t.actor ≡ b.actor = one_of (sym t.there ∙ b.there) in
+    let f : Some b.begun_ ≡ None = sym b.begins ∙ (ap (λ x. begun i x e) (sym is) ∙ (sym t.begins ∙ none)) in
+    absurd cc
+  where
+    one_of : {x y : ActorState} → Some x ≡ Some y → x ≡ y
+    one_of h = cc
 
-pub started : (i : Image) (actors : List ActorState) (place : ℕ) (child : List ℕ) (c : ActorState) (mid new : List ActorState) (name : List ℕ) (entries new_entries : List LogEntry)
-    → IsStarting actors place child → HasTaken i actors place (event.Start child) (Some c) mid → new ≡ mid ++ c ∷ [] → Notes entries name (event.Start child) new_entries
-    → IsDoneAt i actors place (want.Start child) entries name new new_entries
-started i actors place child c mid new name entries new_entries s t is noted = record {
+pub begun_done : (i : Image) (actors : List ActorState) (place : ℕ) (e : Event) (c : ActorState) (mid new : List ActorState) (name : List ℕ) (entries new_entries : List LogEntry)
+    → HasTaken i actors place e (Some c) mid → new ≡ mid ++ c ∷ [] → Notes entries name e new_entries → HasDone i actors place e entries name new new_entries
+begun_done i actors place e c mid new name entries new_entries t is noted = record {
   actor = t.actor;
-  inside = s.inside;
   there = t.there;
-  event = event.Start child;
-  comes = λ c. refl;
-  cells_stay = λ c. refl;
-  new_is = is ∙ (ap (λ as_. as_ ++ c ∷ []) t.new_is ∙ ap (with_begun (slice_set actors place (takes i t.actor (event.Start child)))) t.begins);
+  new_is = is ∙ (ap (λ as_. as_ ++ c ∷ []) t.new_is ∙ ap (with_begun (slice_set actors place (takes i t.actor e))) t.begins);
   noted = noted;
 }
 
--- ---- a join
-
--- what the join of a child that has ended is
-pub record Joins (k : ℕ) (c : ActorState) (e : Event) : Type 0 where
-  pub end : End
-  pub is : e ≡ event.Join k end c.fuel
-  pub ended : has_ended c.phase ≡ true
-
-joins_at : (k : ℕ) (c : ActorState) (p : Phase) (e : Event) → c.phase ≡ p → option_map (λ x. event.Join k x c.fuel) (end_reached p) ≡ Some e → Joins k c e
-joins_at k c phase.Running e at comes = absurd cc
-joins_at k c (phase.Within q) e at comes = absurd cc
-joins_at k c (phase.Starting pre) e at comes = absurd cc
-joins_at k c (phase.MakingGate pre) e at comes = absurd cc
-joins_at k c (phase.Opening slot tag) e at comes = absurd cc
-joins_at k c (phase.Releasing slot) e at comes = absurd cc
-joins_at k c (phase.OpeningFile o) e at comes = absurd cc
-joins_at k c (phase.Ending x) e at comes = absurd cc
-joins_at k c (phase.Ended x) e at comes = record { end = x; is = sym (one_of comes); ended = ap has_ended at }
-  where
-    one_of : {y z : Event} → Some y ≡ Some z → y ≡ z
-    one_of h = cc
-
-pub record JoinsOne (k : ℕ) (o : Option ActorState) (e : Event) : Type 0 where
-  pub child : ActorState
-  pub there : o ≡ Some child
-  pub joins : Joins k child e
-
-pub joins_one : (k : ℕ) (o : Option ActorState) (e : Event) → join_event k o ≡ Some e → JoinsOne k o e
-joins_one k None e comes = absurd cc
-joins_one k (Some c) e comes = record { child = c; there = refl; joins = joins_at k c c.phase e refl comes }
-
-pub is_given : (o : Option ℕ) → is_some o ≡ true → (g : ℕ) × (o ≡ Some g)
-is_given None h = absurd cc
-is_given (Some g) h = (g, refl)
-
--- it brings back at most what the child was given
-pub join_fits : (i : Image) (actors : List ActorState) (place : ℕ) (name : List ℕ) (child : ℕ) (e : Event) → (j : IsJoining i actors place name child)
-    → join_event child (actor_named actors (child_name name child)) ≡ Some e → TakesFit j.actor e
-join_fits i actors place name child e j comes =
-    let a = j.actor in
-    let o = joins_one child (actor_named actors (child_name name child)) e comes in
-    let c = o.child in
-    let given = is_given (fuel_given a.unjoined child) j.listed in
-    let all = map (rest i) actors in
-    let named : actor_named actors a.name ≡ Some a = ap (actor_named actors) j.own ∙ j.named in
-    let there : actor_named all (rest i a).name ≡ Some (rest i a) = ap (actor_named all) (rest-name i a) ∙ found_at_rest i actors a.name a named in
-    let stays : rest i c ≡ c = ended-stays i c o.joins.ended in
-    let kid : actor_named all (child_name (rest i a).name child) ≡ Some c =
-    ap (λ n. actor_named all (child_name n child)) (rest-name i a ∙ j.own) ∙ (found_at_rest i actors (child_name name child) c o.there ∙ ap (λ x. Some x) stays) in
-    let least : worth c ≤ given.0 = brings_back all (rest i a) c child given.0 j.family there kid (ap (λ cs. fuel_given cs child) (unjoined_at_rest i a) ∙ given.1) in
-    let small : c.fuel ≤ given.0 = omega (arith, least) in
-    subst (TakesFit a) (sym o.joins.is) (tt, subst (λ p. IsSomeAnd p (λ g. c.fuel ≤ g)) (sym given.1) small)
-
-pub joined : (i : Image) (actors : List ActorState) (place : ℕ) (name : List ℕ) (child : ℕ) (e : Event) (o : Option ActorState) (new : List ActorState) (entries new_entries : List LogEntry)
-    → (j : IsJoining i actors place name child) → join_event child (actor_named actors (child_name name child)) ≡ Some e → HasTaken i actors place e o new → Notes entries name e new_entries
-    → IsDoneAt i actors place (want.Join child) entries name new new_entries
-joined i actors place name child e o new entries new_entries j comes t noted =
-    let is : t.actor ≡ j.actor = one_of (sym t.there ∙ j.there) in
-    let own : t.actor.name ≡ name = ap (λ (x : ActorState). x.name) is ∙ j.own in
-    let at = (joins_one child (actor_named actors (child_name name child)) e comes).joins in
+-- ---- an event by which none begins
+pub alone_done : (i : Image) (actors : List ActorState) (place : ℕ) (e : Event) (o : Option ActorState) (new : List ActorState) (name : List ℕ) (entries new_entries : List LogEntry)
+    → IsGoingAlone i actors place e → HasTaken i actors place e o new → Notes entries name e new_entries → HasDone i actors place e entries name new new_entries
+alone_done i actors place e o new name entries new_entries g t noted =
+    let is : t.actor ≡ g.actor = one_of (sym t.there ∙ g.there) in
     record {
       actor = t.actor;
-      inside = j.inside;
       there = t.there;
-      event = e;
-      comes = λ c. ap (λ n. join_event child (actor_named actors (child_name n child))) own ∙ comes;
-      cells_stay = λ c. ap (cells_after c) at.is;
-      new_is = t.new_is ∙ ap (with_begun (slice_set actors place (takes i t.actor e))) (sym (ap (begun i t.actor) at.is));
+      new_is = t.new_is ∙ ap (with_begun (slice_set actors place (takes i t.actor e))) (sym (ap (λ x. begun i x e) is ∙ g.begins_none));
       noted = noted;
     }
   where
     one_of : {x y : ActorState} → Some x ≡ Some y → x ≡ y
     one_of h = cc
 
--- ---- what an actor at rest wants of its family
+-- ---- what is wanted is done
+pub done_at : (i : Image) (actors : List ActorState) (place : ℕ) (name : List ℕ) (q : Want) (e : Event) (entries : List LogEntry) (new : List ActorState) (new_entries : List LogEntry)
+    → WantsOfFamily i actors place name q → ((a : ActorState) (c : Cells) → event_at (state_of i c actors) a q ≡ Some e) → ((c : Cells) → cells_after c e ≡ c)
+    → HasDone i actors place e entries name new new_entries → IsDoneAt i actors place q entries name new new_entries
+done_at i actors place name q e entries new new_entries w comes stay d = record {
+  actor = d.actor;
+  inside = w.inside;
+  there = d.there;
+  event = e;
+  comes = comes d.actor;
+  cells_stay = stay;
+  new_is = d.new_is;
+  noted = d.noted;
+}
 
--- an actor that wants to start a child may
-pub starting : (i : Image) (actors : List ActorState) (place : ℕ) (name child : List ℕ) → WantsOfFamily i actors place name (want.Start child) → IsStarting actors place child
-starting i actors place name child w =
-    let a = w.actor in
-    let all = map (rest i) actors in
-    let b = rest i a in
-    let there : actor_named all b.name ≡ Some b = ap (actor_named all) (rest-name i a ∙ w.own) ∙ found_at_rest i actors name a w.named in
-    let starts : b.starts ≡ a.starts = (kept_at_rest i a _ refl).starts in
-    let next : child_name b.name (b.starts + 1) ≡ child = ap (λ n. child_name n (b.starts + 1)) (rest-name i a) ∙ (ap (λ k. child_name a.name (k + 1)) starts ∙ sym w.fits.1) in
+-- ---- a join
+-- what the join of a child that has ended is
+pub record JoinsOne (k : ℕ) (o : Option ActorState) (e : End) (fuel : ℕ) : Type 0 where
+  pub child : ActorState
+  pub there : o ≡ Some child
+  pub fuel_is : fuel ≡ child.fuel
+
+pub joins_one : (k : ℕ) (o : Option ActorState) (e : End) (fuel : ℕ) → ended_with o ≡ Some (e, fuel) → JoinsOne k o e fuel
+joins_one k None e fuel ends = absurd cc
+joins_one k (Some c) e fuel ends = by_end (end_reached c.phase) ends
+  where
+    by_end : (x : Option End) → option_map {U = End × ℕ} (λ (y : End). (y, c.fuel)) x ≡ Some (e, fuel) → JoinsOne k (Some c) e fuel
+    by_end None h = absurd cc
+    by_end (Some y) h = let both : (y, c.fuel) ≡ (e, fuel) = cc in record { child = c; there = refl; fuel_is = sym (ap (λ (p : End × ℕ). p.1) both) }
+
+pub is_given : (o : Option ℕ) → is_some o ≡ true → (g : ℕ) × (o ≡ Some g)
+is_given None h = absurd cc
+is_given (Some g) h = (g, refl)
+
+-- it brings back at most what the child was given
+pub given_back : (actors : List ActorState) (a : ActorState) (k : ℕ) (e : End) (fuel : ℕ) → Family actors → actor_named actors a.name ≡ Some a → is_child a.unjoined k ≡ true → ended_with (actor_named actors (child_name a.name k)) ≡ Some (e, fuel)
+    → IsSomeAnd (fuel_given a.unjoined k) (λ g. fuel ≤ g)
+given_back actors a k e fuel f there listed ends =
+    let o = joins_one k (actor_named actors (child_name a.name k)) e fuel ends in
+    let given = is_given (fuel_given a.unjoined k) listed in
+    let least : worth o.child ≤ given.0 = brings_back actors a o.child k given.0 f there o.there given.1 in
+    let small : fuel ≤ given.0 = omega (arith, least, o.fuel_is) in
+    subst (λ p. IsSomeAnd p (λ g. fuel ≤ g)) (sym given.1) small
+
+pub joining_alone : (i : Image) (actors : List ActorState) (place : ℕ) (name : List ℕ) (child : ℕ) (e : End) (fuel : ℕ) → IsJoining actors place name child → ended_with (actor_named actors (child_name name child)) ≡ Some (e, fuel)
+    → IsGoingAlone i actors place (event.Join child e fuel)
+joining_alone i actors place name child e fuel j ends =
+    let named : actor_named actors j.actor.name ≡ Some j.actor = ap (actor_named actors) j.own ∙ j.named in
+    let own_ends = ap (λ n. ended_with (actor_named actors (child_name n child))) j.own ∙ ends in
     record {
-      actor = a;
-      inside = w.inside;
-      there = w.there;
-      named = ap (actor_named actors) w.own ∙ w.named;
-      ready = w.fits.0;
-      fresh = none_at_rest i actors child (ap (actor_named all) (sym next) ∙ next_is_new all w.family b there);
+      actor = j.actor;
+      inside = j.inside;
+      there = j.there;
+      fits = (tt, given_back actors j.actor child e fuel j.family named j.listed own_ends);
+      begins_none = refl;
     }
 
-pub joining : (i : Image) (actors : List ActorState) (place : ℕ) (name : List ℕ) (child : ℕ) → WantsOfFamily i actors place name (want.Join child) → IsJoining i actors place name child
+pub joined : (i : Image) (actors : List ActorState) (place : ℕ) (name : List ℕ) (child : ℕ) (e : End) (fuel : ℕ) (new : List ActorState) (entries new_entries : List LogEntry)
+    → (j : IsJoining actors place name child) → ended_with (actor_named actors (child_name name child)) ≡ Some (e, fuel) → HasDone i actors place (event.Join child e fuel) entries name new new_entries
+    → IsDoneAt i actors place (want.Join child) entries name new new_entries
+joined i actors place name child e fuel new entries new_entries j ends d =
+    let is : d.actor ≡ j.actor = one_of (sym d.there ∙ j.there) in
+    let own : d.actor.name ≡ name = ap (λ (x : ActorState). x.name) is ∙ j.own in
+    record {
+      actor = d.actor;
+      inside = j.inside;
+      there = d.there;
+      event = event.Join child e fuel;
+      comes = λ c. ap (λ n. join_event child (actor_named actors (child_name n child))) own ∙ ap (option_map (λ (x : End × ℕ). event.Join child x.0 x.1)) ends;
+      cells_stay = λ c. refl;
+      new_is = d.new_is;
+      noted = d.noted;
+    }
+  where
+    one_of : {x y : ActorState} → Some x ≡ Some y → x ≡ y
+    one_of h = cc
+
+-- ---- what an actor at rest wants of actors alone
+-- the name of its next start is that of nobody
+next_fresh : (i : Image) (actors : List ActorState) (place : ℕ) (name : List ℕ) (q : Want) (child : List ℕ) → (w : WantsOfFamily i actors place name q) → child ≡ child_name w.actor.name (w.actor.starts + 1) → actor_named actors child ≡ None
+next_fresh i actors place name q child w is = ap (actor_named actors) is ∙ next_is_new actors w.family w.actor (ap (actor_named actors) w.own ∙ w.named)
+
+-- an actor that wants to start a child may
+pub starting : (i : Image) (actors : List ActorState) (place : ℕ) (name child : List ℕ) → WantsOfFamily i actors place name (want.Start child) → IsBeginning i actors place (event.Start child)
+starting i actors place name child w = record {
+  actor = w.actor;
+  inside = w.inside;
+  there = w.there;
+  fits = (tt, w.fits.0);
+  begun_ = child_of i w.actor child;
+  begins = refl;
+  fresh = next_fresh i actors place name (want.Start child) child w w.fits.1;
+}
+
+-- one that wants to enter a gate is about to
+run_begins : (i : Image) (actors : List ActorState) (place : ℕ) (name run : List ℕ) (w : WantsOfFamily i actors place name (want.Enter run)) (p : Phase) → w.actor.phase ≡ p → IsAtGate p → IsBeginning i actors place (event.Enter run)
+run_begins i actors place name run w (phase.Entering x) at gate = record {
+  actor = w.actor;
+  inside = w.inside;
+  there = w.there;
+  fits = (tt, tt);
+  begun_ = run_by w.actor run x;
+  begins = ap (run_at w.actor run) at;
+  fresh = next_fresh i actors place name (want.Enter run) run w w.fits.1;
+}
+run_begins i actors place name run w phase.Running at gate = absurd gate
+run_begins i actors place name run w (phase.Within q) at gate = absurd gate
+run_begins i actors place name run w (phase.Starting pre) at gate = absurd gate
+run_begins i actors place name run w (phase.MakingGate pre) at gate = absurd gate
+run_begins i actors place name run w (phase.Opening slot tag) at gate = absurd gate
+run_begins i actors place name run w (phase.Releasing slot) at gate = absurd gate
+run_begins i actors place name run w (phase.OpeningFile o) at gate = absurd gate
+run_begins i actors place name run w (phase.Waiting k) at gate = absurd gate
+run_begins i actors place name run w (phase.Ending e) at gate = absurd gate
+run_begins i actors place name run w (phase.Ended e) at gate = absurd gate
+
+pub entering : (i : Image) (actors : List ActorState) (place : ℕ) (name run : List ℕ) → WantsOfFamily i actors place name (want.Enter run) → IsBeginning i actors place (event.Enter run)
+entering i actors place name run w = run_begins i actors place name run w w.actor.phase refl w.fits.0
+
+pub leaving : (i : Image) (actors : List ActorState) (place : ℕ) (name : List ℕ) (x : End) → WantsOfFamily i actors place name (want.Leave x) → IsGoingAlone i actors place (event.Leave x)
+leaving i actors place name x w = record { actor = w.actor; inside = w.inside; there = w.there; fits = (tt, tt); begins_none = refl }
+
+pub joining : (i : Image) (actors : List ActorState) (place : ℕ) (name : List ℕ) (child : ℕ) → WantsOfFamily i actors place name (want.Join child) → IsJoining actors place name child
 joining i actors place name child w = record {
   actor = w.actor;
   inside = w.inside;
@@ -189,56 +232,51 @@ joining i actors place name child w = record {
 }
 
 -- an actor that has come to rest in its place
-pub wants_of_family : (i : Image) (actors : List ActorState) (place : ℕ) (name : List ℕ) (a : ActorState) (q : Want) (new : ActorState) → IsFound actors name place a → IsFamilyAtRest i actors → IsLeft i a q new
+pub wants_of_family : (i : Image) (actors : List ActorState) (place : ℕ) (name : List ℕ) (a : ActorState) (q : Want) (new : ActorState) → IsFound actors name place a → has_ended a.phase ≡ false → IsAwake a.phase → Family actors → IsLeft i a q new
     → WantsOfFamily i (slice_set actors place new) place name q
-wants_of_family i actors place name a q new found family left =
+wants_of_family i actors place name a q new found lives awake family left =
     let b = rest i a in
-    let own : b.name ≡ name = rest-name i a ∙ found_name actors name a found.named in
-    let named : actor_named (slice_set actors place b) name ≡ Some b =
-    ap (λ as_. actor_named as_ name) (sym (found.put b own)) ∙ (ap (actor_named (put_actor actors b)) (sym own) ∙ named_put actors b a (ap (actor_named actors) own ∙ found.named)) in
+    let name_is = found_name actors name a found.named in
+    let own : b.name ≡ name = rest-name i a ∙ name_is in
+    let at = found_set actors name place a b found own in
+    let there : actor_named actors a.name ≡ Some a = ap (actor_named actors) name_is ∙ found.named in
     subst (λ x. WantsOfFamily i (slice_set actors place x) place name q) (sym left.rests)
     (record {
       actor = b;
-      inside = subst (λ n. place < n) (sym (set_length actors place b)) found.inside;
-      there = set_get actors place b found.inside;
-      named = named;
+      inside = at.inside;
+      there = at.there;
+      named = at.named;
       own = own;
       wants = left.wants;
       fits = left.fits;
       of_family = left.of_family;
-      family = subst Family (sym (set_rest i actors place a found.there)) family;
+      family = subst Family (found.put b own) (family_rests i actors a family there lives awake);
     })
 
--- an actor that has to wait
-ended_by : (i : Image) (o : Option ActorState) → is_ended (option_map (rest i) o) ≡ is_ended o
-ended_by i None = refl
-ended_by i (Some x) = rest-ended i x
-
-ended_alike : (i : Image) (actors mid : List ActorState) (m : List ℕ) → map (rest i) mid ≡ map (rest i) actors → is_ended (actor_named mid m) ≡ is_ended (actor_named actors m)
-ended_alike i actors mid m alike = sym (at_rest mid) ∙ (ap (λ as_. is_ended (actor_named as_ m)) alike ∙ at_rest actors)
-  where
-    at_rest : (as_ : List ActorState) → is_ended (actor_named (map (rest i) as_) m) ≡ is_ended (actor_named as_ m)
-    at_rest as_ = ap is_ended (map_named i as_ m) ∙ ended_by i (actor_named as_ m)
-
-pub waited : (i : Image) (cells new_cells : Cells) (actors new : List ActorState) (place : ℕ) (name : List ℕ) (a : ActorState) (q : Want) (b : ActorState) (child : ℕ) → IsFound actors name place a → IsLeft i a q b
+-- an actor that has to wait for a child
+pub waited : (i : Image) (cells new_cells : Cells) (actors new : List ActorState) (place : ℕ) (name : List ℕ) (a : ActorState) (q : Want) (b : ActorState) (child : ℕ) → IsFound actors name place a → IsAwake a.phase → IsLeft i a q b
     → q ≡ want.Join child → is_ended (actor_named (slice_set actors place b) (child_name name child)) ≡ false → new ≡ slice_set actors place b → new_cells ≡ cells
     → HasWaited i cells actors name new_cells new
-waited i cells new_cells actors new place name a q b child found left join not_ended is same =
-    let own : b.name ≡ name = ap (λ (x : ActorState). x.name) left.rests ∙ (rest-name i a ∙ found_name actors name a found.named) in
-    let mid : slice_set actors place b ≡ slice_set actors place (rest i a) = ap (slice_set actors place) left.rests in
+waited i cells new_cells actors new place name a q b child found awake left join not_ended is same =
+    let name_is = found_name actors name a found.named in
+    let own : b.name ≡ name = ap (λ (x : ActorState). x.name) left.rests ∙ (rest-name i a ∙ name_is) in
+    let calm : ready actors a ≡ a = ready_else actors a awake in
+    let rest_is : rest i (ready actors a) ≡ rest i a = ap (rest i) calm in
     let put : slice_set actors place b ≡ put_actor actors (rest i a) = sym (found.put b own) ∙ ap (put_actor actors) left.rests in
+    let there : actor_named actors a.name ≡ Some a = ap (actor_named actors) name_is ∙ found.named in
+    let ends = put_ends actors a (rest i a) there (rest-name i a) (rest_end i a) in
     record {
       waits = record {
         actor = a;
-        child = child;
+        number = child;
         named = found.named;
-        wants = left.wants ∙ ap (λ x. Some x) join;
-        not_ended = sym (ended_alike i actors (slice_set actors place b) (child_name name child) (ap (map (rest i)) mid ∙ set_rest i actors place a found.there)) ∙ not_ended;
+        awaits = inl (ap (λ (x : ActorState). wanted x) rest_is ∙ (left.wants ∙ ap (λ x. Some x) join));
+        not_ended = sym (ended_alike (put_actor actors (rest i a)) actors (child_name name child) ends) ∙ (ap (λ as_. is_ended (actor_named as_ (child_name name child))) (sym put) ∙ not_ended);
       };
-      rests = ap (λ c. state_of i c new) same ∙ (ap (λ as_. state_of i cells as_) (is ∙ put) ∙ ap (λ o. state_of i cells (rested_in i actors o)) (sym found.named));
+      rests = ap (λ c. state_of i c new) same ∙ (ap (λ as_. state_of i cells as_) (is ∙ put) ∙ (ap (λ x. state_of i cells (put_actor actors x)) (sym rest_is) ∙ ap (λ o. state_of i cells (rested_in i actors o)) (sym found.named)));
     }
 
--- ---- a turn by a start or a join
+-- ---- a turn by what is of actors alone
 
 pub if_ok : {X E : Type 0} {A B : X → Type 0} (r : Result X E) → ((x : X) → A x → B x) → IfOk r A → IfOk r B
 if_ok (Ok x) f h = f x h
@@ -253,22 +291,22 @@ if_some None x e h = absurd cc
 if_some (Some y) x e h = h
 
 pub family_taken : (i : Image) (cells new_cells : Cells) (actors new : List ActorState) (place : ℕ) (name : List ℕ) (a : ActorState) (q : Want) (b : ActorState) (entries mid_entries new_entries : List LogEntry)
-    → IsFound actors name place a → IsLeft i a q b → IsDoneAt i (slice_set actors place b) place q mid_entries name new new_entries → new_cells ≡ cells → mid_entries ≡ entries
+    → IsFound actors name place a → IsAwake a.phase → IsLeft i a q b → IsDoneAt i (slice_set actors place b) place q mid_entries name new new_entries → new_cells ≡ cells → mid_entries ≡ entries
     → WasTaken i cells actors entries name new_cells new new_entries
-family_taken i cells new_cells actors new place name a q b entries mid_entries new_entries found left done same_cells same =
+family_taken i cells new_cells actors new place name a q b entries mid_entries new_entries found awake left done same_cells same =
     let at : IsDoneAt i (slice_set actors place (rest i a)) place q entries name new new_entries =
     subst (λ x. IsDoneAt i (slice_set actors place x) place q entries name new new_entries) left.rests (subst (λ es. IsDoneAt i (slice_set actors place b) place q es name new new_entries) same done) in
     record {
       event = at.event;
-      turn = subst (λ c. IsTurn (state_of i cells actors) name at.event (state_of i c new)) (sym same_cells) (family_turn i cells actors new place name a q entries new_entries found left.wants at);
+      turn = subst (λ c. IsTurn (state_of i cells actors) name at.event (state_of i c new)) (sym same_cells) (family_turn i cells actors new place name a q entries new_entries found awake left.wants at);
       noted = at.noted;
     }
 
 pub cell_taken : (i : Image) (cells new_cells : Cells) (actors : List ActorState) (place : ℕ) (name : List ℕ) (a new : ActorState) (q : Want) (entries new_entries : List LogEntry)
-    → IsFound actors name place a → wanted (rest i a) ≡ Some q → IsOfCell q → IsMade i cells (rest i a) q entries name new_cells new new_entries
+    → IsFound actors name place a → IsAwake a.phase → wanted (rest i a) ≡ Some q → IsOfCell q → IsMade i cells (rest i a) q entries name new_cells new new_entries
     → WasTaken i cells actors entries name new_cells (slice_set actors place new) new_entries
-cell_taken i cells new_cells actors place name a new q entries new_entries found wants of_cell m = record {
+cell_taken i cells new_cells actors place name a new q entries new_entries found awake wants of_cell m = record {
   event = m.event;
-  turn = cell_turn i cells new_cells actors place name a new q m.event found wants of_cell m.comes m.cells_are m.takes_it (m.name_stays ∙ (rest-name i a ∙ found_name actors name a found.named));
+  turn = cell_turn i cells new_cells actors place name a new q m.event found awake wants of_cell m.comes m.cells_are m.takes_it (m.name_stays ∙ (rest-name i a ∙ found_name actors name a found.named));
   noted = m.noted;
 }

@@ -48,6 +48,8 @@ asks_fit c a b (want.Slots q) h k = tt
 asks_fit c a b (want.Fds q) h k = tt
 asks_fit c a b (want.Start child) h k = absurd k
 asks_fit c a b (want.Join child) h k = absurd k
+asks_fit c a b (want.Enter run) h k = absurd k
+asks_fit c a b (want.Leave end) h k = absurd k
 asks_fit c a b q h k = absurd h
 
 -- what comes of an ask of a cell suits whoever asked
@@ -64,8 +66,8 @@ event_suits c a (want.Lives (lives_ask.Release x)) l e h k comes = let is : even
 event_suits c a (want.Gate id q) l e h k comes = absurd h
 event_suits c a (want.Start child) l e h k comes = absurd k
 event_suits c a (want.Join child) l e h k comes = absurd k
-event_suits c a (want.Enter run) l e h k comes = absurd h
-event_suits c a (want.Leave end) l e h k comes = absurd h
+event_suits c a (want.Enter run) l e h k comes = absurd k
+event_suits c a (want.Leave end) l e h k comes = absurd k
 
 pub event_fits : (c : Cells) (a : ActorState) (q : Want) (l : Option ℕ) (e : Event) → WantFits a q → IsOfCell q → event_of c (asks a l q) ≡ Some e → IsInBounds e → TakesFit a e
 event_fits c a q l e h k comes bounds = (bounds, event_suits c a q l e h k comes)
@@ -98,5 +100,5 @@ asked_is w a (want.Fds q) k = refl
 asked_is w a (want.Fd fd q) k = refl
 asked_is w a (want.Lives q) k = refl
 asked_is w a (want.Gate id q) k = refl
-asked_is w a (want.Enter run) k = refl
-asked_is w a (want.Leave end) k = refl
+asked_is w a (want.Enter run) k = absurd k
+asked_is w a (want.Leave end) k = absurd k

@@ -3,6 +3,7 @@ pub mod Runs
 pub mod Turning
 pub mod AtRest
 pub mod FamilyTurns
+pub mod GoingOn
 pub mod Numbering
 pub mod CellPlaces
 pub mod Fitting

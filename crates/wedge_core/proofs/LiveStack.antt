@@ -1,5 +1,5 @@
 -- Runs in serial order: the actor that was started last and has not ended never waits, and those that live are a stack.
-use Rattle.std.proofs.Common.{◌≡◌, ℕ, suc, ◌<◌, Bool, true, false, true≢false, List, [], ◌∷◌, ◌++◌, length, refl, sym, ap, subst, ◌∙◌, append-nil, arith}
+use Rattle.std.proofs.Common.{◌≡◌, ℕ, suc, ◌<◌, Bool, true, false, true≢false, List, [], ◌∷◌, ◌++◌, length, refl, sym, ap, subst, ◌∙◌, append-nil, arith, inl, inr}
 use Rattle.std.specs.Prelude.{Option, Some, None, IsSomeAnd, is_some, if◌then◌else◌}
 use Rattle.wedge_base.specs.Images.{Image}
 use Rattle.wedge_base.specs.Names.{same, root_name}
@@ -10,21 +10,23 @@ use Rattle.sthread_life.specs.declared.copy_grant.CopyGrant.{CopyGrant}
 use Rattle.sthread_life.specs.declared.phase.Phase.{Phase}
 use Rattle.sthread_life.specs.declared.phase.Phase.TheVariants as phase
 use Rattle.sthread_life.specs.Actors.{ActorState, root}
-use Rattle.sthread_life.specs.Children.{Children, fuel_given, is_child, child_name}
-use Rattle.sthread_life.specs.FamilyTrees.{Holds, AllBehind}
-use Rattle.sthread_life.specs.Local.{rest, has_ended}
+use Rattle.sthread_life.specs.Children.{Children, is_number, fuel_given, is_child, without_child, child_name}
+use Rattle.sthread_life.specs.FamilyTrees.{Holds, AllBehind, WaitsForOwn, Family}
+use Rattle.sthread_life.specs.Local.{has_ended}
 use Rattle.sthread_life.specs.Opening.{FileOpening}
 use Rattle.sthread_life.specs.Names.{IsNew, AreDistinct}
-use Rattle.sthread_life.specs.Taking.{making_want, starting_want, opening_want, wanted_at, ending_want}
-use Rattle.sthread_life.specs.Worlds.{WorldState, opening, actor_named, put_actor, Runs, is_ended}
+use Rattle.sthread_life.specs.Taking.{making_want, starting_want, opening_want, wanted, wanted_at, last_want, ending_want}
+use Rattle.sthread_life.specs.Worlds.{WorldState, opening, actor_named, put_actor, ready, at_rest, Runs, is_ended}
 use Rattle.sthread_life.proofs.FamilyKept.{found_apart}
 use Rattle.sthread_life.proofs.FamilyRuns.{run_family}
-use Rattle.sthread_life.proofs.FuelGiven.{number_self}
+use Rattle.sthread_life.proofs.FuelGiven.{number_is, number_self, given_elsewhere, given_gone}
 use Rattle.sthread_life.proofs.Meeting.{IsWanted, ReadsAs, LoadsAt}
 use Rattle.sthread_life.proofs.Named.{same_self}
-use Rattle.sthread_life.proofs.Settling.{named_ready, run_ready}
+use Rattle.sthread_life.proofs.Resting.{rest-uncalm}
+use Rattle.sthread_life.proofs.Settling.{AllReady, named_ready, run_ready}
 use Rattle.sthread_life.proofs.Trees.{apart_too}
-use Rattle.wedge_core.specs.Progress.{Progress, IsWaiting, opened}
+use Rattle.sthread_life.proofs.Turns.{Readies, Stays, Back, readies}
+use Rattle.wedge_core.specs.Progress.{Progress, Awaits, IsWaiting, opened}
 use Rattle.wedge_core.specs.Serial.{newest, live_names, IsSerial}
 use Rattle.wedge_core.specs.declared.serially.Live.{Live}
 use Rattle.wedge_core.proofs.AtRest.{unjoined_at_rest}
@@ -146,9 +148,16 @@ ended_in (y ∷ ys) m none there = by_name (same y.name m) refl (ended_in ys m)
 first_listed : (c : ℕ × ℕ) (cs : Children) → is_child (c ∷ cs) c.0 ≡ true
 first_listed c cs = ap (λ t. is_some (if t then Some c.1 else fuel_given cs c.0)) (number_self c.0)
 
-ending_listed : (cs : Children) (x : End) (k : ℕ) → ending_want cs x ≡ want.Join k → is_child cs k ≡ true
-ending_listed [] x k is = absurd cc
-ending_listed (c ∷ cs) x k is = let one : c.0 ≡ k = cc in subst (λ n. is_child (c ∷ cs) n ≡ true) one (first_listed c cs)
+of_either : {G : Type 0} (P : Option G → Type 0) → P None → ((g : G) → P (Some g)) → (o : Option G) → P o
+of_either P none some None = none
+of_either P none some (Some g) = some g
+
+last_joins : (b : ActorState) (x : End) (k : ℕ) → last_want b.run_of x ≡ want.Join k → ⊥
+last_joins b x k = of_either (λ o. last_want o x ≡ want.Join k → ⊥) (λ is. cc) (λ g is. cc) b.run_of
+
+ending_listed : (b : ActorState) (cs : Children) (x : End) (k : ℕ) → ending_want b.run_of cs x ≡ want.Join k → is_child cs k ≡ true
+ending_listed b [] x k is = absurd (last_joins b x k is)
+ending_listed b (c ∷ cs) x k is = let one : c.0 ≡ k = cc in subst (λ n. is_child (c ∷ cs) n ≡ true) one (first_listed c cs)
 
 starting_joins : (b : ActorState) (gs : List CopyGrant) (k : ℕ) → Some (starting_want b gs) ≡ Some (want.Join k) → ⊥
 starting_joins b [] k is = cc
@@ -169,27 +178,57 @@ waits_for i b (phase.Starting pre) k reads wants = absurd (starting_joins b pre.
 waits_for i b (phase.MakingGate pre) k reads wants = absurd (making_joins pre.left k wants)
 waits_for i b (phase.Opening slot tag) k reads wants = absurd cc
 waits_for i b (phase.Releasing slot) k reads wants = absurd cc
+waits_for i b (phase.Entering entrance) k reads wants = absurd cc
+waits_for i b (phase.Waiting number) k reads wants = absurd cc
 waits_for i b (phase.OpeningFile o) k reads wants = absurd (opening_joins o o.number k wants)
-waits_for i b (phase.Ending x) k reads wants = ending_listed b.unjoined x k cc
+waits_for i b (phase.Ending x) k reads wants = ending_listed b b.unjoined x k cc
 waits_for i b (phase.Ended x) k reads wants = absurd cc
 
--- the newest actor of a run wants to join no child that has not ended
+-- a child that is there once another is away was there before
+listed_before : (cs : Children) (j k : ℕ) → is_child (without_child cs j) k ≡ true → is_child cs k ≡ true
+listed_before cs j k listed = by_number (is_number j k) refl
+  where
+    by_number : (t : Bool) → is_number j k ≡ t → is_child cs k ≡ true
+    by_number true e = let is : j ≡ k = number_is j k e in absurd (true≢false (sym listed ∙ (ap (λ n. is_child (without_child cs j) n) (sym is) ∙ ap is_some (given_gone cs j))))
+    by_number false e = sym (ap is_some (given_elsewhere cs j k (λ is. true≢false (sym (subst (λ n. is_number j n ≡ true) (sym is) (number_self j)) ∙ e)))) ∙ listed
+
+-- what an actor at rest awaits is a child that is not joined
+awaits_own : (w : WorldState) (name : List ℕ) (a : ActorState) (k : ℕ) → AllReady w → Family w.actors → actor_named w.actors name ≡ Some a → Awaits (at_rest w a) k → is_child a.unjoined k ≡ true
+awaits_own w name a k all family named awaits = by_case (readies w.actors a) awaits
+  where
+    b : ActorState
+    b = at_rest w a
+
+    -- the children that it has at rest are those with which it goes on
+    listed : wanted b ≡ Some (want.Join k) → is_child (ready w.actors a).unjoined k ≡ true
+    listed wants = ap (λ cs. is_child cs k) (sym (unjoined_at_rest w.image (ready w.actors a))) ∙ waits_for w.image b b.phase k (named_ready w name a all named) wants
+
+    waited : (ready w.actors a).phase ≡ phase.Waiting k → a.phase ≡ phase.Waiting k → is_child a.unjoined k ≡ true
+    waited at is = subst (λ p. WaitsForOwn p a.unjoined) is (family.waits name a named)
+
+    uncalm : b.phase ≡ phase.Waiting k → (ready w.actors a).phase ≡ phase.Waiting k
+    uncalm at = rest-uncalm w.image (ready w.actors a) (phase.Waiting k) (λ h. h) at
+
+    by_case : Readies w.actors a → Awaits b k → is_child a.unjoined k ≡ true
+    by_case (Stays is) (inl wants) = ap (λ (x : ActorState). is_child x.unjoined k) (sym is) ∙ listed wants
+    by_case (Stays is) (inr at) = waited (uncalm at) (ap (λ (x : ActorState). x.phase) (sym is) ∙ uncalm at)
+    by_case (Back j at r is) (inl wants) = listed_before a.unjoined j k (ap (λ (x : ActorState). is_child x.unjoined k) (sym is) ∙ listed wants)
+    by_case (Back j at r is) (inr waits) = let f : phase.Running ≡ phase.Waiting k = ap (λ (x : ActorState). x.phase) (sym is) ∙ uncalm waits in absurd cc
+
+-- the newest actor of a run awaits no child and no run that has not ended
 pub newest_waits_not : (i : Image) (turns : List Turn) (w : WorldState) (a : ActorState) (name : List ℕ) → Runs (opening i) turns w → IsNewest w.actors a → a.name ≡ name → IsWaiting w name → ⊥
 newest_waits_not i turns w a name run n own s =
     let family = run_family i turns w run in
-    let ready = named_ready w name s.actor (run_ready i turns w run) s.named in
     let all : AreDistinct (n.before ++ a ∷ n.behind) = subst AreDistinct n.is family.distinct in
     let there : actor_named w.actors a.name ≡ Some a = ap (λ as_. actor_named as_ a.name) n.is ∙ named_in n.before n.behind a all in
     let same_one : s.actor ≡ a = one_of (sym s.named ∙ (ap (actor_named w.actors) (sym own) ∙ there)) in
-    let b = rest w.image s.actor in
-    let listed : is_child b.unjoined s.child ≡ true = waits_for w.image b b.phase s.child ready s.wants in
-    let here : is_child a.unjoined s.child ≡ true = ap (λ cs. is_child cs s.child) (ap (λ (x : ActorState). x.unjoined) (sym same_one) ∙ sym (unjoined_at_rest w.image s.actor)) ∙ listed in
-    let given = is_given (fuel_given a.unjoined s.child) here in
-    let holds = behind_in n.before n.behind a s.child given.0 (subst AllBehind n.is family.behind) given.1 in
-    let m = child_name a.name s.child in
+    let here : is_child a.unjoined s.number ≡ true = ap (λ (x : ActorState). is_child x.unjoined s.number) (sym same_one) ∙ awaits_own w name s.actor s.number (run_ready i turns w run) family s.named s.awaits in
+    let given = is_given (fuel_given a.unjoined s.number) here in
+    let holds = behind_in n.before n.behind a s.number given.0 (subst AllBehind n.is family.behind) given.1 in
+    let m = child_name a.name s.number in
     let ended : is_ended (actor_named n.behind m) ≡ true = ended_in n.behind m n.others (there_of (actor_named n.behind m) given.0 holds) in
     let whole : is_ended (actor_named w.actors m) ≡ true = ap (λ as_. is_ended (actor_named as_ m)) n.is ∙ (ap is_ended (found_in n.before n.behind a m given.0 all holds) ∙ ended) in
-    let not_so : is_ended (actor_named w.actors m) ≡ false = ap (λ l. is_ended (actor_named w.actors (child_name l s.child))) own ∙ s.not_ended in
+    let not_so : is_ended (actor_named w.actors m) ≡ false = ap (λ l. is_ended (actor_named w.actors (child_name l s.number))) own ∙ s.not_ended in
     true≢false (sym whole ∙ not_so)
   where
     one_of : {x y : ActorState} → Some x ≡ Some y → x ≡ y

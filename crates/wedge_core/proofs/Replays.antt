@@ -1,5 +1,5 @@
 -- What a schedule replays to.
-use Rattle.std.proofs.Common.{◌≡◌, ℕ, zero, suc, ◌+◌, ◌<◌, ◌≤◌, Bool, true, false, List, [], ◌∷◌, ◌++◌, length, get_or, take, drop, refl, sym, ap, subst, ◌∙◌, arith}
+use Rattle.std.proofs.Common.{◌≡◌, ℕ, zero, suc, ◌+◌, ◌<◌, ◌≤◌, Bool, true, false, true≢false, List, [], ◌∷◌, ◌++◌, length, get_or, take, drop, refl, sym, ap, subst, ◌∙◌, arith, inl, inr}
 use Rattle.std.specs.Prelude.{Option, Some, None, option_map, Ok, Err, IsSomeAnd, if◌then◌else◌}
 use Rattle.std.proofs.lemmas.List.{map-append}
 use Rattle.wedge_base.specs.Images.{Image}
@@ -8,14 +8,15 @@ use Rattle.wedge_base.specs.declared.events.Want.TheVariants as want
 use Rattle.wedge_base.specs.declared.events.Event.{Event}
 use Rattle.wedge_base.specs.declared.events.Event.TheVariants as event
 use Rattle.wedge_base.specs.declared.events.Turn.{Turn}
+use Rattle.wedge_base.specs.declared.rights.End.{End}
 use Rattle.sthread_life.specs.Actors.{ActorState}
-use Rattle.sthread_life.specs.Local.{has_ended, end_reached, rest}
+use Rattle.sthread_life.specs.Local.{has_ended}
 use Rattle.sthread_life.specs.Moments.{EachStep}
 use Rattle.sthread_life.specs.Children.{child_name}
 use Rattle.sthread_life.specs.Taking.{wanted, wanted_at}
 use Rattle.sthread_life.specs.declared.phase.Phase.{Phase}
 use Rattle.sthread_life.specs.declared.phase.Phase.TheVariants as phase
-use Rattle.sthread_life.specs.Worlds.{WorldState, Taken, opening, actor_named, is_ended, join_event, event_at, happened, wanting, turn_with, turn_of, Runs, is_whole}
+use Rattle.sthread_life.specs.Worlds.{WorldState, Taken, opening, actor_named, is_ended, join_event, event_at, happened, wanting, turn_with, turn_of, resumed, at_rest, Runs, is_whole}
 use Rattle.sthread_life.proofs.FamilyRuns.{fuel_kept}
 use Rattle.sthread_life.proofs.BoundedGates.{root_bounds}
 use Rattle.sthread_life.proofs.GrantedCopies.{copies_granted}
@@ -24,11 +25,12 @@ use Rattle.sthread_life.proofs.OccupiedRuns.{slots_occupied}
 use Rattle.sthread_life.proofs.Mediating.{moments_lawful}
 use Rattle.sthread_life.proofs.Writing.{runs_write_their_own}
 use Rattle.sthread_life.proofs.Named.{found_name}
-use Rattle.sthread_life.proofs.Resting.{ended-stays, rest-name}
+use Rattle.sthread_life.proofs.Settling.{at_rest-name, at_rest-ended, at_rest-stays, resumed_event}
 use Rattle.wedge_core.specs.declared.error.Why.TheVariants as why
-use Rattle.wedge_core.specs.Progress.{Progress, IsTurn, HasEnded, IsWaiting}
+use Rattle.wedge_core.specs.Progress.{Progress, IsTurn, HasEnded, Awaits, IsWaiting}
 use Rattle.wedge_core.specs.Serial.{IsCompleteRun, RootGoesOn}
 use Rattle.wedge_core.specs.Replay.{why_of, why_none, replayed, names_of, Follows, CompleteRunsReplay, ReplaysAreComplete, JournalsReplay}
+use Rattle.wedge_core.proofs.AtRest.{none_with}
 use Rattle.wedge_core.proofs.Runs.{Runs-push}
 
 -- ---- one name
@@ -75,16 +77,15 @@ ended_wants a (phase.Starting pre) e = cc
 ended_wants a (phase.MakingGate pre) e = cc
 ended_wants a (phase.Opening slot tag) e = cc
 ended_wants a (phase.Releasing slot) e = cc
+ended_wants a (phase.Entering entrance) e = cc
+ended_wants a (phase.Waiting number) e = cc
 ended_wants a (phase.OpeningFile o) e = cc
 ended_wants a (phase.Ending x) e = cc
 ended_wants a (phase.Ended x) e = refl
 
-pub ended_rest_wants : (i : Image) (a : ActorState) → has_ended a.phase ≡ true → wanted (rest i a) ≡ None
-ended_rest_wants i a e = ap (λ (x : ActorState). wanted x) (ended-stays i a e) ∙ ended_wants a a.phase e
-
 ended_turn : (w : WorldState) (o : Option ActorState) → IsSomeAnd o (λ (a : ActorState). has_ended a.phase ≡ true) → turn_with w o ≡ None
 ended_turn w None h = absurd h
-ended_turn w (Some a) h = ap (λ (x : ActorState). wanting w x (wanted x)) (ended-stays w.image a h) ∙ ap (wanting w a) (ap (λ (x : ActorState). wanted x) (sym (ended-stays w.image a h)) ∙ ended_rest_wants w.image a h)
+ended_turn w (Some a) h = ap (λ (x : ActorState). wanting (resumed w a) x (wanted x)) (at_rest-stays w a h) ∙ ap (wanting (resumed w a) a) (ended_wants a a.phase h)
 
 ended_why : (o : Option ActorState) → IsSomeAnd o (λ (a : ActorState). has_ended a.phase ≡ true) → why_of o ≡ why.Ended
 ended_why None h = absurd h
@@ -98,37 +99,40 @@ pub replayed_ended : (w : WorldState) (at : ℕ) (name : List ℕ) (names : List
     → replayed w at (name ∷ names) ≡ Err (at, why.Ended)
 replayed_ended w at name names going h = replayed_none w at name names going (has_ended_turn w name h) ∙ ap (λ y. Err (at, y)) (ended_why (actor_named w.actors name) h)
 
--- an actor that waits for a child
+-- an actor that waits for a child, or for the run of a gate
 no_event : (k : ℕ) (o : Option ActorState) → is_ended o ≡ false → join_event k o ≡ None
-no_event k None e = refl
-no_event k (Some c) e = by_phase c.phase e
-  where
-    by_phase : (p : Phase) → has_ended p ≡ false → option_map (λ x. event.Join k x c.fuel) (end_reached p) ≡ None
-    by_phase phase.Running e = refl
-    by_phase (phase.Within q) e = refl
-    by_phase (phase.Starting pre) e = refl
-    by_phase (phase.MakingGate pre) e = refl
-    by_phase (phase.Opening slot tag) e = refl
-    by_phase (phase.Releasing slot) e = refl
-    by_phase (phase.OpeningFile o) e = refl
-    by_phase (phase.Ending x) e = refl
-    by_phase (phase.Ended x) e = absurd cc
+no_event k o e = ap (option_map (λ (x : End × ℕ). event.Join k x.0 x.1)) (none_with o e)
 
 pub waiting_turn : (w : WorldState) (name : List ℕ) → IsWaiting w name → turn_of w name ≡ None
 unfolding turn_of
-waiting_turn w name s =
-    let b = rest w.image s.actor in
-    let own : b.name ≡ name = rest-name w.image s.actor ∙ found_name w.actors name s.actor s.named in
-    let none : event_at w b (want.Join s.child) ≡ None = ap (λ n. join_event s.child (actor_named w.actors (child_name n s.child))) own ∙ no_event s.child (actor_named w.actors (child_name name s.child)) s.not_ended in
-    ap (turn_with w) s.named ∙ ap (wanting w b) s.wants ∙ ap (option_map (happened w b)) none
+waiting_turn w name s = ap (turn_with w) s.named ∙ by_case s.awaits
+  where
+    b : ActorState
+    b = at_rest w s.actor
+
+    v : WorldState
+    v = resumed w s.actor
+
+    by_case : Awaits b s.number → wanting v b (wanted b) ≡ None
+    by_case (inl wants) =
+        let own : b.name ≡ name = at_rest-name w s.actor ∙ found_name w.actors name s.actor s.named in
+        let there : actor_named w.actors s.actor.name ≡ Some s.actor = ap (actor_named w.actors) (found_name w.actors name s.actor s.named) ∙ s.named in
+        let none : event_at v b (want.Join s.number) ≡ None = resumed_event w s.actor b (want.Join s.number) there
+        ∙ (ap (λ n. join_event s.number (actor_named w.actors (child_name n s.number))) own ∙ no_event s.number (actor_named w.actors (child_name name s.number)) s.not_ended) in
+        ap (wanting v b) wants ∙ ap (option_map (happened v b)) none
+    by_case (inr at) = ap (λ p. wanting v b (wanted_at b p)) at
 
 -- it has not ended
 pub waiting_lives : (w : WorldState) (name : List ℕ) (s : IsWaiting w name) → has_ended s.actor.phase ≡ false
-waiting_lives w name s = by_end (has_ended s.actor.phase) refl
+waiting_lives w name s = by_end (has_ended s.actor.phase) refl s.awaits
   where
-    by_end : (t : Bool) → has_ended s.actor.phase ≡ t → has_ended s.actor.phase ≡ false
-    by_end false e = e
-    by_end true e = let none = sym (ended_rest_wants w.image s.actor e) ∙ s.wants in absurd cc
+    by_end : (t : Bool) → has_ended s.actor.phase ≡ t → Awaits (at_rest w s.actor) s.number → has_ended s.actor.phase ≡ false
+    by_end false e h = e
+    by_end true e (inl wants) =
+        let none : wanted (at_rest w s.actor) ≡ None = ap (λ (x : ActorState). wanted x) (at_rest-stays w s.actor e) ∙ ended_wants s.actor s.actor.phase e in
+        let f : Some (want.Join s.number) ≡ None = sym wants ∙ none in
+        absurd cc
+    by_end true e (inr at) = absurd (true≢false (sym e ∙ (sym (at_rest-ended w s.actor) ∙ ap has_ended at)))
 
 pub replayed_waits : (w : WorldState) (at : ℕ) (name : List ℕ) (names : List (List ℕ)) → is_whole w ≡ false → IsWaiting w name
     → replayed w at (name ∷ names) ≡ Err (at, why.Waits)

@@ -7,20 +7,23 @@ use Rattle.wedge_base.specs.Names.{same, root_name}
 use Rattle.wedge_base.specs.declared.events.Event.{Event}
 use Rattle.wedge_base.specs.declared.events.Event.TheVariants as event
 use Rattle.wedge_base.specs.declared.events.Turn.{Turn}
+use Rattle.sthread_life.specs.declared.phase.Phase.{Phase}
+use Rattle.sthread_life.specs.declared.phase.Phase.TheVariants as phase
 use Rattle.sthread_life.specs.Actors.{ActorState}
 use Rattle.sthread_life.specs.Fuel.{work_left}
 use Rattle.sthread_life.specs.Local.{rest, has_ended}
 use Rattle.sthread_life.specs.Names.{IsNew, AreDistinct}
-use Rattle.sthread_life.specs.Taking.{takes, begun, child_of}
-use Rattle.sthread_life.specs.Worlds.{WorldState, opening, actor_named, put_actor, with_begun, Runs, is_ended, is_whole}
-use Rattle.sthread_life.proofs.Between.{takes_name, turn_parts}
+use Rattle.sthread_life.specs.Taking.{takes, begun, child_of, has_entered, run_by, run_at}
+use Rattle.sthread_life.specs.Worlds.{WorldState, opening, actor_named, put_actor, with_begun, ready, resumed, Runs, is_ended, is_whole}
+use Rattle.sthread_life.proofs.Between.{takes_name}
 use Rattle.sthread_life.proofs.FamilyRuns.{run_family}
-use Rattle.sthread_life.proofs.Named.{same_self, same_equal, found_name}
+use Rattle.sthread_life.proofs.Named.{same_self, same_equal, found_name, put_put}
 use Rattle.sthread_life.proofs.Resting.{rest-name}
 use Rattle.sthread_life.proofs.Settling.{run_ready}
 use Rattle.sthread_life.proofs.Trees.{apart_too}
+use Rattle.sthread_life.proofs.Turns.{ready_name, turn_from}
 use Rattle.sthread_life.proofs.WorkLeft.{turn_works}
-use Rattle.wedge_core.specs.Progress.{Progress, IsFound, IsPlaceOf, IsWaiting, GoesOnBy, HasEnded}
+use Rattle.wedge_core.specs.Progress.{Progress, IsFound, IsPlaceOf, IsTurn, IsWaiting, GoesOnBy, HasEnded}
 use Rattle.wedge_core.specs.Serial.{newest, live_names, InSerialOrder, RootGoesOn, RootIsFirst, ArePlaced, names_in, IsSerial, LivesAfter}
 use Rattle.wedge_core.specs.Places.{place_in}
 use Rattle.wedge_core.specs.declared.serially.Live.{Live}
@@ -124,10 +127,39 @@ newest_goes_on i p live name s n waits = absurd (newest_waits_not i p.turns p.st
 -- ---- what its turn leaves
 
 -- an event that begins an actor leaves both alive
+run_alive : (b : ActorState) (run : List ℕ) (c : ActorState) (p : Phase) → run_at b run p ≡ Some c → (has_ended c.phase ≡ false) × (has_ended (has_entered b p).phase ≡ false)
+run_alive b run c (phase.Entering x) is = let same_one : run_by b run x ≡ c = cc in (ap (λ (y : ActorState). has_ended y.phase) (sym same_one), refl)
+run_alive b run c p is = absurd cc
+
 begins_alive : (i : Image) (b : ActorState) (e : Event) (c : ActorState) → begun i b e ≡ Some c → (has_ended c.phase ≡ false) × (has_ended (takes i b e).phase ≡ false)
 unfolding takes
 begins_alive i b (event.Start child) c is = let same_one : child_of i b child ≡ c = cc in (ap (λ (x : ActorState). has_ended x.phase) (sym same_one), refl)
+begins_alive i b (event.Enter run) c is = run_alive b run c b.phase is
 begins_alive i b e c is = absurd cc
+
+-- the actor whose turn it was, and the one that began
+record After (w : WorldState) (name : List ℕ) (new : WorldState) : Type 0 where
+  after : ActorState
+  begins : Option ActorState
+  own : after.name ≡ name
+  alive : (c : ActorState) → begins ≡ Some c → (has_ended c.phase ≡ false) × (has_ended after.phase ≡ false)
+  are : new.actors ≡ with_begun (put_actor w.actors after) begins
+
+turn_leaves : (w : WorldState) (name : List ℕ) (e : Event) (new : WorldState) → IsTurn w name e new → After w name new
+turn_leaves w name e new turn =
+    let t = turn_from w name e new turn in
+    let i = w.image in
+    let a = ready w.actors t.actor in
+    let b = rest i t.parts.actor in
+    let own : (takes i b e).name ≡ name = takes_name i b e ∙ (rest-name i t.parts.actor ∙ found_name (resumed w t.actor).actors name t.parts.actor t.parts.named) in
+    let was : a.name ≡ name = ready_name w.actors t.actor ∙ found_name w.actors name t.actor t.named in
+    record {
+      after = takes i b e;
+      begins = begun i b e;
+      own = own;
+      alive = begins_alive i b e;
+      are = ap (λ (x : WorldState). x.actors) t.parts.new_is ∙ ap (λ as_. with_begun as_ (begun i b e)) (put_put w.actors a (takes i b e) (own ∙ sym was));
+    }
 
 record Left (p : Progress) (name : List ℕ) (n : Newest p name) (q : Progress) : Type 0 where
   after : ActorState
@@ -139,17 +171,14 @@ record Left (p : Progress) (name : List ℕ) (n : Newest p name) (q : Progress) 
 
 left : (p : Progress) (name : List ℕ) (n : Newest p name) (q : Progress) → GoesOnBy p name q → Left p name n q
 left p name n q g =
-    let t = turn_parts p.state name g.event q.state g.turn in
-    let i = p.state.image in
-    let b = rest i t.actor in
-    let own : (takes i b g.event).name ≡ name = takes_name i b g.event ∙ (rest-name i t.actor ∙ found_name p.state.actors name t.actor t.named) in
+    let t = turn_leaves p.state name g.event q.state g.turn in
     record {
-      after = takes i b g.event;
-      begins = begun i b g.event;
-      own = own;
-      alive = begins_alive i b g.event;
-      put = ap (λ as_. put_actor as_ (takes i b g.event)) n.is_newest.is ∙ put_in n.is_newest.before n.is_newest.behind n.actor (takes i b g.event) n.distinct (own ∙ sym n.own);
-      are = ap (λ (w : WorldState). w.actors) t.new_is;
+      after = t.after;
+      begins = t.begins;
+      own = t.own;
+      alive = t.alive;
+      put = ap (λ as_. put_actor as_ t.after) n.is_newest.is ∙ put_in n.is_newest.before n.is_newest.behind n.actor t.after n.distinct (t.own ∙ sym n.own);
+      are = t.are;
     }
 
 -- the names of those that live then
@@ -400,15 +429,11 @@ serial_less i p q live name s g = turn_works p.state name g.event q.state (run_r
 -- an actor begun stands at the end
 pub place_still : (p q : Progress) (name : List ℕ) (place : ℕ) → IsPlaceOf p.state.actors name place → GoesOnBy p name q → place < length q.state.actors
 place_still p q name place at g =
-    let t = turn_parts p.state name g.event q.state g.turn in
-    let i = p.state.image in
-    let b = rest i t.actor in
-    let x = takes i b g.event in
-    let own : x.name ≡ name = takes_name i b g.event ∙ (rest-name i t.actor ∙ found_name p.state.actors name t.actor t.named) in
-    let count : length (put_actor p.state.actors x) ≡ length p.state.actors = ap length (at.1.put x own) ∙ set_length p.state.actors place x in
-    let are : length q.state.actors ≡ length (with_begun (put_actor p.state.actors x) (begun i b g.event)) = ap (λ (w : WorldState). length w.actors) t.new_is in
+    let t = turn_leaves p.state name g.event q.state g.turn in
+    let count : length (put_actor p.state.actors t.after) ≡ length p.state.actors = ap length (at.1.put t.after t.own) ∙ set_length p.state.actors place t.after in
+    let are : length q.state.actors ≡ length (with_begun (put_actor p.state.actors t.after) t.begins) = ap length t.are in
     let inside = at.1.inside in
-    let more = longer (put_actor p.state.actors x) (begun i b g.event) in
+    let more = longer (put_actor p.state.actors t.after) t.begins in
     omega (arith, count, are, inside, more)
   where
     longer : (as_ : List ActorState) (o : Option ActorState) → length as_ ≤ length (with_begun as_ o)

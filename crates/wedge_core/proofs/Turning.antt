@@ -1,6 +1,6 @@
 -- What makes a turn.
-use Rattle.std.proofs.Common.{◌≡◌, ℕ, zero, suc, ◌<◌, Bool, true, false, List, [], ◌∷◌, ◌++◌, length, map, get_or, refl, sym, ap, subst, ◌∙◌, arith}
-use Rattle.std.specs.Prelude.{Option, Some, None, IsSomeAnd, option_map, slice_get, slice_set, if◌then◌else◌}
+use Rattle.std.proofs.Common.{◌≡◌, ℕ, zero, suc, ◌<◌, Bool, true, false, List, [], ◌∷◌, ◌++◌, length, get_or, refl, sym, ap, subst, ◌∙◌, arith, inr}
+use Rattle.std.specs.Prelude.{Option, Some, None, IsSomeAnd, option_map, slice_get, slice_set, is_some}
 use Rattle.wedge_base.specs.Images.{Image}
 use Rattle.wedge_base.specs.Names.{same}
 use Rattle.wedge_base.specs.declared.events.Want.{Want}
@@ -8,40 +8,53 @@ use Rattle.wedge_base.specs.declared.events.Event.{Event}
 use Rattle.wedge_base.specs.declared.events.LogEntry.{LogEntry}
 use Rattle.wedge_base.specs.declared.events.Turn.{Turn}
 use Rattle.sthread_life.specs.Actors.{ActorState}
-use Rattle.sthread_life.specs.Local.{rest, has_ended}
+use Rattle.sthread_life.specs.Local.{rest, has_ended, is_running}
 use Rattle.sthread_life.specs.Taking.{wanted, takes, begun}
 use Rattle.sthread_life.specs.Cells.{Cells, cells_after}
-use Rattle.sthread_life.specs.Worlds.{WorldState, opening, actor_named, put_actor, settled, with_begun, event_at, happened, wanting, turn_with, turn_of}
+use Rattle.sthread_life.specs.Worlds.{WorldState, opening, actor_named, put_actor, settled, with_begun, event_at, happened, wanting, turn_with, turn_of, turn_in, is_ended, ended_with, resumes, ready_at, ready, resumed}
 use Rattle.sthread_life.proofs.Between.{takes_name}
-use Rattle.sthread_life.proofs.Named.{found_name}
-use Rattle.sthread_life.proofs.Resting.{rest-name, rest_rest}
-use Rattle.sthread_life.proofs.Settling.{settled_event, turns_alike}
-use Rattle.wedge_core.specs.Progress.{IsRun, IsTurn, HasEnded, IsFound, IsPlaceOf, state_of, rested, rested_in}
-use Rattle.wedge_core.specs.Turning.{event_asked, IsOfCell, IsDoneAt}
+use Rattle.sthread_life.proofs.Named.{found_name, named_put, put_put}
+use Rattle.sthread_life.proofs.Resting.{rest-name, rest-stays}
+use Rattle.sthread_life.proofs.Settling.{EndAlike, turns_alike, put_ends, ends_event, resumed_ends, rests_settled}
+use Rattle.wedge_core.specs.Progress.{IsRun, IsTurn, HasEnded, IsFound, IsPlaceOf, Awaits, state_of, rested, rested_in}
+use Rattle.wedge_core.specs.Turning.{event_asked, IsOfCell, StillWaits, IsDoneAt, HasWaited}
 use Rattle.wedge_core.proofs.Fitting.{asked_is, begins_none}
 use Rattle.wedge_core.proofs.Places.{get_at}
 use Rattle.wedge_core.proofs.Runs.{Runs-push}
+use Rattle.sthread_life.specs.Children.{child_name}
+use Rattle.sthread_life.proofs.Turns.{ready_else, ready_named}
+use Rattle.sthread_life.proofs.Trees.{put_same}
+use Rattle.sthread_life.proofs.Waits.{IsAwake}
+use Rattle.wedge_core.proofs.AtRest.{ended_is, none_with, rest_end}
+
+-- an actor that waits for no run takes a turn as it is
+awake_turn : (w : WorldState) (a : ActorState) → actor_named w.actors a.name ≡ Some a → IsAwake a.phase → turn_with w (Some a) ≡ turn_in w a
+awake_turn w a there awake =
+    ap (λ x. turn_in (record w { actors = put_actor w.actors x }) x) (ready_else w.actors a awake) ∙ ap (λ as_. turn_in (record w { actors = as_ }) a) (put_same w.actors a there)
+
+pub own_there : (actors : List ActorState) (name : List ℕ) (a : ActorState) → actor_named actors name ≡ Some a → actor_named actors a.name ≡ Some a
+own_there actors name a named = ap (actor_named actors) (found_name actors name a named) ∙ named
 
 pub is_turn : (i : Image) (cells after : Cells) (actors new : List ActorState) (name : List ℕ) (a : ActorState) (q : Want) (e : Event)
-    → actor_named actors name ≡ Some a → wanted (rest i a) ≡ Some q → event_at (state_of i cells actors) (rest i a) q ≡ Some e → after ≡ cells_after cells e
+    → actor_named actors name ≡ Some a → IsAwake a.phase → wanted (rest i a) ≡ Some q → event_at (state_of i cells actors) (rest i a) q ≡ Some e → after ≡ cells_after cells e
     → new ≡ with_begun (put_actor actors (takes i (rest i a) e)) (begun i (rest i a) e)
     → IsTurn (state_of i cells actors) name e (state_of i after new)
 unfolding turn_of
-is_turn i cells after actors new name a q e named wants comes after_is new_is =
+is_turn i cells after actors new name a q e named awake wants comes after_is new_is =
     let w = state_of i cells actors in
     let b = rest i a in
-    ap (turn_with w) named ∙ ap (wanting w b) wants ∙ ap (option_map (happened w b)) comes
-    ∙ ap (λ (c : Cells). Some (record { event = e; world = state_of i c (with_begun (put_actor actors (takes i b e)) (begun i b e)) })) (sym after_is)
-    ∙ ap (λ (as_ : List ActorState). Some (record { event = e; world = state_of i after as_ })) (sym new_is)
+    ap (turn_with w) named ∙ (awake_turn w a (own_there actors name a named) awake ∙ (ap (wanting w b) wants ∙ (ap (option_map (happened w b)) comes
+    ∙ (ap (λ (c : Cells). Some (record { event = e; world = state_of i c (with_begun (put_actor actors (takes i b e)) (begun i b e)) })) (sym after_is)
+    ∙ ap (λ (as_ : List ActorState). Some (record { event = e; world = state_of i after as_ })) (sym new_is)))))
 
 -- an event of a cell makes a turn
 pub cell_turn : (i : Image) (cells after : Cells) (actors : List ActorState) (place : ℕ) (name : List ℕ) (a new : ActorState) (q : Want) (e : Event)
-    → IsFound actors name place a → wanted (rest i a) ≡ Some q → IsOfCell q → event_asked cells (rest i a) q ≡ Some e → after ≡ cells_after cells e → new ≡ takes i (rest i a) e → new.name ≡ name
+    → IsFound actors name place a → IsAwake a.phase → wanted (rest i a) ≡ Some q → IsOfCell q → event_asked cells (rest i a) q ≡ Some e → after ≡ cells_after cells e → new ≡ takes i (rest i a) e → new.name ≡ name
     → IsTurn (state_of i cells actors) name e (state_of i after (slice_set actors place new))
-cell_turn i cells after actors place name a new q e found wants of_cell comes after_is new_is own =
+cell_turn i cells after actors place name a new q e found awake wants of_cell comes after_is new_is own =
     let w = state_of i cells actors in
     let b = rest i a in
-    is_turn i cells after actors (slice_set actors place new) name a q e found.named wants (asked_is w b q of_cell ∙ comes) after_is
+    is_turn i cells after actors (slice_set actors place new) name a q e found.named awake wants (asked_is w b q of_cell ∙ comes) after_is
     (sym (found.put new own) ∙ (ap (put_actor actors) new_is ∙ ap (with_begun (put_actor actors (takes i b e))) (sym (begins_none i cells b q e of_cell comes))))
 
 -- ---- an actor that has come to rest, in its place
@@ -61,30 +74,38 @@ set_length [] n x = refl
 set_length (y ∷ ys) zero x = refl
 set_length (y ∷ ys) (suc n) x = ap suc (set_length ys n x)
 
-pub set_rest : (i : Image) (actors : List ActorState) (place : ℕ) (a : ActorState) → slice_get actors place ≡ Some a → map (rest i) (slice_set actors place (rest i a)) ≡ map (rest i) actors
-set_rest i [] place a there = refl
-set_rest i (y ∷ ys) zero a there = let is : y ≡ a = cc in ap (λ z. z ∷ map (rest i) ys) (rest_rest i a ∙ ap (rest i) (sym is))
-set_rest i (y ∷ ys) (suc n) a there = ap (λ zs. rest i y ∷ zs) (set_rest i ys n a there)
+-- one that is put in its place is found there
+pub found_set : (actors : List ActorState) (name : List ℕ) (place : ℕ) (a x : ActorState) → IsFound actors name place a → x.name ≡ name → IsFound (slice_set actors place x) name place x
+found_set actors name place a x found own =
+    let put = found.put x own in
+    let there : actor_named actors x.name ≡ Some a = ap (actor_named actors) own ∙ found.named in
+    record {
+      inside = subst (λ n. place < n) (sym (set_length actors place x)) found.inside;
+      there = set_get actors place x found.inside;
+      named = ap (λ as_. actor_named as_ name) (sym put) ∙ (ap (actor_named (put_actor actors x)) (sym own) ∙ named_put actors x a there);
+      put = λ new same_name. ap (λ as_. put_actor as_ new) (sym put) ∙ (put_put actors x new (same_name ∙ sym own) ∙ (found.put new same_name ∙ sym (set_set actors place x new)));
+    }
 
--- what it comes to is the same before and after
-pub rested_event : (i : Image) (c : Cells) (actors : List ActorState) (place : ℕ) (a b : ActorState) (q : Want) → slice_get actors place ≡ Some a
+-- what another comes to is the same before and after
+pub rested_event : (i : Image) (c : Cells) (actors : List ActorState) (name : List ℕ) (place : ℕ) (a b : ActorState) (q : Want) → IsFound actors name place a
     → event_at (state_of i c (slice_set actors place (rest i a))) b q ≡ event_at (state_of i c actors) b q
-rested_event i c actors place a b q there =
-    let mid = slice_set actors place (rest i a) in
-    sym (settled_event (state_of i c mid) b q) ∙ (ap (λ as_. event_at (state_of i c as_) b q) (set_rest i actors place a there) ∙ settled_event (state_of i c actors) b q)
+rested_event i c actors name place a b q found =
+    let own : (rest i a).name ≡ name = rest-name i a ∙ found_name actors name a found.named in
+    ap (λ as_. event_at (state_of i c as_) b q) (sym (found.put (rest i a) own))
+    ∙ ends_event (state_of i c (put_actor actors (rest i a))) (state_of i c actors) b q refl (put_ends actors a (rest i a) (own_there actors name a found.named) (rest-name i a) (rest_end i a))
 
--- a start or a join makes a turn
+-- what is of actors alone makes a turn
 pub family_turn : (i : Image) (cells : Cells) (actors new : List ActorState) (place : ℕ) (name : List ℕ) (a : ActorState) (q : Want) (entries new_entries : List LogEntry)
-    → IsFound actors name place a → wanted (rest i a) ≡ Some q → (d : IsDoneAt i (slice_set actors place (rest i a)) place q entries name new new_entries)
+    → IsFound actors name place a → IsAwake a.phase → wanted (rest i a) ≡ Some q → (d : IsDoneAt i (slice_set actors place (rest i a)) place q entries name new new_entries)
     → IsTurn (state_of i cells actors) name d.event (state_of i cells new)
-family_turn i cells actors new place name a q entries new_entries found wants d =
+family_turn i cells actors new place name a q entries new_entries found awake wants d =
     let b = rest i a in
     let is : d.actor ≡ b = one_of (sym d.there ∙ set_get actors place b found.inside) in
     let e = d.event in
     let own : (takes i b e).name ≡ name = takes_name i b e ∙ (rest-name i a ∙ found_name actors name a found.named) in
     let put : put_actor actors (takes i b e) ≡ slice_set actors place (takes i b e) = found.put (takes i b e) own in
-    is_turn i cells cells actors new name a q e found.named wants
-    (sym (rested_event i cells actors place a b q found.there) ∙ (ap (λ x. event_at (state_of i cells (slice_set actors place b)) x q) (sym is) ∙ d.comes cells))
+    is_turn i cells cells actors new name a q e found.named awake wants
+    (sym (rested_event i cells actors name place a b q found) ∙ (ap (λ x. event_at (state_of i cells (slice_set actors place b)) x q) (sym is) ∙ d.comes cells))
     (sym (d.cells_stay cells))
     (d.new_is ∙ (ap (λ x. with_begun (slice_set (slice_set actors place b) place (takes i x e)) (begun i x e)) is
     ∙ ap (λ as_. with_begun as_ (begun i b e)) (set_set actors place b (takes i b e) ∙ sym put)))
@@ -133,28 +154,70 @@ found_through items actors name place a same at value =
     found_at items name place a here (get_at items place a here.1.inside value)
 
 -- a world in which one actor is put at rest differs in local events alone
-put_rested : (i : Image) (actors : List ActorState) (name : List ℕ) (a : ActorState) → actor_named actors name ≡ Some a → map (rest i) (put_actor actors (rest i a)) ≡ map (rest i) actors
-put_rested i [] name a named = cc
-put_rested i (y ∷ ys) name a named = by_name (same y.name name) refl named (λ others. put_rested i ys name a others)
-  where
-    is_own : a.name ≡ name
-    is_own = found_name (y ∷ ys) name a named
-
-    at : (t : Bool) → same y.name name ≡ t → same y.name (rest i a).name ≡ t
-    at t e = ap (same y.name) (rest-name i a ∙ is_own) ∙ e
-
-    by_name : (t : Bool) → same y.name name ≡ t → (if t then Some y else actor_named ys name) ≡ Some a → (actor_named ys name ≡ Some a → map (rest i) (put_actor ys (rest i a)) ≡ map (rest i) ys)
-        → map (rest i) (put_actor (y ∷ ys) (rest i a)) ≡ map (rest i) (y ∷ ys)
-    by_name true e is others =
-        let one : y ≡ a = cc in
-        ap (λ t. map (rest i) (if t then rest i a ∷ ys else y ∷ put_actor ys (rest i a))) (at true e) ∙ ap (λ z. z ∷ map (rest i) ys) (rest_rest i a ∙ ap (rest i) (sym one))
-    by_name false e is others =
-        ap (λ t. map (rest i) (if t then rest i a ∷ ys else y ∷ put_actor ys (rest i a))) (at false e) ∙ ap (λ zs. rest i y ∷ zs) (others is)
-
 pub rested_settled : (w : WorldState) (name : List ℕ) (a : ActorState) → actor_named w.actors name ≡ Some a → settled (rested w name) ≡ settled w
 rested_settled w name a named =
-    ap (λ o. settled (record w { actors = rested_in w.image w.actors o })) named
-    ∙ ap (λ as_. record { image = w.image; cells = w.cells; actors = as_ }) (put_rested w.image w.actors name a named)
+    ap (λ o. settled (record w { actors = rested_in w.image w.actors o })) named ∙ rests_settled w a (own_there w.actors name a named)
+
+-- ---- an actor that has gone on
+-- its turn is that of the actor before it went on
+pub goes_turn : (i : Image) (cells : Cells) (actors : List ActorState) (name : List ℕ) (a : ActorState) (e : Event) (new : WorldState) → actor_named actors name ≡ Some a → IsAwake (ready actors a).phase
+    → IsTurn (state_of i cells (put_actor actors (ready actors a))) name e new → IsTurn (state_of i cells actors) name e new
+unfolding turn_of
+goes_turn i cells actors name a e new named awake turn =
+    let w = state_of i cells actors in
+    let b = ready actors a in
+    let here = ready_named w name a named in
+    ap (turn_with w) named ∙ (sym (ap (turn_with (resumed w a)) here ∙ awake_turn (resumed w a) b (own_there (resumed w a).actors name b here) awake) ∙ turn)
+
+pub ended_alike : (as_ bs : List ActorState) (m : List ℕ) → EndAlike as_ bs → is_ended (actor_named as_ m) ≡ is_ended (actor_named bs m)
+ended_alike as_ bs m ends = sym (ended_is (actor_named as_ m)) ∙ (ap is_some (ends m) ∙ ended_is (actor_named bs m))
+
+-- and so is its wait
+pub goes_waiting : (i : Image) (cells new_cells : Cells) (actors new : List ActorState) (name : List ℕ) (a : ActorState) → actor_named actors name ≡ Some a → IsAwake (ready actors a).phase
+    → HasWaited i cells (put_actor actors (ready actors a)) name new_cells new → HasWaited i cells actors name new_cells new
+goes_waiting i cells new_cells actors new name a named awake h =
+    let w = state_of i cells actors in
+    let b = ready actors a in
+    let mid = put_actor actors b in
+    let here = ready_named w name a named in
+    let same_one : h.waits.actor ≡ b = one_of (sym h.waits.named ∙ here) in
+    let calm : ready mid b ≡ b = ready_else mid b awake in
+    let rest_is : rest i (ready mid h.waits.actor) ≡ rest i b = ap (λ x. rest i (ready mid x)) same_one ∙ ap (rest i) calm in
+    record {
+      waits = record {
+        actor = a;
+        number = h.waits.number;
+        named = named;
+        awaits = subst (λ x. Awaits x h.waits.number) rest_is h.waits.awaits;
+        not_ended = sym (ended_alike mid actors (child_name name h.waits.number) (resumed_ends w a (own_there actors name a named))) ∙ h.waits.not_ended;
+      };
+      rests = h.rests ∙ (ap (λ o. state_of i cells (rested_in i mid o)) here ∙ (ap (λ x. state_of i cells (put_actor mid (rest i x))) calm
+          ∙ (ap (state_of i cells) (put_put actors b (rest i b) (rest-name i b)) ∙ sym (ap (λ o. state_of i cells (rested_in i actors o)) named))));
+    }
+  where
+    one_of : {x y : ActorState} → Some x ≡ Some y → x ≡ y
+    one_of e = cc
+
+-- an actor that waits still is at rest
+pub still_waiting : (i : Image) (cells new_cells : Cells) (actors new : List ActorState) (place : ℕ) (name : List ℕ) → StillWaits actors place name new → new_cells ≡ cells → HasWaited i cells actors name new_cells new
+still_waiting i cells new_cells actors new place name h same_cells =
+    let a = h.actor in
+    let k = h.number in
+    let own : a.name ≡ name = found_name actors name a h.found.named in
+    let none : ended_with (actor_named actors (child_name a.name k)) ≡ None = ap (λ n. ended_with (actor_named actors (child_name n k))) own ∙ none_with (actor_named actors (child_name name k)) h.not_ended in
+    let stays_so : ready actors a ≡ a = ap (ready_at actors a) h.at ∙ ap (resumes a k) none in
+    let rest_is : rest i (ready actors a) ≡ a = ap (rest i) stays_so ∙ rest-stays i a (ap is_running h.at) in
+    record {
+      waits = record {
+        actor = a;
+        number = k;
+        named = h.found.named;
+        awaits = inr (ap (λ (x : ActorState). x.phase) rest_is ∙ h.at);
+        not_ended = h.not_ended;
+      };
+      rests = ap (λ c. state_of i c new) same_cells ∙ (ap (state_of i cells) (h.new_is ∙ sym (put_same actors a (own_there actors name a h.found.named)))
+          ∙ (ap (λ x. state_of i cells (put_actor actors x)) (sym rest_is) ∙ sym (ap (λ o. state_of i cells (rested_in i actors o)) h.found.named)));
+    }
 
 -- an actor that has ended stays in its place
 pub set_same : {X : Type 0} (xs : List X) (n : ℕ) (x : X) → slice_get xs n ≡ Some x → slice_set xs n x ≡ xs

@@ -1,17 +1,18 @@
 -- What a world keeps: its state, and the turns that led to it.
-use Rattle.std.specs.Prelude.{◌≡◌, ℕ, ◌<◌, Bool, true, false, List, [], ◌∷◌, ◌++◌, length, Option, Some, None, IsSomeAnd, slice_get, slice_set}
+use Rattle.std.specs.Prelude.{◌≡◌, ℕ, ◌<◌, Bool, true, false, List, [], ◌∷◌, ◌++◌, length, Option, Some, None, IsSomeAnd, slice_get, slice_set, ◌⊎◌}
 use Rattle.wedge_base.specs.Images.{Image}
 use Rattle.wedge_base.specs.declared.events.Turn.{Turn}
 use Rattle.wedge_base.specs.Gates.{Kept}
 use Rattle.wedge_base.specs.declared.grants.GateId.{GateId}
 use Rattle.sthread_life.specs.Cells.{Cells, GateCell, kept_among, put_kept}
-use Rattle.sthread_life.specs.Worlds.{WorldState, opening, actor_named, put_actor, turn_of, Runs, is_ended, settled}
+use Rattle.sthread_life.specs.Worlds.{WorldState, opening, actor_named, put_actor, turn_of, Runs, is_ended, settled, ready, at_rest}
 use Rattle.sthread_life.specs.Actors.{ActorState}
 use Rattle.sthread_life.specs.Local.{rest, has_ended}
 use Rattle.sthread_life.specs.Children.{child_name}
 use Rattle.sthread_life.specs.Taking.{wanted}
 use Rattle.wedge_base.specs.declared.events.Want.TheVariants as want
 use Rattle.wedge_base.specs.declared.events.Event.{Event}
+use Rattle.sthread_life.specs.declared.phase.Phase.TheVariants as phase
 
 -- a world's state, the turns taken so far, and whether it has stopped because it ran out of memory
 pub record Progress : Type 0 where
@@ -70,18 +71,22 @@ IsGateAt cells id place = (c : GateCell) × IsCellOf cells id place c
 
 -- ---- an actor that waits
 
--- the actor of a name wants to join a child that has not ended
+-- an actor at rest wants to join the child of a number, or waits for the run of one
+abbrev pub Awaits : ActorState → ℕ → Type 0
+Awaits a k = (wanted a ≡ Some (want.Join k)) ⊎ (a.phase ≡ phase.Waiting k)
+
+-- the actor of a name awaits a child or a run that has not ended
 pub record IsWaiting (w : WorldState) (name : List ℕ) : Type 0 where
   pub actor : ActorState
-  pub child : ℕ
+  pub number : ℕ
   pub named : actor_named w.actors name ≡ Some actor
-  pub wants : wanted (rest w.image actor) ≡ Some (want.Join child)
-  pub not_ended : is_ended (actor_named w.actors (child_name name child)) ≡ false
+  pub awaits : Awaits (at_rest w actor) number
+  pub not_ended : is_ended (actor_named w.actors (child_name name number)) ≡ false
 
--- the actor of a name is at rest, and all else is as before
+-- the actor of a name has gone on if it could, and is at rest, and all else is as before
 abbrev pub rested_in : Image → List ActorState → Option ActorState → List ActorState
 rested_in i actors None = actors
-rested_in i actors (Some a) = put_actor actors (rest i a)
+rested_in i actors (Some a) = put_actor actors (rest i (ready actors a))
 
 abbrev pub rested : WorldState → List ℕ → WorldState
 rested w name = record w { actors = rested_in w.image w.actors (actor_named w.actors name) }

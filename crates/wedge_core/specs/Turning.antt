@@ -1,20 +1,21 @@
 -- What the parts of a turn make of cells, actors and entries.
-use Rattle.std.specs.Prelude.{◌≡◌, ℕ, ◌<◌, true, List, length, map, slice_get, slice_set, Option, Some, None}
+use Rattle.std.specs.Prelude.{◌≡◌, ℕ, ◌<◌, true, List, length, slice_get, slice_set, Option, Some, None, false}
 use Rattle.wedge_base.specs.Images.{Image}
 use Rattle.wedge_base.specs.declared.events.Want.{Want}
 use Rattle.wedge_base.specs.declared.events.Want.TheVariants as want
 use Rattle.wedge_base.specs.declared.events.Event.{Event}
 use Rattle.wedge_base.specs.declared.events.LogEntry.{LogEntry}
 use Rattle.sthread_life.specs.Actors.{ActorState}
-use Rattle.sthread_life.specs.Between.{WantFits, MayStart, TakesFit}
+use Rattle.sthread_life.specs.Between.{WantFits, TakesFit}
 use Rattle.sthread_life.specs.Cells.{Cells, live_at, event_of, cells_after}
-use Rattle.sthread_life.specs.Children.{is_child}
+use Rattle.sthread_life.specs.Children.{is_child, child_name}
 use Rattle.sthread_life.specs.FamilyTrees.{Family}
-use Rattle.sthread_life.specs.Local.{rest}
+use Rattle.sthread_life.specs.Local.{rest, run_awaited, has_ended}
 use Rattle.sthread_life.specs.Taking.{wanted, asks, takes, begun}
-use Rattle.sthread_life.specs.Worlds.{with_begun, event_at, actor_named}
-use Rattle.wedge_core.specs.Progress.{IsTurn, IsWaiting, state_of, rested}
+use Rattle.sthread_life.specs.Worlds.{with_begun, event_at, actor_named, ready, is_ended}
+use Rattle.wedge_core.specs.Progress.{IsTurn, IsWaiting, state_of, rested, IsFound}
 use Rattle.wedge_core.specs.Serial.{Notes}
+use Rattle.sthread_life.specs.declared.phase.Phase.TheVariants as phase
 
 -- the event that comes of what an actor wants of a cell
 abbrev pub event_asked : Cells → ActorState → Want → Option Event
@@ -24,6 +25,8 @@ event_asked c a q = event_of c (asks a (live_at c q) q)
 abbrev pub IsOfCell : Want → Type 0
 IsOfCell (want.Start child) = ⊥
 IsOfCell (want.Join child) = ⊥
+IsOfCell (want.Enter run) = ⊥
+IsOfCell (want.Leave e) = ⊥
 IsOfCell q = Unit {0}
 
 -- the event that an actor at rest wants of a cell is done and noted
@@ -35,26 +38,48 @@ pub record IsMade (i : Image) (cells : Cells) (a : ActorState) (q : Want) (entri
   pub name_stays : new.name ≡ a.name
   pub noted : Notes entries name event new_entries
 
--- a start or a join
+-- what is of actors alone: a start, a join, and the entry and the leave of a gate
 abbrev pub IsOfFamily : Want → Type 0
 IsOfFamily (want.Start child) = Unit {0}
 IsOfFamily (want.Join child) = Unit {0}
+IsOfFamily (want.Enter run) = Unit {0}
+IsOfFamily (want.Leave e) = Unit {0}
 IsOfFamily q = ⊥
 
--- an actor has come to rest, and wants to start or to join a child
+-- an actor has come to rest, and wants what is of actors alone
 pub record IsLeft (i : Image) (old : ActorState) (q : Want) (new : ActorState) : Type 0 where
   pub rests : new ≡ rest i old
   pub wants : wanted (rest i old) ≡ Some q
   pub fits : WantFits (rest i old) q
   pub of_family : IsOfFamily q
 
--- what holds of the actors of every run holds of these once each is at rest
-abbrev pub IsFamilyAtRest : Image → List ActorState → Type 0
-IsFamilyAtRest i actors = Family (map (rest i) actors)
-
 -- ---- of the actor at an index
 
--- it is the one of a name, and wants to start or to join a child
+-- it was waiting for no run, or for one that has ended, and has gone on
+pub record HasGoneOn (actors : List ActorState) (place : ℕ) (name : List ℕ) (new : List ActorState) : Type 0 where
+  pub actor : ActorState
+  pub found : IsFound actors name place actor
+  pub awake : run_awaited (ready actors actor).phase ≡ None
+  pub new_is : new ≡ slice_set actors place (ready actors actor)
+
+-- or it waits for a run that has not ended
+pub record StillWaits (actors : List ActorState) (place : ℕ) (name : List ℕ) (new : List ActorState) : Type 0 where
+  pub actor : ActorState
+  pub number : ℕ
+  pub found : IsFound actors name place actor
+  pub at : actor.phase ≡ phase.Waiting number
+  pub not_ended : is_ended (actor_named actors (child_name name number)) ≡ false
+  pub new_is : new ≡ actors
+
+-- it is the one of a name, has not ended and waits for no run
+pub record IsAwakeAt (actors : List ActorState) (place : ℕ) (name : List ℕ) : Type 0 where
+  pub actor : ActorState
+  pub found : IsFound actors name place actor
+  pub lives : has_ended actor.phase ≡ false
+  pub awake : run_awaited actor.phase ≡ None
+  pub family : Family actors
+
+-- it is the one of a name, and wants what is of actors alone
 pub record WantsOfFamily (i : Image) (actors : List ActorState) (place : ℕ) (name : List ℕ) (q : Want) : Type 0 where
   pub actor : ActorState
   pub inside : place < length actors
@@ -64,26 +89,35 @@ pub record WantsOfFamily (i : Image) (actors : List ActorState) (place : ℕ) (n
   pub wants : wanted actor ≡ Some q
   pub fits : WantFits actor q
   pub of_family : IsOfFamily q
-  pub family : IsFamilyAtRest i actors
+  pub family : Family actors
 
--- it is about to start a child of a name that no actor has
-pub record IsStarting (actors : List ActorState) (place : ℕ) (child : List ℕ) : Type 0 where
+-- it may take an event by which another begins, of a name that no actor has
+pub record IsBeginning (i : Image) (actors : List ActorState) (place : ℕ) (e : Event) : Type 0 where
   pub actor : ActorState
   pub inside : place < length actors
   pub there : slice_get actors place ≡ Some actor
-  pub named : actor_named actors actor.name ≡ Some actor
-  pub ready : MayStart actor
-  pub fresh : actor_named actors child ≡ None
+  pub fits : TakesFit actor e
+  pub begun_ : ActorState
+  pub begins : begun i actor e ≡ Some begun_
+  pub fresh : actor_named actors begun_.name ≡ None
+
+-- it may take an event by which none begins
+pub record IsGoingAlone (i : Image) (actors : List ActorState) (place : ℕ) (e : Event) : Type 0 where
+  pub actor : ActorState
+  pub inside : place < length actors
+  pub there : slice_get actors place ≡ Some actor
+  pub fits : TakesFit actor e
+  pub begins_none : begun i actor e ≡ None
 
 -- it wants to join one of its children
-pub record IsJoining (i : Image) (actors : List ActorState) (place : ℕ) (name : List ℕ) (child : ℕ) : Type 0 where
+pub record IsJoining (actors : List ActorState) (place : ℕ) (name : List ℕ) (child : ℕ) : Type 0 where
   pub actor : ActorState
   pub inside : place < length actors
   pub there : slice_get actors place ≡ Some actor
   pub named : actor_named actors name ≡ Some actor
   pub own : actor.name ≡ name
   pub listed : is_child actor.unjoined child ≡ true
-  pub family : IsFamilyAtRest i actors
+  pub family : Family actors
 
 -- it may take an event
 pub record IsTaking (actors : List ActorState) (place : ℕ) (e : Event) : Type 0 where
@@ -98,6 +132,13 @@ pub record HasTaken (i : Image) (actors : List ActorState) (place : ℕ) (e : Ev
   pub there : slice_get actors place ≡ Some actor
   pub new_is : new ≡ slice_set actors place (takes i actor e)
   pub begins : o ≡ begun i actor e
+
+-- it has taken an event, which is noted; another stands behind the others if the event begins one
+pub record HasDone (i : Image) (actors : List ActorState) (place : ℕ) (e : Event) (entries : List LogEntry) (name : List ℕ) (new : List ActorState) (new_entries : List LogEntry) : Type 0 where
+  pub actor : ActorState
+  pub there : slice_get actors place ≡ Some actor
+  pub new_is : new ≡ with_begun (slice_set actors place (takes i actor e)) (begun i actor e)
+  pub noted : Notes entries name e new_entries
 
 -- its event takes place, whatever the cells are, and is noted
 pub record IsDoneAt (i : Image) (actors : List ActorState) (place : ℕ) (q : Want) (entries : List LogEntry) (name : List ℕ) (new : List ActorState) (new_entries : List LogEntry) : Type 0 where

@@ -15,7 +15,7 @@ pub enum NoTurn {
     Unknown,
     /// The actor has ended.
     Ended,
-    /// The actor wants to join a child that has not ended.
+    /// The actor awaits a child or the run of a gate that has not ended.
     Waits,
 }
 
@@ -34,7 +34,7 @@ pub enum Why {
     Unknown,
     /// The actor has ended.
     Ended,
-    /// The actor wants to join a child that has not ended.
+    /// The actor awaits a child or the run of a gate that has not ended.
     Waits,
     /// No name is left, and the root has not ended.
     Short,

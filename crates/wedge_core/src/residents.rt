@@ -1,7 +1,9 @@
 //! The actors of a world, each with its private memory, by name.
 
-ghost use Rattle.std.specs.Prelude.{◌≡◌, ◌<◌, ◌++◌, ◌∷◌, [], length, vec_capacity, IfOk, OnOk, OnErr, IfSome, IfNone, None};
+ghost use Rattle.std.specs.Prelude.{◌≡◌, ◌<◌, ◌++◌, ◌∷◌, [], length, slice_get, vec_capacity, IfOk, OnOk, OnErr, IfSome, IfNone, None};
 ghost use Rattle.sthread_life.specs.Children.{child_name};
+ghost use Rattle.sthread_life.specs.Local.{has_ended, run_awaited};
+ghost use Rattle.sthread_life.specs.Worlds as worlds;
 ghost use Rattle.sthread_life.specs.Worlds.{actor_named};
 ghost use Rattle.wedge_core.specs.Places.{IsIndexOf};
 ghost use Rattle.wedge_core.specs.Progress.{IsPlaceOf};
@@ -11,7 +13,7 @@ use std::alloc::Global;
 use std::collections::HashMap;
 use std::marker::Model;
 use sthread_life::Actor;
-use wedge_base::{ActorName, NoMemory};
+use wedge_base::{ActorName, End, NoMemory};
 
 /// An actor with its private memory. Contracts see the whole of it.
 #[derive(Drop)]
@@ -101,6 +103,36 @@ impl Residents {
         let mut parts = Vec::from_slice(alloc, name.parts())?;
         parts.push(k)?;
         Ok(self.index.get(parts.as_slice()).copied())
+    }
+
+    /// Whether the actor at an index has ended.
+    pub fn has_ended(&self, place: usize) -> bool
+        requires { place < length self.now }
+        ensures { IfSome (slice_get self.now place) (λ a. result ≡ has_ended a.phase) }
+    {
+        self.list[place].actor.has_ended()
+    }
+
+    /// The number of the run for which the actor at an index waits.
+    pub fn run_awaited(&self, place: usize) -> Option<u32>
+        requires { place < length self.now }
+        ensures { IfSome (slice_get self.now place) (λ a. result ≡ run_awaited a.phase) }
+    {
+        self.list[place].actor.run_awaited()
+    }
+
+    /// The end of the k-th that the actor of this name started or entered, and the fuel that it has left, if it has ended.
+    pub fn ended_with(&self, name: &ActorName, k: u32) -> Result<Option<(End, u32)>, NoMemory>
+        ensures { IfOk result (λ o. o ≡ worlds.ended_with (actor_named self.now (child_name name.now k))) }
+    {
+        let Some(place) = self.place_of_child(name, k)? else {
+            return Ok(None);
+        };
+        let actor = &self.list[place].actor;
+        match actor.end_reached() {
+            None => Ok(None),
+            Some(end) => Ok(Some((end, actor.fuel()))),
+        }
     }
 
     /// Adds an actor at the end. Out of memory, nothing is changed.

@@ -8,15 +8,15 @@ ghost use Rattle.sthread_life.specs.Between.{WantFits};
 ghost use Rattle.sthread_life.specs.Cells.{cells_after};
 ghost use Rattle.sthread_life.specs.Children.{child_name};
 ghost use Rattle.sthread_life.specs.Laws.{IsLawful};
-ghost use Rattle.sthread_life.specs.Local.{rest, has_ended};
+ghost use Rattle.sthread_life.specs.FamilyTrees.{Family};
+ghost use Rattle.sthread_life.specs.Local.{rest, has_ended, run_awaited};
 ghost use Rattle.sthread_life.specs.Moments.{TurnHas};
 ghost use Rattle.sthread_life.specs.Taking.{wanted, takes};
-ghost use Rattle.sthread_life.specs.Worlds as worlds;
 ghost use Rattle.sthread_life.specs.Worlds.{actor_named, is_ended};
 ghost use Rattle.sthread_life.specs.Written.{StepAppendsOwn, StepWritesOwn};
 ghost use Rattle.wedge_core.specs.Progress.{IsTurn, HasEnded, IsPlaceOf, IsWaiting, rested, GoesOnBy};
 ghost use Rattle.wedge_core.specs.Serial.{Notes};
-ghost use Rattle.wedge_core.specs.Turning.{event_asked, IsOfCell, IsOfFamily, IsMade, IsLeft, IsFamilyAtRest, WantsOfFamily, IsStarting, IsJoining, IsTaking, HasTaken, IsDoneAt, WasTaken, HasWaited};
+ghost use Rattle.wedge_core.specs.Turning.{event_asked, IsOfCell, IsOfFamily, IsMade, IsLeft, HasGoneOn, StillWaits, IsAwakeAt, WantsOfFamily, IsBeginning, IsGoingAlone, IsJoining, IsTaking, HasTaken, HasDone, IsDoneAt, WasTaken, HasWaited};
 
 use crate::cells::Cells;
 use crate::error::NoTurn;
@@ -40,13 +40,14 @@ pub(crate) enum Went {
     Took,
     /// The actor has ended.
     Ended,
-    /// The actor wants to join a child that has not ended.
+    /// The actor awaits a child or the run of a gate that has not ended.
     Waits,
 }
 
 /// Takes a turn of the actor of a name: its local events up to its next shared event, and that event.
 /// After `Unknown` or `Ended` the world is unchanged. `Waits` comes exactly where the actor's next event is the
-/// join of a child that has not ended: the actor is then at rest, and all else is unchanged. After `NoMemory` the
+/// join of a child that has not ended, or where it waits for the run of a gate that has not: the actor is then at
+/// rest, and all else is unchanged. After `NoMemory` the
 /// world has stopped.
 pub fn turn(world: &mut World<'_>, name: &ActorName) -> Result<Taken, NoTurn>
     ensures took { IfOk result (λ t. IsTurn world.old.state name.now t.event world.new.state) }
@@ -143,7 +144,7 @@ fn advance_over(
     place: usize,
 ) -> Result<Went, NoMemory>
     requires there { IsPlaceOf residents.old name.now place }
-    requires family { IsFamilyAtRest program.now residents.old }
+    requires family { Family residents.old }
     ensures took { IfOk result (λ r. r ≡ Went.Took → WasTaken program.now cells.old residents.old
         entries.old.items name.now cells.new residents.new entries.new.items) }
     ensures ended { IfOk result (λ r. r ≡ Went.Ended → HasEnded residents.old name.now
@@ -155,10 +156,53 @@ fn advance_over(
     ensures lives { OnErr result (HasEnded residents.old name.now → ⊥) }
     ensures kept { OnErr result (entries.new.items ≡ entries.old.items) }
 {
-    let resident = &mut residents.list[place];
-    if resident.actor.has_ended() {
+    if residents.has_ended(place) {
         return Ok(Went::Ended);
     }
+    if !go_on(residents, name, place)? {
+        return Ok(Went::Waits);
+    }
+    advance_awake(program, cells, residents, entries, name, place)
+}
+
+/// The actor at an index goes on if it waits for the run of a gate that has ended. Returns false where it waits still.
+fn go_on(residents: &mut Residents, name: &ActorName, place: usize) -> Result<bool, NoMemory>
+    requires there { IsPlaceOf residents.old name.now place }
+    requires family { Family residents.old }
+    ensures goes { IfOk result (λ r. r ≡ true → HasGoneOn residents.old place name.now residents.new) }
+    ensures waits { IfOk result (λ r. r ≡ false → StillWaits residents.old place name.now residents.new) }
+    ensures err { OnErr result (residents.new ≡ residents.old) }
+{
+    let Some(run) = residents.run_awaited(place) else {
+        return Ok(true);
+    };
+    let Some((end, fuel)) = residents.ended_with(name, run)? else {
+        return Ok(false);
+    };
+    let resident = &mut residents.list[place];
+    resident.actor.resume(run, end, fuel);
+    Ok(true)
+}
+
+/// A turn of the actor at an index, which has not ended and waits for no run.
+fn advance_awake(
+    program: &Program<'_>,
+    cells: &mut Cells,
+    residents: &mut Residents,
+    entries: &mut Vec<LogEntry>,
+    name: &ActorName,
+    place: usize,
+) -> Result<Went, NoMemory>
+    requires { IsAwakeAt residents.old place name.now }
+    ensures took { IfOk result (λ r. r ≡ Went.Took → WasTaken program.now cells.old residents.old
+        entries.old.items name.now cells.new residents.new entries.new.items) }
+    ensures ended { IfOk result (λ r. r ≡ Went.Ended → ⊥) }
+    ensures waits { IfOk result (λ r. r ≡ Went.Waits
+        → HasWaited program.now cells.old residents.old name.now cells.new residents.new) }
+    ensures same { IfOk result (λ r. r ≡ Went.Waits → entries.new.items ≡ entries.old.items) }
+    ensures kept { OnErr result (entries.new.items ≡ entries.old.items) }
+{
+    let resident = &mut residents.list[place];
     match advance_one(program, cells, resident, entries, name) {
         Err(NoMemory) => {
             drop_all(&mut residents.list, &mut residents.index);
@@ -169,8 +213,8 @@ fn advance_over(
     }
 }
 
-/// The turn of an actor that has not ended, up to a start or a join. Loads and stores have a function of their own,
-/// since they are the most.
+/// The turn of an actor that has not ended and waits for no run, up to what is of actors alone. Loads and stores have a function
+/// of their own, since they are the most.
 fn advance_one(
     program: &Program<'_>,
     cells: &mut Cells,
@@ -178,7 +222,8 @@ fn advance_one(
     entries: &mut Vec<LogEntry>,
     name: &ActorName,
 ) -> Result<Option<Want>, NoMemory>
-    requires { has_ended resident.old.phase ≡ false }
+    requires lives { has_ended resident.old.phase ≡ false }
+    requires awake { run_awaited resident.old.phase ≡ None }
     ensures made { IfOk result (λ o. IfNone o ((q : AWant)
         × (wanted (rest program.now resident.old) ≡ Some q) × IsOfCell q
         × IsMade program.now cells.old (rest program.now resident.old) q entries.old.items name.now
@@ -190,11 +235,12 @@ fn advance_one(
 {
     match resident.actor.local(program, &mut resident.memory)? {
         Next::Ended(_) => unreachable!(),
+        Next::Waiting { .. } => unreachable!(),
         Next::Shared(want) => do_want(program, cells, resident, entries, name, want),
     }
 }
 
-/// The event that an actor at rest wants, done and noted, unless that is a start or a join.
+/// The event that an actor at rest wants, done and noted, unless that is of actors alone.
 #[inline(always)]
 fn do_want(
     program: &Program<'_>,
@@ -220,6 +266,8 @@ fn do_want(
         }
         Want::Start { child } => Ok(Some(Want::Start { child })),
         Want::Join { child } => Ok(Some(Want::Join { child })),
+        Want::Enter { run } => Ok(Some(Want::Enter { run })),
+        Want::Leave { end } => Ok(Some(Want::Leave { end })),
         _ => {
             do_other(program, cells, resident, entries, name, want)?;
             Ok(None)
@@ -227,7 +275,7 @@ fn do_want(
     }
 }
 
-/// The start or the join that the actor at an index wants, at rest.
+/// What the actor at an index wants at rest that is of actors alone.
 #[inline(never)]
 fn do_family(
     program: &Program<'_>,
@@ -248,7 +296,36 @@ fn do_family(
 {
     match want {
         Want::Start { child } => {
-            start(program, residents, entries, name, place, child)?;
+            begin(
+                program,
+                residents,
+                entries,
+                name,
+                place,
+                Event::Start { child },
+            )?;
+            Ok(Went::Took)
+        }
+        Want::Enter { run } => {
+            begin(
+                program,
+                residents,
+                entries,
+                name,
+                place,
+                Event::Enter { run },
+            )?;
+            Ok(Went::Took)
+        }
+        Want::Leave { end } => {
+            go_alone(
+                program,
+                residents,
+                entries,
+                name,
+                place,
+                Event::Leave { end },
+            )?;
             Ok(Went::Took)
         }
         Want::Join { child } => join(program, residents, entries, name, place, child),
@@ -256,25 +333,42 @@ fn do_family(
     }
 }
 
-/// The actor at an index starts a child.
-fn start(
+/// The actor at an index takes an event by which another begins: it starts a child, or enters a gate.
+fn begin(
     program: &Program<'_>,
     residents: &mut Residents,
     entries: &mut Vec<LogEntry>,
     name: &ActorName,
     place: usize,
-    child: ActorName,
+    event: Event,
 ) -> Result<(), NoMemory>
-    requires { IsStarting residents.old place child }
-    ensures done { OnOk result (IsDoneAt program.now residents.old place (AWant.Start child)
-        entries.old.items name.now residents.new entries.new.items) }
+    requires { IsBeginning program.now residents.old place event }
+    ensures done { OnOk result (HasDone program.now residents.old place event entries.old.items
+        name.now residents.new entries.new.items) }
     ensures kept { OnErr result (entries.new.items ≡ entries.old.items) }
 {
-    let event = Event::Start { child };
     let Some((actor, memory)) = take_at(program, residents, place, &event)? else {
         unreachable!()
     };
     residents.push(Resident { actor, memory })?;
+    note(entries, name, event)
+}
+
+/// The actor at an index takes an event by which no other begins.
+fn go_alone(
+    program: &Program<'_>,
+    residents: &mut Residents,
+    entries: &mut Vec<LogEntry>,
+    name: &ActorName,
+    place: usize,
+    event: Event,
+) -> Result<(), NoMemory>
+    requires { IsGoingAlone program.now residents.old place event }
+    ensures done { OnOk result (HasDone program.now residents.old place event entries.old.items
+        name.now residents.new entries.new.items) }
+    ensures kept { OnErr result (entries.new.items ≡ entries.old.items) }
+{
+    take_at(program, residents, place, &event)?;
     note(entries, name, event)
 }
 
@@ -309,7 +403,7 @@ fn join(
     place: usize,
     child: u32,
 ) -> Result<Went, NoMemory>
-    requires { IsJoining program.now residents.old place name.now child }
+    requires { IsJoining residents.old place name.now child }
     ensures took { IfOk result (λ r. r ≡ Went.Took → IsDoneAt program.now residents.old place
         (AWant.Join child) entries.old.items name.now residents.new entries.new.items) }
     ensures waits { IfOk result (λ r. r ≡ Went.Waits
@@ -318,54 +412,12 @@ fn join(
     ensures lives { IfOk result (λ r. r ≡ Went.Ended → ⊥) }
     ensures kept { OnErr result (entries.new.items ≡ entries.old.items) }
 {
-    let Some(event) = join_event(residents, name, child)? else {
+    let Some((end, fuel)) = residents.ended_with(name, child)? else {
         return Ok(Went::Waits);
     };
-    take_join(program, residents, entries, name, place, child, event)?;
+    let event = Event::Join { child, end, fuel };
+    go_alone(program, residents, entries, name, place, event)?;
     Ok(Went::Took)
-}
-
-/// The join of a child of the actor of a name, if the child has ended.
-fn join_event(
-    residents: &Residents,
-    name: &ActorName,
-    child: u32,
-) -> Result<Option<Event>, NoMemory>
-    ensures { IfOk result (λ o. o
-        ≡ worlds.join_event child (actor_named residents.now (child_name name.now child))) }
-{
-    let Some(place) = residents.place_of_child(name, child)? else {
-        return Ok(None);
-    };
-    let actor = &residents.list[place].actor;
-    match actor.end_reached() {
-        None => Ok(None),
-        Some(end) => {
-            let fuel = actor.fuel();
-            Ok(Some(Event::Join { child, end, fuel }))
-        }
-    }
-}
-
-/// The actor at an index takes the join of one of its children.
-fn take_join(
-    program: &Program<'_>,
-    residents: &mut Residents,
-    entries: &mut Vec<LogEntry>,
-    name: &ActorName,
-    place: usize,
-    child: u32,
-    event: Event,
-) -> Result<(), NoMemory>
-    requires joins { IsJoining program.now residents.old place name.now child }
-    requires event { worlds.join_event child (actor_named residents.old (child_name name.now child))
-        ≡ Some event }
-    ensures done { OnOk result (IsDoneAt program.now residents.old place (AWant.Join child)
-        entries.old.items name.now residents.new entries.new.items) }
-    ensures kept { OnErr result (entries.new.items ≡ entries.old.items) }
-{
-    take_at(program, residents, place, &event)?;
-    note(entries, name, event)
 }
 
 /// What an actor at rest wants of a slot.

@@ -28,6 +28,8 @@ pub struct World<'a> {
 }
 
 impl<'a> Model for World<'a> {
+    ghost use Rattle.std.specs.Prelude.{◌≡◌, false};
+    ghost use Rattle.sthread_life.specs.FamilyTrees.{Family};
     ghost use Rattle.wedge_core.specs.Progress.{Progress, IsRun};
     ghost use Rattle.wedge_core.specs.Serial.{IsNumbered};
     ghost use Rattle.wedge_base.specs.Journals.{turns_of};
@@ -47,6 +49,7 @@ impl<'a> Model for World<'a> {
         turns = turns_of w.entries.items;
         stopped = w.stopped;
       });
+      family : w.stopped ≡ false → Family w.residents;
     } };
 }
 

@@ -1,19 +1,13 @@
 use Rattle.std.proofs.Common.{◌≡◌, false, rules}
-use Rattle.wedge_core.proofs.Advancing.{IsKept, kept_family, kept_by}
+use Rattle.wedge_core.proofs.Advancing.{IsKept, kept_by}
 use Rattle.wedge_core.proofs.turns.advance.Goals as goal
-
-pub advance_over-requires-clause-family : goal.advance_over-requires-clause-family
-advance_over-requires-clause-family c =
-    let w = c.world.inside in
-    let going : w.stopped ≡ false = search rules in
-    kept_family w.program w.cells w.residents w.entries.items w.stopped (record { numbered = c.world.invariant.numbered; run = c.world.invariant.run }) going
 
 pub invariant_of-world : goal.invariant_of-world
 invariant_of-world c =
     let w = c.world.inside in
-    let was : IsKept w.program w.cells w.residents w.entries.items w.stopped = record { numbered = c.world.invariant.numbered; run = c.world.invariant.run } in
+    let was : IsKept w.program w.cells w.residents w.entries.items w.stopped = record { numbered = c.world.invariant.numbered; run = c.world.invariant.run; family = c.world.invariant.family } in
     let going : w.stopped ≡ false = search rules in
     let says = c.in-Ok.ensures in
     let is = kept_by c.in-Ok.went w.program w.cells c.advance_over.new.cells w.residents c.advance_over.new.residents w.entries.items c.advance_over.new.entries.items c.args.name.now w.stopped
     was going says.took says.ended says.waits says.same in
-    record { numbered = is.numbered; run = is.run }
+    record { numbered = is.numbered; run = is.run; family = is.family }

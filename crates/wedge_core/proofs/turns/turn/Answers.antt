@@ -68,4 +68,5 @@ invariant_of-world c =
     record {
       numbered = back.numbered;
       run = stopped_run was.program more.program c.world-2.inside.cells c.world-2.inside.residents (turns_of was.entries.items) (turns_of popped) c.world.invariant.run.last image back.turns c.world.invariant.run.run;
+      family = λ e. absurd cc;
     }

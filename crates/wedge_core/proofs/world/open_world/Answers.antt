@@ -3,6 +3,8 @@ use Rattle.wedge_base.specs.declared.events.LogEntry.{LogEntry}
 use Rattle.wedge_base.specs.Journals.{turns_of}
 use Rattle.sthread_life.specs.Actors.{root}
 use Rattle.sthread_life.specs.Cells.{opening_cells}
+use Rattle.sthread_life.specs.FamilyTrees.{Family}
+use Rattle.sthread_life.proofs.FamilyRuns.{opening_family}
 use Rattle.wedge_core.specs.Serial.{IsNumbered}
 use Rattle.wedge_core.proofs.Runs.{opened_is_run}
 use Rattle.wedge_core.proofs.world.open_world.Goals as goal
@@ -18,4 +20,5 @@ invariant_of-result c =
       numbered = none c.new-3.result.items c.new-3.ensures.items;
       run = opened_is_run c.in_ok-program.program c.in_ok-cells.cells c.in_ok-residents.residents (turns_of c.new-3.result.items)
           (c.in_ok-cells.ensures ∙ ap opening_cells same) (actors ∙ ap (λ i. root i ∷ []) same) (ap turns_of c.new-3.ensures.items);
+      family = λ going. subst Family (sym actors) (opening_family c.args.image.now);
     }

@@ -1,5 +1,5 @@
 use Rattle.std.specs.Arc.{arc_value}
-use Rattle.std.proofs.Common.{map, ◌≡◌, ◌<◌, true, length, sym, ap, subst, ◌∙◌, arith}
+use Rattle.std.proofs.Common.{map, option_map, ◌≡◌, ◌<◌, true, length, sym, ap, subst, ◌∙◌, arith}
 use Rattle.std.specs.Prelude.{Some, slice_get}
 use Rattle.wedge_base.specs.Sheets.{first_excess}
 use Rattle.sthread_life.specs.Actors.{ActorRecord, whole}
@@ -16,6 +16,7 @@ returns-then-not-may_be_gate c =
     let was : ActorRecord = record {
       name = w.name;
       compartment = w.compartment;
+      run_of = option_map arc_value w.run_of;
       sheet = w.sheet;
       made = w.made;
       gates = map arc_value w.gates.items;
@@ -44,6 +45,7 @@ make_checked-requires-clause-excess c =
     let was : ActorRecord = record {
       name = w.name;
       compartment = w.compartment;
+      run_of = option_map arc_value w.run_of;
       sheet = w.sheet;
       made = w.made;
       gates = map arc_value w.gates.items;
@@ -70,6 +72,7 @@ returns c =
     let was : ActorRecord = record {
       name = w.name;
       compartment = w.compartment;
+      run_of = option_map arc_value w.run_of;
       sheet = w.sheet;
       made = w.made;
       gates = map arc_value w.gates.items;

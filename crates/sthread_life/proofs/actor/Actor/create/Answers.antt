@@ -1,5 +1,5 @@
 use Rattle.std.specs.Arc.{arc_value}
-use Rattle.std.proofs.Common.{map, ◌≡◌, ◌<◌, true, length, sym, ap, subst, ◌∙◌, arith}
+use Rattle.std.proofs.Common.{map, option_map, ◌≡◌, ◌<◌, true, length, sym, ap, subst, ◌∙◌, arith}
 use Rattle.sthread_life.specs.Actors.{ActorRecord, whole}
 use Rattle.sthread_life.specs.Calls.{is_procedure, create}
 use Rattle.sthread_life.proofs.Creating.{begins_there, on_ok, creates}
@@ -11,6 +11,7 @@ returns c =
     let was : ActorRecord = record {
       name = w.name;
       compartment = w.compartment;
+      run_of = option_map arc_value w.run_of;
       sheet = w.sheet;
       made = w.made;
       gates = map arc_value w.gates.items;

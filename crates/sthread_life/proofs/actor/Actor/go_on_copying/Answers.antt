@@ -1,5 +1,5 @@
 use Rattle.std.specs.Arc.{arc_value}
-use Rattle.std.proofs.Common.{map, ◌≡◌, sym, ap, subst, ◌∙◌}
+use Rattle.std.proofs.Common.{map, option_map, ◌≡◌, sym, ap, subst, ◌∙◌}
 use Rattle.sthread_life.specs.declared.phase.Phase.TheVariants as phase
 use Rattle.sthread_life.specs.Actors.{ActorRecord, whole}
 use Rattle.sthread_life.specs.Calls.{a0, draft_at, making}
@@ -15,6 +15,7 @@ returns-in_ok-go_on-in-MakingGate-clause-takes c =
     let was : ActorRecord = record {
       name = w.name;
       compartment = w.compartment;
+      run_of = option_map arc_value w.run_of;
       sheet = w.sheet;
       made = w.made;
       gates = map arc_value w.gates.items;

@@ -5,4 +5,4 @@ use Rattle.sthread_life.proofs.Creating.{on_ok}
 use Rattle.sthread_life.proofs.actor.Actor.make_gate.Goals as goal
 
 pub returns-clause-takes : goal.returns-clause-takes
-returns-clause-takes c = on_ok c.keep_gate.result (λ h m. h m ∙ ap (has_gate (whole c.args.self.now m)) (c.in_ok-gate.ensures m)) c.keep_gate.ensures.takes
+returns-clause-takes c = on_ok c.keep_gate.result (λ h m. h m ∙ ap (has_gate (whole c.args.self.now m)) (c.in_ok-gate.ensures.is m)) c.keep_gate.ensures.takes

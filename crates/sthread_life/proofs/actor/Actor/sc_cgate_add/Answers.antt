@@ -1,5 +1,5 @@
 use Rattle.std.specs.Arc.{arc_value}
-use Rattle.std.proofs.Common.{map, ◌≡◌, ◌<◌, true, length, sym, ap, subst, ◌∙◌, arith}
+use Rattle.std.proofs.Common.{map, option_map, ◌≡◌, ◌<◌, true, length, sym, ap, subst, ◌∙◌, arith}
 use Rattle.std.specs.Prelude.{Err}
 use Rattle.wedge_base.specs.Sheets.{takes_gate}
 use Rattle.sthread_life.specs.Actors.{ActorRecord, whole}
@@ -15,6 +15,7 @@ returns-in-Err-Full c = λ m.
     let was : ActorRecord = record {
       name = w.name;
       compartment = w.compartment;
+      run_of = option_map arc_value w.run_of;
       sheet = w.sheet;
       made = w.made;
       gates = map arc_value w.gates.items;

@@ -1,0 +1,10 @@
+use Rattle.std.proofs.Common.{ap, ◌∙◌}
+use Rattle.callgate.specs.declared.gate.Gate.{Gate}
+use Rattle.cow_pages.specs.PrivateMemory.{no_memory}
+use Rattle.sthread_life.specs.Actors.{whole}
+use Rattle.sthread_life.proofs.actor.Actor.begin_run.Goals as goal
+
+pub returns-clause-begun : goal.returns-clause-begun
+returns-clause-begun c =
+    let memory = c.in_ok-memory.ensures ∙ ap (λ (g : Gate). g.memory) c.gate.ensures in
+    ap (whole c.in_ok-run.run') memory ∙ c.in_ok-run.ensures.is no_memory

@@ -1,0 +1,98 @@
+use Rattle.std.proofs.Common.{◌≡◌, ◌∙◌, sym, ap, subst}
+use Rattle.std.specs.Prelude.{Some, Option, IfSome, slice_set}
+use Rattle.wedge_base.specs.declared.events.Want.{Want}
+use Rattle.sthread_life.specs.Actors.{ActorState}
+use Rattle.sthread_life.specs.Local.{rest}
+use Rattle.sthread_life.specs.Taking.{wanted}
+use Rattle.sthread_life.proofs.Resting.{rest-name}
+use Rattle.wedge_core.specs.Turning.{IsOfCell, IsMade, IsLeft, WantsOfFamily, IsDoneAt, WasTaken, HasWaited}
+use Rattle.wedge_core.proofs.FamilyTurns.{if_ok, if_none, if_some, wants_of_family, waited, family_taken, cell_taken}
+use Rattle.wedge_core.proofs.GoingOn.{reads_awake}
+use Rattle.wedge_core.proofs.Indexing.{index_put_back}
+use Rattle.wedge_core.proofs.turns.advance_awake.Goals as goal
+
+pub invariant_of-residents-in-Ok-None : goal.invariant_of-residents-in-Ok-None
+invariant_of-residents-in-Ok-None c =
+    let items = c.residents.inside.list.items in
+    let place = c.args.place in
+    let name = c.args.name.now in
+    let a = c.index_mut-resident.result.now in
+    let i = c.args.program.now in
+    let new = c.advance_one.new.resident in
+    let h = reads_awake items c.args.residents.now place name a c.residents.view_is c.requires c.index_mut-resident.ensures.value in
+    let made : (q : Want) × (wanted (rest i a) ≡ Some q) × IsOfCell q × IsMade i c.args.cells.now (rest i a) q c.args.entries.now.items name c.advance_one.new.cells new c.advance_one.new.entries.items =
+    if_none c.in-Ok-None.field-0 c.in-Ok-None.field-0-is c.in-Ok-None.ensures.made in
+    index_put_back c.residents.inside.index items place a new h.found.there (made.3.name_stays ∙ rest-name i a) c.residents.invariant
+
+pub returns-in-Ok-None-clause-took : goal.returns-in-Ok-None-clause-took
+returns-in-Ok-None-clause-took c = λ _.
+    let items = c.residents.inside.list.items in
+    let place = c.args.place in
+    let name = c.args.name.now in
+    let a = c.index_mut-resident.result.now in
+    let i = c.args.program.now in
+    let new = c.advance_one.new.resident in
+    let h = reads_awake items c.args.residents.now place name a c.residents.view_is c.requires c.index_mut-resident.ensures.value in
+    let made : (q : Want) × (wanted (rest i a) ≡ Some q) × IsOfCell q × IsMade i c.args.cells.now (rest i a) q c.args.entries.now.items name c.advance_one.new.cells new c.advance_one.new.entries.items =
+    if_none c.in-Ok-None.field-0 c.in-Ok-None.field-0-is c.in-Ok-None.ensures.made in
+    let taken = cell_taken i c.args.cells.now c.advance_one.new.cells items place name a new made.0 c.args.entries.now.items c.advance_one.new.entries.items h.found h.awake made.1 made.2 made.3 in
+    subst (λ as_. WasTaken i c.args.cells.now as_ c.args.entries.now.items name c.advance_one.new.cells (slice_set items place new) c.advance_one.new.entries.items) c.residents.view_is taken
+
+pub invariant_of-residents-in-Ok-Some : goal.invariant_of-residents-in-Ok-Some
+invariant_of-residents-in-Ok-Some c =
+    let items = c.residents.inside.list.items in
+    let place = c.args.place in
+    let name = c.args.name.now in
+    let a = c.index_mut-resident.result.now in
+    let i = c.args.program.now in
+    let new = c.advance_one.new.resident in
+    let h = reads_awake items c.args.residents.now place name a c.residents.view_is c.requires c.index_mut-resident.ensures.value in
+    let q = c.in-Ok-Some.want in
+    let left : IsLeft i a q new = subst (λ (o : Option Want). IfSome o (λ x. IsLeft i a x new)) c.in-Ok-Some.field-0-is c.in-Ok-Some.ensures.left in
+    index_put_back c.residents.inside.index items place a new h.found.there (ap (λ (x : ActorState). x.name) left.rests ∙ rest-name i a) c.residents.invariant
+
+pub do_family-requires : goal.do_family-requires
+do_family-requires c =
+    let items = c.residents.inside.list.items in
+    let place = c.args.place in
+    let name = c.args.name.now in
+    let a = c.index_mut-resident.result.now in
+    let i = c.args.program.now in
+    let new = c.advance_one.new.resident in
+    let h = reads_awake items c.args.residents.now place name a c.residents.view_is c.requires c.index_mut-resident.ensures.value in
+    let q = c.in-Ok-Some.want in
+    let left : IsLeft i a q new = subst (λ (o : Option Want). IfSome o (λ x. IsLeft i a x new)) c.in-Ok-Some.field-0-is c.in-Ok-Some.ensures.left in
+    subst (WantsOfFamily i (slice_set items place new) place name) (sym c.in-Ok-Some.want-is) (wants_of_family i items place name a q new h.found h.lives h.awake h.family left)
+
+pub returns-in-Ok-Some-clause-took : goal.returns-in-Ok-Some-clause-took
+returns-in-Ok-Some-clause-took c =
+    let items = c.residents.inside.list.items in
+    let place = c.args.place in
+    let name = c.args.name.now in
+    let a = c.index_mut-resident.result.now in
+    let i = c.args.program.now in
+    let new = c.advance_one.new.resident in
+    let h = reads_awake items c.args.residents.now place name a c.residents.view_is c.requires c.index_mut-resident.ensures.value in
+    let q = c.in-Ok-Some.want in
+    let left : IsLeft i a q new = subst (λ (o : Option Want). IfSome o (λ x. IsLeft i a x new)) c.in-Ok-Some.field-0-is c.in-Ok-Some.ensures.left in
+    let same : (c.advance_one.new.cells ≡ c.args.cells.now) × (c.advance_one.new.entries.items ≡ c.args.entries.now.items) = if_some c.in-Ok-Some.field-0 q c.in-Ok-Some.field-0-is c.in-Ok-Some.ensures.same in
+    if_ok c.do_family.result (λ r done took. subst
+    (λ as_. WasTaken i c.args.cells.now as_ c.args.entries.now.items name c.advance_one.new.cells c.do_family.new.residents c.do_family.new.entries.items) c.residents.view_is
+    (family_taken i c.args.cells.now c.advance_one.new.cells items c.do_family.new.residents place name a q new c.args.entries.now.items c.advance_one.new.entries.items c.do_family.new.entries.items
+    h.found h.awake left (subst (λ x. IsDoneAt i (slice_set items place new) place x c.advance_one.new.entries.items name c.do_family.new.residents c.do_family.new.entries.items) c.in-Ok-Some.want-is (done took)) same.0 same.1)) c.do_family.ensures.took
+
+pub returns-in-Ok-Some-clause-waits : goal.returns-in-Ok-Some-clause-waits
+returns-in-Ok-Some-clause-waits c =
+    let items = c.residents.inside.list.items in
+    let place = c.args.place in
+    let name = c.args.name.now in
+    let a = c.index_mut-resident.result.now in
+    let i = c.args.program.now in
+    let new = c.advance_one.new.resident in
+    let h = reads_awake items c.args.residents.now place name a c.residents.view_is c.requires c.index_mut-resident.ensures.value in
+    let q = c.in-Ok-Some.want in
+    let left : IsLeft i a q new = subst (λ (o : Option Want). IfSome o (λ x. IsLeft i a x new)) c.in-Ok-Some.field-0-is c.in-Ok-Some.ensures.left in
+    let same : (c.advance_one.new.cells ≡ c.args.cells.now) × (c.advance_one.new.entries.items ≡ c.args.entries.now.items) = if_some c.in-Ok-Some.field-0 q c.in-Ok-Some.field-0-is c.in-Ok-Some.ensures.same in
+    if_ok c.do_family.result (λ r waits is. let w = waits is in subst
+    (λ as_. HasWaited i c.args.cells.now as_ name c.advance_one.new.cells c.do_family.new.residents) c.residents.view_is
+    (waited i c.args.cells.now c.advance_one.new.cells items c.do_family.new.residents place name a q new w.0 h.found h.awake left (sym c.in-Ok-Some.want-is ∙ w.1) w.2 w.3 same.0)) c.do_family.ensures.waits
