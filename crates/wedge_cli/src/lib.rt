@@ -7,6 +7,8 @@ mod commands;
 #[cfg(test)]
 mod copy_tests;
 #[cfg(test)]
+mod entering_tests;
+#[cfg(test)]
 mod file_tests;
 #[cfg(test)]
 mod gate_tests;

@@ -72,7 +72,7 @@ pub(crate) fn runs<R: Threads + Wait + Abort + Sync>(
 }
 
 /// A schedule of the row's image is refused at a line.
-fn refuses<R: Threads + Wait + Abort + Sync>(
+pub(crate) fn refuses<R: Threads + Wait + Abort + Sync>(
     rt: &R,
     alloc: Global,
     row: Row<'_>,
@@ -112,17 +112,34 @@ mv a0, a1
 svc exit
 ";
 
-#[test]
-fn names_have_at_most_32_parts(rt: HostRuntime) -> Result<(), Fail> {
-    let alloc = rt.alloc();
-    // The last actor has 14 instructions, each one above it 15, and the root 16.
-    let mut report = String::from_str(alloc, "actor 0 main exited 4 pc 00010040 fuel 2520\n")?;
+/// A partition whose actors each start a child, down to a name of 32 parts: its text, the line of its root, where the others end and where
+/// the last does, and how many instructions each of the others has and how many the last.
+#[derive(Clone, Copy)]
+pub(crate) struct Deep<'a> {
+    pub text: &'a str,
+    pub root: &'a str,
+    pub pc: &'a str,
+    pub last_pc: &'a str,
+    pub cost: u32,
+    pub last_cost: u32,
+}
+
+/// A run of it gives the report of 32 actors that exit with 4, each of which had 50 units of fuel less than its starter.
+pub(crate) fn deepens<R: Threads + Wait + Abort + Sync>(
+    rt: &R,
+    alloc: Global,
+    deep: Deep<'_>,
+) -> Result<(), Fail> {
+    let mut report = String::from_str(alloc, deep.root)?;
     let mut down = String::from_str(alloc, "0\n0\n")?;
     let mut up = String::new(alloc);
     for depth in 1..32u32 {
         let name = format!(in alloc; "0{}", ".1".repeat(alloc, depth as usize)?)?;
-        let pc = if depth == 31 { "0001004c" } else { "00010040" };
-        let fuel = 2000 - 50 * depth - 14 - 15 * (31 - depth);
+        let pc = if depth == 31 { deep.last_pc } else { deep.pc };
+        let spent = deep.cost.saturating_mul(31 - depth);
+        let fuel = (2000 - 50 * depth)
+            .saturating_sub(deep.last_cost)
+            .saturating_sub(spent);
         let line = format!(in alloc; "actor {name} kid exited 4 pc {pc} fuel {fuel}\n")?;
         report.push_str(line.as_str())?;
         if depth < 31 {
@@ -137,11 +154,25 @@ fn names_have_at_most_32_parts(rt: HostRuntime) -> Result<(), Fail> {
     let row = Row {
         fuel: "fuel = 3000\n",
         right: "none",
-        text: DEEP,
+        text: deep.text,
         schedule: schedule.as_str(),
         report: report.as_str(),
     };
-    runs(&rt, alloc, row)
+    runs(rt, alloc, row)
+}
+
+#[test]
+fn names_have_at_most_32_parts(rt: HostRuntime) -> Result<(), Fail> {
+    // The last actor has 14 instructions, each one above it 15, and the root 16.
+    let deep = Deep {
+        text: DEEP,
+        root: "actor 0 main exited 4 pc 00010040 fuel 2520\n",
+        pc: "00010040",
+        last_pc: "0001004c",
+        cost: 15,
+        last_cost: 14,
+    };
+    deepens(&rt, rt.alloc(), deep)
 }
 
 /// Two children each set a word of the tag and wait until the other has set its own.
