@@ -1,6 +1,6 @@
 #!/bin/sh
 # Measures the program: local instructions, shared accesses, a schedule printed and replayed, children started and joined,
-# with much data too, tags made and deleted, reading a large image, assembling a long text.
+# with much data too, gates entered, tags made and deleted, reading a large image, assembling a long text.
 # It prints the seconds that each takes and, where valgrind is there, the host instructions that an instruction
 # of the program costs, and fails where that is more than its bound. The program is the one that bin/wedge builds, or $WEDGE.
 root=$(cd "$(dirname "$(readlink -f "$0")")/.." && pwd) || exit 1
@@ -71,6 +71,17 @@ cmp "$work/out" "$work/report" || exit 1
 } > "$work/data.toml"
 "$wedge" build "$work/data.toml" > "$work/data.wedge" || exit 1
 measure 'children over 1 MiB of data' 10000 "$wedge" run "$work/data.wedge"
+
+# A hundred thousand runs of a gate, one entered after another, and the same replayed.
+{
+    printf '.proc main\nsvc sc_new\nla a1, gate\nli a2, 0\nli a3, 10\nli a4, 0\nsvc cgate_make\nli s0, 100000\nagain:\nla a0, gate\n'
+    printf 'li a2, -1\nsvc cgate\naddi s0, s0, -1\nbnez s0, again\nsvc exit\n.proc gate\nsvc exit\n'
+} | partition 5000000 > "$work/gates.toml"
+"$wedge" build "$work/gates.toml" > "$work/gates.wedge" || exit 1
+measure 'runs of a gate, one by one' 100000 "$wedge" run "$work/gates.wedge" --schedule 2> "$work/report"
+mv "$work/out" "$work/schedule"
+measure 'runs of a gate, replayed' 100000 "$wedge" replay "$work/gates.wedge" "$work/schedule"
+cmp "$work/out" "$work/report" || exit 1
 
 # A hundred thousand tags, one made and deleted after another, with a block placed and freed in each.
 {

@@ -1,8 +1,6 @@
 /* The service calls of wedge for programs in C (docs/MACHINE.md has the rules).
  *
- * The calls on gates are not among them yet: a gate can be made and granted so far, and not called.
- *
- * A call has its number in a7 and its arguments in a0 to a3. Its value comes back in a0, its code in a1, and some
+ * A call has its number in a7 and its arguments in a0 to a4. Its value comes back in a0, its code in a1, and some
  * calls answer a further number in a2. A call that is refused has the value 0 and a code other than WEDGE_OK, and the
  * program goes on.
  */
@@ -37,7 +35,7 @@ enum wedge_bits {
     WEDGE_BIT_BOTH = 3
 };
 
-/* ---- how a child ended: wedge_joined.end */
+/* ---- how a child or a run ended: wedge_joined.end */
 
 enum wedge_end {
     WEDGE_END_EXITED = 0,
@@ -87,7 +85,7 @@ struct wedge_reply {
 };
 
 struct wedge_joined {
-    uint32_t value; /* what the child exited with, or 0 */
+    uint32_t value; /* what the child or the run exited with, or 0 */
     uint32_t code;
     uint32_t end; /* an enum wedge_end, where the code is WEDGE_OK */
 };
@@ -188,8 +186,8 @@ static inline struct wedge_reply wedge_sfree(void *block)
     return wedge_call(6, (uint32_t)block, 0, 0, 0);
 }
 
-/* ---- drafts: of what the sheet of a child is made. Nothing is checked against the actor's own sheet before
- * wedge_create uses the draft. */
+/* ---- drafts: of what the sheet of a child or of a gate is made, and what is lent to a run. Nothing is checked against
+ * the actor's own sheet before the draft is used. */
 
 /* Makes a draft without grants. The value is its number. */
 static inline struct wedge_reply wedge_draft(void)
@@ -209,6 +207,12 @@ static inline struct wedge_reply wedge_grant_fd(uint32_t draft, uint32_t fd, enu
     return wedge_call(9, draft, fd, bits, 0);
 }
 
+/* Puts the gate that this actor has at an entry into a draft. */
+static inline struct wedge_reply wedge_grant_gate(uint32_t draft, void (*entry)(uint32_t, uint32_t))
+{
+    return wedge_call(10, draft, (uint32_t)entry, 0, 0);
+}
+
 /* Has the child run as a user. Without it, it runs as this actor's. */
 static inline struct wedge_reply wedge_set_user(uint32_t draft, uint32_t user)
 {
@@ -220,6 +224,45 @@ static inline struct wedge_reply wedge_set_user(uint32_t draft, uint32_t user)
 static inline struct wedge_reply wedge_set_root(uint32_t draft, const char *path, uint32_t length)
 {
     return wedge_call(12, draft, (uint32_t)path, length, 0);
+}
+
+/* ---- gates: code with rights that those who enter it do not have */
+
+/* A function at which the runs of a gate begin: with the argument of whoever enters it, and with the gate's own, which
+ * its maker fixed. As for WEDGE_ENTRY, it exits with what its body returns.
+ *
+ *     WEDGE_GATE(sign, message, key) { return message ^ key; }
+ */
+#define WEDGE_GATE(name, argument, own)                                                                    \
+    static uint32_t name##_body(uint32_t argument, uint32_t own);                                          \
+    __attribute__((noreturn, used)) void name(uint32_t argument, uint32_t own);                            \
+    void name(uint32_t argument, uint32_t own) { wedge_exit(name##_body(argument, own)); }                 \
+    static uint32_t name##_body(__attribute__((unused)) uint32_t argument, __attribute__((unused)) uint32_t own)
+
+/* Makes a gate of a draft: each run of it begins at an entry, under the sheet that a child of the draft would have, with
+ * this argument, and with so much of the fuel of whoever enters it. A gate's draft has no user and no directory. This
+ * actor has the gate at that entry then, and may enter it and grant it. */
+static inline struct wedge_reply wedge_make_gate(uint32_t draft, void (*entry)(uint32_t, uint32_t), uint32_t own,
+                                                 uint32_t fuel)
+{
+    register uint32_t a0 __asm__("a0") = draft;
+    register uint32_t a1 __asm__("a1") = (uint32_t)entry;
+    register uint32_t a2 __asm__("a2") = own;
+    register uint32_t a3 __asm__("a3") = fuel;
+    register uint32_t a4 __asm__("a4") = 0;
+    register uint32_t a7 __asm__("a7") = 13;
+    __asm__ volatile("ecall" : "+r"(a0), "+r"(a1) : "r"(a2), "r"(a3), "r"(a4), "r"(a7) : "memory");
+    return (struct wedge_reply){a0, a1};
+}
+
+#define WEDGE_LEND_NOTHING 0xffffffffu
+
+/* Enters the gate that this actor has at an entry, and waits for the run. A draft of tags and descriptors is lent to it
+ * where the gate's own sheet names nothing, for this run alone; or WEDGE_LEND_NOTHING. */
+static inline struct wedge_joined wedge_enter(void (*entry)(uint32_t, uint32_t), uint32_t argument, uint32_t lent)
+{
+    struct wedge_answer answer = wedge_ask(14, (uint32_t)entry, argument, lent, 0);
+    return (struct wedge_joined){answer.a0, answer.a1, answer.a2};
 }
 
 /* ---- descriptors and files. A buffer has at most 256 bytes and lies in the stack, the heap or the data; one that is

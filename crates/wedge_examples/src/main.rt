@@ -36,7 +36,7 @@ struct Example {
     wanted: &'static str,
 }
 
-static EXAMPLES: [Example; 26] = [
+static EXAMPLES: [Example; 29] = [
     Example {
         name: "hello.toml",
         source: Source::Partition,
@@ -108,6 +108,30 @@ static EXAMPLES: [Example; 26] = [
         words: &["replay", "image", "schedule"],
         schedule: Some("split.schedule"),
         wanted: "split.report",
+    },
+    Example {
+        name: "signer.toml",
+        source: Source::Partition,
+        title: "run",
+        words: &["run", "image"],
+        schedule: None,
+        wanted: "signer.report",
+    },
+    Example {
+        name: "signer.toml",
+        source: Source::Partition,
+        title: "run --schedule",
+        words: &["run", "image", "--schedule"],
+        schedule: None,
+        wanted: "signer.schedule",
+    },
+    Example {
+        name: "signer.toml",
+        source: Source::Partition,
+        title: "replay",
+        words: &["replay", "image", "schedule"],
+        schedule: Some("signer.schedule"),
+        wanted: "signer.report",
     },
     Example {
         name: "session.toml",
