@@ -38,11 +38,10 @@ use Rattle.sthread_life.specs.Calls.{a0, draft_at}
 use Rattle.sthread_life.specs.Cells.{Cells}
 use Rattle.sthread_life.specs.Children.{Children, is_number, fuel_given, is_child, without_child, child_name}
 use Rattle.sthread_life.specs.Ends.{is_end_event}
-use Rattle.sthread_life.specs.Families.{IsChild, IsStart, IsFirst, ActsAlone, made_in, made_under, made_by, labelled_under, labels_by, joined, KeepsFamily, IsRun, IsEnter, EndsAsIs}
+use Rattle.sthread_life.specs.Families.{IsChild, IsStart, IsFirst, ActsAlone, made_in, made_under, made_by, labelled_under, labels_by, joined, KeepsFamily, IsRun, IsEnter, EndsAsIs, DoesNext}
 use Rattle.sthread_life.specs.Local.{end_reached, step}
 use Rattle.cow_pages.specs.Listed.{bytes_listed}
 use Rattle.sthread_life.specs.Copying.{Preparation}
-use Rattle.sthread_life.specs.declared.copy_grant.CopyGrant.{CopyGrant}
 use Rattle.sthread_life.specs.Taking.{runs, loads_by, loads_at, next_start, takes, child_of, memory_made, has_opened_file, has_entered, run_by, run_at}
 use Rattle.sthread_life.specs.Worlds.{WorldState, actor_named, put_actor, happened, with_actor, with_begun}
 use Rattle.sthread_life.proofs.Between.{event_for, IsJoin, joined_is, numbered_is, snapped_is, takes_name, entered_is, entered_by}
@@ -155,7 +154,7 @@ step_family w b run =
       labels = s.labels;
       starts = s.starts;
       unjoined = s.unjoined;
-      starting = λ p e complete. let f : phase.Running ≡ phase.Starting p = sym run ∙ e in absurd cc;
+      next = subst (λ p. DoesNext p None) (sym run) tt;
       childless = λ e. absurd cc;
       leaving = tt;
     }
@@ -164,13 +163,9 @@ step_family w b run =
 abbrev after : WorldState → ActorState → Event → WorldState
 after w b e = (happened w b e).world
 
--- no child is prepared that has all its copies
-abbrev IsIncomplete : Phase → Type 0
-IsIncomplete p = (x : Preparation) → p ≡ phase.Starting x → x.left ≡ [] → ⊥
-
-alone : (w : WorldState) (b : ActorState) (e : Event) → IsOfOne e → (after w b e).actors ≡ put_actor w.actors (takes w.image b e) → IsIncomplete b.phase → (is_end_event (Some e) ≡ true → b.unjoined ≡ []) → EndsAsIs b.run_of (Some e)
+alone : (w : WorldState) (b : ActorState) (e : Event) → IsOfOne e → (after w b e).actors ≡ put_actor w.actors (takes w.image b e) → DoesNext b.phase (Some e) → (is_end_event (Some e) ≡ true → b.unjoined ≡ []) → EndsAsIs b.run_of (Some e)
     → ActsAlone (with_actor w b) b (Some e) (after w b e)
-alone w b e one actors starting childless leaving =
+alone w b e one actors next childless leaving =
     let s = takes_same w.image b e one in
     record {
       after = takes w.image b e;
@@ -183,30 +178,24 @@ alone w b e one actors starting childless leaving =
       labels = s.labels;
       starts = s.starts;
       unjoined = s.unjoined;
-      starting = starting;
+      next = next;
       childless = childless;
       leaving = leaving;
     }
 
 -- the event of a request
-not_starting : (b : ActorState) (q : Want) → b.phase ≡ phase.Within q → IsIncomplete b.phase
-not_starting b q at p e complete = let f : phase.Within q ≡ phase.Starting p = sym at ∙ e in cc
-
-still_left : (p x : Preparation) (g : CopyGrant) (gs : List CopyGrant) → p.left ≡ g ∷ gs → phase.Starting p ≡ phase.Starting x → x.left ≡ [] → ⊥
-still_left p x g gs left same complete =
-    let one : p ≡ x = cc in
-    let none : g ∷ gs ≡ [] = sym left ∙ ap (λ (y : Preparation). y.left) one ∙ complete in
-    cc
+next_at : (b : ActorState) (p : Phase) (e : Event) → b.phase ≡ p → DoesNext p (Some e) → DoesNext b.phase (Some e)
+next_at b p e at h = subst (λ x. DoesNext x (Some e)) (sym at) h
 
 want_family : (w : WorldState) (b : ActorState) (N : ℕ → Type 0) (q : Want) → IsRequest N b q → b.phase ≡ phase.Within q → KeepsFamily (with_actor w b) b (Some (event_for w.cells b q)) (after w b (event_for w.cells b q))
-want_family w b N (want.Slots directory_ask.Claim) own at = alone w b _ tt refl (not_starting b _ at) (λ e. absurd cc) tt
-want_family w b N (want.Slot slot (slot_want.Close tag)) own at = alone w b _ tt refl (not_starting b _ at) (λ e. absurd cc) tt
-want_family w b N (want.Slot slot (slot_want.Smalloc tag size)) own at = alone w b _ tt refl (not_starting b _ at) (λ e. absurd cc) tt
-want_family w b N (want.Slot slot (slot_want.Sfree offset)) own at = alone w b _ tt refl (not_starting b _ at) (λ e. absurd cc) tt
-want_family w b N (want.Slot slot (slot_want.Load offset width)) own at = alone w b _ tt refl (not_starting b _ at) (λ e. absurd cc) tt
-want_family w b N (want.Slot slot (slot_want.Store offset width value)) own at = alone w b _ tt refl (not_starting b _ at) (λ e. absurd cc) tt
-want_family w b N (want.Fd fd q) own at = alone w b _ tt refl (not_starting b _ at) (λ e. absurd cc) tt
-want_family w b N (want.Lives lives_ask.Claim) own at = alone w b _ tt refl (not_starting b _ at) (λ e. absurd cc) tt
+want_family w b N (want.Slots directory_ask.Claim) own at = alone w b _ tt refl (next_at b _ _ at tt) (λ e. absurd cc) tt
+want_family w b N (want.Slot slot (slot_want.Close tag)) own at = alone w b _ tt refl (next_at b _ _ at tt) (λ e. absurd cc) tt
+want_family w b N (want.Slot slot (slot_want.Smalloc tag size)) own at = alone w b _ tt refl (next_at b _ _ at tt) (λ e. absurd cc) tt
+want_family w b N (want.Slot slot (slot_want.Sfree offset)) own at = alone w b _ tt refl (next_at b _ _ at tt) (λ e. absurd cc) tt
+want_family w b N (want.Slot slot (slot_want.Load offset width)) own at = alone w b _ tt refl (next_at b _ _ at tt) (λ e. absurd cc) tt
+want_family w b N (want.Slot slot (slot_want.Store offset width value)) own at = alone w b _ tt refl (next_at b _ _ at tt) (λ e. absurd cc) tt
+want_family w b N (want.Fd fd q) own at = alone w b _ tt refl (next_at b _ _ at tt) (λ e. absurd cc) tt
+want_family w b N (want.Lives lives_ask.Claim) own at = alone w b _ tt refl (next_at b _ _ at tt) (λ e. absurd cc) tt
 want_family w b N q own at = absurd own
 
 -- an event makes a tag of its actor's only where it opens one
@@ -437,29 +426,29 @@ event_family w b e (Joined j) = join_family w b j.number e j.join (subst (λ p. 
 event_family w b e (Started s) = subst (λ y. KeepsFamily (with_actor w b) b (Some y) (after w b y)) (sym s.is) (start_family w b s.preparation s.at s.complete s.ready)
 event_family w b e (Snaps s) =
     subst (λ y. KeepsFamily (with_actor w b) b (Some y) (after w b y)) (sym s.is)
-    (alone w b (event.Slot s.grant.slot (slot_ask.Snap s.grant.tag) _) tt refl (λ p h complete. still_left s.preparation p s.grant s.others s.left (sym s.at ∙ h) complete) (λ h. absurd cc) tt)
+    (alone w b (event.Slot s.grant.slot (slot_ask.Snap s.grant.tag) _) tt refl (next_at b _ _ s.at (λ none. let f : s.grant ∷ s.others ≡ [] = sym s.left ∙ none in cc)) (λ h. absurd cc) tt)
 event_family w b e (GateSnaps s) =
     subst (λ y. KeepsFamily (with_actor w b) b (Some y) (after w b y)) (sym s.is)
-    (alone w b (event.Slot s.grant.slot (slot_ask.Snap s.grant.tag) _) tt refl (λ p h complete. let g : phase.MakingGate s.preparation ≡ phase.Starting p = sym s.at ∙ h in absurd cc) (λ h. absurd cc) tt)
+    (alone w b (event.Slot s.grant.slot (slot_ask.Snap s.grant.tag) _) tt refl (next_at b _ _ s.at tt) (λ h. absurd cc) tt)
 event_family w b e (LastJoined j) =
     join_family w b j.first.0 e j.join (subst (λ p. IsFirst p b.unjoined j.first.0) (sym j.at) (subst (λ cs. IsFirst (phase.Ending j.end_) cs j.first.0) (sym j.left) refl))
     (subst (λ cs. is_child cs j.first.0 ≡ true) (sym j.left) (first_child j.first j.others))
 event_family w b e (Opens o) =
     subst (λ y. KeepsFamily (with_actor w b) b (Some y) (after w b y)) (sym o.is)
-    (alone w b (event.Slot o.slot (slot_ask.Open o.tag (a0 b)) slot_reply.Opened) tt refl (λ p h complete. let g : phase.Opening o.slot o.tag ≡ phase.Starting p = sym o.at ∙ h in absurd cc) (λ h. absurd cc) tt)
+    (alone w b (event.Slot o.slot (slot_ask.Open o.tag (a0 b)) slot_reply.Opened) tt refl (next_at b _ _ o.at tt) (λ h. absurd cc) tt)
 event_family w b e (Releases r) =
     subst (λ y. KeepsFamily (with_actor w b) b (Some y) (after w b y)) (sym r.is)
-    (alone w b (event.Slots (directory_ask.Release r.slot) directory_reply.Released) tt refl (λ p h complete. let g : phase.Releasing r.slot ≡ phase.Starting p = sym r.at ∙ h in absurd cc) (λ h. absurd cc) tt)
+    (alone w b (event.Slots (directory_ask.Release r.slot) directory_reply.Released) tt refl (next_at b _ _ r.at tt) (λ h. absurd cc) tt)
 event_family w b e (Numbers n) =
     subst (λ y. KeepsFamily (with_actor w b) b (Some y) (after w b y)) (sym n.is)
-    (alone w b (event.Fds directory_ask.Claim _) tt refl (λ p h complete. let g : phase.OpeningFile n.opening ≡ phase.Starting p = sym n.at ∙ h in absurd cc) (λ h. absurd cc) tt)
+    (alone w b (event.Fds directory_ask.Claim _) tt refl (next_at b _ _ n.at tt) (λ h. absurd cc) tt)
 event_family w b e (OpensFile f) =
     subst (λ y. KeepsFamily (with_actor w b) b (Some y) (after w b y)) (sym f.is)
-    (alone w b (event.Fd f.fd (stream_ask.Open f.opening.kind f.opening.bytes) reply.Opened) tt refl (λ p h complete. let g : phase.OpeningFile f.opening ≡ phase.Starting p = sym f.at ∙ h in absurd cc) (λ h. absurd cc) tt)
+    (alone w b (event.Fd f.fd (stream_ask.Open f.opening.kind f.opening.bytes) reply.Opened) tt refl (next_at b _ _ f.at tt) (λ h. absurd cc) tt)
 event_family w b e (EntersGate x) = subst (λ y. KeepsFamily (with_actor w b) b (Some y) (after w b y)) (sym x.is) (enter_family w b x.entrance x.at x.may)
 event_family w b e (LeavesGate l) =
     subst (λ y. KeepsFamily (with_actor w b) b (Some y) (after w b y)) (sym l.is)
-    (alone w b (event.Leave l.end_) tt refl (λ p h complete. let g : phase.Ending l.end_ ≡ phase.Starting p = sym l.at ∙ h in absurd cc) (λ h. l.left) (ap is_some l.own))
+    (alone w b (event.Leave l.end_) tt refl (next_at b _ _ l.at refl) (λ h. l.left) (ap is_some l.own))
 event_family w b e (Ended f) =
     subst (λ y. KeepsFamily (with_actor w b) b (Some y) (after w b y)) (sym f.is)
-    (alone w b (event.Lives (lives_ask.Release f.end_) lives_reply.Released) tt refl (λ p h complete. let g : phase.Ending f.end_ ≡ phase.Starting p = sym f.at ∙ h in absurd cc) (λ h. f.left) f.own)
+    (alone w b (event.Lives (lives_ask.Release f.end_) lives_reply.Released) tt refl (next_at b _ _ f.at refl) (λ h. f.left) f.own)

@@ -37,9 +37,9 @@ use Rattle.sthread_life.specs.Copying.{Preparation}
 use Rattle.sthread_life.specs.MadeGates.{IsGateOf}
 use Rattle.sthread_life.specs.Opening.{FileOpening}
 use Rattle.sthread_life.specs.declared.phase.Phase.TheVariants as phase
-use Rattle.sthread_life.specs.Actors.{ActorState, right_of, bits_of, slot_held, gate_held}
+use Rattle.sthread_life.specs.Actors.{ActorState, right_of, bits_of, slot_held}
 use Rattle.sthread_life.specs.Requests.{Access, Request, Loads, Stores, Reads, Appends, Closes, Opens, Creates, Makes, Deletes, Allots, Frees, Enters}
-use Rattle.sthread_life.specs.Lending.{excess_lent, sheet_lent}
+use Rattle.sthread_life.specs.Holding.{gate_for, loan, loan_lacks}
 use Rattle.sthread_life.specs.Entrances.{Entrance}
 use Rattle.wedge_base.specs.declared.grants.GateKind.{GateKind}
 use Rattle.wedge_base.specs.declared.grants.GateKind.TheVariants as gate_kind
@@ -62,7 +62,7 @@ bit_to_close k = if is_source k then read_bit else append_bit
 -- To enter a gate lacks the gate, where the actor holds none at the entry; or else what is lent may lack a grant.
 abbrev pub enter_lacks : ActorState → ℕ → Option Draft → Option Gate → Option Denial
 enter_lacks a entry lent None = Some (denial.Gate entry)
-enter_lacks a entry lent (Some g) = excess_lent a lent
+enter_lacks a entry lent (Some g) = loan_lacks a lent
 
 -- the grant that a request lacks; one that is allowed lacks none
 abbrev pub lacks : ActorState → Request → Option Denial
@@ -74,7 +74,7 @@ lacks a (Closes fd s) = if may_close s.kind (bits_of a fd) then None else Some (
 lacks a (Opens path f b) = if may_open a.sheet.user f b then None else Some (denial.File path)
 lacks a (Creates d) = first_excess a.sheet a.made d
 lacks a (Makes d) = first_excess a.sheet a.made d
-lacks a (Enters entry lent) = enter_lacks a entry lent (gate_held a entry)
+lacks a (Enters entry lent) = enter_lacks a entry lent (gate_for a entry)
 lacks a (Deletes tag) = if has a.made.tags tag then None else Some (denial.NotMaker tag)
 lacks a (Allots tag size) = if may_use a tag right.ReadWrite then None else Some (denial.Tag tag right.ReadWrite)
 lacks a (Frees p g) = if may_use a g.tag right.ReadWrite then None else Some (denial.Tag g.tag right.ReadWrite)
@@ -103,7 +103,7 @@ is_refused a (Closes fd s) = false
 is_refused a (Opens path f b) = not (fits_kind f.kind b)
 is_refused a (Creates d) = not (nat_lt (length a.name) 32) || nat_lt a.fuel (reg a.hart.regs 13)
 is_refused a (Makes d) = false
-is_refused a (Enters entry lent) = enter_refused a (gate_held a entry)
+is_refused a (Enters entry lent) = enter_refused a (gate_for a entry)
 is_refused a (Deletes tag) = false
 is_refused a (Allots tag size) = false
 is_refused a (Frees p g) = is_none (block_at g.blocks p.offset)
@@ -163,7 +163,7 @@ HasBegunGate a d b = ((g : Gate) × IsGateOf a d g × (b ≡ with_gate_made a g)
 
 -- it is about to enter the gate that it holds at the entry: the run is to have the gate's sheet, with what is lent
 abbrev pub IsAboutToEnter : ActorState → ℕ → Option Draft → ActorState → Type 0
-IsAboutToEnter a entry lent b = (x : Entrance) × (gate_held a entry ≡ Some x.gate) × (x.sheet ≡ lent_to x.gate.sheet (sheet_lent a lent)) × (b ≡ record a { phase = phase.Entering x })
+IsAboutToEnter a entry lent b = (x : Entrance) × (gate_for a entry ≡ Some x.gate) × (x.sheet ≡ lent_to x.gate.sheet (loan a lent)) × (b ≡ record a { phase = phase.Entering x })
 
 abbrev pub IsDone : ActorState → Request → Option Event → Option ActorState → Type 0
 IsDone a (Loads x rd s) e now =

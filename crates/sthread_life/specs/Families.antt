@@ -2,6 +2,9 @@
 use Rattle.std.specs.Prelude.{◌≡◌, ℕ, ◌+◌, ◌-◌, true, List, [], ◌∷◌, ◌++◌, replicate, slice_get, slice_set, Option, Some, None, IsSomeAnd, is_some, IfSome}
 use Rattle.wedge_base.specs.Sheets.{Made, Draft, nothing_made, made_tag, made_fd, first_excess, granted}
 use Rattle.wedge_base.specs.declared.rights.End.{End}
+use Rattle.wedge_base.specs.declared.rights.End.TheVariants as end_
+use Rattle.wedge_base.specs.declared.events.Want.{Want}
+use Rattle.wedge_base.specs.declared.events.Want.TheVariants as want
 use Rattle.wedge_base.specs.declared.events.Event.{Event}
 use Rattle.wedge_base.specs.declared.events.Event.TheVariants as event
 use Rattle.wedge_base.specs.declared.cells.SlotAsk.{SlotAsk}
@@ -15,15 +18,14 @@ use Rattle.rv_hart.specs.Local.{reg}
 use Rattle.sthread_life.specs.declared.files.StreamLabel.{StreamLabel}
 use Rattle.sthread_life.specs.declared.phase.Phase.{Phase}
 use Rattle.sthread_life.specs.declared.phase.Phase.TheVariants as phase
-use Rattle.sthread_life.specs.Actors.{ActorState, but_gates, gate_held}
+use Rattle.sthread_life.specs.Actors.{ActorState, but_gates}
 use Rattle.sthread_life.specs.Allowed.{answered}
 use Rattle.sthread_life.specs.Children.{Children, is_child, with_child, without_child}
 use Rattle.sthread_life.specs.Copying.{Preparation}
 use Rattle.sthread_life.specs.Ends.{is_end_event}
-use Rattle.sthread_life.specs.Taking.{end_value, end_number}
 use Rattle.sthread_life.specs.Worlds.{WorldState, actor_named, put_actor}
 use Rattle.sthread_life.specs.Entrances.{Entrance}
-use Rattle.sthread_life.specs.Lending.{sheet_lent, excess_lent, may_lend}
+use Rattle.sthread_life.specs.Holding.{gate_for, loan, loan_lacks, is_loan}
 use Rattle.sthread_life.specs.Requests.{lent_of}
 use Rattle.callgate.specs.Runs.{IsRunSheet}
 use Rattle.callgate.specs.declared.gate.Gate.{Gate}
@@ -79,13 +81,13 @@ pub record IsStart (old : WorldState) (a : ActorState) (name : List ℕ) (new : 
 pub record IsRun (a c : ActorState) : Type 0 where
   pub entrance : Entrance
   pub entering : a.phase ≡ phase.Entering entrance
-  pub held : gate_held a (reg a.hart.regs 10) ≡ Some entrance.gate
+  pub held : gate_for a (reg a.hart.regs 10) ≡ Some entrance.gate
   pub lent : Option Draft
   pub asked : lent_of a.drafts (reg a.hart.regs 12) ≡ Some lent
-  pub lendable : may_lend lent ≡ true
-  pub allowed : excess_lent a lent ≡ None
-  pub within : IfSome (sheet_lent a lent) (IsWithin a.sheet a.made)
-  pub sheet : IsRunSheet entrance.gate.sheet (sheet_lent a lent) c.sheet
+  pub lendable : is_loan lent ≡ true
+  pub allowed : loan_lacks a lent ≡ None
+  pub within : IfSome (loan a lent) (IsWithin a.sheet a.made)
+  pub sheet : IsRunSheet entrance.gate.sheet (loan a lent) c.sheet
   pub name : c.name ≡ a.name ++ (a.starts + 1) ∷ []
   pub compartment : c.compartment ≡ entrance.gate.entry
   pub own : c.run_of ≡ Some entrance.gate
@@ -119,11 +121,28 @@ pub record IsEnter (old : WorldState) (a : ActorState) (name : List ℕ) (new : 
 abbrev pub answered_twice : ActorState → ℕ → ℕ → Hart
 answered_twice a value more = record { pc = (answered a value 0).pc; regs = slice_set (answered a value 0).regs 12 more }
 
+-- the value of an end, and its number
+abbrev pub joined_value : End → ℕ
+joined_value (end_.Exited value) = value
+joined_value e = 0
+
+abbrev pub joined_number : End → ℕ
+joined_number (end_.Exited value) = 0
+joined_number end_.Denied = 1
+joined_number end_.Misaligned = 2
+joined_number end_.JumpMisaligned = 3
+joined_number end_.BadInstruction = 4
+joined_number end_.FetchFault = 5
+joined_number end_.TextStore = 6
+joined_number end_.Unmapped = 7
+joined_number end_.Break = 8
+joined_number end_.FuelOut = 9
+
 -- The joiner: the child's fuel comes back to it. A call is answered the child's value and the number of its end; an actor whose end
 -- is decided goes on with it.
 abbrev pub joined : ActorState → Phase → ℕ → End → ℕ → ActorState
 joined a (phase.Ending x) k e fuel = record a { fuel = a.fuel + fuel; unjoined = without_child a.unjoined k }
-joined a p k e fuel = record a { hart = answered_twice a (end_value e) (end_number e); fuel = a.fuel + fuel; unjoined = without_child a.unjoined k; phase = phase.Running }
+joined a p k e fuel = record a { hart = answered_twice a (joined_value e) (joined_number e); fuel = a.fuel + fuel; unjoined = without_child a.unjoined k; phase = phase.Running }
 
 -- an actor whose end is decided joins the first of its children, which are in the order of their numbers
 abbrev pub IsFirst : Phase → Children → ℕ → Type 0
@@ -170,9 +189,34 @@ EndsAsIs gate (Some (event.Lives (lives_ask.Release x) r)) = gate ≡ None
 EndsAsIs gate (Some (event.Leave x)) = is_some gate ≡ true
 EndsAsIs gate e = Unit {0}
 
+-- An actor does what it has come to: it claims the life that it wants, joins the child that it wants to join, starts the child whose memory is
+-- prepared and enters the gate that it is about to enter; it ends as was decided; and one that waits or has ended does nothing.
+abbrev pub IsClaim : Option Event → Type 0
+IsClaim (Some (event.Lives lives_ask.Claim r)) = Unit {0}
+IsClaim e = ⊥
+
+abbrev pub IsEndAs : End → Option Event → Type 0
+IsEndAs x (Some (event.Lives (lives_ask.Release y) r)) = y ≡ x
+IsEndAs x (Some (event.Leave y)) = y ≡ x
+IsEndAs x e = ⊥
+
+abbrev pub ComesTo : Want → Option Event → Type 0
+ComesTo (want.Lives lives_ask.Claim) e = IsClaim e
+ComesTo (want.Join k) e = ⊥
+ComesTo q e = Unit {0}
+
+abbrev pub DoesNext : Phase → Option Event → Type 0
+DoesNext (phase.Within q) e = ComesTo q e
+DoesNext (phase.Starting p) e = p.left ≡ [] → ⊥
+DoesNext (phase.Entering x) e = ⊥
+DoesNext (phase.Waiting k) e = ⊥
+DoesNext (phase.Ending x) e = IsEndAs x e
+DoesNext (phase.Ended x) e = ⊥
+DoesNext p e = Unit {0}
+
 -- Nothing else changes another actor, nor what an actor may do and whom it started, but that it has made a tag or a descriptor that
 -- it opened; which gates it makes is said apart.
--- A child whose memory is prepared is started next, and who ends has joined all its children.
+-- Whoever ends has joined all its children.
 pub record ActsAlone (old : WorldState) (a : ActorState) (e : Option Event) (new : WorldState) : Type 0 where
   pub after : ActorState
   pub actors : new.actors ≡ put_actor old.actors after
@@ -184,7 +228,7 @@ pub record ActsAlone (old : WorldState) (a : ActorState) (e : Option Event) (new
   pub labels : after.labels ≡ labels_by a e
   pub starts : after.starts ≡ a.starts
   pub unjoined : after.unjoined ≡ a.unjoined
-  pub starting : (p : Preparation) → a.phase ≡ phase.Starting p → p.left ≡ [] → ⊥
+  pub next : DoesNext a.phase e
   pub childless : is_end_event e ≡ true → a.unjoined ≡ []
   pub leaving : EndsAsIs a.run_of e
 

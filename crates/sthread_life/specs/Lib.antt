@@ -39,3 +39,4 @@ pub mod Bounds
 pub mod Occupancy
 pub mod Laws
 pub mod Resting
+pub mod Holding

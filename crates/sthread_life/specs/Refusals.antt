@@ -30,13 +30,13 @@ use Rattle.rv_hart.specs.declared.Need.TheVariants as need
 use Rattle.rv_hart.specs.Local.{local, reg}
 use Rattle.sthread_life.specs.declared.phase.Phase.{Phase}
 use Rattle.sthread_life.specs.declared.phase.Phase.TheVariants as phase
-use Rattle.sthread_life.specs.Actors.{ActorState, bits_of, slot_held, gate_held}
+use Rattle.sthread_life.specs.Actors.{ActorState, bits_of, slot_held}
 use Rattle.sthread_life.specs.Cells.{Cells, slot_in, stream_in}
 use Rattle.sthread_life.specs.Children.{is_child}
 use Rattle.sthread_life.specs.Worlds.{WorldState, with_actor}
 use Rattle.sthread_life.specs.Requests.{bytes_at, path_at, is_room, bits_to_open, file_of, suits_gate, lent_of}
 use Rattle.sthread_life.specs.Allowed.{may_use, is_source, fits_kind, answered, is_recycled}
-use Rattle.sthread_life.specs.Lending.{excess_lent, may_lend}
+use Rattle.sthread_life.specs.Holding.{gate_for, loan_lacks, is_loan}
 use Rattle.callgate.specs.declared.gate.Gate.{Gate}
 
 abbrev pub fuel_short : ℕ
@@ -112,7 +112,7 @@ entry_refusal a g None =
 
 abbrev pub lending_refusal : ActorState → Gate → Option (Option Draft) → Option ℕ
 lending_refusal a g None = Some no_such
-lending_refusal a g (Some lent) = if not (may_lend lent) then Some bad else entry_refusal a g (excess_lent a lent)
+lending_refusal a g (Some lent) = if not (is_loan lent) then Some bad else entry_refusal a g (loan_lacks a lent)
 
 abbrev pub enter_refusal : ActorState → Option Gate → Option (Option Draft) → Option ℕ
 enter_refusal a None lent = None
@@ -189,7 +189,7 @@ call_refusal i a regs n =
     else if n == 5 then size_refusal (reg regs 11)
     else if n == 6 then address_refusal (slot_of (reg regs 10))
     else if n == 13 then make_refusal i (reg regs 11) (reg regs 14) (slice_get a.drafts (reg regs 10))
-    else if n == 14 then enter_refusal a (gate_held a (reg regs 10)) (lent_of a.drafts (reg regs 12))
+    else if n == 14 then enter_refusal a (gate_for a (reg regs 10)) (lent_of a.drafts (reg regs 12))
     else if n == 15 then read_refusal a (reg regs 10) (reg regs 12) (is_room a (reg regs 11) (reg regs 12))
     else if n == 16 then append_refusal a (reg regs 10) (reg regs 12) (bytes_at i a (reg regs 11) (reg regs 12))
     else if n == 17 then number_refusal (reg regs 10)

@@ -20,9 +20,9 @@ use Rattle.rv_isa.specs.Table.{decode}
 use Rattle.rv_hart.specs.declared.Need.{Need}
 use Rattle.rv_hart.specs.declared.Need.TheVariants as need
 use Rattle.rv_hart.specs.Local.{local, reg}
-use Rattle.sthread_life.specs.Actors.{ActorState, gate_held}
+use Rattle.sthread_life.specs.Actors.{ActorState}
 use Rattle.sthread_life.specs.Cells.{Cells, slot_in, stream_in}
-use Rattle.sthread_life.specs.Lending.{may_lend}
+use Rattle.sthread_life.specs.Holding.{gate_for, is_loan}
 use Rattle.callgate.specs.declared.gate.Gate.{Gate}
 
 -- an access: its place in a window, how many bytes, and the tag that lives there
@@ -136,7 +136,7 @@ lent_of ds n = if n == 4294967295 then Some None else option_map (λ d. Some d) 
 
 abbrev pub lending_of : ℕ → Option (Option Draft) → Option Request
 lending_of entry None = None
-lending_of entry (Some lent) = if may_lend lent then Some (Enters entry lent) else None
+lending_of entry (Some lent) = if is_loan lent then Some (Enters entry lent) else None
 
 abbrev pub enter_of : ℕ → Option Gate → Option (Option Draft) → Option Request
 enter_of entry None lent = Some (Enters entry None)
@@ -159,7 +159,7 @@ call_request i c a regs n =
     else if n == 5 then allot_of (reg regs 10) (reg regs 11)
     else if n == 6 then free_of c (slot_of (reg regs 10))
     else if n == 13 then make_of i (reg regs 11) (reg regs 14) (slice_get a.drafts (reg regs 10))
-    else if n == 14 then enter_of (reg regs 10) (gate_held a (reg regs 10)) (lent_of a.drafts (reg regs 12))
+    else if n == 14 then enter_of (reg regs 10) (gate_for a (reg regs 10)) (lent_of a.drafts (reg regs 12))
     else if n == 15 then read_of c a (reg regs 10) (reg regs 11) (reg regs 12)
     else if n == 16 then append_of c a (reg regs 10) (reg regs 12) (bytes_at i a (reg regs 11) (reg regs 12))
     else if n == 17 then close_of c (reg regs 10)
