@@ -53,6 +53,8 @@ use Rattle.callgate.specs.Runs.{IsRunSheet}
 use Rattle.sthread_life.specs.Entrances.{Entrance}
 use Rattle.sthread_life.specs.Lending.{sheet_lent, excess_lent}
 use Rattle.sthread_life.proofs.EnteringGates.{IsEnterable, run_is}
+use Rattle.sthread_life.specs.Holding.{loan, IsDrafted}
+use Rattle.sthread_life.proofs.Drafted.{is_drafted}
 
 -- ---- what an event leaves as it is
 
@@ -294,6 +296,7 @@ child_begins i b p at complete ready =
       allowed = ready.allowed;
       sheet = sheet;
       within = subst (IsWithin b.sheet b.made) (sym sheet) (sheet_within b.sheet b.made ready.draft ready.allowed);
+      asked = subst (IsDrafted b.sheet b.made ready.draft) (sym sheet) (is_drafted b.sheet b.made ready.draft);
       name = refl;
       compartment = refl;
       own = refl;
@@ -323,6 +326,10 @@ lent_within : (b : ActorState) (lent : Option Draft) → excess_lent b lent ≡ 
 lent_within b None e = tt
 lent_within b (Some d) e = sheet_within b.sheet b.made d e
 
+lent_drafted : (b : ActorState) (lent : Option Draft) → IfSome lent (λ d. IfSome (loan b lent) (IsDrafted b.sheet b.made d))
+lent_drafted b None = tt
+lent_drafted b (Some d) = is_drafted b.sheet b.made d
+
 pub run_begins : (b : ActorState) (x : Entrance) → b.phase ≡ phase.Entering x → IsEnterable b x → IsRun b (run_by b (child_name b.name (next_start b)) x)
 run_begins b x at may = record {
   entrance = x;
@@ -333,6 +340,7 @@ run_begins b x at may = record {
   lendable = may.lendable;
   allowed = may.allowed;
   within = lent_within b may.lent may.allowed;
+  lends = lent_drafted b may.lent;
   sheet = subst (IsRunSheet x.gate.sheet (sheet_lent b may.lent)) (sym may.sheet) (run_is x.gate.sheet (sheet_lent b may.lent));
   name = refl;
   compartment = refl;

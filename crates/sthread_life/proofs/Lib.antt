@@ -17,6 +17,7 @@ pub mod Meeting
 pub mod Happening
 pub mod Turns
 pub mod Settling
+pub mod Drafted
 pub mod Families
 pub mod Waits
 pub mod Walking

@@ -65,6 +65,7 @@ use Rattle.callgate.specs.declared.gate.Gate.{Gate}
 use Rattle.wedge_base.specs.declared.grants.GateKind.{GateKind}
 use Rattle.wedge_base.specs.declared.grants.GateKind.TheVariants as gate_kind
 use Rattle.sthread_life.proofs.EnteringGates.{IsEnterable, enterable_at}
+use Rattle.sthread_life.proofs.Drafted.{is_drafted}
 
 -- the request that is in question in what an actor wants
 abbrev pub request_for : Cells → ActorState → ℕ → Bool → Want → Option Request
@@ -760,6 +761,7 @@ gate_of_draft a d m drafted g =
       entry = refl;
       sheet = refl;
       within = sheet_within a.sheet a.made d (subst (λ x. first_excess a.sheet a.made x ≡ None) same g.allowed);
+      asked = is_drafted a.sheet a.made d;
       user = ap (λ o. unwrap_or o a.sheet.user) (subst (λ x. x.user ≡ None) same g.user);
       root = ap (λ o. unwrap_or o a.sheet.root) (subst (λ x. x.root ≡ None) same g.root);
       argument = refl;

@@ -25,7 +25,7 @@ use Rattle.sthread_life.specs.Copying.{Preparation}
 use Rattle.sthread_life.specs.Ends.{is_end_event}
 use Rattle.sthread_life.specs.Worlds.{WorldState, actor_named, put_actor}
 use Rattle.sthread_life.specs.Entrances.{Entrance}
-use Rattle.sthread_life.specs.Holding.{gate_for, loan, loan_lacks, is_loan}
+use Rattle.sthread_life.specs.Holding.{gate_for, loan, loan_lacks, is_loan, IsDrafted}
 use Rattle.sthread_life.specs.Requests.{lent_of}
 use Rattle.callgate.specs.Runs.{IsRunSheet}
 use Rattle.callgate.specs.declared.gate.Gate.{Gate}
@@ -44,6 +44,7 @@ pub record IsChild (a c : ActorState) : Type 0 where
   pub drafted : slice_get a.drafts (reg a.hart.regs 10) ≡ Some draft
   pub allowed : first_excess a.sheet a.made draft ≡ None
   pub sheet : c.sheet ≡ granted a.sheet a.made draft
+  pub asked : IsDrafted a.sheet a.made draft c.sheet
   pub within : IsWithin a.sheet a.made c.sheet
   pub name : c.name ≡ a.name ++ (a.starts + 1) ∷ []
   pub compartment : c.compartment ≡ reg a.hart.regs 11
@@ -87,6 +88,7 @@ pub record IsRun (a c : ActorState) : Type 0 where
   pub lendable : is_loan lent ≡ true
   pub allowed : loan_lacks a lent ≡ None
   pub within : IfSome (loan a lent) (IsWithin a.sheet a.made)
+  pub lends : IfSome lent (λ d. IfSome (loan a lent) (IsDrafted a.sheet a.made d))
   pub sheet : IsRunSheet entrance.gate.sheet (loan a lent) c.sheet
   pub name : c.name ≡ a.name ++ (a.starts + 1) ∷ []
   pub compartment : c.compartment ≡ entrance.gate.entry

@@ -7,6 +7,7 @@ use Rattle.callgate.specs.declared.gate.Gate.{Gate}
 use Rattle.grant_sheet.specs.Granting.{IsWithin}
 use Rattle.rv_hart.specs.Local.{reg}
 use Rattle.sthread_life.specs.Actors.{ActorState}
+use Rattle.sthread_life.specs.Holding.{IsDrafted}
 
 abbrev pub kind_of_number : ℕ → GateKind
 kind_of_number n = if n == 0 then gate_kind.Fresh else gate_kind.Recycled
@@ -18,6 +19,7 @@ pub record IsGateOf (a : ActorState) (d : Draft) (g : Gate) : Type 0 where
   pub id : g.id ≡ record { maker = a.name; number = a.made.count + 1 }
   pub entry : g.entry ≡ reg a.hart.regs 11
   pub sheet : g.sheet ≡ granted a.sheet a.made d
+  pub asked : IsDrafted a.sheet a.made d g.sheet
   pub within : IsWithin a.sheet a.made g.sheet
   pub user : g.sheet.user ≡ a.sheet.user
   pub root : g.sheet.root ≡ a.sheet.root
