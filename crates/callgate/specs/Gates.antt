@@ -1,6 +1,6 @@
 -- Gates that are known by their identities.
 use Rattle.std.specs.Prelude.{List, find, Option}
-use Rattle.wedge_base.specs.Gates.{same_gate}
+use Rattle.wedge_base.specs.Identities.{same_gate}
 use Rattle.wedge_base.specs.declared.grants.GateId.{GateId}
 use Rattle.callgate.specs.declared.gate.Gate.{Gate}
 

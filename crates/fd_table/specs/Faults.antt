@@ -1,7 +1,7 @@
 -- The reply that a fault stands for.
 use Rattle.std.specs.Prelude.{Option, Some, None}
-use Rattle.wedge_base.specs.declared.cells.StreamReply.{StreamReply}
-use Rattle.wedge_base.specs.declared.cells.StreamReply.TheVariants as reply
+use Rattle.wedge_events.specs.declared.cells.StreamReply.{StreamReply}
+use Rattle.wedge_events.specs.declared.cells.StreamReply.TheVariants as reply
 use Rattle.fd_table.specs.declared.fault.StreamFault.{StreamFault}
 use Rattle.fd_table.specs.declared.fault.StreamFault.TheVariants as fault
 

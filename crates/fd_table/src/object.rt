@@ -6,11 +6,12 @@ ghost use Rattle.fd_table.specs.Faults.{reply_of};
 use crate::fault::StreamFault;
 use crate::opened::Opened;
 use crate::stream::Stream;
-use wedge_base::{NoMemory, Object, StreamAsk, StreamReply};
+use wedge_base::NoMemory;
+use wedge_events::{Object, StreamAsk, StreamReply};
 
 impl Object for Stream {
     ghost use Rattle.std.specs.Prelude.{◌≡◌, IfOk, OnErr};
-    ghost use Rattle.wedge_base.specs.Streams.{stream_reply, stream_next, StreamFits};
+    ghost use Rattle.wedge_events.specs.Streams.{stream_reply, stream_next, StreamFits};
     ghost use Rattle.fd_table.specs.Openings.{opening};
 
     type Ask = StreamAsk;

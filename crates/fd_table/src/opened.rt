@@ -1,9 +1,9 @@
 //! A stream that was opened.
 
 ghost use Rattle.std.specs.Prelude.{◌≡◌, ◌≢◌, ◌+◌, ◌≤◌, ℕ, List, Some, Err, take, drop, length, IfErr, IfOk, OnOk, OnErr};
-ghost use Rattle.wedge_base.specs.Streams as streams;
-ghost use Rattle.wedge_base.specs.declared.cells.StreamAsk.TheVariants as ask;
-ghost use Rattle.wedge_base.specs.declared.cells.StreamReply.TheVariants as reply;
+ghost use Rattle.wedge_events.specs.Streams as streams;
+ghost use Rattle.wedge_events.specs.declared.cells.StreamAsk.TheVariants as ask;
+ghost use Rattle.wedge_events.specs.declared.cells.StreamReply.TheVariants as reply;
 ghost use Rattle.fd_table.specs.Faults.{reply_of};
 
 use crate::fault::StreamFault;
@@ -34,7 +34,7 @@ pub(crate) struct Opened {
 
 impl Model for Opened {
     ghost use Rattle.std.specs.Prelude.{length, ◌≤◌};
-    ghost use Rattle.wedge_base.specs.Streams.{Stream as Plain};
+    ghost use Rattle.wedge_events.specs.Streams.{Stream as Plain};
 
     ghost Value = { Plain };
 

@@ -1,9 +1,9 @@
 //! The stream behind a descriptor.
 
 ghost use Rattle.std.specs.Prelude.{◌≡◌, ◌≢◌, [], Some, None, Err, take, drop, length, ◌≤◌, false, unwrap_or, option_map, IfErr, IfOk, OnOk, OnErr};
-ghost use Rattle.wedge_base.specs.Streams as streams;
-ghost use Rattle.wedge_base.specs.declared.cells.StreamAsk.TheVariants as ask;
-ghost use Rattle.wedge_base.specs.declared.cells.StreamReply.TheVariants as reply;
+ghost use Rattle.wedge_events.specs.Streams as streams;
+ghost use Rattle.wedge_events.specs.declared.cells.StreamAsk.TheVariants as ask;
+ghost use Rattle.wedge_events.specs.declared.cells.StreamReply.TheVariants as reply;
 ghost use Rattle.wedge_base.specs.declared.rights.StreamKind.TheVariants as kind;
 ghost use Rattle.fd_table.specs.Faults.{reply_of};
 
@@ -21,7 +21,7 @@ pub struct Stream {
 
 impl Model for Stream {
     ghost use Rattle.std.specs.Prelude.{Option};
-    ghost use Rattle.wedge_base.specs.Streams.{Stream as Plain};
+    ghost use Rattle.wedge_events.specs.Streams.{Stream as Plain};
 
     ghost Value = { Option Plain };
 

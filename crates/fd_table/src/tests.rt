@@ -1,7 +1,8 @@
 use super::*;
 use std::process::Abort;
 use std::test::Fail;
-use wedge_base::{Bytes, FdBits, FdEntry, NoMemory, Object, StreamAsk, StreamKind, StreamReply};
+use wedge_base::{Bytes, FdBits, FdEntry, NoMemory, StreamKind};
+use wedge_events::{Object, StreamAsk, StreamReply};
 
 const NONE: FdBits = FdBits {
     read: false,

@@ -1,22 +1,22 @@
 //! What a recycled gate keeps between its runs.
 
 ghost use Rattle.std.specs.Prelude.{◌≡◌, true, false, None, Some, unwrap_or, option_copied};
-ghost use Rattle.wedge_base.specs.Gates as gates;
+ghost use Rattle.wedge_events.specs.Gates as gates;
 
 use std::alloc::Global;
 use std::marker::Model;
-use wedge_base::ViewParts;
+use wedge_events::SavedView;
 
 /// The state of a recycled gate: whether a run is in it, and what the last run left.
 #[derive(Debug, Drop)]
 pub struct Kept {
     pub(crate) alloc: Global,
     entered: bool,
-    kept: Option<ViewParts>,
+    kept: Option<SavedView>,
 }
 
 impl Model for Kept {
-    ghost use Rattle.wedge_base.specs.Gates.{Kept as Plain};
+    ghost use Rattle.wedge_events.specs.Gates.{Kept as Plain};
 
     ghost Value = { Plain };
 
@@ -43,28 +43,28 @@ impl Kept {
     }
 
     /// Returns what is kept. While a run is in the gate, nothing is.
-    pub fn kept(&self) -> Option<&ViewParts>
+    pub fn kept(&self) -> Option<&SavedView>
         ensures { option_copied result ≡ self.now.kept }
     {
         self.kept.as_ref()
     }
 
-    /// Begins a run: returns what the last run left, or the opening parts where nothing is kept.
-    pub fn enter(&mut self, opening: ViewParts) -> ViewParts
+    /// Begins a run: returns what the last run left, or the opening memory where nothing is kept.
+    pub fn enter(&mut self, opening: SavedView) -> SavedView
         requires { self.old.entered ≡ false }
-        ensures parts { result ≡ unwrap_or self.old.kept opening }
+        ensures memory { result ≡ unwrap_or self.old.kept opening }
         ensures after { self.new ≡ record { entered = true; kept = None } }
     {
         self.entered = true;
         self.kept.take().unwrap_or(opening)
     }
 
-    /// Ends the run that is in the gate, which leaves parts.
-    pub fn leave(&mut self, parts: ViewParts)
+    /// Ends the run that is in the gate, which leaves this memory.
+    pub fn leave(&mut self, memory: SavedView)
         requires { self.old.entered ≡ true }
-        ensures { self.new ≡ record { entered = false; kept = Some parts } }
+        ensures { self.new ≡ record { entered = false; kept = Some memory } }
     {
         self.entered = false;
-        self.kept = Some(parts);
+        self.kept = Some(memory);
     }
 }

@@ -1,14 +1,15 @@
 //! A recycled gate as a cell.
 
 ghost use Rattle.std.specs.Prelude.{◌≡◌, IfOk};
-ghost use Rattle.wedge_base.specs.Gates.{gate_reply};
+ghost use Rattle.wedge_events.specs.Gates.{gate_reply};
 
 use crate::kept::Kept;
-use wedge_base::{GateAsk, GateReply, NoMemory, Object};
+use wedge_base::NoMemory;
+use wedge_events::{GateAsk, GateReply, Object};
 
 impl Object for Kept {
     ghost use Rattle.std.specs.Prelude.{◌≡◌, IfOk, OnErr};
-    ghost use Rattle.wedge_base.specs.Gates.{gate_opening, gate_reply, gate_next, GateFits};
+    ghost use Rattle.wedge_events.specs.Gates.{gate_opening, gate_reply, gate_next, GateFits};
 
     type Ask = GateAsk;
 
@@ -41,14 +42,14 @@ impl Object for Kept {
         ensures err { OnErr result (self.new ≡ self.old) }
     {
         match ask {
-            GateAsk::Enter { parts, .. } => {
-                let opening = parts.copy(self.alloc)?;
-                let parts = self.enter(opening);
-                Ok(GateReply::Entered { parts })
+            GateAsk::Enter { memory, .. } => {
+                let opening = memory.copy(self.alloc)?;
+                let memory = self.enter(opening);
+                Ok(GateReply::Entered { memory })
             }
-            GateAsk::Leave { parts, .. } => {
-                let parts = parts.copy(self.alloc)?;
-                self.leave(parts);
+            GateAsk::Leave { memory, .. } => {
+                let memory = memory.copy(self.alloc)?;
+                self.leave(memory);
                 Ok(GateReply::Left)
             }
         }
@@ -57,8 +58,8 @@ impl Object for Kept {
     fn copy_ask(ask: &GateAsk) -> Result<GateAsk, NoMemory>
         ensures { IfOk result (λ a. a ≡ ask.now) }
     {
-        let (GateAsk::Enter { parts, .. } | GateAsk::Leave { parts, .. }) = ask;
-        ask.copy(parts.allocator())
+        let (GateAsk::Enter { memory, .. } | GateAsk::Leave { memory, .. }) = ask;
+        ask.copy(memory.allocator())
     }
 }
 
@@ -68,9 +69,9 @@ impl Kept {
         ensures { IfOk result (λ r. r ≡ gate_reply self.now ask.now) }
     {
         match ask {
-            GateAsk::Enter { parts, .. } => {
-                let parts = self.kept().unwrap_or(parts).copy(self.alloc)?;
-                Ok(GateReply::Entered { parts })
+            GateAsk::Enter { memory, .. } => {
+                let memory = self.kept().unwrap_or(memory).copy(self.alloc)?;
+                Ok(GateReply::Entered { memory })
             }
             GateAsk::Leave { .. } => Ok(GateReply::Left),
         }

@@ -1,28 +1,24 @@
 use super::*;
+use cow_pages::PrivateView;
 use std::alloc::Global;
 use std::process::Abort;
-use std::sync::Arc;
 use std::test::Fail;
-use wedge_base::{
-    ActorName, End, GateAsk, GateReply, Items, NoMemory, Object, Page, PageAt, ViewParts,
-};
+use wedge_base::{ActorName, End, NoMemory, PRIVATE_BASE};
+use wedge_events::{GateAsk, GateReply, Object, SavedView};
 
-/// Parts of one page, at an index.
-fn parts_at(alloc: Global, place: u32) -> Result<ViewParts, NoMemory> {
-    let mut memory = Vec::new(alloc);
-    memory.push(PageAt {
-        place,
-        page: Arc::new(alloc, Page::zero())?,
-    })?;
-    ViewParts::new(alloc, Items::new(memory), Items::new(Vec::new(alloc)))
+/// Private memory that begins with a number.
+fn memory_of(alloc: Global, number: u32) -> Result<SavedView, NoMemory> {
+    let mut view = PrivateView::new(alloc, &[])?;
+    view.store(PRIVATE_BASE, 4, number)?;
+    SavedView::of(alloc, &view)
 }
 
-/// Whether parts are of one page, at an index.
-fn are_at(parts: &ViewParts, place: u32) -> bool {
-    matches!(parts.memory().as_slice(), [page] if page.place == place)
+/// Whether private memory begins with a number.
+fn begins(memory: &SavedView, number: u32) -> bool {
+    memory.view().load(PRIVATE_BASE, 4) == Some(number)
 }
 
-/// Enters a gate that must be free, and finds parts there.
+/// Enters a gate that must be free, and finds memory there.
 fn enters(
     rt: &impl Abort,
     alloc: Global,
@@ -33,8 +29,8 @@ fn enters(
     let free = !gate.entered();
     assert!(rt; free);
     if free {
-        let parts = gate.enter(parts_at(alloc, opening)?);
-        assert!(rt; are_at(&parts, wanted), "{wanted}");
+        let memory = gate.enter(memory_of(alloc, opening)?);
+        assert!(rt; begins(&memory, wanted), "{wanted}");
     }
     assert!(rt; gate.entered());
     assert!(rt; gate.kept().is_none());
@@ -46,13 +42,13 @@ fn leaves(rt: &impl Abort, alloc: Global, gate: &mut Kept, left: u32) -> Result<
     let entered = gate.entered();
     assert!(rt; entered);
     if entered {
-        gate.leave(parts_at(alloc, left)?);
+        gate.leave(memory_of(alloc, left)?);
     }
     assert!(rt; !gate.entered());
     Ok(())
 }
 
-/// The first run begins with its own parts, each later one with what the one before left.
+/// The first run begins with its own memory, each later one with what the one before left.
 #[test]
 fn runs_begin_with_what_was_left(rt: HostRuntime) -> Result<(), Fail> {
     let alloc = rt.alloc();
@@ -64,9 +60,9 @@ fn runs_begin_with_what_was_left(rt: HostRuntime) -> Result<(), Fail> {
     Ok(())
 }
 
-/// Whether a reply begins a run with parts.
-fn begins_with(reply: &GateReply, place: u32) -> bool {
-    matches!(reply, GateReply::Entered { parts } if are_at(parts, place))
+/// Whether a reply begins a run with memory that begins with a number.
+fn begins_with(reply: &GateReply, number: u32) -> bool {
+    matches!(reply, GateReply::Entered { memory } if begins(memory, number))
 }
 
 /// Enters a gate through its cell, by a copy of the ask; where only one reply is wanted, by `act_once`.
@@ -78,8 +74,8 @@ fn asks_to_enter(
     wanted: u32,
 ) -> Result<(), NoMemory> {
     let run = ActorName::root(alloc)?;
-    let parts = parts_at(alloc, opening)?;
-    let ask = Kept::copy_ask(&GateAsk::Enter { run, parts })?;
+    let memory = memory_of(alloc, opening)?;
+    let ask = Kept::copy_ask(&GateAsk::Enter { run, memory })?;
     let free = !gate.entered();
     assert!(rt; free);
     if free && opening % 2 == 0 {
@@ -99,16 +95,16 @@ fn asks_to_leave(
     gate: &mut Kept,
     left: u32,
 ) -> Result<(), NoMemory> {
-    let parts = parts_at(alloc, left)?;
+    let memory = memory_of(alloc, left)?;
     let end = End::Denied;
-    let ask = Kept::copy_ask(&GateAsk::Leave { end, parts })?;
+    let ask = Kept::copy_ask(&GateAsk::Leave { end, memory })?;
     let entered = gate.entered();
     assert!(rt; entered);
     if entered {
         let (first, second) = gate.act(&ask)?;
         assert!(rt; matches!(first, GateReply::Left) && matches!(second, GateReply::Left));
     }
-    let kept = gate.kept().is_some_and(|parts| are_at(parts, left));
+    let kept = gate.kept().is_some_and(|memory| begins(memory, left));
     assert!(rt; kept, "{left}");
     Ok(())
 }

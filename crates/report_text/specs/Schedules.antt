@@ -5,7 +5,7 @@ use Rattle.std.specs.List.{flat_map, slice_split}
 use Rattle.std.specs.Fmt.{decimal}
 use Rattle.std.specs.Str.Parse.{digits_value}
 use Rattle.wedge_base.specs.Names.{same, is_actor_name}
-use Rattle.wedge_base.specs.declared.events.LogEntry.{LogEntry}
+use Rattle.wedge_events.specs.declared.events.LogEntry.{LogEntry}
 use Rattle.report_text.specs.Reports.{dot, name_text, line_end}
 use Rattle.report_text.specs.declared.fault.ScheduleFault.{ScheduleFault}
 use Rattle.report_text.specs.declared.fault.ScheduleFault.TheVariants as fault

@@ -3,7 +3,8 @@
 use crate::{ScheduleFault, read_schedule, write_schedule};
 use std::alloc::Global;
 use std::test::Fail;
-use wedge_base::{ActorName, End, Event, Items, Journal, LogEntry, NoMemory, Stamp, is_actor_name};
+use wedge_base::{ActorName, End, Items, NoMemory, Stamp, is_actor_name};
+use wedge_events::{Event, Journal, LogEntry};
 
 /// A journal with an entry of each actor, all of them ends.
 fn journal_of(alloc: Global, names: &[&[u32]]) -> Result<Journal, Fail> {

@@ -5,7 +5,8 @@ ghost use Rattle.report_text.specs.Schedules.{actors_of, name_line, names_in, sc
 
 use crate::numbers::write_name;
 use std::alloc::Global;
-use wedge_base::{Journal, NoMemory};
+use wedge_base::NoMemory;
+use wedge_events::Journal;
 
 /// Adds the line of the name of these parts, which are below 2 ^ 32 since they are of 32 bits.
 #[tactic(auto, unfolding(crate::specs::Schedules::name_line))]

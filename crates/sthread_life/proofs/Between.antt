@@ -2,25 +2,25 @@
 use Rattle.std.proofs.Common.{◌≡◌, ℕ, ◌+◌, List, [], ◌∷◌, ◌++◌, refl, sym, ap, subst, ◌∙◌}
 use Rattle.std.specs.Prelude.{Option, Some, None, option_map, option_and_then, ◌-◌}
 use Rattle.wedge_base.specs.Images.{Image, fetch}
-use Rattle.wedge_base.specs.declared.events.Want.{Want}
-use Rattle.wedge_base.specs.declared.events.Want.TheVariants as want
-use Rattle.wedge_base.specs.declared.events.Event.{Event}
-use Rattle.wedge_base.specs.declared.events.Event.TheVariants as event
-use Rattle.wedge_base.specs.declared.cells.DirectoryAsk.{DirectoryAsk}
-use Rattle.wedge_base.specs.declared.cells.DirectoryAsk.TheVariants as directory_ask
-use Rattle.wedge_base.specs.declared.cells.DirectoryReply.{DirectoryReply}
-use Rattle.wedge_base.specs.declared.cells.DirectoryReply.TheVariants as directory_reply
-use Rattle.wedge_base.specs.declared.cells.SlotAsk.TheVariants as slot_ask
-use Rattle.wedge_base.specs.declared.cells.SlotReply.TheVariants as slot_reply
+use Rattle.wedge_events.specs.declared.events.Want.{Want}
+use Rattle.wedge_events.specs.declared.events.Want.TheVariants as want
+use Rattle.wedge_events.specs.declared.events.Event.{Event}
+use Rattle.wedge_events.specs.declared.events.Event.TheVariants as event
+use Rattle.wedge_events.specs.declared.cells.DirectoryAsk.{DirectoryAsk}
+use Rattle.wedge_events.specs.declared.cells.DirectoryAsk.TheVariants as directory_ask
+use Rattle.wedge_events.specs.declared.cells.DirectoryReply.{DirectoryReply}
+use Rattle.wedge_events.specs.declared.cells.DirectoryReply.TheVariants as directory_reply
+use Rattle.wedge_events.specs.declared.cells.SlotAsk.TheVariants as slot_ask
+use Rattle.wedge_events.specs.declared.cells.SlotReply.TheVariants as slot_reply
 use Rattle.rv_isa.specs.declared.Instr.{Instr}
 use Rattle.rv_isa.specs.Table.{decode}
 use Rattle.rv_hart.specs.declared.Need.{Need}
 use Rattle.rv_hart.specs.declared.Need.TheVariants as need
 use Rattle.rv_hart.specs.Local.{local}
-use Rattle.wedge_base.specs.declared.cells.StreamAsk.{StreamAsk}
-use Rattle.wedge_base.specs.declared.cells.StreamReply.TheVariants as stream_reply
-use Rattle.wedge_base.specs.declared.cells.LivesAsk.TheVariants as lives_ask
-use Rattle.wedge_base.specs.declared.cells.LivesReply.TheVariants as lives_reply
+use Rattle.wedge_events.specs.declared.cells.StreamAsk.{StreamAsk}
+use Rattle.wedge_events.specs.declared.cells.StreamReply.TheVariants as stream_reply
+use Rattle.wedge_events.specs.declared.cells.LivesAsk.TheVariants as lives_ask
+use Rattle.wedge_events.specs.declared.cells.LivesReply.TheVariants as lives_reply
 use Rattle.wedge_base.specs.declared.rights.End.{End}
 use Rattle.sthread_life.specs.declared.phase.Phase.{Phase}
 use Rattle.sthread_life.specs.declared.phase.Phase.TheVariants as phase
@@ -34,12 +34,12 @@ use Rattle.sthread_life.specs.Local.{rest, end_reached}
 use Rattle.sthread_life.specs.Taking.{wanted, pair, runs, loads_by, loads_at, has_snapped, has_number, has_opened_file, end_value, end_number, answered_end, takes, copied_on, has_entered, next_start}
 use Rattle.sthread_life.specs.Copying.{Preparation}
 use Rattle.cow_pages.specs.Listed.{bytes_listed}
-use Rattle.wedge_base.specs.Directories.{directory_reply}
-use Rattle.wedge_base.specs.Gates.{gate_reply}
-use Rattle.wedge_base.specs.Lives.{lives_reply}
-use Rattle.wedge_base.specs.Slots.{slot_reply as slot_reply_of}
-use Rattle.wedge_base.specs.Streams.{stream_reply as stream_reply_of}
-use Rattle.wedge_base.specs.Wants.{slot_ask_with}
+use Rattle.wedge_events.specs.Directories.{directory_reply}
+use Rattle.wedge_events.specs.Gates.{gate_reply}
+use Rattle.wedge_events.specs.Lives.{lives_reply}
+use Rattle.wedge_events.specs.Slots.{slot_reply as slot_reply_of}
+use Rattle.wedge_events.specs.Streams.{stream_reply as stream_reply_of}
+use Rattle.wedge_events.specs.Wants.{slot_ask_with}
 use Rattle.wedge_base.specs.declared.rights.End.TheVariants as end_
 use Rattle.sthread_life.specs.Cells.{Cells, slot_in, stream_in, kept_in, tag_in}
 use Rattle.sthread_life.specs.Worlds.{WorldState, actor_named, join_event, event_at, happened, wanting, Taken}

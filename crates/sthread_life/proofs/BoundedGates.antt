@@ -11,8 +11,8 @@ use Rattle.wedge_base.specs.Rights.{at_least, no_bits, bits_within}
 use Rattle.wedge_base.specs.Sheets.{Sheet, Made, nothing_made, right_on, bits_on, bits_in}
 use Rattle.wedge_base.specs.declared.rights.Grant.{Grant}
 use Rattle.wedge_base.specs.declared.rights.Right.{Right}
-use Rattle.wedge_base.specs.declared.events.Event.{Event}
-use Rattle.wedge_base.specs.declared.events.Turn.{Turn}
+use Rattle.wedge_events.specs.declared.events.Event.{Event}
+use Rattle.wedge_events.specs.declared.events.Turn.{Turn}
 use Rattle.wedge_base.specs.declared.rights.FdBits.{FdBits}
 use Rattle.callgate.specs.Runs.{IsRunSheet, tag_lent, fd_lent}
 use Rattle.callgate.specs.declared.gate.Gate.{Gate}

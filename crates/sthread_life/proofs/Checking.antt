@@ -1,16 +1,16 @@
 -- How a request is checked: what the checks of one that lacks a grant, and of one that lacks none, come to.
 use Rattle.std.proofs.Common.{◌≡◌, ◌↔◌, ℕ, zero, suc, Bool, true, false, List, [], ◌∷◌, refl, sym, ap, subst, ◌∙◌}
 use Rattle.std.specs.Prelude.{Option, Some, None, is_none, not, ◌&&◌, slice_get, slice_set}
-use Rattle.wedge_base.specs.Slots.{Segment, slot_after}
-use Rattle.wedge_base.specs.Streams.{Stream, stream_after}
+use Rattle.wedge_events.specs.Slots.{Segment, slot_after}
+use Rattle.wedge_events.specs.Streams.{Stream, stream_after}
 use Rattle.wedge_base.specs.declared.rights.Denial.{Denial}
-use Rattle.wedge_base.specs.declared.events.Event.{Event}
-use Rattle.wedge_base.specs.declared.events.Event.TheVariants as event
-use Rattle.wedge_base.specs.declared.cells.Live.{Live}
-use Rattle.wedge_base.specs.declared.cells.SlotAsk.{SlotAsk}
-use Rattle.wedge_base.specs.declared.cells.SlotReply.{SlotReply}
-use Rattle.wedge_base.specs.declared.cells.StreamAsk.{StreamAsk}
-use Rattle.wedge_base.specs.declared.cells.StreamReply.{StreamReply}
+use Rattle.wedge_events.specs.declared.events.Event.{Event}
+use Rattle.wedge_events.specs.declared.events.Event.TheVariants as event
+use Rattle.wedge_events.specs.declared.cells.Live.{Live}
+use Rattle.wedge_events.specs.declared.cells.SlotAsk.{SlotAsk}
+use Rattle.wedge_events.specs.declared.cells.SlotReply.{SlotReply}
+use Rattle.wedge_events.specs.declared.cells.StreamAsk.{StreamAsk}
+use Rattle.wedge_events.specs.declared.cells.StreamReply.{StreamReply}
 use Rattle.sthread_life.specs.Actors.{ActorState, right_of}
 use Rattle.sthread_life.specs.Taking.{takes}
 use Rattle.sthread_life.specs.Cells.{Cells, held, slot_in, stream_in}

@@ -5,8 +5,8 @@ use Rattle.wedge_base.specs.Images.{Image}
 use Rattle.wedge_base.specs.Sheets.{Draft, first_excess}
 use Rattle.wedge_base.specs.declared.rights.Code.TheVariants as code
 use Rattle.wedge_base.specs.declared.rights.Denial.{Denial}
-use Rattle.wedge_base.specs.declared.events.Event.{Event}
-use Rattle.wedge_base.specs.declared.events.Event.TheVariants as event
+use Rattle.wedge_events.specs.declared.events.Event.{Event}
+use Rattle.wedge_events.specs.declared.events.Event.TheVariants as event
 use Rattle.sthread_life.specs.Actors.{ActorState, refuses}
 use Rattle.sthread_life.specs.Calls.{a0, a1, is_procedure, create_checked, create_with, create}
 use Rattle.sthread_life.specs.Taking.{has_started, takes}

@@ -3,10 +3,10 @@ use Rattle.std.proofs.Common.{◌≡◌, ℕ, ◌+◌, ◌<◌, ◌≤◌, Bool,
 use Rattle.std.proofs.lemmas.Bool.Decides.{nat_tests}
 use Rattle.std.specs.List.{AllByRecursion}
 use Rattle.std.specs.Prelude.{Option, Some, None, nat_lt, not, ◌&&◌, if◌then◌else◌}
-use Rattle.wedge_base.specs.Directories.{Directory, Claim, no_number, claim_from, claim, claim_reply, claim_next, directory_reply as directory_reply_of, directory_next, is_among, is_claimed}
-use Rattle.wedge_base.specs.declared.cells.DirectoryAsk.{DirectoryAsk}
-use Rattle.wedge_base.specs.declared.cells.DirectoryAsk.TheVariants as directory_ask
-use Rattle.wedge_base.specs.declared.cells.DirectoryReply.TheVariants as directory_reply
+use Rattle.wedge_events.specs.Directories.{Directory, Claim, no_number, claim_from, claim, claim_reply, claim_next, directory_reply as directory_reply_of, directory_next, is_among, is_claimed}
+use Rattle.wedge_events.specs.declared.cells.DirectoryAsk.{DirectoryAsk}
+use Rattle.wedge_events.specs.declared.cells.DirectoryAsk.TheVariants as directory_ask
+use Rattle.wedge_events.specs.declared.cells.DirectoryReply.TheVariants as directory_reply
 use Rattle.sthread_life.specs.Between.{GivesBelow}
 
 -- a place that is claimed

@@ -13,7 +13,7 @@ use Rattle.std.specs.Prelude.{Option, Some, None, ◌==◌, ◌||◌, slice_get,
 use Rattle.wedge_base.specs.Images.{Image, fetch}
 use Rattle.wedge_base.specs.Maps.{Map, has, with, with_number, is_among, AreRising}
 use Rattle.wedge_base.specs.Sheets.{Draft, is_copy, empty_draft, grants, granted, tag_granted, most_grants, is_full, takes_tag, takes_fd, takes_gate, with_tag, with_fd, with_gate}
-use Rattle.wedge_base.specs.declared.events.Event.{Event}
+use Rattle.wedge_events.specs.declared.events.Event.{Event}
 use Rattle.wedge_base.specs.declared.rights.FdBits.{FdBits}
 use Rattle.wedge_base.specs.declared.rights.Grant.{Grant}
 use Rattle.wedge_base.specs.declared.rights.Right.{Right}

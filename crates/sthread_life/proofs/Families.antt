@@ -6,23 +6,23 @@ use Rattle.wedge_base.specs.Images.{Image, fetch}
 use Rattle.wedge_base.specs.Names.{same}
 use Rattle.wedge_base.specs.Sheets.{Made, empty_draft, granted, Draft}
 use Rattle.wedge_base.specs.declared.rights.End.{End}
-use Rattle.wedge_base.specs.declared.events.Want.{Want}
-use Rattle.wedge_base.specs.declared.events.Want.TheVariants as want
-use Rattle.wedge_base.specs.declared.events.SlotWant.TheVariants as slot_want
-use Rattle.wedge_base.specs.declared.events.Event.{Event}
-use Rattle.wedge_base.specs.declared.events.Event.TheVariants as event
-use Rattle.wedge_base.specs.declared.cells.LivesAsk.TheVariants as lives_ask
-use Rattle.wedge_base.specs.declared.cells.LivesReply.TheVariants as lives_reply
-use Rattle.wedge_base.specs.declared.cells.DirectoryAsk.TheVariants as directory_ask
-use Rattle.wedge_base.specs.declared.cells.DirectoryReply.TheVariants as directory_reply
-use Rattle.wedge_base.specs.declared.cells.SlotAsk.{SlotAsk}
-use Rattle.wedge_base.specs.declared.cells.SlotAsk.TheVariants as slot_ask
-use Rattle.wedge_base.specs.declared.cells.SlotReply.{SlotReply}
-use Rattle.wedge_base.specs.declared.cells.SlotReply.TheVariants as slot_reply
-use Rattle.wedge_base.specs.declared.cells.StreamAsk.{StreamAsk}
-use Rattle.wedge_base.specs.declared.cells.StreamAsk.TheVariants as stream_ask
-use Rattle.wedge_base.specs.declared.cells.StreamReply.{StreamReply}
-use Rattle.wedge_base.specs.declared.cells.StreamReply.TheVariants as reply
+use Rattle.wedge_events.specs.declared.events.Want.{Want}
+use Rattle.wedge_events.specs.declared.events.Want.TheVariants as want
+use Rattle.wedge_events.specs.declared.events.SlotWant.TheVariants as slot_want
+use Rattle.wedge_events.specs.declared.events.Event.{Event}
+use Rattle.wedge_events.specs.declared.events.Event.TheVariants as event
+use Rattle.wedge_events.specs.declared.cells.LivesAsk.TheVariants as lives_ask
+use Rattle.wedge_events.specs.declared.cells.LivesReply.TheVariants as lives_reply
+use Rattle.wedge_events.specs.declared.cells.DirectoryAsk.TheVariants as directory_ask
+use Rattle.wedge_events.specs.declared.cells.DirectoryReply.TheVariants as directory_reply
+use Rattle.wedge_events.specs.declared.cells.SlotAsk.{SlotAsk}
+use Rattle.wedge_events.specs.declared.cells.SlotAsk.TheVariants as slot_ask
+use Rattle.wedge_events.specs.declared.cells.SlotReply.{SlotReply}
+use Rattle.wedge_events.specs.declared.cells.SlotReply.TheVariants as slot_reply
+use Rattle.wedge_events.specs.declared.cells.StreamAsk.{StreamAsk}
+use Rattle.wedge_events.specs.declared.cells.StreamAsk.TheVariants as stream_ask
+use Rattle.wedge_events.specs.declared.cells.StreamReply.{StreamReply}
+use Rattle.wedge_events.specs.declared.cells.StreamReply.TheVariants as reply
 use Rattle.grant_sheet.specs.Granting.{IsWithin}
 use Rattle.grant_sheet.proofs.SheetWithin.{sheet_within}
 use Rattle.rv_isa.specs.declared.Instr.{Instr}

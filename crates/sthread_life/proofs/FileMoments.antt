@@ -1,22 +1,22 @@
 -- The moments of the call that opens a file: the claim of a number, and the opening of the stream on it.
 use Rattle.std.proofs.Common.{◌≡◌, ℕ, Bool, true, false, List, refl, sym, ap, subst, ◌∙◌}
 use Rattle.std.specs.Prelude.{Option, Some, None, is_some, unwrap_or, slice_set, ◌&&◌, ◌||◌, if◌then◌else◌}
-use Rattle.wedge_base.specs.Directories.{Directory, Claim, claim, claim_reply, claim_next as left_by, directory_reply as directory_reply_of}
+use Rattle.wedge_events.specs.Directories.{Directory, Claim, claim, claim_reply, claim_next as left_by, directory_reply as directory_reply_of}
 use Rattle.wedge_base.specs.Images.{Image}
 use Rattle.wedge_base.specs.Rights.{no_bits, bits_within}
 use Rattle.wedge_base.specs.Sheets.{bits_in, either_bits, made_fd}
-use Rattle.wedge_base.specs.Streams.{opened}
+use Rattle.wedge_events.specs.Streams.{opened}
 use Rattle.wedge_base.specs.declared.rights.Code.TheVariants as code
 use Rattle.wedge_base.specs.declared.rights.FdBits.{FdBits}
-use Rattle.wedge_base.specs.declared.events.Event.{Event}
-use Rattle.wedge_base.specs.declared.events.Event.TheVariants as event
-use Rattle.wedge_base.specs.declared.cells.DirectoryAsk.{DirectoryAsk}
-use Rattle.wedge_base.specs.declared.cells.DirectoryAsk.TheVariants as directory_ask
-use Rattle.wedge_base.specs.declared.cells.DirectoryReply.{DirectoryReply}
-use Rattle.wedge_base.specs.declared.cells.DirectoryReply.TheVariants as directory_reply
-use Rattle.wedge_base.specs.declared.cells.StreamAsk.{StreamAsk}
-use Rattle.wedge_base.specs.declared.cells.StreamAsk.TheVariants as stream_ask
-use Rattle.wedge_base.specs.declared.cells.StreamReply.TheVariants as stream_reply
+use Rattle.wedge_events.specs.declared.events.Event.{Event}
+use Rattle.wedge_events.specs.declared.events.Event.TheVariants as event
+use Rattle.wedge_events.specs.declared.cells.DirectoryAsk.{DirectoryAsk}
+use Rattle.wedge_events.specs.declared.cells.DirectoryAsk.TheVariants as directory_ask
+use Rattle.wedge_events.specs.declared.cells.DirectoryReply.{DirectoryReply}
+use Rattle.wedge_events.specs.declared.cells.DirectoryReply.TheVariants as directory_reply
+use Rattle.wedge_events.specs.declared.cells.StreamAsk.{StreamAsk}
+use Rattle.wedge_events.specs.declared.cells.StreamAsk.TheVariants as stream_ask
+use Rattle.wedge_events.specs.declared.cells.StreamReply.TheVariants as stream_reply
 use Rattle.sthread_life.specs.declared.phase.Phase.TheVariants as phase
 use Rattle.sthread_life.specs.Actors.{ActorState, bits_of, refuses}
 use Rattle.sthread_life.specs.Ends.{end_of}

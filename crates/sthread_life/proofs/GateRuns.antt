@@ -2,10 +2,10 @@
 use Rattle.std.proofs.Common.{◌≡◌, ℕ, Bool, true, false, List, [], ◌∷◌, refl, ap, subst, ◌∙◌}
 use Rattle.std.specs.List.{AllByRecursion}
 use Rattle.std.specs.Prelude.{Option, Some, None, option_and_then, if◌then◌else◌}
-use Rattle.wedge_base.specs.Gates.{same_gate}
+use Rattle.wedge_base.specs.Identities.{same_gate}
 use Rattle.wedge_base.specs.Images.{Image}
 use Rattle.wedge_base.specs.Sheets.{gate_at}
-use Rattle.wedge_base.specs.declared.events.Event.{Event}
+use Rattle.wedge_events.specs.declared.events.Event.{Event}
 use Rattle.wedge_base.specs.declared.grants.GateId.{GateId}
 use Rattle.callgate.specs.Gates.{gate_named}
 use Rattle.callgate.specs.declared.gate.Gate.{Gate}

@@ -20,7 +20,7 @@ use Rattle.sthread_life.specs.Calls.{a0, draft_at}
 use Rattle.sthread_life.specs.Taking.{takes}
 use Rattle.wedge_base.specs.Images.{Image}
 use Rattle.sthread_life.specs.Worlds.{WorldState, opening, with_actor}
-use Rattle.wedge_base.specs.declared.events.Event.{Event}
+use Rattle.wedge_events.specs.declared.events.Event.{Event}
 use Rattle.sthread_life.specs.Cells.{slot_in}
 use Rattle.sthread_life.specs.Actors.{ActorState, pristine}
 use Rattle.sthread_life.proofs.Resting.{stays, goes_on}

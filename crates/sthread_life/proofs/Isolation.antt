@@ -5,25 +5,25 @@ use Rattle.wedge_base.specs.Bytes.{written, bytes_of}
 use Rattle.wedge_base.specs.Images.{Image}
 use Rattle.wedge_base.specs.Rights.{at_least}
 use Rattle.wedge_base.specs.Sheets.{right_on, bits_on}
-use Rattle.wedge_base.specs.Slots.{Segment, slot_reply as slot_reply_of, slot_after, stored}
-use Rattle.wedge_base.specs.Streams.{Stream, stream_reply as stream_reply_of, stream_after, moved, grown}
-use Rattle.wedge_base.specs.declared.cells.Live.{Live}
-use Rattle.wedge_base.specs.declared.cells.SlotAsk.{SlotAsk}
-use Rattle.wedge_base.specs.declared.cells.SlotAsk.TheVariants as slot_ask
-use Rattle.wedge_base.specs.declared.cells.SlotReply.{SlotReply}
-use Rattle.wedge_base.specs.declared.cells.SlotReply.TheVariants as slot_reply
-use Rattle.wedge_base.specs.declared.cells.StreamAsk.{StreamAsk}
-use Rattle.wedge_base.specs.declared.cells.StreamAsk.TheVariants as stream_ask
-use Rattle.wedge_base.specs.declared.cells.StreamReply.{StreamReply}
-use Rattle.wedge_base.specs.declared.cells.StreamReply.TheVariants as stream_reply
+use Rattle.wedge_events.specs.Slots.{Segment, slot_reply as slot_reply_of, slot_after, stored}
+use Rattle.wedge_events.specs.Streams.{Stream, stream_reply as stream_reply_of, stream_after, moved, grown}
+use Rattle.wedge_events.specs.declared.cells.Live.{Live}
+use Rattle.wedge_events.specs.declared.cells.SlotAsk.{SlotAsk}
+use Rattle.wedge_events.specs.declared.cells.SlotAsk.TheVariants as slot_ask
+use Rattle.wedge_events.specs.declared.cells.SlotReply.{SlotReply}
+use Rattle.wedge_events.specs.declared.cells.SlotReply.TheVariants as slot_reply
+use Rattle.wedge_events.specs.declared.cells.StreamAsk.{StreamAsk}
+use Rattle.wedge_events.specs.declared.cells.StreamAsk.TheVariants as stream_ask
+use Rattle.wedge_events.specs.declared.cells.StreamReply.{StreamReply}
+use Rattle.wedge_events.specs.declared.cells.StreamReply.TheVariants as stream_reply
 use Rattle.wedge_base.specs.declared.rights.Right.TheVariants as right
-use Rattle.wedge_base.specs.declared.events.Event.{Event}
-use Rattle.wedge_base.specs.declared.events.Event.TheVariants as event
-use Rattle.wedge_base.specs.declared.events.SlotWant.{SlotWant}
-use Rattle.wedge_base.specs.declared.events.SlotWant.TheVariants as slot_want
-use Rattle.wedge_base.specs.declared.events.Want.{Want}
-use Rattle.wedge_base.specs.declared.events.Want.TheVariants as want
-use Rattle.wedge_base.specs.Wants.{slot_ask_with}
+use Rattle.wedge_events.specs.declared.events.Event.{Event}
+use Rattle.wedge_events.specs.declared.events.Event.TheVariants as event
+use Rattle.wedge_events.specs.declared.events.SlotWant.{SlotWant}
+use Rattle.wedge_events.specs.declared.events.SlotWant.TheVariants as slot_want
+use Rattle.wedge_events.specs.declared.events.Want.{Want}
+use Rattle.wedge_events.specs.declared.events.Want.TheVariants as want
+use Rattle.wedge_events.specs.Wants.{slot_ask_with}
 use Rattle.sthread_life.specs.declared.phase.Phase.TheVariants as phase
 use Rattle.sthread_life.specs.Actors.{ActorState, bits_of}
 use Rattle.sthread_life.specs.Allowed.{may_use}

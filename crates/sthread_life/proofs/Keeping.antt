@@ -4,21 +4,21 @@ use Rattle.std.specs.Prelude.{Option, Some, None, option_map, option_and_then, n
 use Rattle.wedge_base.specs.Bytes.{number_of, bytes_of, written}
 use Rattle.wedge_base.specs.Images.{Image, fetch, read_text, slot_of}
 use Rattle.wedge_base.specs.Memory.{range_at, read_range}
-use Rattle.wedge_base.specs.Streams.{Stream, stream_reply as stream_reply_of, most_fds}
+use Rattle.wedge_events.specs.Streams.{Stream, stream_reply as stream_reply_of, most_fds}
 use Rattle.wedge_base.specs.declared.address.Place.{Place}
 use Rattle.wedge_base.specs.declared.image.MemoryRange.{MemoryRange}
-use Rattle.wedge_base.specs.declared.events.Event.{Event}
-use Rattle.wedge_base.specs.declared.events.Event.TheVariants as event
-use Rattle.wedge_base.specs.declared.cells.LivesAsk.TheVariants as lives_ask
-use Rattle.wedge_base.specs.declared.cells.DirectoryAsk.TheVariants as directory_ask
-use Rattle.wedge_base.specs.declared.cells.DirectoryReply.TheVariants as directory_reply
-use Rattle.wedge_base.specs.declared.cells.SlotAsk.TheVariants as slot_ask
-use Rattle.wedge_base.specs.declared.cells.SlotReply.TheVariants as slot_reply
-use Rattle.wedge_base.specs.declared.cells.StreamAsk.{StreamAsk}
-use Rattle.wedge_base.specs.declared.cells.StreamAsk.TheVariants as stream_ask
-use Rattle.wedge_base.specs.declared.cells.StreamReply.TheVariants as reply
-use Rattle.wedge_base.specs.declared.events.Want.{Want}
-use Rattle.wedge_base.specs.declared.events.Want.TheVariants as want
+use Rattle.wedge_events.specs.declared.events.Event.{Event}
+use Rattle.wedge_events.specs.declared.events.Event.TheVariants as event
+use Rattle.wedge_events.specs.declared.cells.LivesAsk.TheVariants as lives_ask
+use Rattle.wedge_events.specs.declared.cells.DirectoryAsk.TheVariants as directory_ask
+use Rattle.wedge_events.specs.declared.cells.DirectoryReply.TheVariants as directory_reply
+use Rattle.wedge_events.specs.declared.cells.SlotAsk.TheVariants as slot_ask
+use Rattle.wedge_events.specs.declared.cells.SlotReply.TheVariants as slot_reply
+use Rattle.wedge_events.specs.declared.cells.StreamAsk.{StreamAsk}
+use Rattle.wedge_events.specs.declared.cells.StreamAsk.TheVariants as stream_ask
+use Rattle.wedge_events.specs.declared.cells.StreamReply.TheVariants as reply
+use Rattle.wedge_events.specs.declared.events.Want.{Want}
+use Rattle.wedge_events.specs.declared.events.Want.TheVariants as want
 use Rattle.wedge_base.specs.declared.rights.End.TheVariants as end_
 use Rattle.wedge_base.specs.declared.rights.Code.TheVariants as code
 use Rattle.rv_isa.specs.declared.Instr.{Instr}
@@ -41,7 +41,7 @@ use Rattle.wedge_base.specs.Maps.{has}
 use Rattle.wedge_base.specs.Rights.{at_least}
 use Rattle.wedge_base.specs.declared.rights.Denial.{Denial}
 use Rattle.wedge_base.specs.declared.rights.Denial.TheVariants as denial
-use Rattle.wedge_base.specs.declared.cells.LivesReply.TheVariants as lives_reply
+use Rattle.wedge_events.specs.declared.cells.LivesReply.TheVariants as lives_reply
 use Rattle.wedge_base.specs.declared.rights.FdBits.{FdBits}
 use Rattle.wedge_base.specs.declared.rights.Right.{Right}
 use Rattle.wedge_base.specs.declared.rights.Right.TheVariants as right

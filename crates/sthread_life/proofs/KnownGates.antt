@@ -3,16 +3,16 @@ use Rattle.std.proofs.Common.{◌≡◌, ◌⊎◌, inl, inr, ℕ, zero, suc, �
 use Rattle.std.proofs.lemmas.Bool.{eqb-true, eq-eqb}
 use Rattle.std.specs.Prelude.{Option, Some, None, is_some, ◌==◌, ◌&&◌, if◌then◌else◌}
 use Rattle.std.specs.Option.{option_or}
-use Rattle.wedge_base.specs.Gates.{same_gate}
+use Rattle.wedge_base.specs.Identities.{same_gate}
 use Rattle.wedge_base.specs.Images.{Image}
 use Rattle.wedge_base.specs.Maps.{at, with}
 use Rattle.wedge_base.specs.Names.{same}
 use Rattle.wedge_base.specs.Sheets.{Sheet, Draft, gate_at}
 use Rattle.wedge_base.specs.declared.grants.GateId.{GateId}
 use Rattle.wedge_base.specs.declared.rights.Denial.{Denial}
-use Rattle.wedge_base.specs.declared.events.Event.{Event}
-use Rattle.wedge_base.specs.declared.events.Event.TheVariants as event
-use Rattle.wedge_base.specs.declared.events.Turn.{Turn}
+use Rattle.wedge_events.specs.declared.events.Event.{Event}
+use Rattle.wedge_events.specs.declared.events.Event.TheVariants as event
+use Rattle.wedge_events.specs.declared.events.Turn.{Turn}
 use Rattle.callgate.specs.Gates.{gate_named}
 use Rattle.callgate.specs.declared.gate.Gate.{Gate}
 use Rattle.grant_sheet.specs.Granting.{IsWithin}

@@ -5,8 +5,8 @@ use Rattle.std.specs.List.{list_any}
 use Rattle.cow_pages.specs.Copies.{copy_at}
 use Rattle.wedge_base.specs.Images.{Image, fetch, slot_of}
 use Rattle.wedge_base.specs.Sheets.{Draft}
-use Rattle.wedge_base.specs.Slots.{Segment}
-use Rattle.wedge_base.specs.Streams.{Stream, most_fds}
+use Rattle.wedge_events.specs.Slots.{Segment}
+use Rattle.wedge_events.specs.Streams.{Stream, most_fds}
 use Rattle.wedge_base.specs.declared.address.Place.{Place}
 use Rattle.wedge_base.specs.declared.image.FileEntry.{FileEntry}
 use Rattle.wedge_base.specs.declared.rights.FdBits.{FdBits}

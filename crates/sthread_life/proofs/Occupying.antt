@@ -2,7 +2,7 @@
 use Rattle.std.proofs.Common.{◌≡◌, ℕ, ◌+◌, ◌<◌, ◌==◌, Bool, true, false, true≢false, List, refl, sym, ap, subst, ◌∙◌, arith, inl, inr}
 use Rattle.std.proofs.lemmas.Bool.{eqb-true, eq-eqb}
 use Rattle.std.specs.Prelude.{Option, Some, None, ◌⊎◌, if◌then◌else◌}
-use Rattle.wedge_base.specs.Directories.{Directory, Claim, is_claimed}
+use Rattle.wedge_events.specs.Directories.{Directory, Claim, is_claimed}
 use Rattle.wedge_base.specs.Names.{same}
 use Rattle.sthread_life.specs.Actors.{ActorState}
 use Rattle.sthread_life.specs.Cells.{Cells, tag_in}

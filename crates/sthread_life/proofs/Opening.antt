@@ -2,8 +2,8 @@
 use Rattle.std.proofs.Common.{◌≡◌, ℕ, zero, suc, ◌+◌, List, [], ◌∷◌, ◌++◌, map, refl, ap, ◌∙◌, arith}
 use Rattle.std.specs.Prelude.{Option, Some, None, option_map, slice_get}
 use Rattle.wedge_base.specs.Images.{Image}
-use Rattle.wedge_base.specs.Slots.{declared_segment, declared_slots}
-use Rattle.wedge_base.specs.Streams.{declared_stream}
+use Rattle.wedge_events.specs.Slots.{declared_segment, declared_slots}
+use Rattle.wedge_events.specs.Streams.{declared_stream}
 use Rattle.wedge_base.specs.declared.image.TagEntry.{TagEntry}
 use Rattle.wedge_base.specs.declared.image.FdEntry.{FdEntry}
 use Rattle.sthread_life.specs.Cells.{held, nothings}

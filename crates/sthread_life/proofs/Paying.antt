@@ -2,34 +2,34 @@
 use Rattle.std.proofs.Common.{◌≡◌, ℕ, zero, suc, ◌+◌, ◌-◌, ◌≤◌, List, refl, sym, subst, arith, ap}
 use Rattle.std.specs.Prelude.{Option, Some, None, option_and_then, drop}
 use Rattle.std.proofs.lemmas.List.{length-take}
-use Rattle.wedge_base.specs.Streams.{Stream, stream_reply as stream_reply_of}
+use Rattle.wedge_events.specs.Streams.{Stream, stream_reply as stream_reply_of}
 use Rattle.wedge_base.specs.Images.{Image, fetch}
 use Rattle.wedge_base.specs.declared.rights.FdBits.{FdBits}
-use Rattle.wedge_base.specs.declared.events.SlotWant.TheVariants as slot_want
-use Rattle.wedge_base.specs.declared.events.Want.{Want}
-use Rattle.wedge_base.specs.declared.events.Want.TheVariants as want
-use Rattle.wedge_base.specs.declared.events.Event.{Event}
-use Rattle.wedge_base.specs.declared.events.Event.TheVariants as event
-use Rattle.wedge_base.specs.declared.cells.LivesAsk.{LivesAsk}
-use Rattle.wedge_base.specs.declared.cells.LivesAsk.TheVariants as lives_ask
-use Rattle.wedge_base.specs.declared.cells.LivesReply.{LivesReply}
-use Rattle.wedge_base.specs.declared.cells.LivesReply.TheVariants as lives_reply
+use Rattle.wedge_events.specs.declared.events.SlotWant.TheVariants as slot_want
+use Rattle.wedge_events.specs.declared.events.Want.{Want}
+use Rattle.wedge_events.specs.declared.events.Want.TheVariants as want
+use Rattle.wedge_events.specs.declared.events.Event.{Event}
+use Rattle.wedge_events.specs.declared.events.Event.TheVariants as event
+use Rattle.wedge_events.specs.declared.cells.LivesAsk.{LivesAsk}
+use Rattle.wedge_events.specs.declared.cells.LivesAsk.TheVariants as lives_ask
+use Rattle.wedge_events.specs.declared.cells.LivesReply.{LivesReply}
+use Rattle.wedge_events.specs.declared.cells.LivesReply.TheVariants as lives_reply
 use Rattle.wedge_base.specs.declared.rights.End.{End}
-use Rattle.wedge_base.specs.declared.cells.DirectoryAsk.{DirectoryAsk}
-use Rattle.wedge_base.specs.declared.cells.DirectoryAsk.TheVariants as directory_ask
-use Rattle.wedge_base.specs.declared.cells.DirectoryReply.{DirectoryReply}
-use Rattle.wedge_base.specs.declared.cells.DirectoryReply.TheVariants as directory_reply
-use Rattle.wedge_base.specs.declared.cells.SlotAsk.{SlotAsk}
-use Rattle.wedge_base.specs.declared.cells.SlotAsk.TheVariants as slot_ask
-use Rattle.wedge_base.specs.declared.cells.SlotReply.{SlotReply}
-use Rattle.wedge_base.specs.declared.cells.SlotReply.TheVariants as slot_reply
-use Rattle.wedge_base.specs.declared.cells.StreamAsk.{StreamAsk}
-use Rattle.wedge_base.specs.declared.cells.StreamAsk.TheVariants as stream_ask
+use Rattle.wedge_events.specs.declared.cells.DirectoryAsk.{DirectoryAsk}
+use Rattle.wedge_events.specs.declared.cells.DirectoryAsk.TheVariants as directory_ask
+use Rattle.wedge_events.specs.declared.cells.DirectoryReply.{DirectoryReply}
+use Rattle.wedge_events.specs.declared.cells.DirectoryReply.TheVariants as directory_reply
+use Rattle.wedge_events.specs.declared.cells.SlotAsk.{SlotAsk}
+use Rattle.wedge_events.specs.declared.cells.SlotAsk.TheVariants as slot_ask
+use Rattle.wedge_events.specs.declared.cells.SlotReply.{SlotReply}
+use Rattle.wedge_events.specs.declared.cells.SlotReply.TheVariants as slot_reply
+use Rattle.wedge_events.specs.declared.cells.StreamAsk.{StreamAsk}
+use Rattle.wedge_events.specs.declared.cells.StreamAsk.TheVariants as stream_ask
 use Rattle.rv_isa.specs.Table.{decode}
 use Rattle.sthread_life.specs.Actors.{ActorState, spends}
 use Rattle.sthread_life.specs.Opening.{FileOpening}
 use Rattle.wedge_base.specs.declared.rights.StreamKind.{StreamKind}
-use Rattle.wedge_base.specs.declared.cells.StreamReply.TheVariants as stream_reply
+use Rattle.wedge_events.specs.declared.cells.StreamReply.TheVariants as stream_reply
 use Rattle.sthread_life.specs.declared.phase.Phase.TheVariants as phase
 use Rattle.sthread_life.specs.Calls.{a1, a2, a3}
 use Rattle.sthread_life.specs.Children.{without_child}

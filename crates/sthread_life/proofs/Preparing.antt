@@ -12,18 +12,18 @@ use Rattle.wedge_base.specs.Maps.{Map}
 use Rattle.wedge_base.specs.Pages.{pages_of}
 use Rattle.wedge_base.specs.Sheets.{is_copy, granted}
 use Rattle.wedge_base.specs.declared.rights.Grant.{Grant}
-use Rattle.wedge_base.specs.Slots.{Segment, slot_reply as slot_reply_of}
-use Rattle.wedge_base.specs.declared.cells.DirectoryAsk.TheVariants as directory_ask
-use Rattle.wedge_base.specs.declared.cells.DirectoryReply.TheVariants as directory_reply
-use Rattle.wedge_base.specs.declared.cells.LivesAsk.TheVariants as lives_ask
-use Rattle.wedge_base.specs.declared.cells.LivesReply.TheVariants as lives_reply
-use Rattle.wedge_base.specs.declared.cells.SlotAsk.TheVariants as slot_ask
-use Rattle.wedge_base.specs.declared.cells.SlotReply.TheVariants as slot_reply
-use Rattle.wedge_base.specs.declared.events.Event.{Event}
-use Rattle.wedge_base.specs.declared.events.Event.TheVariants as event
-use Rattle.wedge_base.specs.declared.events.SlotWant.TheVariants as slot_want
-use Rattle.wedge_base.specs.declared.events.Want.{Want}
-use Rattle.wedge_base.specs.declared.events.Want.TheVariants as want
+use Rattle.wedge_events.specs.Slots.{Segment, slot_reply as slot_reply_of}
+use Rattle.wedge_events.specs.declared.cells.DirectoryAsk.TheVariants as directory_ask
+use Rattle.wedge_events.specs.declared.cells.DirectoryReply.TheVariants as directory_reply
+use Rattle.wedge_events.specs.declared.cells.LivesAsk.TheVariants as lives_ask
+use Rattle.wedge_events.specs.declared.cells.LivesReply.TheVariants as lives_reply
+use Rattle.wedge_events.specs.declared.cells.SlotAsk.TheVariants as slot_ask
+use Rattle.wedge_events.specs.declared.cells.SlotReply.TheVariants as slot_reply
+use Rattle.wedge_events.specs.declared.events.Event.{Event}
+use Rattle.wedge_events.specs.declared.events.Event.TheVariants as event
+use Rattle.wedge_events.specs.declared.events.SlotWant.TheVariants as slot_want
+use Rattle.wedge_events.specs.declared.events.Want.{Want}
+use Rattle.wedge_events.specs.declared.events.Want.TheVariants as want
 use Rattle.wedge_base.specs.declared.rights.Right.{Right}
 use Rattle.wedge_base.specs.declared.rights.Right.TheVariants as right
 use Rattle.sthread_life.specs.declared.copy_grant.CopyGrant.{CopyGrant}

@@ -8,7 +8,7 @@ use Rattle.std.proofs.Common.{inl, inr}
 use Rattle.wedge_base.specs.Images.{Image, fetch, in_text, read_text, slot_of}
 use Rattle.wedge_base.specs.Bytes.{number_of}
 use Rattle.wedge_base.specs.Memory.{range_at, read_range}
-use Rattle.wedge_base.specs.Streams.{most_fds}
+use Rattle.wedge_events.specs.Streams.{most_fds}
 use Rattle.wedge_base.specs.declared.image.MemoryRange.{MemoryRange}
 use Rattle.wedge_base.specs.declared.rights.End.{End}
 use Rattle.wedge_base.specs.declared.rights.End.TheVariants as end_
@@ -33,7 +33,7 @@ use Rattle.callgate.specs.declared.gate.Gate.{Gate}
 use Rattle.wedge_base.specs.Sheets.{Draft, Made, takes_tag, takes_fd, takes_gate, first_excess}
 use Rattle.wedge_base.specs.Maps.{has}
 use Rattle.wedge_base.specs.Rights.{at_least}
-use Rattle.wedge_base.specs.declared.events.Want.{Want}
+use Rattle.wedge_events.specs.declared.events.Want.{Want}
 use Rattle.wedge_base.specs.declared.rights.Denial.{Denial}
 use Rattle.wedge_base.specs.declared.rights.Denial.TheVariants as denial
 use Rattle.wedge_base.specs.declared.rights.Right.TheVariants as right

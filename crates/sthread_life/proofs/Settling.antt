@@ -5,15 +5,15 @@ use Rattle.std.proofs.lemmas.List.{map-append, length-append}
 use Rattle.std.specs.Prelude.{◌++◌, map, replicate, slice_set, Option, Some, None, option_map, if◌then◌else◌, ◌⊎◌}
 use Rattle.wedge_base.specs.Names.{same, root_name}
 use Rattle.wedge_base.specs.Images.{Image, slots as most_slots}
-use Rattle.wedge_base.specs.Slots.{Segment, declared_slots, slot_after}
-use Rattle.wedge_base.specs.Streams.{Stream, stream_after, declared_stream, most_fds}
+use Rattle.wedge_events.specs.Slots.{Segment, declared_slots, slot_after}
+use Rattle.wedge_events.specs.Streams.{Stream, stream_after, declared_stream, most_fds}
 use Rattle.wedge_base.specs.declared.image.FdEntry.{FdEntry}
 use Rattle.wedge_base.specs.declared.image.TagEntry.{TagEntry}
-use Rattle.wedge_base.specs.declared.events.Want.{Want}
-use Rattle.wedge_base.specs.declared.events.Want.TheVariants as want
-use Rattle.wedge_base.specs.declared.events.Event.{Event}
-use Rattle.wedge_base.specs.declared.events.Event.TheVariants as event
-use Rattle.wedge_base.specs.declared.events.Turn.{Turn}
+use Rattle.wedge_events.specs.declared.events.Want.{Want}
+use Rattle.wedge_events.specs.declared.events.Want.TheVariants as want
+use Rattle.wedge_events.specs.declared.events.Event.{Event}
+use Rattle.wedge_events.specs.declared.events.Event.TheVariants as event
+use Rattle.wedge_events.specs.declared.events.Turn.{Turn}
 use Rattle.wedge_base.specs.declared.outcome.ActorLine.{ActorLine}
 use Rattle.sthread_life.specs.declared.phase.Phase.{Phase}
 use Rattle.sthread_life.specs.declared.phase.Phase.TheVariants as phase

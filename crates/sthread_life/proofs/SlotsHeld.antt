@@ -9,7 +9,7 @@ use Rattle.std.specs.FinMap.Entries.{by_order}
 use Rattle.std.specs.Prelude.{Option, Some, None, IfSome, map, unwrap_or, option_map, if◌then◌else◌}
 use Rattle.callgate.specs.Gates.{gate_named}
 use Rattle.callgate.specs.declared.gate.Gate.{Gate}
-use Rattle.wedge_base.specs.Gates.{same_gate}
+use Rattle.wedge_base.specs.Identities.{same_gate}
 use Rattle.wedge_base.specs.Images.{slots}
 use Rattle.wedge_base.specs.Maps.{Map, at, has, with, joined}
 use Rattle.wedge_base.specs.Sheets.{Sheet, Made, Draft, is_copy, nothing_made, with_grant, root_tags, root_sheet, slot_on, tag_granted, granted, made_tag, lent_to}

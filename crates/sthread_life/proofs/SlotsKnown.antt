@@ -2,7 +2,7 @@
 use Rattle.std.proofs.Common.{◌≡◌, ℕ, zero, suc, ◌+◌, Bool, true, false, List, [], ◌∷◌, ◌++◌, refl, sym, ap, subst, ◌∙◌, inl, inr}
 use Rattle.std.specs.Option.{option_or}
 use Rattle.std.specs.Prelude.{Option, Some, None, option_map, IfSome, ◌⊎◌, if◌then◌else◌}
-use Rattle.wedge_base.specs.Gates.{same_gate}
+use Rattle.wedge_base.specs.Identities.{same_gate}
 use Rattle.wedge_base.specs.Images.{Image}
 use Rattle.wedge_base.specs.Maps.{Map, at}
 use Rattle.wedge_base.specs.Sheets.{Sheet, Made, slot_on, nothing_made}

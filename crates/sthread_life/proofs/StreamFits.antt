@@ -1,9 +1,9 @@
 -- An ask of a stream fits wherever its descriptor is one.
 use Rattle.std.proofs.Common.{ℕ, ◌<◌, List}
-use Rattle.wedge_base.specs.Streams.{most_fds}
-use Rattle.wedge_base.specs.declared.cells.StreamAsk.{StreamAsk}
-use Rattle.wedge_base.specs.declared.cells.StreamAsk.TheVariants as stream_ask
-use Rattle.wedge_base.specs.declared.events.Want.TheVariants as want
+use Rattle.wedge_events.specs.Streams.{most_fds}
+use Rattle.wedge_events.specs.declared.cells.StreamAsk.{StreamAsk}
+use Rattle.wedge_events.specs.declared.cells.StreamAsk.TheVariants as stream_ask
+use Rattle.wedge_events.specs.declared.events.Want.TheVariants as want
 use Rattle.sthread_life.specs.Between.{WantFitsWhere}
 
 pub stream_fits : (P R : Type 0) (S : List ℕ → Type 0) (J : ℕ → Type 0) (fd : ℕ) (q : StreamAsk) → fd < most_fds → WantFitsWhere P R S J (want.Fd fd q)

@@ -2,17 +2,17 @@
 use Rattle.std.proofs.Common.{◌≡◌, ℕ, Bool, true, false, List, refl, sym, ap, subst, ◌∙◌}
 use Rattle.std.specs.Prelude.{Option, Some, None, not, ◌&&◌, slice_set, if◌then◌else◌}
 use Rattle.wedge_base.specs.Rights.{read_bit, append_bit, bits_within}
-use Rattle.wedge_base.specs.Streams.{Stream, read_reply, append_reply, closing_bit, live_reply, stream_reply as stream_reply_of, stream_after}
+use Rattle.wedge_events.specs.Streams.{Stream, read_reply, append_reply, closing_bit, live_reply, stream_reply as stream_reply_of, stream_after}
 use Rattle.wedge_base.specs.declared.rights.FdBits.{FdBits}
 use Rattle.wedge_base.specs.declared.rights.Denial.TheVariants as denial
 use Rattle.wedge_base.specs.declared.rights.Code.TheVariants as code
 use Rattle.wedge_base.specs.declared.rights.StreamKind.{StreamKind}
 use Rattle.wedge_base.specs.declared.rights.StreamKind.TheVariants as kind
-use Rattle.wedge_base.specs.declared.events.Event.TheVariants as event
-use Rattle.wedge_base.specs.declared.cells.StreamAsk.{StreamAsk}
-use Rattle.wedge_base.specs.declared.cells.StreamAsk.TheVariants as stream_ask
-use Rattle.wedge_base.specs.declared.cells.StreamReply.{StreamReply}
-use Rattle.wedge_base.specs.declared.cells.StreamReply.TheVariants as reply
+use Rattle.wedge_events.specs.declared.events.Event.TheVariants as event
+use Rattle.wedge_events.specs.declared.cells.StreamAsk.{StreamAsk}
+use Rattle.wedge_events.specs.declared.cells.StreamAsk.TheVariants as stream_ask
+use Rattle.wedge_events.specs.declared.cells.StreamReply.{StreamReply}
+use Rattle.wedge_events.specs.declared.cells.StreamReply.TheVariants as reply
 use Rattle.wedge_base.specs.Images.{Image}
 use Rattle.sthread_life.specs.Actors.{ActorState, bits_of, refuses, spends, answers}
 use Rattle.sthread_life.specs.Calls.{a2}

@@ -3,7 +3,7 @@
 use Rattle.std.proofs.Common.{◌≡◌, ℕ, ◌+◌, List, refl, sym, ap, subst, ◌∙◌, inl, inr}
 use Rattle.std.specs.Prelude.{Option, Some, None, option_map, ◌⊎◌}
 use Rattle.wedge_base.specs.declared.rights.End.{End}
-use Rattle.wedge_base.specs.declared.events.Event.{Event}
+use Rattle.wedge_events.specs.declared.events.Event.{Event}
 use Rattle.sthread_life.specs.declared.phase.Phase.{Phase}
 use Rattle.sthread_life.specs.declared.phase.Phase.TheVariants as phase
 use Rattle.sthread_life.specs.Actors.{ActorState, answers_more}

@@ -6,28 +6,28 @@ use Rattle.wedge_base.specs.Bytes.{written, bytes_of}
 use Rattle.wedge_base.specs.Images.{Image}
 use Rattle.wedge_base.specs.Rights.{at_least, append_bit}
 use Rattle.wedge_base.specs.Sheets.{right_on, bits_on}
-use Rattle.wedge_base.specs.Slots.{Segment, slot_reply as slot_reply_of, slot_after, opened, stored, placed, freed}
-use Rattle.wedge_base.specs.Streams.{Stream, opened as stream_opened, stream_reply as stream_reply_of, stream_after, append_reply, moved, grown, closed}
-use Rattle.wedge_base.specs.Histories.{Flow, flow, bytes_by, bytes_after_event, bytes_after, flow_by, flow_after_event, flow_after}
+use Rattle.wedge_events.specs.Slots.{Segment, slot_reply as slot_reply_of, slot_after, opened, stored, placed, freed}
+use Rattle.wedge_events.specs.Streams.{Stream, opened as stream_opened, stream_reply as stream_reply_of, stream_after, append_reply, moved, grown, closed}
+use Rattle.wedge_events.specs.Histories.{Flow, flow, bytes_by, bytes_after_event, bytes_after, flow_by, flow_after_event, flow_after}
 use Rattle.wedge_base.specs.declared.rights.Right.TheVariants as right
 use Rattle.wedge_base.specs.declared.rights.StreamKind.{StreamKind}
 use Rattle.wedge_base.specs.declared.rights.StreamKind.TheVariants as kind
-use Rattle.wedge_base.specs.declared.events.SlotWant.TheVariants as slot_want
-use Rattle.wedge_base.specs.declared.events.Want.{Want}
-use Rattle.wedge_base.specs.declared.events.Want.TheVariants as want
-use Rattle.wedge_base.specs.declared.events.Event.{Event}
-use Rattle.wedge_base.specs.declared.events.Event.TheVariants as event
-use Rattle.wedge_base.specs.declared.events.Turn.{Turn}
-use Rattle.wedge_base.specs.declared.cells.DirectoryAsk.TheVariants as directory_ask
-use Rattle.wedge_base.specs.declared.cells.Live.{Live}
-use Rattle.wedge_base.specs.declared.cells.LivesAsk.TheVariants as lives_ask
-use Rattle.wedge_base.specs.declared.cells.SlotAsk.{SlotAsk}
-use Rattle.wedge_base.specs.declared.cells.SlotAsk.TheVariants as slot_ask
-use Rattle.wedge_base.specs.declared.cells.SlotReply.{SlotReply}
-use Rattle.wedge_base.specs.declared.cells.SlotReply.TheVariants as slot_reply
-use Rattle.wedge_base.specs.declared.cells.StreamAsk.{StreamAsk}
-use Rattle.wedge_base.specs.declared.cells.StreamAsk.TheVariants as stream_ask
-use Rattle.wedge_base.specs.declared.cells.StreamReply.TheVariants as reply
+use Rattle.wedge_events.specs.declared.events.SlotWant.TheVariants as slot_want
+use Rattle.wedge_events.specs.declared.events.Want.{Want}
+use Rattle.wedge_events.specs.declared.events.Want.TheVariants as want
+use Rattle.wedge_events.specs.declared.events.Event.{Event}
+use Rattle.wedge_events.specs.declared.events.Event.TheVariants as event
+use Rattle.wedge_events.specs.declared.events.Turn.{Turn}
+use Rattle.wedge_events.specs.declared.cells.DirectoryAsk.TheVariants as directory_ask
+use Rattle.wedge_events.specs.declared.cells.Live.{Live}
+use Rattle.wedge_events.specs.declared.cells.LivesAsk.TheVariants as lives_ask
+use Rattle.wedge_events.specs.declared.cells.SlotAsk.{SlotAsk}
+use Rattle.wedge_events.specs.declared.cells.SlotAsk.TheVariants as slot_ask
+use Rattle.wedge_events.specs.declared.cells.SlotReply.{SlotReply}
+use Rattle.wedge_events.specs.declared.cells.SlotReply.TheVariants as slot_reply
+use Rattle.wedge_events.specs.declared.cells.StreamAsk.{StreamAsk}
+use Rattle.wedge_events.specs.declared.cells.StreamAsk.TheVariants as stream_ask
+use Rattle.wedge_events.specs.declared.cells.StreamReply.TheVariants as reply
 use Rattle.wedge_base.specs.declared.rights.FdBits.{FdBits}
 use Rattle.sthread_life.specs.Actors.{ActorState, right_of, bits_of}
 use Rattle.sthread_life.specs.Local.{rest, is_running}

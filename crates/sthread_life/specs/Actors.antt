@@ -11,7 +11,7 @@ use Rattle.wedge_base.specs.declared.rights.Denial.{Denial}
 use Rattle.wedge_base.specs.declared.rights.Code.{Code}
 use Rattle.wedge_base.specs.declared.rights.Code.TheVariants as code
 use Rattle.wedge_base.specs.declared.rights.End.{End}
-use Rattle.wedge_base.specs.declared.events.Want.{Want}
+use Rattle.wedge_events.specs.declared.events.Want.{Want}
 use Rattle.callgate.specs.declared.gate.Gate.{Gate}
 use Rattle.rv_hart.specs.declared.Hart.{Hart}
 use Rattle.rv_hart.specs.Local.{put, answered, answered_with}

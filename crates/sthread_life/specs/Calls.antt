@@ -9,11 +9,11 @@ use Rattle.wedge_base.specs.declared.service.Service.TheVariants as service
 use Rattle.wedge_base.specs.Files.{may_open}
 use Rattle.wedge_base.specs.Names.{same, most_parts}
 use Rattle.wedge_base.specs.Sheets.{Draft, empty_draft, takes_tag, takes_fd, takes_gate, with_tag, with_fd, with_gate, first_excess, granted, made_gate, lent_to}
-use Rattle.wedge_base.specs.Streams.{most_fds}
-use Rattle.wedge_base.specs.declared.cells.LivesAsk.TheVariants as lives_ask
+use Rattle.wedge_events.specs.Streams.{most_fds}
+use Rattle.wedge_events.specs.declared.cells.LivesAsk.TheVariants as lives_ask
 use Rattle.wedge_base.specs.declared.address.Place.{Place}
-use Rattle.wedge_base.specs.declared.cells.DirectoryAsk.TheVariants as directory_ask
-use Rattle.wedge_base.specs.declared.events.SlotWant.TheVariants as slot_want
+use Rattle.wedge_events.specs.declared.cells.DirectoryAsk.TheVariants as directory_ask
+use Rattle.wedge_events.specs.declared.events.SlotWant.TheVariants as slot_want
 use Rattle.wedge_base.specs.declared.rights.Denial.{Denial}
 use Rattle.wedge_base.specs.declared.rights.Denial.TheVariants as denial
 use Rattle.wedge_base.specs.declared.rights.FdBits.{FdBits}
@@ -26,8 +26,8 @@ use Rattle.wedge_base.specs.declared.rights.Right.{Right}
 use Rattle.wedge_base.specs.declared.rights.Right.TheVariants as right
 use Rattle.wedge_base.specs.declared.rights.Code.TheVariants as code
 use Rattle.wedge_base.specs.declared.rights.End.TheVariants as end_
-use Rattle.wedge_base.specs.declared.events.Want.TheVariants as want
-use Rattle.wedge_base.specs.declared.cells.StreamAsk.TheVariants as stream_ask
+use Rattle.wedge_events.specs.declared.events.Want.TheVariants as want
+use Rattle.wedge_events.specs.declared.cells.StreamAsk.TheVariants as stream_ask
 use Rattle.callgate.specs.declared.gate.Gate.{Gate}
 use Rattle.cow_pages.specs.PrivateMemory.{PrivateMemory}
 use Rattle.image_form.specs.Rules.{begins_at}

@@ -2,22 +2,23 @@
 -- kind of a stream and whether it is open, the directories, the count of sthreads that live, and the recycled gates.
 use Rattle.std.specs.Prelude.{◌≡◌, ℕ, ◌==◌, Bool, true, false, List, [], ◌∷◌, Option, Some, None, option_map, if◌then◌else◌}
 use Rattle.wedge_base.specs.Blocks.{Block, block, rounded, with_block, without_block}
-use Rattle.wedge_base.specs.Directories.{Directory, directory_next}
-use Rattle.wedge_base.specs.Lives.{lives_next}
-use Rattle.wedge_base.specs.Gates.{Kept, same_gate, gate_next}
+use Rattle.wedge_events.specs.Directories.{Directory, directory_next}
+use Rattle.wedge_events.specs.Lives.{lives_next}
+use Rattle.wedge_events.specs.Gates.{Kept, gate_next}
+use Rattle.wedge_base.specs.Identities.{same_gate}
 use Rattle.wedge_base.specs.declared.grants.GateId.{GateId}
 use Rattle.wedge_base.specs.declared.rights.StreamKind.{StreamKind}
-use Rattle.wedge_base.specs.declared.events.Event.{Event}
-use Rattle.wedge_base.specs.declared.events.Event.TheVariants as event
-use Rattle.wedge_base.specs.declared.events.Turn.{Turn}
-use Rattle.wedge_base.specs.declared.cells.SlotAsk.{SlotAsk}
-use Rattle.wedge_base.specs.declared.cells.SlotAsk.TheVariants as ask
-use Rattle.wedge_base.specs.declared.cells.SlotReply.{SlotReply}
-use Rattle.wedge_base.specs.declared.cells.SlotReply.TheVariants as reply
-use Rattle.wedge_base.specs.declared.cells.StreamAsk.{StreamAsk}
-use Rattle.wedge_base.specs.declared.cells.StreamAsk.TheVariants as stream_ask
-use Rattle.wedge_base.specs.declared.cells.StreamReply.{StreamReply}
-use Rattle.wedge_base.specs.declared.cells.StreamReply.TheVariants as stream_reply
+use Rattle.wedge_events.specs.declared.events.Event.{Event}
+use Rattle.wedge_events.specs.declared.events.Event.TheVariants as event
+use Rattle.wedge_events.specs.declared.events.Turn.{Turn}
+use Rattle.wedge_events.specs.declared.cells.SlotAsk.{SlotAsk}
+use Rattle.wedge_events.specs.declared.cells.SlotAsk.TheVariants as ask
+use Rattle.wedge_events.specs.declared.cells.SlotReply.{SlotReply}
+use Rattle.wedge_events.specs.declared.cells.SlotReply.TheVariants as reply
+use Rattle.wedge_events.specs.declared.cells.StreamAsk.{StreamAsk}
+use Rattle.wedge_events.specs.declared.cells.StreamAsk.TheVariants as stream_ask
+use Rattle.wedge_events.specs.declared.cells.StreamReply.{StreamReply}
+use Rattle.wedge_events.specs.declared.cells.StreamReply.TheVariants as stream_reply
 use Rattle.sthread_life.specs.Cells.{Cells, slot_in, stream_in, kept_in}
 
 -- what is left after these turns, from what was before, by what each event leaves

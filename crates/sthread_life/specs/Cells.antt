@@ -1,18 +1,19 @@
 -- The cells of a world, the event that comes of an ask, and what it makes of its cell.
 use Rattle.std.specs.Prelude.{ℕ, ◌-◌, ◌<◌, List, [], ◌∷◌, ◌++◌, length, map, replicate, find, slice_get, slice_set, Option, Some, None, option_map, unwrap_or, if◌then◌else◌}
 use Rattle.wedge_base.specs.Images.{Image, slots as most_slots}
-use Rattle.wedge_base.specs.Directories.{Directory, directory_reply, directory_next, slots_opening, fds_opening}
-use Rattle.wedge_base.specs.Slots.{Segment, slot_reply, slot_after, declared_slots, SlotFits}
-use Rattle.wedge_base.specs.Streams.{Stream, stream_reply, stream_after, declared_stream, most_fds}
-use Rattle.wedge_base.specs.Lives.{lives_reply, lives_next, lives_opening}
-use Rattle.wedge_base.specs.Gates.{Kept, same_gate, gate_opening, gate_reply, gate_next, GateFits}
+use Rattle.wedge_events.specs.Directories.{Directory, directory_reply, directory_next, slots_opening, fds_opening}
+use Rattle.wedge_events.specs.Slots.{Segment, slot_reply, slot_after, declared_slots, SlotFits}
+use Rattle.wedge_events.specs.Streams.{Stream, stream_reply, stream_after, declared_stream, most_fds}
+use Rattle.wedge_events.specs.Lives.{lives_reply, lives_next, lives_opening}
+use Rattle.wedge_events.specs.Gates.{Kept, gate_opening, gate_reply, gate_next, GateFits}
+use Rattle.wedge_base.specs.Identities.{same_gate}
 use Rattle.wedge_base.specs.declared.grants.GateId.{GateId}
-use Rattle.wedge_base.specs.declared.events.Want.{Want}
-use Rattle.wedge_base.specs.declared.events.Want.TheVariants as want
-use Rattle.wedge_base.specs.declared.events.Ask.{Ask}
-use Rattle.wedge_base.specs.declared.events.Ask.TheVariants as ask
-use Rattle.wedge_base.specs.declared.events.Event.{Event}
-use Rattle.wedge_base.specs.declared.events.Event.TheVariants as event
+use Rattle.wedge_events.specs.declared.events.Want.{Want}
+use Rattle.wedge_events.specs.declared.events.Want.TheVariants as want
+use Rattle.wedge_events.specs.declared.events.Ask.{Ask}
+use Rattle.wedge_events.specs.declared.events.Ask.TheVariants as ask
+use Rattle.wedge_events.specs.declared.events.Event.{Event}
+use Rattle.wedge_events.specs.declared.events.Event.TheVariants as event
 
 -- the cell of a recycled gate
 pub record GateCell : Type 0 where

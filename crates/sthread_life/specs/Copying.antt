@@ -4,7 +4,7 @@ use Rattle.cow_pages.specs.Copies.{Copies, copy_at, with_copy}
 use Rattle.cow_pages.specs.PrivateMemory.{PrivateMemory}
 use Rattle.wedge_base.specs.Maps.{Map}
 use Rattle.wedge_base.specs.Sheets.{Sheet, Made, right_on, is_copy}
-use Rattle.wedge_base.specs.Slots.{declared_segment}
+use Rattle.wedge_events.specs.Slots.{declared_segment}
 use Rattle.wedge_base.specs.declared.image.TagEntry.{TagEntry}
 use Rattle.wedge_base.specs.declared.rights.Grant.{Grant}
 use Rattle.wedge_base.specs.declared.rights.Right.{Right}

@@ -3,7 +3,7 @@
 use Rattle.std.specs.Prelude.{◌≡◌, ℕ, zero, suc, ◌==◌, true, false, List, [], ◌∷◌, ◌++◌, slice_get, slice_set, Option, Some, None, IsSomeAnd, if◌then◌else◌}
 use Rattle.wedge_base.specs.Images.{Image, fetch}
 use Rattle.wedge_base.specs.Sheets.{Draft, empty_draft, with_tag, with_fd, with_gate}
-use Rattle.wedge_base.specs.declared.events.Event.{Event}
+use Rattle.wedge_events.specs.declared.events.Event.{Event}
 use Rattle.wedge_base.specs.declared.rights.FdBits.{FdBits}
 use Rattle.wedge_base.specs.declared.rights.Right.{Right}
 use Rattle.wedge_base.specs.declared.rights.Right.TheVariants as right

@@ -3,15 +3,15 @@ use Rattle.std.specs.Prelude.{◌≡◌, ℕ, ◌+◌, ◌-◌, true, List, [], 
 use Rattle.wedge_base.specs.Sheets.{Made, Draft, nothing_made, made_tag, made_fd, first_excess, granted}
 use Rattle.wedge_base.specs.declared.rights.End.{End}
 use Rattle.wedge_base.specs.declared.rights.End.TheVariants as end_
-use Rattle.wedge_base.specs.declared.events.Want.{Want}
-use Rattle.wedge_base.specs.declared.events.Want.TheVariants as want
-use Rattle.wedge_base.specs.declared.events.Event.{Event}
-use Rattle.wedge_base.specs.declared.events.Event.TheVariants as event
-use Rattle.wedge_base.specs.declared.cells.SlotAsk.{SlotAsk}
-use Rattle.wedge_base.specs.declared.cells.SlotAsk.TheVariants as slot_ask
-use Rattle.wedge_base.specs.declared.cells.SlotReply.{SlotReply}
-use Rattle.wedge_base.specs.declared.cells.SlotReply.TheVariants as slot_reply
-use Rattle.wedge_base.specs.declared.cells.StreamReply.TheVariants as stream_reply
+use Rattle.wedge_events.specs.declared.events.Want.{Want}
+use Rattle.wedge_events.specs.declared.events.Want.TheVariants as want
+use Rattle.wedge_events.specs.declared.events.Event.{Event}
+use Rattle.wedge_events.specs.declared.events.Event.TheVariants as event
+use Rattle.wedge_events.specs.declared.cells.SlotAsk.{SlotAsk}
+use Rattle.wedge_events.specs.declared.cells.SlotAsk.TheVariants as slot_ask
+use Rattle.wedge_events.specs.declared.cells.SlotReply.{SlotReply}
+use Rattle.wedge_events.specs.declared.cells.SlotReply.TheVariants as slot_reply
+use Rattle.wedge_events.specs.declared.cells.StreamReply.TheVariants as stream_reply
 use Rattle.grant_sheet.specs.Granting.{IsWithin}
 use Rattle.rv_hart.specs.declared.Hart.{Hart}
 use Rattle.rv_hart.specs.Local.{reg}
@@ -29,7 +29,7 @@ use Rattle.sthread_life.specs.Holding.{gate_for, loan, loan_lacks, is_loan, IsDr
 use Rattle.sthread_life.specs.Requests.{lent_of}
 use Rattle.callgate.specs.Runs.{IsRunSheet}
 use Rattle.callgate.specs.declared.gate.Gate.{Gate}
-use Rattle.wedge_base.specs.declared.cells.LivesAsk.TheVariants as lives_ask
+use Rattle.wedge_events.specs.declared.cells.LivesAsk.TheVariants as lives_ask
 
 -- ---- a start
 

@@ -5,10 +5,10 @@ use Rattle.cow_pages.specs.Listed.{bytes_listed}
 use Rattle.cow_pages.specs.PrivateMemory.{PrivateMemory}
 use Rattle.wedge_base.specs.Images.{Image}
 use Rattle.wedge_base.specs.Sheets.{Draft, empty_draft, granted}
-use Rattle.wedge_base.specs.declared.cells.SlotAsk.TheVariants as slot_ask
-use Rattle.wedge_base.specs.declared.events.Event.{Event}
+use Rattle.wedge_events.specs.declared.cells.SlotAsk.TheVariants as slot_ask
+use Rattle.wedge_events.specs.declared.events.Event.{Event}
 use Rattle.wedge_base.specs.declared.rights.Denial.{Denial}
-use Rattle.wedge_base.specs.declared.events.Event.TheVariants as event
+use Rattle.wedge_events.specs.declared.events.Event.TheVariants as event
 use Rattle.callgate.specs.declared.gate.Gate.{Gate}
 use Rattle.rv_hart.specs.Local.{reg}
 use Rattle.sthread_life.specs.declared.copy_grant.CopyGrant.{CopyGrant}

@@ -1,12 +1,12 @@
 -- What holds of every run.
 use Rattle.std.specs.Prelude.{◌≡◌, ◌≤◌, ℕ, length, List, Option, Some}
 use Rattle.wedge_base.specs.Images.{Image}
-use Rattle.wedge_base.specs.Slots.{slot_opening}
-use Rattle.wedge_base.specs.Streams.{stream_opening}
-use Rattle.wedge_base.specs.Lives.{lives_opening}
-use Rattle.wedge_base.specs.declared.events.Event.{Event}
-use Rattle.wedge_base.specs.declared.events.Turn.{Turn}
-use Rattle.wedge_base.specs.declared.events.Want.{Want}
+use Rattle.wedge_events.specs.Slots.{slot_opening}
+use Rattle.wedge_events.specs.Streams.{stream_opening}
+use Rattle.wedge_events.specs.Lives.{lives_opening}
+use Rattle.wedge_events.specs.declared.events.Event.{Event}
+use Rattle.wedge_events.specs.declared.events.Turn.{Turn}
+use Rattle.wedge_events.specs.declared.events.Want.{Want}
 use Rattle.sthread_life.specs.Actors.{ActorState}
 use Rattle.sthread_life.specs.Cells.{opening_cells, slot_in, stream_in}
 use Rattle.sthread_life.specs.Worlds.{WorldState, opening, actor_named, Runs}
@@ -29,7 +29,7 @@ use Rattle.sthread_life.specs.CopiesGranted.{HasCopiesGranted}
 use Rattle.sthread_life.specs.KnownGates.{AreGatesKept}
 use Rattle.sthread_life.specs.Isolation.{IsAccess, TakesSameTurns}
 use Rattle.sthread_life.specs.Remembering.{Remembers}
-use Rattle.wedge_base.specs.Directories.{slots_opening, fds_opening}
+use Rattle.wedge_events.specs.Directories.{slots_opening, fds_opening}
 
 -- what holds of a moment: its request is mediated, a call is refused by its row, an actor ends by its cause, it
 -- goes on as it should, it pays what the moment costs, its drafts are as its calls made them, its private bytes are those that it

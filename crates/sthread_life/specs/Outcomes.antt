@@ -3,7 +3,7 @@ use Rattle.std.specs.Prelude.{ℕ, ◌+◌, ◌==◌, List, [], ◌∷◌, ◌++
 use Rattle.std.specs.Ordering.{nat_cmp, is_lt}
 use Rattle.std.specs.Cmp.Lexicographic.{slice_cmp}
 use Rattle.wedge_base.specs.Images.{Image, procedure_name}
-use Rattle.wedge_base.specs.Streams.{Stream}
+use Rattle.wedge_events.specs.Streams.{Stream}
 use Rattle.wedge_base.specs.declared.rights.StreamKind.TheVariants as kind
 use Rattle.wedge_base.specs.declared.rights.StreamKind.{StreamKind}
 use Rattle.wedge_base.specs.declared.rights.End.{End}

@@ -6,8 +6,8 @@ use Rattle.wedge_base.specs.Memory.{range_at, read_range, write_at}
 use Rattle.wedge_base.specs.Images.{Image, in_text, read_text, slot_of}
 use Rattle.wedge_base.specs.declared.address.Place.{Place}
 use Rattle.wedge_base.specs.declared.image.MemoryRange.{MemoryRange}
-use Rattle.wedge_base.specs.declared.events.SlotWant.TheVariants as slot_want
-use Rattle.wedge_base.specs.declared.events.Want.TheVariants as want
+use Rattle.wedge_events.specs.declared.events.SlotWant.TheVariants as slot_want
+use Rattle.wedge_events.specs.declared.events.Want.TheVariants as want
 use Rattle.wedge_base.specs.declared.rights.End.TheVariants as end_
 use Rattle.rv_isa.specs.declared.Instr.{Instr}
 use Rattle.rv_hart.specs.Local.{extended, loaded, stored}

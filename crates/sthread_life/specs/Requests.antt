@@ -9,8 +9,8 @@ use Rattle.wedge_base.specs.Images.{Image, fetch, in_text, read_text, slot_of}
 use Rattle.wedge_base.specs.Names.{same}
 use Rattle.wedge_base.specs.Paths.{resolve}
 use Rattle.wedge_base.specs.Sheets.{Draft}
-use Rattle.wedge_base.specs.Slots.{Segment}
-use Rattle.wedge_base.specs.Streams.{Stream, most_fds}
+use Rattle.wedge_events.specs.Slots.{Segment}
+use Rattle.wedge_events.specs.Streams.{Stream, most_fds}
 use Rattle.wedge_base.specs.declared.address.Place.{Place}
 use Rattle.wedge_base.specs.declared.image.FileEntry.{FileEntry}
 use Rattle.wedge_base.specs.declared.image.MemoryRange.{MemoryRange}

@@ -1,7 +1,7 @@
 -- What an actor at rest wants, for which run it waits, or how it has ended.
 use Rattle.std.specs.Prelude.{Option, Some, None, ◌≡◌, ℕ, true}
 use Rattle.wedge_base.specs.declared.rights.End.{End}
-use Rattle.wedge_base.specs.declared.events.Want.{Want}
+use Rattle.wedge_events.specs.declared.events.Want.{Want}
 use Rattle.sthread_life.specs.Actors.{ActorState}
 use Rattle.sthread_life.specs.Between.{WantFits}
 use Rattle.sthread_life.specs.declared.local.Next.{Next}

@@ -2,11 +2,11 @@
 use Rattle.std.specs.Prelude.{◌≡◌, ℕ, Bool, false, List, [], ◌∷◌, ◌++◌, map, find, Option, Some, None, option_map, if◌then◌else◌}
 use Rattle.wedge_base.specs.Images.{Image}
 use Rattle.wedge_base.specs.Names.{same, root_name}
-use Rattle.wedge_base.specs.declared.events.Want.{Want}
-use Rattle.wedge_base.specs.declared.events.Want.TheVariants as want
-use Rattle.wedge_base.specs.declared.events.Event.{Event}
-use Rattle.wedge_base.specs.declared.events.Event.TheVariants as event
-use Rattle.wedge_base.specs.declared.events.Turn.{Turn}
+use Rattle.wedge_events.specs.declared.events.Want.{Want}
+use Rattle.wedge_events.specs.declared.events.Want.TheVariants as want
+use Rattle.wedge_events.specs.declared.events.Event.{Event}
+use Rattle.wedge_events.specs.declared.events.Event.TheVariants as event
+use Rattle.wedge_events.specs.declared.events.Turn.{Turn}
 use Rattle.sthread_life.specs.Actors.{ActorState, root}
 use Rattle.sthread_life.specs.Cells.{Cells, opening_cells, live_at, event_of, cells_after}
 use Rattle.sthread_life.specs.Children.{child_name}

@@ -14,7 +14,8 @@ use cow_pages::PrivateView;
 use ready_text::Program;
 use rv_hart::{Need, Reply};
 use rv_isa::Instr;
-use wedge_base::{End, NoMemory, Place, SlotWant, WINDOWS_BASE, Want, slot_of};
+use wedge_base::{End, NoMemory, Place, WINDOWS_BASE, slot_of};
+use wedge_events::{SlotWant, Want};
 
 impl Actor {
     /// A load that the instruction at hand needs.

@@ -6,7 +6,7 @@ ghost use Rattle.cow_pages.specs.PrivateMemory.{PrivateMemory, no_memory};
 ghost use Rattle.image_form.specs.Rules.{most_fuel};
 ghost use Rattle.wedge_base.specs.Names.{most_parts};
 ghost use Rattle.wedge_base.specs.Sheets.{lent_to};
-ghost use Rattle.wedge_base.specs.declared.events.Want.{Want as AWant};
+ghost use Rattle.wedge_events.specs.declared.events.Want.{Want as AWant};
 ghost use Rattle.sthread_life.specs.Actors.{gate_held, whole};
 ghost use Rattle.sthread_life.specs.Between.{EntersFrom, IsAtGate, IsPlaced, WantFits, funds};
 ghost use Rattle.sthread_life.specs.Calls as calls;
@@ -27,10 +27,8 @@ use grant_sheet::{Draft, Made, Sheet, first_excess, gate_at, sheet_of};
 use rv_hart::Hart;
 use std::mem;
 use std::sync::Arc;
-use wedge_base::{
-    ActorName, Code, Denial, End, GateKind, Items, MOST_PARTS, NameFault, NoMemory, PRIVATE_BASE,
-    PRIVATE_SIZE, Want,
-};
+use wedge_base::{ActorName, Code, Denial, End, GateKind, Items, MOST_PARTS, NameFault, NoMemory, PRIVATE_BASE, PRIVATE_SIZE};
+use wedge_events::Want;
 
 /// The number that lends nothing to the run of a gate.
 const NO_DRAFT: u32 = u32::MAX;

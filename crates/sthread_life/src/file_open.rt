@@ -8,8 +8,8 @@ ghost use Rattle.sthread_life.specs.Actors.{whole};
 ghost use Rattle.sthread_life.specs.Between.{IsInBounds};
 ghost use Rattle.sthread_life.specs.Calls as calls;
 ghost use Rattle.sthread_life.specs.Taking as taking;
-ghost use Rattle.wedge_base.specs.Streams.{most_fds};
-ghost use Rattle.wedge_base.specs.declared.events.Event.{Event as AnEvent};
+ghost use Rattle.wedge_events.specs.Streams.{most_fds};
+ghost use Rattle.wedge_events.specs.declared.events.Event.{Event as AnEvent};
 
 use crate::actor::Actor;
 use crate::calls::{A0, A1, A2};
@@ -19,10 +19,8 @@ use cow_pages::PrivateView;
 use file_tree::{file_at, may_open};
 use image_form::Image;
 use std::mem;
-use wedge_base::{
-    Code, Denial, DirectoryAsk, DirectoryReply, FdBits, FdNo, FileEntry, NoMemory, PathText,
-    StreamKind,
-};
+use wedge_base::{Code, Denial, FdBits, FdNo, FileEntry, NoMemory, PathText, StreamKind};
+use wedge_events::{DirectoryAsk, DirectoryReply};
 
 impl Actor {
     /// The call that opens a file, up to the claim of a number for its descriptor.

@@ -6,9 +6,8 @@ ghost use Rattle.sthread_life.specs.Taking.{opening_want};
 
 use std::alloc::Global;
 use std::marker::Model;
-use wedge_base::{
-    Bytes, DirectoryAsk, FdBits, FdNo, FileEntry, NoMemory, PathText, StreamAsk, StreamKind, Want,
-};
+use wedge_base::{Bytes, FdBits, FdNo, FileEntry, NoMemory, PathText, StreamKind};
+use wedge_events::{DirectoryAsk, StreamAsk, Want};
 
 /// The path under which an actor opened the stream of a descriptor.
 #[derive(Debug, Drop)]

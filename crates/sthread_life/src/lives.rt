@@ -1,7 +1,8 @@
 //! The count of live sthreads.
 
 use std::marker::Model;
-use wedge_base::{LivesAsk, LivesReply, MOST_LIVES, NoMemory, Object};
+use wedge_base::{MOST_LIVES, NoMemory};
+use wedge_events::{LivesAsk, LivesReply, Object};
 
 /// The cell that counts live sthreads, the root among them.
 #[derive(Debug, Drop)]
@@ -11,7 +12,7 @@ pub struct Lives {
 
 impl Model for Lives {
     ghost use Rattle.std.specs.Prelude.{ℕ, ◌≤◌};
-    ghost use Rattle.wedge_base.specs.Lives.{most_lives};
+    ghost use Rattle.wedge_events.specs.Lives.{most_lives};
 
     ghost Value = { ℕ };
 
@@ -22,7 +23,7 @@ impl Model for Lives {
 
 impl Lives {
     ghost use Rattle.std.specs.Prelude.{◌≡◌};
-    ghost use Rattle.wedge_base.specs.Lives.{lives_opening, lives_reply, lives_next};
+    ghost use Rattle.wedge_events.specs.Lives.{lives_opening, lives_reply, lives_next};
 
     /// As a run begins: the root alone.
     pub fn new() -> Lives
@@ -52,7 +53,7 @@ impl Lives {
 
 impl Object for Lives {
     ghost use Rattle.std.specs.Prelude.{◌≡◌, Ok, IfOk, OnErr};
-    ghost use Rattle.wedge_base.specs.Lives.{lives_reply, lives_next, lives_opening};
+    ghost use Rattle.wedge_events.specs.Lives.{lives_reply, lives_next, lives_opening};
 
     type Ask = LivesAsk;
 

@@ -21,7 +21,8 @@ use cow_pages::PrivateView;
 use ready_text::Program;
 use rv_hart::Need;
 use rv_isa::Instr;
-use wedge_base::{End, NoMemory, Want};
+use wedge_base::{End, NoMemory};
+use wedge_events::Want;
 
 /// What an actor at rest is at.
 #[derive(Debug, Drop)]

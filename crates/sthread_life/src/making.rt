@@ -22,7 +22,8 @@ use image_form::Image;
 use ready_text::Program;
 use std::alloc::Global;
 use std::sync::Arc;
-use wedge_base::{Code, Denial, GateId, GateKind, NoMemory, SlotWant, Want};
+use wedge_base::{Code, Denial, GateId, GateKind, NoMemory};
+use wedge_events::{SlotWant, Want};
 
 impl Actor {
     /// The call that makes a gate, up to the first copy that is to be made of a tag.

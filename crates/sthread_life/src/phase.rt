@@ -3,7 +3,8 @@
 use crate::entrance::Entrance;
 use crate::files::FileOpening;
 use crate::preparation::Preparation;
-use wedge_base::{End, Slot, TagNo, Want};
+use wedge_base::{End, Slot, TagNo};
+use wedge_events::Want;
 
 /// What an actor is at.
 #[derive(Debug, Drop)]

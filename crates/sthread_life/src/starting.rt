@@ -4,7 +4,7 @@ ghost use Rattle.std.specs.Arc.{arc_value};
 ghost use Rattle.std.specs.Prelude.{◌≡◌, ◌<◌, ◌≤◌, Some, None, length, map, option_map, IfOk, IfSome, OnOk, IsSomeAnd, false};
 ghost use Rattle.wedge_base.specs.Names.{most_parts};
 ghost use Rattle.wedge_base.specs.Sheets as sheets;
-ghost use Rattle.wedge_base.specs.declared.events.Want.{Want as AWant};
+ghost use Rattle.wedge_events.specs.declared.events.Want.{Want as AWant};
 ghost use Rattle.cow_pages.specs.PrivateMemory.{PrivateMemory, no_memory};
 ghost use Rattle.wedge_base.specs.Images.{Image as AnImage};
 ghost use Rattle.image_form.specs.Rules.{most_fuel};
@@ -29,10 +29,8 @@ use ready_text::Program;
 use rv_hart::Hart;
 use std::mem;
 use std::sync::Arc;
-use wedge_base::{
-    ActorName, Code, Denial, End, Items, LivesAsk, LivesReply, MOST_PARTS, NameFault, NoMemory,
-    PRIVATE_BASE, PRIVATE_SIZE, Slot, SlotWant, Want,
-};
+use wedge_base::{ActorName, Code, Denial, End, Items, MOST_PARTS, NameFault, NoMemory, PRIVATE_BASE, PRIVATE_SIZE, Slot};
+use wedge_events::{LivesAsk, LivesReply, SlotWant, Want};
 
 impl Actor {
     /// The call that starts a child, up to the claim of a life for it.

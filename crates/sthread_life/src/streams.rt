@@ -8,9 +8,9 @@ ghost use Rattle.sthread_life.specs.Between.{IsInBounds, GivesWithin};
 ghost use Rattle.sthread_life.specs.Calls as calls;
 ghost use Rattle.sthread_life.specs.Private as private;
 ghost use Rattle.sthread_life.specs.Taking as taking;
-ghost use Rattle.wedge_base.specs.Streams.{most_fds};
-ghost use Rattle.wedge_base.specs.declared.events.Event.{Event as AnEvent};
-ghost use Rattle.wedge_base.specs.declared.events.Want.TheVariants as want;
+ghost use Rattle.wedge_events.specs.Streams.{most_fds};
+ghost use Rattle.wedge_events.specs.declared.events.Event.{Event as AnEvent};
+ghost use Rattle.wedge_events.specs.declared.events.Want.TheVariants as want;
 
 use crate::actor::Actor;
 use crate::calls::{A0, A1, A2};
@@ -18,9 +18,8 @@ use crate::phase::Phase;
 use cow_pages::PrivateView;
 use grant_sheet::bits_on;
 use image_form::Image;
-use wedge_base::{
-    Bytes, Code, Denial, FdNo, MOST_BUFFER, MOST_FDS, NoMemory, StreamAsk, StreamReply, Want,
-};
+use wedge_base::{Bytes, Code, Denial, FdNo, MOST_BUFFER, MOST_FDS, NoMemory};
+use wedge_events::{StreamAsk, StreamReply, Want};
 
 impl Actor {
     /// The call that reads the next bytes of a stream into a buffer, up to the stream.

@@ -8,16 +8,14 @@ ghost use Rattle.sthread_life.specs.Between.{WantFits};
 ghost use Rattle.sthread_life.specs.Calls as calls;
 ghost use Rattle.sthread_life.specs.Taking.{wanted};
 ghost use Rattle.sthread_life.specs.declared.phase.Phase.TheVariants as phase;
-ghost use Rattle.wedge_base.specs.declared.events.Want.{Want as AWant};
+ghost use Rattle.wedge_events.specs.declared.events.Want.{Want as AWant};
 
 use crate::actor::Actor;
 use crate::calls::{A0, A1};
 use crate::phase::Phase;
 use grant_sheet::{may_grant, slot_on};
-use wedge_base::{
-    Code, Denial, DirectoryAsk, Item, MOST_PAGES, NoMemory, Place, Right, Slot, SlotWant, TagNo,
-    Want, slot_of,
-};
+use wedge_base::{Code, Denial, Item, MOST_PAGES, NoMemory, Place, Right, Slot, TagNo, slot_of};
+use wedge_events::{DirectoryAsk, SlotWant, Want};
 
 impl Actor {
     /// The call that makes a tag, up to the claim of a slot for it.

@@ -3,7 +3,7 @@
 ghost use Rattle.std.specs.Prelude.{◌≡◌, ◌<◌, IfOk, IfSome, OnOk, OnErr, true, false, option_map, option_and_then};
 ghost use Rattle.cow_pages.specs.PrivateMemory.{PrivateMemory, no_memory};
 ghost use Rattle.wedge_base.specs.Images.{fetch};
-ghost use Rattle.wedge_base.specs.declared.events.Event.{Event as AnEvent};
+ghost use Rattle.wedge_events.specs.declared.events.Event.{Event as AnEvent};
 ghost use Rattle.rv_isa.specs.Table.{decode};
 ghost use Rattle.sthread_life.specs.declared.phase.Phase.TheVariants as phase;
 ghost use Rattle.sthread_life.specs.Actors.{whole};
@@ -16,10 +16,8 @@ use crate::phase::Phase;
 use cow_pages::{Pages, PrivateView};
 use ready_text::Program;
 use rv_hart::Reply;
-use wedge_base::{
-    Code, Denial, DirectoryAsk, DirectoryReply, End, Event, LivesAsk, LivesReply, NoMemory, Right,
-    Slot, SlotAsk, SlotReply, TagNo, address_of,
-};
+use wedge_base::{Code, Denial, End, NoMemory, Right, Slot, TagNo, address_of};
+use wedge_events::{DirectoryAsk, DirectoryReply, Event, LivesAsk, LivesReply, SlotAsk, SlotReply};
 
 impl Actor {
     /// What the event that it wanted makes of the actor; the child that it begins, with its private memory, where the event

@@ -3,7 +3,7 @@ use Rattle.std.proofs.Common.{reverse, ◌≡◌, ◌≢◌, ℕ, ◌+◌, ◌<�
 use Rattle.std.proofs.lemmas.Bool.{lt-ltb, eq-eqb, ne_eqb, cases_eq, and_right}
 use Rattle.std.proofs.lemmas.List.{reverse-append, get_or-set_same, get_or-set_other, length-set}
 use Rattle.std.proofs.lemmas.List.Sums.{sum_by-set}
-use Rattle.wedge_base.specs.Directories.{is_among}
+use Rattle.wedge_events.specs.Directories.{is_among}
 use Rattle.tag_directory.specs.Tables.{weight, IsKept}
 
 -- a write to the table leaves the other places

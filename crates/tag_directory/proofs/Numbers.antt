@@ -1,8 +1,8 @@
 -- The numbers that a directory gives out.
 use Rattle.std.proofs.Common.{◌≡◌, ℕ, ◌+◌, Bool, true, false, List, [], ◌∷◌, length, refl, ap, ◌∙◌}
 use Rattle.std.specs.Prelude.{Option, Some, None, nat_lt, if◌then◌else◌}
-use Rattle.wedge_base.specs.Directories.{Directory, Claim, no_number, claim, claim_from, claim_next, claim_reply, is_claimed, release}
-use Rattle.wedge_base.specs.declared.cells.DirectoryAsk.TheVariants as ask
+use Rattle.wedge_events.specs.Directories.{Directory, Claim, no_number, claim, claim_from, claim_next, claim_reply, is_claimed, release}
+use Rattle.wedge_events.specs.declared.cells.DirectoryAsk.TheVariants as ask
 use Rattle.tag_directory.specs.Laws.{with_number, numbers_given, from_on, NumbersAreGivenOnce}
 
 -- what a claim leaves has the next number

@@ -3,9 +3,9 @@ use Rattle.std.proofs.Common.{◌≡◌, ℕ, ◌+◌, ◌≤◌, ◌==◌, Bool
 use Rattle.std.specs.Prelude.{Option, Some, None, nat_lt, ◌||◌, if◌then◌else◌}
 use Rattle.std.proofs.lemmas.Bool.{and_parts, eq-eqb}
 use borrow.Author.Tests.{ltb-true, ltb-false, lt-ltb, le-ltb}
-use Rattle.wedge_base.specs.Directories.{Directory, Claim, no_number, claim_from, claim_next, directory_next, is_among, is_claimed}
-use Rattle.wedge_base.specs.declared.cells.DirectoryAsk.{DirectoryAsk}
-use Rattle.wedge_base.specs.declared.cells.DirectoryAsk.TheVariants as ask
+use Rattle.wedge_events.specs.Directories.{Directory, Claim, no_number, claim_from, claim_next, directory_next, is_among, is_claimed}
+use Rattle.wedge_events.specs.declared.cells.DirectoryAsk.{DirectoryAsk}
+use Rattle.wedge_events.specs.declared.cells.DirectoryAsk.TheVariants as ask
 use Rattle.tag_directory.specs.Laws.{AreReleased, IsClaimed, PlacesAreGivenApart}
 
 -- the least place never used, and what a claim of it leaves

@@ -1,9 +1,9 @@
 -- What holds of every list of asks to a directory.
 use Rattle.std.specs.Prelude.{◌≡◌, ℕ, zero, suc, ◌+◌, ◌==◌, true, false, List, [], ◌∷◌, length, Some, nat_lt}
-use Rattle.wedge_base.specs.Directories.{Directory, Claim, claim, directory, directory_reply, directory_next, is_among, is_claimed}
-use Rattle.wedge_base.specs.declared.cells.DirectoryAsk.{DirectoryAsk}
-use Rattle.wedge_base.specs.declared.cells.DirectoryReply.{DirectoryReply}
-use Rattle.wedge_base.specs.declared.cells.DirectoryReply.TheVariants as reply
+use Rattle.wedge_events.specs.Directories.{Directory, Claim, claim, directory, directory_reply, directory_next, is_among, is_claimed}
+use Rattle.wedge_events.specs.declared.cells.DirectoryAsk.{DirectoryAsk}
+use Rattle.wedge_events.specs.declared.cells.DirectoryReply.{DirectoryReply}
+use Rattle.wedge_events.specs.declared.cells.DirectoryReply.TheVariants as reply
 
 -- the number that a reply gives out, before others
 abbrev pub with_number : DirectoryReply → List ℕ → List ℕ

@@ -1,8 +1,8 @@
 -- The directories as a run begins: of the descriptors, and of the slots.
 use Rattle.wedge_base.specs.Images.{Image}
-use Rattle.wedge_base.specs.Directories.{Directory, slots_opening, fds_opening}
-use Rattle.wedge_base.specs.declared.events.CellName.{CellName}
-use Rattle.wedge_base.specs.declared.events.CellName.TheVariants as cell
+use Rattle.wedge_events.specs.Directories.{Directory, slots_opening, fds_opening}
+use Rattle.wedge_events.specs.declared.events.CellName.{CellName}
+use Rattle.wedge_events.specs.declared.events.CellName.TheVariants as cell
 
 abbrev pub directory_opening : Image → CellName → Directory
 directory_opening i cell.Fds = fds_opening i

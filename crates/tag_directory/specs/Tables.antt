@@ -1,6 +1,6 @@
 -- What a directory keeps: a table of the places that are claimed, and room to release each of them.
 use Rattle.std.specs.Prelude.{◌≡◌, ℕ, ◌+◌, ◌<◌, ◌≤◌, Bool, true, false, not, ◌&&◌, List, [], ◌∷◌, length, sum_by, slice_index_or, nat_lt}
-use Rattle.wedge_base.specs.Directories.{is_among}
+use Rattle.wedge_events.specs.Directories.{is_among}
 
 -- places that are released: each below a limit, and once
 abbrev pub AreReleased : ℕ → List ℕ → Type 0

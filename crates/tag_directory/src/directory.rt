@@ -1,8 +1,8 @@
 //! A directory of places.
 
 ghost use Rattle.std.specs.Prelude.{◌≡◌, ◌+◌, ◌<◌, ◌≤◌, [], ◌∷◌, IfSome, IfNone, ◌↔◌, Err, None, true, false, IfOk, OnOk, OnErr};
-ghost use Rattle.wedge_base.specs.Directories as directories;
-ghost use Rattle.wedge_base.specs.declared.cells.DirectoryReply.TheVariants as reply;
+ghost use Rattle.wedge_events.specs.Directories as directories;
+ghost use Rattle.wedge_events.specs.declared.cells.DirectoryReply.TheVariants as reply;
 
 use crate::fault::ClaimFault;
 use std::alloc::Global;
@@ -27,7 +27,7 @@ pub struct Directory {
 
 impl Model for Directory {
     ghost use Rattle.std.specs.Prelude.{reverse, vec_capacity};
-    ghost use Rattle.wedge_base.specs.Directories.{Directory as Plain};
+    ghost use Rattle.wedge_events.specs.Directories.{Directory as Plain};
     ghost use Rattle.tag_directory.specs.Tables.{IsKept};
 
     ghost Value = { Plain };

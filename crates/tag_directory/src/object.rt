@@ -2,11 +2,12 @@
 
 use crate::directory::{Claimed, Directory};
 use crate::fault::ClaimFault;
-use wedge_base::{DirectoryAsk, DirectoryReply, NoMemory, Object};
+use wedge_base::NoMemory;
+use wedge_events::{DirectoryAsk, DirectoryReply, Object};
 
 impl Object for Directory {
     ghost use Rattle.std.specs.Prelude.{◌≡◌, Ok, IfOk, OnErr};
-    ghost use Rattle.wedge_base.specs.Directories.{directory_reply, directory_next, DirectoryFits};
+    ghost use Rattle.wedge_events.specs.Directories.{directory_reply, directory_next, DirectoryFits};
     ghost use Rattle.tag_directory.specs.Openings.{directory_opening};
 
     type Ask = DirectoryAsk;

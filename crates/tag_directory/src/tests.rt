@@ -1,7 +1,7 @@
 use super::*;
 use std::process::Abort;
 use std::test::Fail;
-use wedge_base::{DirectoryAsk, DirectoryReply, Object};
+use wedge_events::{DirectoryAsk, DirectoryReply, Object};
 
 /// Claims the place and the number that are given.
 fn claims(rt: &impl Abort, directory: &mut Directory, place: u32, number: u32) {

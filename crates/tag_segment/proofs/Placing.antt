@@ -1,8 +1,8 @@
 -- What a reply to the wish for a block says of the first fit.
 use Rattle.std.proofs.Common.{◌≡◌, ℕ, Bool, true, false, cond, refl}
 use Rattle.std.specs.Prelude.{Option, Some, None}
-use Rattle.wedge_base.specs.Slots.{place_reply}
-use Rattle.wedge_base.specs.declared.cells.SlotReply.TheVariants as reply
+use Rattle.wedge_events.specs.Slots.{place_reply}
+use Rattle.wedge_events.specs.declared.cells.SlotReply.TheVariants as reply
 
 pub placed_at : (same : Bool) (fit : Option ℕ) (offset : ℕ) → cond same (place_reply fit) reply.NoSuch ≡ reply.Placed offset → fit ≡ Some offset
 placed_at true (Some place) offset e = cc

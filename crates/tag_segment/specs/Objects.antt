@@ -1,10 +1,10 @@
 -- The cell of a slot as one of the cells of a run.
 use Rattle.std.specs.Prelude.{Option, None}
 use Rattle.wedge_base.specs.Images.{Image}
-use Rattle.wedge_base.specs.Slots.{Segment, SlotFits, slot_opening}
-use Rattle.wedge_base.specs.declared.cells.SlotAsk.{SlotAsk}
-use Rattle.wedge_base.specs.declared.events.CellName.{CellName}
-use Rattle.wedge_base.specs.declared.events.CellName.TheVariants as cell
+use Rattle.wedge_events.specs.Slots.{Segment, SlotFits, slot_opening}
+use Rattle.wedge_events.specs.declared.cells.SlotAsk.{SlotAsk}
+use Rattle.wedge_events.specs.declared.events.CellName.{CellName}
+use Rattle.wedge_events.specs.declared.events.CellName.TheVariants as cell
 
 -- the state with which the cell of a name begins; a name of another kind of cell has none
 abbrev pub opening_state : Image → CellName → Option Segment

@@ -3,10 +3,10 @@
 ghost use Rattle.std.specs.Prelude.{◌≡◌, ◌≢◌, ◌*◌, ◌⊎◌, ◌≤◌, ℕ, Option, Some, [], All, IfSome, length};
 ghost use Rattle.wedge_base.specs.Blocks.{AreBlocks, AreFree, IsFirstFit, rounded};
 ghost use Rattle.wedge_base.specs.Images.{page};
-ghost use Rattle.wedge_base.specs.Slots as slots;
-ghost use Rattle.wedge_base.specs.declared.cells.Live.{Live};
-ghost use Rattle.wedge_base.specs.declared.cells.SlotAsk.TheVariants as ask;
-ghost use Rattle.wedge_base.specs.declared.cells.SlotReply.TheVariants as reply;
+ghost use Rattle.wedge_events.specs.Slots as slots;
+ghost use Rattle.wedge_events.specs.declared.cells.Live.{Live};
+ghost use Rattle.wedge_events.specs.declared.cells.SlotAsk.TheVariants as ask;
+ghost use Rattle.wedge_events.specs.declared.cells.SlotReply.TheVariants as reply;
 ghost use Rattle.wedge_base.specs.declared.rights.Right.TheVariants as right;
 
 /// Whatever lived in a slot, a tag that is opened there has zero bytes, in whole pages, and no blocks.

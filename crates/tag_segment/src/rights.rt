@@ -2,9 +2,10 @@
 
 ghost use Rattle.std.specs.Prelude.{◌≡◌};
 ghost use Rattle.wedge_base.specs.Rights.{at_least};
-ghost use Rattle.wedge_base.specs.Slots as slots;
+ghost use Rattle.wedge_events.specs.Slots as slots;
 
-use wedge_base::{Live, Right};
+use wedge_base::Right;
+use wedge_events::Live;
 
 /// The right in an ask's pair.
 pub fn right_in(live: Option<Live>) -> Option<Right>

@@ -4,14 +4,15 @@ ghost use Rattle.std.specs.Prelude.{◌≡◌, ◌*◌, ◌%◌, ◌+◌, ◌-�
 ghost use Rattle.wedge_base.specs.Blocks.{AreBlocks};
 ghost use Rattle.wedge_base.specs.Bytes.{zeros};
 ghost use Rattle.wedge_base.specs.Images.{page, window, most_pages};
-ghost use Rattle.wedge_base.specs.Slots as slots;
+ghost use Rattle.wedge_events.specs.Slots as slots;
 
 use crate::rights::{at_least, right_in};
 use cow_pages::Pages;
 use smalloc_heap::{Block, Heap, SmallocFault};
 use std::alloc::Global;
 use std::marker::Model;
-use wedge_base::{Bytes, Live, NoMemory, PAGE, Right, SlotAsk, SlotReply, TagNo};
+use wedge_base::{Bytes, NoMemory, PAGE, Right, TagNo};
+use wedge_events::{Live, SlotAsk, SlotReply};
 
 /// A live tag: its number, its bytes, and the heap in which its blocks are placed.
 #[derive(Debug, Drop)]
@@ -24,7 +25,7 @@ pub struct Segment {
 impl Model for Segment {
     ghost use Rattle.std.specs.Prelude.{◌≡◌, ◌%◌, ◌≤◌, length};
     ghost use Rattle.wedge_base.specs.Images.{page, window};
-    ghost use Rattle.wedge_base.specs.Slots.{Segment as Plain};
+    ghost use Rattle.wedge_events.specs.Slots.{Segment as Plain};
 
     ghost Value = { Plain };
 

@@ -4,14 +4,15 @@ ghost use Rattle.std.specs.Prelude.{◌≡◌, ◌%◌, ◌*◌, ◌-◌, ◌≤
 ghost use Rattle.wedge_base.specs.Blocks.{AreBlocks};
 ghost use Rattle.wedge_base.specs.Bytes.{zeros};
 ghost use Rattle.wedge_base.specs.Images.{page, window, most_pages};
-ghost use Rattle.wedge_base.specs.Slots as slots;
+ghost use Rattle.wedge_events.specs.Slots as slots;
 ghost use Rattle.tag_segment.specs.Replies.{HasNoPages};
 
 use crate::segment::Segment;
 use smalloc_heap::Block;
 use std::alloc::Global;
 use std::marker::Model;
-use wedge_base::{Bytes, Live, NoMemory, Object, SlotAsk, SlotReply, TagNo};
+use wedge_base::{Bytes, NoMemory, TagNo};
+use wedge_events::{Live, Object, SlotAsk, SlotReply};
 
 /// The cell of a slot: the tag that lives there, if one does, with its bytes and its blocks.
 #[derive(Debug, Drop)]
@@ -22,7 +23,7 @@ pub struct SlotState {
 
 impl Model for SlotState {
     ghost use Rattle.std.specs.Prelude.{Option};
-    ghost use Rattle.wedge_base.specs.Slots.{Segment as Plain};
+    ghost use Rattle.wedge_events.specs.Slots.{Segment as Plain};
 
     ghost Value = { Option Plain };
 
@@ -100,7 +101,7 @@ impl SlotState {
 
 impl Object for SlotState {
     ghost use Rattle.std.specs.Prelude.{◌≡◌, Ok, IfOk, OnErr};
-    ghost use Rattle.wedge_base.specs.Slots.{slot_reply, slot_next, SlotFits};
+    ghost use Rattle.wedge_events.specs.Slots.{slot_reply, slot_next, SlotFits};
     ghost use Rattle.tag_segment.specs.Objects.{opening_state, FitsState};
 
     type Ask = SlotAsk;

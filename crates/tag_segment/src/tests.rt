@@ -2,7 +2,7 @@
 
 ghost use Rattle.std.specs.Prelude.{◌≤◌, IsTrue, length};
 ghost use Rattle.wedge_base.specs.Images.{page};
-ghost use Rattle.wedge_base.specs.Slots as slots;
+ghost use Rattle.wedge_events.specs.Slots as slots;
 
 use super::*;
 use smalloc_heap::Block;
@@ -10,10 +10,8 @@ use std::alloc::Global;
 use std::process::Abort;
 use std::sync::Arc;
 use std::test::Fail;
-use wedge_base::{
-    Live, MOST_PAGES, NoMemory, Object, Page, PageAt, PageList, Right, SlotAsk, SlotReply, TagNo,
-    WINDOW,
-};
+use wedge_base::{MOST_PAGES, NoMemory, Page, PageAt, PageList, Right, TagNo, WINDOW};
+use wedge_events::{Live, Object, SlotAsk, SlotReply};
 
 /// What a slot is asked, for whatever tag lives there.
 #[derive(Clone, Copy, Debug)]

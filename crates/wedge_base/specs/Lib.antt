@@ -1,5 +1,6 @@
 pub mod Bytes
 pub mod Names
+pub mod Identities
 pub mod Texts
 pub mod Maps
 pub mod Memory
@@ -9,14 +10,5 @@ pub mod Files
 pub mod Paths
 pub mod Sheets
 pub mod Services
-pub mod Wants
 pub mod Blocks
 pub mod Pages
-pub mod Parts
-pub mod Slots
-pub mod Histories
-pub mod Streams
-pub mod Directories
-pub mod Lives
-pub mod Gates
-pub mod Journals

@@ -1,7 +1,7 @@
 //! Grants of a draft, and gates.
 
 ghost use Rattle.std.specs.Prelude.{◌≡◌, IfOk};
-ghost use Rattle.wedge_base.specs.Gates.{same_gate};
+ghost use Rattle.wedge_base.specs.Identities.{same_gate};
 
 use crate::errors::NoMemory;
 use crate::names::ActorName;

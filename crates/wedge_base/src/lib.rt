@@ -1,19 +1,15 @@
-//! The words that every crate of wedge shares: names, rights, what cells are asked and reply,
-//! events, and what a run reports. The definitions in `specs/` say what they mean.
+//! The words that every crate of wedge shares: bytes, names, pages, rights, sheets, images, and what a run
+//! reports. The definitions in `specs/` say what they mean.
 #![tactic(auto)]
 
 mod address;
-mod cells;
-mod copies;
 mod errors;
-mod events;
 mod grants;
 mod image;
 mod items;
 mod limits;
 mod names;
 mod numbers;
-mod object;
 mod outcome;
 mod page;
 mod pages;
@@ -23,16 +19,9 @@ mod service;
 #[cfg(test)]
 mod tests;
 mod texts;
-mod wants;
 
 pub use address::{Place, address_of, slot_of};
-pub use cells::{
-    DirectoryAsk, DirectoryReply, GateAsk, GateReply, Live, LivesAsk, LivesReply, SlotAsk,
-    SlotReply, StreamAsk, StreamReply,
-};
-pub use copies::copy_denials;
 pub use errors::{NameFault, NoMemory};
-pub use events::{Ask, CellName, Event, Journal, LogEntry, SlotWant, Turn, Want};
 pub use grants::{GateId, GateKind, Item};
 pub use image::{FdEntry, FileEntry, MemoryRange, Pristine, Procedure, TagEntry};
 pub use items::{Bytes, Items};
@@ -42,10 +31,9 @@ pub use limits::{
 };
 pub use names::{ActorName, is_actor_name};
 pub use numbers::{FdNo, Slot, Stamp, TagNo};
-pub use object::Object;
-pub use outcome::{ActorLine, DenialAt, Outcome, StreamLine};
+pub use outcome::{ActorLine, DenialAt, Outcome, StreamLine, copy_denials};
 pub use page::Page;
-pub use pages::{CopyAt, PageAt, PageList, ViewParts};
+pub use pages::{PageAt, PageList};
 pub use paths::{PathText, is_canonical};
 pub use rights::{Code, Denial, End, FdBits, Grant, Right, StreamKind};
 pub use service::{SERVICES, Service};

@@ -1,9 +1,13 @@
 //! What a run ends with.
 
+ghost use Rattle.std.specs.Prelude.{◌≡◌, IfOk};
+
+use crate::errors::NoMemory;
 use crate::items::{Bytes, Items};
 use crate::names::ActorName;
 use crate::numbers::FdNo;
 use crate::rights::{Denial, End};
+use std::alloc::Global;
 
 /// A denial, and the address of the instruction that was denied.
 #[derive(Clone, Debug, Drop)]
@@ -42,4 +46,19 @@ pub struct StreamLine {
 pub struct Outcome {
     pub actors: Items<ActorLine>,
     pub streams: Items<StreamLine>,
+}
+
+/// Equal denials, in the same order.
+pub fn copy_denials(alloc: Global, denials: &Items<DenialAt>) -> Result<Items<DenialAt>, NoMemory>
+    ensures { IfOk result (λ ds. ds ≡ denials.now) }
+{
+    let mut copies = Vec::new(alloc);
+    let all = denials.as_slice();
+    for one in all {
+        copies.push(DenialAt {
+            pc: one.pc,
+            denial: one.denial.copy()?,
+        })?;
+    }
+    Ok(Items::new(copies))
 }

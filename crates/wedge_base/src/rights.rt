@@ -1,5 +1,8 @@
 //! Rights, denials, codes and ends.
 
+ghost use Rattle.std.specs.Prelude.{◌≡◌, IfOk};
+
+use crate::errors::NoMemory;
 use crate::grants::Item;
 use crate::numbers::{FdNo, Slot, TagNo};
 use crate::paths::PathText;
@@ -53,6 +56,15 @@ pub enum Denial {
     NotMaker { tag: TagNo },
     /// The file at a path.
     File { path: PathText },
+}
+
+impl Denial {
+    /// An equal denial.
+    pub fn copy(&self) -> Result<Denial, NoMemory>
+        ensures { IfOk result (λ d. d ≡ self.now) }
+    {
+        Ok(self.clone()?)
+    }
 }
 
 /// The code that a service call answers in a1.

@@ -1,6 +1,4 @@
 use super::*;
-use std::alloc::Global;
-use std::sync::Arc;
 use std::test::Fail;
 
 /// Places of the address space, worked out by hand.
@@ -98,37 +96,6 @@ fn canonical_paths(rt: HostRuntime) {
     ] {
         assert!(&rt; !is_canonical(text.as_bytes()), "{text}");
     }
-}
-
-/// Parts hold pages, which their copies share.
-#[test]
-fn parts_of_two_pages(rt: HostRuntime) -> Result<(), Fail> {
-    let copies = Items::new(vec![in rt.alloc();
-        CopyAt {
-            slot: Slot(3),
-            pages: two_pages(rt.alloc())?
-        },
-    ]?);
-    let parts = ViewParts::new(rt.alloc(), two_pages(rt.alloc())?, copies)?;
-    let copy = parts.copy(rt.alloc())?;
-    assert!(rt; copy.memory() == parts.memory());
-    let pages = copy.memory().as_slice();
-    assert_eq!(rt; pages.len(), 2);
-    let second = &pages[1];
-    assert_eq!(rt; second.place, 1);
-    assert_eq!(rt; second.page.as_slice().first(), Some(&2));
-    assert_eq!(rt; copy.copies().as_slice().len(), 1);
-    Ok(())
-}
-
-/// Two pages, which begin with 1 and with 2.
-fn two_pages(alloc: Global) -> Result<PageList, NoMemory> {
-    let mut pages = Vec::new(alloc);
-    for place in 0..2u32 {
-        let page = Arc::new(alloc, Page::beginning(&[place as u8 + 1]))?;
-        pages.push(PageAt { place, page })?;
-    }
-    Ok(Items::new(pages))
 }
 
 /// Each service call has a number and a name of its own.

@@ -1,7 +1,7 @@
 -- Texts that are written.
 use Rattle.std.proofs.Common.{◌≡◌, ◌⊎◌, inl, inr, ℕ, ◌≤◌, List, [], ◌∷◌, refl, sym, ap, subst, ◌∙◌, arith}
 use Rattle.std.specs.Prelude.{Option, None}
-use Rattle.wedge_base.specs.declared.events.Journal.{Journal}
+use Rattle.wedge_events.specs.declared.events.Journal.{Journal}
 use Rattle.wedge_cli.specs.declared.status.Ended.{Ended}
 use Rattle.wedge_cli.specs.declared.writing.SinkName.{SinkName}
 use Rattle.wedge_cli.specs.declared.writing.SinkName.TheVariants as sink

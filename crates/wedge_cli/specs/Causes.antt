@@ -1,7 +1,7 @@
 -- What the program answers to its arguments.
 use Rattle.std.specs.Prelude.{◌≡◌, ℕ, ◌<◌, ◌⊎◌, List, length, Option, Some, None, Result, Err, IsErr, ◌≤◌}
 use Rattle.host_io.specs.Exposed.{WhereExposed}
-use Rattle.wedge_base.specs.declared.events.Journal.{Journal}
+use Rattle.wedge_events.specs.declared.events.Journal.{Journal}
 use Rattle.wedge_cli.specs.declared.refusal.Refusal.{Refusal}
 use Rattle.wedge_cli.specs.declared.refusal.Refusal.TheVariants as refusal
 use Rattle.wedge_cli.specs.declared.status.Ended.{Ended}

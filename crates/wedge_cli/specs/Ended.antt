@@ -3,13 +3,13 @@ use Rattle.std.specs.Prelude.{◌≡◌, ◌≤◌, ℕ, ◌⊎◌, List, [], �
 use Rattle.wedge_base.specs.Images.{Image}
 use Rattle.image_form.specs.Rules.{Encodes}
 use Rattle.part_toml.specs.Partition.{partition}
-use Rattle.wedge_base.specs.declared.events.Journal.{Journal}
+use Rattle.wedge_events.specs.declared.events.Journal.{Journal}
 use Rattle.wedge_base.specs.declared.outcome.Outcome.{Outcome}
 use Rattle.host_io.specs.Exposed.{WhereExposed}
 use Rattle.wedge_core.specs.Serial.{IsWholeRun, IsNumbered}
 use Rattle.report_text.specs.Reports.{report_of}
 use Rattle.report_text.specs.Schedules.{actors_of, schedule_of, names_in}
-use Rattle.wedge_base.specs.declared.events.LogEntry.{LogEntry}
+use Rattle.wedge_events.specs.declared.events.LogEntry.{LogEntry}
 use Rattle.wedge_cli.specs.declared.loading.FileKind.TheVariants as kind
 use Rattle.wedge_cli.specs.declared.words.RunFlag.{RunFlag}
 use Rattle.wedge_cli.specs.declared.words.RunFlag.TheVariants.{Plain, Schedule}

@@ -21,7 +21,8 @@ use host_io::Files;
 use image_form::{Image, write_image};
 use report_text::{report, write_schedule};
 use std::alloc::Global;
-use wedge_base::{Bytes, Journal, NoMemory};
+use wedge_base::{Bytes, NoMemory};
+use wedge_events::Journal;
 use wedge_core::serial;
 
 /// The texts of a command: all of them are made before the first is written.

@@ -1,6 +1,6 @@
 //! What the program ends with.
 
-use wedge_base::Journal;
+use wedge_events::Journal;
 
 /// The status of what was done.
 pub(crate) const DONE: u8 = 0;

@@ -8,7 +8,8 @@ ghost use Rattle.wedge_cli.specs.Ended.{TakesText, FailsText, AreTaken, OneFails
 use crate::lines::write_fault_line;
 use crate::status::{DONE, Ended, WRITE_FAULT};
 use host_io::{Sink, WriteFault, write_whole};
-use wedge_base::{Bytes, Journal};
+use wedge_base::Bytes;
+use wedge_events::Journal;
 
 /// One of the two sinks.
 #[derive(Clone, Copy, Debug, PartialEq, Eq)]

@@ -2,10 +2,10 @@
 use Rattle.std.proofs.Common.{◌≡◌, ℕ, zero, suc, ◌+◌, ◌-◌, List, [], ◌∷◌, ◌++◌, Bool, true, false, length, take, get_or, refl, sym, ap, subst, ◌∙◌, inl, inr, arith}
 use Rattle.std.specs.Prelude.{◌⊎◌}
 use Rattle.wedge_base.specs.Images.{Image}
-use Rattle.wedge_base.specs.Journals.{turns_of, numbered}
-use Rattle.wedge_base.specs.declared.events.Event.{Event}
-use Rattle.wedge_base.specs.declared.events.LogEntry.{LogEntry}
-use Rattle.wedge_base.specs.declared.events.Turn.{Turn}
+use Rattle.wedge_events.specs.Journals.{turns_of, numbered}
+use Rattle.wedge_events.specs.declared.events.Event.{Event}
+use Rattle.wedge_events.specs.declared.events.LogEntry.{LogEntry}
+use Rattle.wedge_events.specs.declared.events.Turn.{Turn}
 use Rattle.sthread_life.specs.Actors.{ActorState}
 use Rattle.sthread_life.specs.Cells.{Cells}
 use Rattle.sthread_life.specs.Worlds.{WorldState, opening, Runs, settled}

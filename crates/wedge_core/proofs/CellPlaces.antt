@@ -2,7 +2,7 @@
 use Rattle.std.proofs.Common.{◌≡◌, ℕ, zero, suc, ◌<◌, ◌≤◌, ◌-◌, ◌+◌, List, [], ◌∷◌, ◌++◌, length, get_or, refl, sym, ap, ◌∙◌, append_assoc, arith}
 use Rattle.std.specs.Prelude.{Option, None, slice_get, slice_set}
 use Rattle.std.proofs.lemmas.List.{append-nil}
-use Rattle.wedge_base.specs.Slots.{declared_slots}
+use Rattle.wedge_events.specs.Slots.{declared_slots}
 use Rattle.wedge_base.specs.declared.image.TagEntry.{TagEntry}
 use Rattle.sthread_life.specs.Cells.{held, nothings}
 

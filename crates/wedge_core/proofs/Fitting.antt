@@ -1,25 +1,25 @@
 -- What an actor wants fits the cells.
 use Rattle.std.proofs.Common.{◌≡◌, ℕ, refl, sym, ap, subst, ◌∙◌}
 use Rattle.std.specs.Prelude.{Option, Some, None, option_map}
-use Rattle.wedge_base.specs.Slots.{Segment, IsPair}
-use Rattle.wedge_base.specs.declared.events.SlotWant.TheVariants as slot_want
-use Rattle.wedge_base.specs.declared.events.Want.{Want}
-use Rattle.wedge_base.specs.declared.events.Want.TheVariants as want
-use Rattle.wedge_base.specs.declared.cells.StreamAsk.TheVariants as stream_ask
+use Rattle.wedge_events.specs.Slots.{Segment, IsPair}
+use Rattle.wedge_events.specs.declared.events.SlotWant.TheVariants as slot_want
+use Rattle.wedge_events.specs.declared.events.Want.{Want}
+use Rattle.wedge_events.specs.declared.events.Want.TheVariants as want
+use Rattle.wedge_events.specs.declared.cells.StreamAsk.TheVariants as stream_ask
 use Rattle.sthread_life.specs.Actors.{ActorState}
 use Rattle.wedge_base.specs.Images.{Image}
-use Rattle.wedge_base.specs.Wants.{slot_ask_with}
-use Rattle.wedge_base.specs.Slots.{slot_reply}
-use Rattle.wedge_base.specs.Streams.{stream_reply}
-use Rattle.wedge_base.specs.Lives.{lives_reply}
-use Rattle.wedge_base.specs.declared.events.Event.{Event}
-use Rattle.wedge_base.specs.declared.events.Event.TheVariants as event
-use Rattle.wedge_base.specs.declared.cells.DirectoryAsk.TheVariants as directory_ask
-use Rattle.wedge_base.specs.declared.cells.LivesAsk.TheVariants as lives_ask
-use Rattle.wedge_base.specs.declared.events.Ask.{Ask}
-use Rattle.wedge_base.specs.declared.events.Ask.TheVariants as ask
-use Rattle.wedge_base.specs.Directories.{directory_reply}
-use Rattle.wedge_base.specs.Gates.{gate_reply}
+use Rattle.wedge_events.specs.Wants.{slot_ask_with}
+use Rattle.wedge_events.specs.Slots.{slot_reply}
+use Rattle.wedge_events.specs.Streams.{stream_reply}
+use Rattle.wedge_events.specs.Lives.{lives_reply}
+use Rattle.wedge_events.specs.declared.events.Event.{Event}
+use Rattle.wedge_events.specs.declared.events.Event.TheVariants as event
+use Rattle.wedge_events.specs.declared.cells.DirectoryAsk.TheVariants as directory_ask
+use Rattle.wedge_events.specs.declared.cells.LivesAsk.TheVariants as lives_ask
+use Rattle.wedge_events.specs.declared.events.Ask.{Ask}
+use Rattle.wedge_events.specs.declared.events.Ask.TheVariants as ask
+use Rattle.wedge_events.specs.Directories.{directory_reply}
+use Rattle.wedge_events.specs.Gates.{gate_reply}
 use Rattle.sthread_life.specs.Between.{WantFits, IsInBounds, SuitsActor, TakesFit}
 use Rattle.sthread_life.specs.Cells.{Cells, AskFits, live_at, slot_in, stream_in, kept_in, event_of}
 use Rattle.sthread_life.specs.Taking.{asks, pair, begun}

@@ -1,13 +1,13 @@
 -- Entries by their places.
 use Rattle.std.proofs.Common.{◌≡◌, ℕ, ◌+◌, List, [], ◌∷◌, ◌++◌, length, refl, sym, ap, subst, ◌∙◌, true, arith}
-use Rattle.wedge_base.specs.Journals.{turns_of, numbered}
-use Rattle.wedge_base.specs.declared.events.Turn.{Turn}
-use Rattle.wedge_base.specs.declared.events.LogEntry.{LogEntry}
+use Rattle.wedge_events.specs.Journals.{turns_of, numbered}
+use Rattle.wedge_events.specs.declared.events.Turn.{Turn}
+use Rattle.wedge_events.specs.declared.events.LogEntry.{LogEntry}
 use Rattle.wedge_base.specs.declared.outcome.Outcome.{Outcome}
 use Rattle.wedge_base.specs.Images.{Image}
 use Rattle.sthread_life.specs.Worlds.{WorldState, opening, is_whole, Runs}
 use Rattle.sthread_life.specs.Outcomes.{outcome_of}
-use Rattle.wedge_base.specs.declared.events.Event.{Event}
+use Rattle.wedge_events.specs.declared.events.Event.{Event}
 use Rattle.std.proofs.lemmas.List.{map-append, length-map}
 use Rattle.sthread_life.proofs.Settling.{whole_alike, outcome_alike}
 use Rattle.wedge_core.specs.Progress.{LeadsTo}

@@ -2,7 +2,8 @@
 use Rattle.std.proofs.Common.{◌≡◌, ℕ, zero, suc, ◌<◌, true, List, [], ◌∷◌, ◌++◌, length, get_or, take, drop, sym, ap, subst, ◌∙◌, arith}
 use Rattle.std.specs.Prelude.{Some, slice_get, option_map, unwrap_or, find, if◌then◌else◌}
 use Rattle.std.proofs.Math.ListN.{set}
-use Rattle.wedge_base.specs.Gates.{Kept, same_gate, gate_opening}
+use Rattle.wedge_events.specs.Gates.{Kept, gate_opening}
+use Rattle.wedge_base.specs.Identities.{same_gate}
 use Rattle.wedge_base.specs.declared.grants.GateId.{GateId}
 use Rattle.sthread_life.specs.Cells.{GateCell, kept_among, put_kept}
 

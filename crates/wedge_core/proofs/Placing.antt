@@ -5,26 +5,26 @@ use Rattle.std.proofs.lemmas.Bool.Decides.{nat_tests}
 use Rattle.std.specs.Prelude.{Option, Some, None, IfSome, not, nat_lt, nat_le, is_some, slice_range, if◌then◌else◌}
 use Rattle.wedge_base.specs.Blocks.{Block, AreBlocks, rounded, first_fit, block_at}
 use Rattle.wedge_base.specs.Bytes.{number_of}
-use Rattle.wedge_base.specs.Directories.{Directory, directory_reply}
+use Rattle.wedge_events.specs.Directories.{Directory, directory_reply}
 use Rattle.wedge_base.specs.Images.{page, slots, window, most_pages}
 use Rattle.wedge_base.specs.Rights.{at_least, read_bit, append_bit, bits_within}
-use Rattle.wedge_base.specs.Slots.{Segment, right_in, place_reply, slot_reply}
-use Rattle.wedge_base.specs.declared.cells.DirectoryAsk.{DirectoryAsk}
-use Rattle.wedge_base.specs.declared.cells.DirectoryAsk.TheVariants as directory_ask
-use Rattle.wedge_base.specs.declared.cells.DirectoryReply.{DirectoryReply}
-use Rattle.wedge_base.specs.declared.cells.DirectoryReply.TheVariants as directory_reply_
-use Rattle.wedge_base.specs.Streams.{Stream, most_fds, closing_bit, read_reply, append_reply, live_reply, dead_reply, stream_reply}
-use Rattle.wedge_base.specs.declared.cells.StreamAsk.{StreamAsk}
-use Rattle.wedge_base.specs.declared.cells.StreamAsk.TheVariants as stream_ask
-use Rattle.wedge_base.specs.declared.cells.StreamReply.TheVariants as stream_reply_
+use Rattle.wedge_events.specs.Slots.{Segment, right_in, place_reply, slot_reply}
+use Rattle.wedge_events.specs.declared.cells.DirectoryAsk.{DirectoryAsk}
+use Rattle.wedge_events.specs.declared.cells.DirectoryAsk.TheVariants as directory_ask
+use Rattle.wedge_events.specs.declared.cells.DirectoryReply.{DirectoryReply}
+use Rattle.wedge_events.specs.declared.cells.DirectoryReply.TheVariants as directory_reply_
+use Rattle.wedge_events.specs.Streams.{Stream, most_fds, closing_bit, read_reply, append_reply, live_reply, dead_reply, stream_reply}
+use Rattle.wedge_events.specs.declared.cells.StreamAsk.{StreamAsk}
+use Rattle.wedge_events.specs.declared.cells.StreamAsk.TheVariants as stream_ask
+use Rattle.wedge_events.specs.declared.cells.StreamReply.TheVariants as stream_reply_
 use Rattle.wedge_base.specs.declared.rights.FdBits.{FdBits}
 use Rattle.wedge_base.specs.declared.rights.StreamKind.{StreamKind}
 use Rattle.wedge_base.specs.declared.rights.StreamKind.TheVariants as kind
-use Rattle.wedge_base.specs.declared.cells.SlotAsk.{SlotAsk}
-use Rattle.wedge_base.specs.declared.cells.SlotAsk.TheVariants as ask
-use Rattle.wedge_base.specs.declared.cells.SlotReply.{SlotReply}
-use Rattle.wedge_base.specs.declared.cells.SlotReply.TheVariants as reply
-use Rattle.wedge_base.specs.declared.events.Event.TheVariants as event
+use Rattle.wedge_events.specs.declared.cells.SlotAsk.{SlotAsk}
+use Rattle.wedge_events.specs.declared.cells.SlotAsk.TheVariants as ask
+use Rattle.wedge_events.specs.declared.cells.SlotReply.{SlotReply}
+use Rattle.wedge_events.specs.declared.cells.SlotReply.TheVariants as reply
+use Rattle.wedge_events.specs.declared.events.Event.TheVariants as event
 use Rattle.wedge_base.specs.declared.rights.Right.TheVariants as right
 use Rattle.wedge_base.specs.Pages.{page_of, pages_before, pages_of}
 use Rattle.sthread_life.specs.Between.{GivesBelow, IsInBounds}

@@ -3,11 +3,11 @@ use Rattle.std.proofs.Common.{◌≡◌, ℕ, zero, suc, ◌+◌, ◌<◌, ◌�
 use Rattle.std.specs.Prelude.{Option, Some, None, option_map, Ok, Err, IsSomeAnd, if◌then◌else◌}
 use Rattle.std.proofs.lemmas.List.{map-append}
 use Rattle.wedge_base.specs.Images.{Image}
-use Rattle.wedge_base.specs.Journals.{turns_of}
-use Rattle.wedge_base.specs.declared.events.Want.TheVariants as want
-use Rattle.wedge_base.specs.declared.events.Event.{Event}
-use Rattle.wedge_base.specs.declared.events.Event.TheVariants as event
-use Rattle.wedge_base.specs.declared.events.Turn.{Turn}
+use Rattle.wedge_events.specs.Journals.{turns_of}
+use Rattle.wedge_events.specs.declared.events.Want.TheVariants as want
+use Rattle.wedge_events.specs.declared.events.Event.{Event}
+use Rattle.wedge_events.specs.declared.events.Event.TheVariants as event
+use Rattle.wedge_events.specs.declared.events.Turn.{Turn}
 use Rattle.wedge_base.specs.declared.rights.End.{End}
 use Rattle.sthread_life.specs.Actors.{ActorState}
 use Rattle.sthread_life.specs.Local.{has_ended}

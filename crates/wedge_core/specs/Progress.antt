@@ -1,8 +1,8 @@
 -- What a world keeps: its state, and the turns that led to it.
 use Rattle.std.specs.Prelude.{◌≡◌, ℕ, ◌<◌, Bool, true, false, List, [], ◌∷◌, ◌++◌, length, Option, Some, None, IsSomeAnd, slice_get, slice_set, ◌⊎◌}
 use Rattle.wedge_base.specs.Images.{Image}
-use Rattle.wedge_base.specs.declared.events.Turn.{Turn}
-use Rattle.wedge_base.specs.Gates.{Kept}
+use Rattle.wedge_events.specs.declared.events.Turn.{Turn}
+use Rattle.wedge_events.specs.Gates.{Kept}
 use Rattle.wedge_base.specs.declared.grants.GateId.{GateId}
 use Rattle.sthread_life.specs.Cells.{Cells, GateCell, kept_among, put_kept}
 use Rattle.sthread_life.specs.Worlds.{WorldState, opening, actor_named, put_actor, turn_of, Runs, is_ended, settled, ready, at_rest}
@@ -10,8 +10,8 @@ use Rattle.sthread_life.specs.Actors.{ActorState}
 use Rattle.sthread_life.specs.Local.{rest, has_ended}
 use Rattle.sthread_life.specs.Children.{child_name}
 use Rattle.sthread_life.specs.Taking.{wanted}
-use Rattle.wedge_base.specs.declared.events.Want.TheVariants as want
-use Rattle.wedge_base.specs.declared.events.Event.{Event}
+use Rattle.wedge_events.specs.declared.events.Want.TheVariants as want
+use Rattle.wedge_events.specs.declared.events.Event.{Event}
 use Rattle.sthread_life.specs.declared.phase.Phase.TheVariants as phase
 
 -- a world's state, the turns taken so far, and whether it has stopped because it ran out of memory

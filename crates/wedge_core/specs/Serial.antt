@@ -5,13 +5,13 @@ use Rattle.wedge_base.specs.Names.{root_name}
 use Rattle.wedge_core.specs.Places.{place_in}
 use Rattle.wedge_core.specs.Progress.{Progress}
 use Rattle.wedge_core.specs.declared.serially.Live.{Live}
-use Rattle.wedge_base.specs.Journals.{turns_of, numbered}
-use Rattle.wedge_base.specs.declared.events.LogEntry.{LogEntry}
-use Rattle.wedge_base.specs.declared.events.Event.{Event}
+use Rattle.wedge_events.specs.Journals.{turns_of, numbered}
+use Rattle.wedge_events.specs.declared.events.LogEntry.{LogEntry}
+use Rattle.wedge_events.specs.declared.events.Event.{Event}
 use Rattle.wedge_base.specs.declared.outcome.Outcome.{Outcome}
 use Rattle.sthread_life.specs.Actors.{ActorState}
 use Rattle.sthread_life.specs.Local.{has_ended}
-use Rattle.wedge_base.specs.declared.events.Turn.{Turn}
+use Rattle.wedge_events.specs.declared.events.Turn.{Turn}
 use Rattle.sthread_life.specs.Moments.{EachStep, EachMoment}
 use Rattle.sthread_life.specs.Bounds.{IsWithinRoot}
 use Rattle.sthread_life.specs.CopiesGranted.{HasCopiesGranted}

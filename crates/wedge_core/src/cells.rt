@@ -3,10 +3,10 @@
 ghost use Rattle.std.specs.Prelude.{◌≡◌, ◌<◌, ◌≤◌, ◌-◌, ◌++◌, Some, None, IfOk, OnOk, OnErr, length, map, option_map, slice_get, slice_set};
 ghost use Rattle.std.specs.List.{AllByRecursion};
 ghost use Rattle.wedge_base.specs.Images.{slots as most_slots};
-ghost use Rattle.wedge_base.specs.Directories.{directory_reply, directory_next};
-ghost use Rattle.wedge_base.specs.declared.events.Event.{Event as AnEvent};
-ghost use Rattle.wedge_base.specs.Slots.{SlotFits, slot_reply, slot_next, declared_slots};
-ghost use Rattle.wedge_base.specs.Streams.{most_fds, declared_stream, stream_reply, stream_next};
+ghost use Rattle.wedge_events.specs.Directories.{directory_reply, directory_next};
+ghost use Rattle.wedge_events.specs.declared.events.Event.{Event as AnEvent};
+ghost use Rattle.wedge_events.specs.Slots.{SlotFits, slot_reply, slot_next, declared_slots};
+ghost use Rattle.wedge_events.specs.Streams.{most_fds, declared_stream, stream_reply, stream_next};
 ghost use Rattle.image_form.specs.Rules.{IsTag};
 ghost use Rattle.sthread_life.specs.Between.{GivesBelow, IsInBounds};
 ghost use Rattle.sthread_life.specs.Cells.{AskFits, opening_cells, nothings, held, live_at, event_of, cells_after};
@@ -20,10 +20,8 @@ use std::marker::Model;
 use sthread_life::Lives;
 use tag_directory::Directory;
 use tag_segment::SlotState;
-use wedge_base::{
-    Ask, Bytes, DirectoryAsk, DirectoryReply, Event, FdEntry, FdNo, MOST_FDS, NoMemory, Object,
-    SLOTS, Slot, SlotAsk, SlotReply, StreamAsk, StreamReply, TagEntry, TagNo, Want,
-};
+use wedge_base::{Bytes, FdEntry, FdNo, MOST_FDS, NoMemory, SLOTS, Slot, TagEntry, TagNo};
+use wedge_events::{Ask, DirectoryAsk, DirectoryReply, Event, Object, SlotAsk, SlotReply, StreamAsk, StreamReply, Want};
 
 /// The cells of a world: the directory of slots, 4,096 slots with the tag that lives in each, the directory of
 /// descriptors, 1,024 descriptors with the stream behind each, the count of live sthreads, and the recycled
@@ -42,7 +40,7 @@ pub struct Cells {
 impl Model for Cells {
     ghost use Rattle.std.specs.Prelude.{◌≡◌, length};
     ghost use Rattle.wedge_base.specs.Images.{slots as most_slots};
-    ghost use Rattle.wedge_base.specs.Streams.{most_fds};
+    ghost use Rattle.wedge_events.specs.Streams.{most_fds};
     ghost use Rattle.sthread_life.specs.Between.{GivesBelow};
     ghost use Rattle.sthread_life.specs.Cells.{Cells as Plain};
 

@@ -3,7 +3,7 @@
 ghost use Rattle.std.specs.Prelude.{◌≡◌, ◌≤◌, ◌++◌, List, [], true, false, length, unwrap_or, option_map, IfOk, OnOk};
 ghost use Rattle.cow_pages.specs.PrivateMemory.{no_memory};
 ghost use Rattle.sthread_life.specs.Worlds.{is_whole};
-ghost use Rattle.wedge_base.specs.Streams.{most_fds};
+ghost use Rattle.wedge_events.specs.Streams.{most_fds};
 ghost use Rattle.std.specs.Ordering.{nat_cmp, is_lt};
 ghost use Rattle.std.specs.Cmp.Lexicographic.{slice_cmp};
 ghost use Rattle.sthread_life.specs.Actors.{whole};
@@ -18,10 +18,7 @@ use image_form::Image;
 use std::alloc::Global;
 use std::cmp::Ordering;
 use sthread_life::{Actor, Phase, StreamLabel};
-use wedge_base::{
-    ActorLine, Bytes, End, FdNo, Items, NoMemory, Outcome, PathText, StreamKind, StreamLine,
-    copy_denials,
-};
+use wedge_base::{ActorLine, Bytes, End, FdNo, Items, NoMemory, Outcome, PathText, StreamKind, StreamLine, copy_denials};
 
 /// The outcome of a world whose root has ended: a line for each actor, and one for each append stream.
 pub fn outcome(alloc: Global, world: &World<'_>) -> Result<Outcome, NoMemory>

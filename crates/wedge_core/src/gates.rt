@@ -1,14 +1,16 @@
 //! The recycled gates of a world, by identity.
 
 ghost use Rattle.std.specs.Prelude.{◌≡◌, ◌++◌, ◌∷◌, [], IfSome, IfNone, IfOk, OnOk, OnErr};
-ghost use Rattle.wedge_base.specs.Gates.{Kept as AKept, GateFits, gate_opening, gate_reply, gate_next, same_gate};
+ghost use Rattle.wedge_events.specs.Gates.{Kept as AKept, GateFits, gate_opening, gate_reply, gate_next};
+ghost use Rattle.wedge_base.specs.Identities.{same_gate};
 ghost use Rattle.sthread_life.specs.Cells.{kept_among, put_kept};
 ghost use Rattle.wedge_core.specs.Progress.{IsGateAt};
 
 use recycled_gate::Kept;
 use std::alloc::Global;
 use std::marker::Model;
-use wedge_base::{GateAsk, GateId, GateReply, NoMemory, Object};
+use wedge_base::{GateId, NoMemory};
+use wedge_events::{GateAsk, GateReply, Object};
 
 /// The cell of a recycled gate.
 #[derive(Drop)]

@@ -4,14 +4,15 @@ ghost use Rattle.std.specs.Prelude.{◌≡◌, ◌<◌, ◌++◌, ◌∷◌, [],
 ghost use Rattle.sthread_life.specs.Fuel.{work_left};
 ghost use Rattle.sthread_life.specs.Worlds as worlds;
 ghost use Rattle.wedge_core.specs.Serial.{IsWholeRun, IsNumbered, InSerialOrder, IsSerial, LivesAfter};
-ghost use Rattle.wedge_base.specs.Journals.{turns_of};
+ghost use Rattle.wedge_events.specs.Journals.{turns_of};
 
 use crate::ending::outcome;
 use crate::turns::{Went, advance};
 use crate::world::{World, open_world};
 use image_form::Image;
 use std::alloc::Global;
-use wedge_base::{ActorName, Items, Journal, NoMemory, Outcome};
+use wedge_base::{ActorName, Items, NoMemory, Outcome};
+use wedge_events::Journal;
 
 /// An actor that has not ended: its name, and its index among the actors.
 #[derive(Drop)]

@@ -6,10 +6,8 @@ use std::alloc::Global;
 use std::process::Abort;
 use std::test::Fail;
 use sthread_life::Actor;
-use wedge_base::{
-    ActorName, Bytes, FdEntry, Items, Journal, MemoryRange, NoMemory, Outcome, Procedure, Right,
-    Slot, TagEntry,
-};
+use wedge_base::{ActorName, Bytes, FdEntry, Items, MemoryRange, NoMemory, Outcome, Procedure, Right, Slot, TagEntry};
+use wedge_events::Journal;
 
 /// LUI t0, 0x40000; ADDI t0, t0, 0; ADDI t1, zero, 5; SW t1, 0(t0).
 static STORE_FIVE: [u32; 4] = [0x4000_02b7, 0x0002_8293, 0x0050_0313, 0x0062_a023];

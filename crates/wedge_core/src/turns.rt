@@ -2,8 +2,8 @@
 
 ghost use Rattle.std.specs.Prelude.{◌≡◌, ◌++◌, ◌∷◌, [], ◌↔◌, ◌⊎◌, ℕ, false, true, Some, None, IfOk, IfSome, IfNone, OnOk, OnErr, IsErrOf, option_map};
 ghost use Rattle.sthread_life.specs.Actors.{whole};
-ghost use Rattle.wedge_base.specs.declared.events.SlotWant.{SlotWant as ASlotWant};
-ghost use Rattle.wedge_base.specs.declared.events.Want.{Want as AWant};
+ghost use Rattle.wedge_events.specs.declared.events.SlotWant.{SlotWant as ASlotWant};
+ghost use Rattle.wedge_events.specs.declared.events.Want.{Want as AWant};
 ghost use Rattle.sthread_life.specs.Between.{WantFits};
 ghost use Rattle.sthread_life.specs.Cells.{cells_after};
 ghost use Rattle.sthread_life.specs.Children.{child_name};
@@ -25,7 +25,8 @@ use crate::world::World;
 use cow_pages::PrivateView;
 use ready_text::Program;
 use sthread_life::{Actor, Next};
-use wedge_base::{ActorName, Event, LogEntry, NoMemory, Slot, SlotWant, Stamp, Want};
+use wedge_base::{ActorName, NoMemory, Slot, Stamp};
+use wedge_events::{Event, LogEntry, SlotWant, Want};
 
 /// A turn that was taken: its one shared event.
 #[derive(Debug, Drop)]

@@ -1,10 +1,10 @@
 //! The world of a run.
 
 ghost use Rattle.std.specs.Prelude.{◌≡◌, ◌<◌, ◌++◌, ◌∷◌, [], List, length, IfOk, false};
-ghost use Rattle.wedge_base.specs.declared.events.Turn.{Turn as ATurn};
+ghost use Rattle.wedge_events.specs.declared.events.Turn.{Turn as ATurn};
 ghost use Rattle.wedge_core.specs.Progress.{LeadsTo, opened};
 ghost use Rattle.wedge_core.specs.Serial.{IsNumbered};
-ghost use Rattle.wedge_base.specs.Journals.{turns_of};
+ghost use Rattle.wedge_events.specs.Journals.{turns_of};
 
 use crate::cells::Cells;
 use crate::residents::{Resident, Residents};
@@ -13,7 +13,8 @@ use ready_text::Program;
 use std::alloc::Global;
 use std::marker::Model;
 use sthread_life::Actor;
-use wedge_base::{Event, LogEntry, NoMemory};
+use wedge_base::NoMemory;
+use wedge_events::{Event, LogEntry};
 
 /// The world of a run: every actor and every cell, and the turns taken so far. Its turns are always a
 /// run from the initial state of its image, and its state is where that run leads, but for local events
@@ -32,7 +33,7 @@ impl<'a> Model for World<'a> {
     ghost use Rattle.sthread_life.specs.FamilyTrees.{Family};
     ghost use Rattle.wedge_core.specs.Progress.{Progress, IsRun};
     ghost use Rattle.wedge_core.specs.Serial.{IsNumbered};
-    ghost use Rattle.wedge_base.specs.Journals.{turns_of};
+    ghost use Rattle.wedge_events.specs.Journals.{turns_of};
 
     ghost Value = { Progress };
 

@@ -1,5 +1,5 @@
 use Rattle.std.proofs.Common.{◌≡◌, ◌++◌, drop}
-use Rattle.wedge_base.specs.Slots.{declared_slots}
+use Rattle.wedge_events.specs.Slots.{declared_slots}
 use Rattle.wedge_core.proofs.cells.declared_slots.Given as goal
 
 abbrev pub invariant-loop-tag : goal.invariant-loop-tag

@@ -1,6 +1,6 @@
 use Rattle.std.proofs.Common.{◌≡◌, ◌++◌, drop}
 use Rattle.std.specs.Prelude.{Some, map}
-use Rattle.wedge_base.specs.Streams.{declared_stream}
+use Rattle.wedge_events.specs.Streams.{declared_stream}
 use Rattle.wedge_core.proofs.cells.declared_streams.Given as goal
 
 abbrev pub invariant-loop-fd : goal.invariant-loop-fd

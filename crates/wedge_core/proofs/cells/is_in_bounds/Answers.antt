@@ -2,10 +2,10 @@ use Rattle.std.proofs.Common.{◌≡◌, ◌<◌, ◌≤◌, length, get_or, sym
 use Rattle.std.specs.Prelude.{Option, IfSome, slice_get}
 use Rattle.wedge_base.specs.Blocks.{AreBlocks}
 use Rattle.wedge_base.specs.Images.{window}
-use Rattle.wedge_base.specs.Slots.{Segment, SlotFits, slot_reply}
-use Rattle.wedge_base.specs.declared.cells.SlotAsk.{SlotAsk}
-use Rattle.wedge_base.specs.declared.cells.SlotAsk.TheVariants as ask
-use Rattle.wedge_base.specs.declared.events.Event.TheVariants as event
+use Rattle.wedge_events.specs.Slots.{Segment, SlotFits, slot_reply}
+use Rattle.wedge_events.specs.declared.cells.SlotAsk.{SlotAsk}
+use Rattle.wedge_events.specs.declared.cells.SlotAsk.TheVariants as ask
+use Rattle.wedge_events.specs.declared.events.Event.TheVariants as event
 use Rattle.sthread_life.specs.Between.{IsInBounds}
 use Rattle.sthread_life.specs.Cells.{held}
 use Rattle.wedge_core.proofs.CellPlaces.{held_at}

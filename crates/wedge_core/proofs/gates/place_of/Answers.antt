@@ -1,5 +1,5 @@
 use Rattle.std.proofs.Common.{◌≡◌, ◌∙◌, true, sym, rules}
-use Rattle.wedge_base.specs.Gates.{same_gate}
+use Rattle.wedge_base.specs.Identities.{same_gate}
 use Rattle.wedge_core.proofs.Places.{get_at, kept_at, put_kept_at}
 use Rattle.wedge_core.proofs.gates.place_of.Goals as goal
 

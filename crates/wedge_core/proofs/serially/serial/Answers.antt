@@ -1,5 +1,5 @@
 use Rattle.std.proofs.Common.{◌≡◌, ◌∙◌, ◌≤◌, ◌∷◌, [], ap, sym, subst, length, rules}
-use Rattle.wedge_base.specs.Journals.{turns_of}
+use Rattle.wedge_events.specs.Journals.{turns_of}
 use Rattle.wedge_base.specs.Names.{root_name}
 use Rattle.sthread_life.specs.Worlds.{opening}
 use Rattle.wedge_core.specs.Progress.{Progress}

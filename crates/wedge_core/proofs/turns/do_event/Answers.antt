@@ -1,6 +1,6 @@
 use Rattle.std.proofs.Common.{◌≡◌, ◌∙◌, ap, sym, subst, rules}
 use Rattle.std.specs.Prelude.{Some}
-use Rattle.wedge_base.specs.declared.events.Ask.{Ask}
+use Rattle.wedge_events.specs.declared.events.Ask.{Ask}
 use Rattle.sthread_life.specs.Actors.{whole}
 use Rattle.sthread_life.specs.Between.{WantFits}
 use Rattle.sthread_life.specs.Cells.{AskFits, live_at, event_of}

@@ -1,5 +1,5 @@
 use Rattle.std.proofs.Common.{◌≡◌, ◌-◌, ◌++◌, ◌∷◌, [], ◌∙◌, ap, sym, subst, false, length, take, rules}
-use Rattle.wedge_base.specs.Journals.{turns_of}
+use Rattle.wedge_events.specs.Journals.{turns_of}
 use Rattle.sthread_life.proofs.Mediating.{turn_lawful}
 use Rattle.sthread_life.proofs.Writing.{step_appends_own, step_writes_own}
 use Rattle.wedge_core.specs.Progress.{Progress, IsRun, IsTurn}

@@ -1,6 +1,6 @@
 use Rattle.std.proofs.Common.{◌≡◌, ◌∙◌, ◌∷◌, [], List, ap, sym, subst, refl, rules}
-use Rattle.wedge_base.specs.declared.events.LogEntry.{LogEntry}
-use Rattle.wedge_base.specs.Journals.{turns_of}
+use Rattle.wedge_events.specs.declared.events.LogEntry.{LogEntry}
+use Rattle.wedge_events.specs.Journals.{turns_of}
 use Rattle.sthread_life.specs.Actors.{root}
 use Rattle.sthread_life.specs.Cells.{opening_cells}
 use Rattle.sthread_life.specs.FamilyTrees.{Family}

@@ -1,7 +1,7 @@
 use Rattle.std.proofs.Common.{◌≡◌, ◌+◌, ◌-◌, ◌<◌, length, ap, sym, subst, ◌∙◌, rules, arith}
 use Rattle.std.proofs.lemmas.List.{length-map}
-use Rattle.wedge_base.specs.Journals.{turns_of}
-use Rattle.wedge_base.specs.declared.events.LogEntry.{LogEntry}
+use Rattle.wedge_events.specs.Journals.{turns_of}
+use Rattle.wedge_events.specs.declared.events.LogEntry.{LogEntry}
 use Rattle.wedge_core.specs.Progress.{Progress}
 use Rattle.wedge_core.proofs.Advancing.{last_is}
 use Rattle.wedge_core.proofs.FamilyTurns.{if_ok}

@@ -2,9 +2,9 @@
 
 ghost use Rattle.std.specs.Prelude.{◌≡◌, IfOk, OnErr};
 ghost use Rattle.wedge_base.specs.Images.{Image};
-ghost use Rattle.wedge_base.specs.declared.events.CellName.{CellName as Name};
+ghost use Rattle.wedge_events.specs.declared.events.CellName.{CellName as Name};
 
-use crate::errors::NoMemory;
+use wedge_base::NoMemory;
 
 /// The state of a cell. An ask that fits the state gets a reply, and the state goes on; both are functions
 /// of the state and the ask. An image says with which state the cell of a name begins.

@@ -1,11 +1,11 @@
 //! From what an actor wants to what it asks.
 
 ghost use Rattle.std.specs.Prelude.{◌≡◌, IfOk};
-ghost use Rattle.wedge_base.specs.Wants.{cell_wanted, asked_with};
+ghost use Rattle.wedge_events.specs.Wants.{cell_wanted, asked_with};
 
 use crate::cells::Live;
-use crate::errors::NoMemory;
 use crate::events::{Ask, CellName, Want};
+use wedge_base::NoMemory;
 
 impl Want {
     /// The cell of the event; none of a start, a join, and the enter and leave of a fresh gate.

@@ -1,19 +1,14 @@
 //! Shared events, and the journal of a run.
 
 ghost use Rattle.std.specs.Prelude.{◌≡◌, IfOk};
-ghost use Rattle.wedge_base.specs.Journals.{cell_of};
-ghost use Rattle.wedge_base.specs.Wants.{slot_ask_with};
+ghost use Rattle.wedge_events.specs.Journals.{cell_of};
+ghost use Rattle.wedge_events.specs.Wants.{slot_ask_with};
 
 use crate::cells::{
     DirectoryAsk, DirectoryReply, GateAsk, GateReply, Live, LivesAsk, LivesReply, SlotAsk,
     SlotReply, StreamAsk, StreamReply,
 };
-use crate::errors::NoMemory;
-use crate::grants::GateId;
-use crate::items::Items;
-use crate::names::ActorName;
-use crate::numbers::{FdNo, Slot, Stamp, TagNo};
-use crate::rights::End;
+use wedge_base::{ActorName, End, FdNo, GateId, Items, NoMemory, Slot, Stamp, TagNo};
 
 /// A cell: a piece of shared state on which one event happens at a time.
 #[derive(Debug, Drop)]

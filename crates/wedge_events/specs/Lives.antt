@@ -1,9 +1,9 @@
 -- The cell that counts live sthreads.
 use Rattle.std.specs.Prelude.{ℕ, ◌+◌, ◌-◌, nat_lt, if◌then◌else◌}
-use Rattle.wedge_base.specs.declared.cells.LivesAsk.{LivesAsk}
-use Rattle.wedge_base.specs.declared.cells.LivesAsk.TheVariants as ask
-use Rattle.wedge_base.specs.declared.cells.LivesReply.{LivesReply}
-use Rattle.wedge_base.specs.declared.cells.LivesReply.TheVariants as reply
+use Rattle.wedge_events.specs.declared.cells.LivesAsk.{LivesAsk}
+use Rattle.wedge_events.specs.declared.cells.LivesAsk.TheVariants as ask
+use Rattle.wedge_events.specs.declared.cells.LivesReply.{LivesReply}
+use Rattle.wedge_events.specs.declared.cells.LivesReply.TheVariants as reply
 
 -- the most sthreads that live at a time, the root among them
 abbrev pub most_lives : ℕ

@@ -8,11 +8,11 @@ use Rattle.wedge_base.specs.Blocks.{Block, block, rounded, first_fit, with_block
 use Rattle.wedge_base.specs.declared.image.TagEntry.{TagEntry}
 use Rattle.wedge_base.specs.declared.rights.Right.{Right}
 use Rattle.wedge_base.specs.declared.rights.Right.TheVariants as right
-use Rattle.wedge_base.specs.declared.cells.Live.{Live}
-use Rattle.wedge_base.specs.declared.cells.SlotAsk.{SlotAsk}
-use Rattle.wedge_base.specs.declared.cells.SlotAsk.TheVariants as ask
-use Rattle.wedge_base.specs.declared.cells.SlotReply.{SlotReply}
-use Rattle.wedge_base.specs.declared.cells.SlotReply.TheVariants as reply
+use Rattle.wedge_events.specs.declared.cells.Live.{Live}
+use Rattle.wedge_events.specs.declared.cells.SlotAsk.{SlotAsk}
+use Rattle.wedge_events.specs.declared.cells.SlotAsk.TheVariants as ask
+use Rattle.wedge_events.specs.declared.cells.SlotReply.{SlotReply}
+use Rattle.wedge_events.specs.declared.cells.SlotReply.TheVariants as reply
 
 -- a live tag
 pub record Segment : Type 0 where

@@ -1,13 +1,13 @@
 -- Events, turns and journals.
 use Rattle.std.specs.Prelude.{ℕ, ◌+◌, List, [], ◌∷◌, map, Option, Some, None}
-use Rattle.wedge_base.specs.declared.events.Ask.{Ask}
-use Rattle.wedge_base.specs.declared.events.Ask.TheVariants as ask
-use Rattle.wedge_base.specs.declared.events.Event.{Event}
-use Rattle.wedge_base.specs.declared.events.Event.TheVariants as event
-use Rattle.wedge_base.specs.declared.events.CellName.{CellName}
-use Rattle.wedge_base.specs.declared.events.CellName.TheVariants as cell
-use Rattle.wedge_base.specs.declared.events.Turn.{Turn}
-use Rattle.wedge_base.specs.declared.events.LogEntry.{LogEntry}
+use Rattle.wedge_events.specs.declared.events.Ask.{Ask}
+use Rattle.wedge_events.specs.declared.events.Ask.TheVariants as ask
+use Rattle.wedge_events.specs.declared.events.Event.{Event}
+use Rattle.wedge_events.specs.declared.events.Event.TheVariants as event
+use Rattle.wedge_events.specs.declared.events.CellName.{CellName}
+use Rattle.wedge_events.specs.declared.events.CellName.TheVariants as cell
+use Rattle.wedge_events.specs.declared.events.Turn.{Turn}
+use Rattle.wedge_events.specs.declared.events.LogEntry.{LogEntry}
 
 -- the cell of an event, if it has one
 abbrev pub cell_of : Event → Option CellName

@@ -1,5 +1,5 @@
 use Rattle.std.proofs.Common.{◌≡◌, ◌++◌, drop}
-use Rattle.wedge_base.proofs.copies.copy_denials.Given as goal
+use Rattle.wedge_base.proofs.outcome.copy_denials.Given as goal
 
 abbrev pub invariant-loop-one : goal.invariant-loop-one
 invariant-loop-one l = l.copies.items ++ drop l.one-index l.all ≡ l.all

@@ -1,38 +1,11 @@
-//! Equal copies of asks, replies, wants, events and denials. Pages and names are shared, not copied.
+//! Equal copies of asks, replies, wants and events. Pages and names are shared, not copied.
 
 ghost use Rattle.std.specs.Prelude.{◌≡◌, IfOk};
 
 use crate::cells::{GateAsk, GateReply, SlotReply, StreamAsk, StreamReply};
-use crate::errors::NoMemory;
 use crate::events::{Event, Want};
-use crate::items::Items;
-use crate::outcome::DenialAt;
-use crate::rights::Denial;
 use std::alloc::Global;
-
-impl Denial {
-    /// An equal denial.
-    pub fn copy(&self) -> Result<Denial, NoMemory>
-        ensures { IfOk result (λ d. d ≡ self.now) }
-    {
-        Ok(self.clone()?)
-    }
-}
-
-/// Equal denials, in the same order.
-pub fn copy_denials(alloc: Global, denials: &Items<DenialAt>) -> Result<Items<DenialAt>, NoMemory>
-    ensures { IfOk result (λ ds. ds ≡ denials.now) }
-{
-    let mut copies = Vec::new(alloc);
-    let all = denials.as_slice();
-    for one in all {
-        copies.push(DenialAt {
-            pc: one.pc,
-            denial: one.denial.copy()?,
-        })?;
-    }
-    Ok(Items::new(copies))
-}
+use wedge_base::NoMemory;
 
 impl SlotReply {
     /// An equal reply.
@@ -67,13 +40,13 @@ impl GateAsk {
         ensures { IfOk result (λ q. q ≡ self.now) }
     {
         Ok(match self {
-            GateAsk::Enter { run, parts } => GateAsk::Enter {
+            GateAsk::Enter { run, memory } => GateAsk::Enter {
                 run: run.copy()?,
-                parts: parts.copy(alloc)?,
+                memory: memory.copy(alloc)?,
             },
-            GateAsk::Leave { end, parts } => GateAsk::Leave {
+            GateAsk::Leave { end, memory } => GateAsk::Leave {
                 end: *end,
-                parts: parts.copy(alloc)?,
+                memory: memory.copy(alloc)?,
             },
         })
     }
@@ -85,8 +58,8 @@ impl GateReply {
         ensures { IfOk result (λ r. r ≡ self.now) }
     {
         Ok(match self {
-            GateReply::Entered { parts } => GateReply::Entered {
-                parts: parts.copy(alloc)?,
+            GateReply::Entered { memory } => GateReply::Entered {
+                memory: memory.copy(alloc)?,
             },
             GateReply::Left => GateReply::Left,
         })

@@ -1,10 +1,7 @@
 //! What each kind of cell is asked, and what it replies.
 
-use crate::items::Bytes;
-use crate::names::ActorName;
-use crate::numbers::TagNo;
-use crate::pages::{PageList, ViewParts};
-use crate::rights::{End, FdBits, Right, StreamKind};
+use crate::saved_view::SavedView;
+use wedge_base::{ActorName, Bytes, End, FdBits, PageList, Right, StreamKind, TagNo};
 
 /// The tag that lives in a slot, and the asker's own right on it.
 #[derive(Clone, Copy, Debug, PartialEq, Eq)]
@@ -148,15 +145,15 @@ pub enum LivesReply {
 /// What the cell of a recycled gate is asked.
 #[derive(Debug, Drop)]
 pub enum GateAsk {
-    /// A run of this name begins. The parts are those with which it begins where none are kept.
-    Enter { run: ActorName, parts: ViewParts },
-    /// The run in it has ended so, and leaves these parts.
-    Leave { end: End, parts: ViewParts },
+    /// A run of this name begins. The memory is that with which it begins where none is kept.
+    Enter { run: ActorName, memory: SavedView },
+    /// The run in it has ended so, and leaves this memory.
+    Leave { end: End, memory: SavedView },
 }
 
 #[derive(Debug, Drop)]
 pub enum GateReply {
-    /// The run begins with these parts.
-    Entered { parts: ViewParts },
+    /// The run begins with this memory.
+    Entered { memory: SavedView },
     Left,
 }
