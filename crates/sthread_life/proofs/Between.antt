@@ -1,6 +1,11 @@
 -- What a turn is made of, and what its event leaves of the actor.
-use Rattle.std.proofs.Common.{◌≡◌, ℕ, ◌+◌, List, [], ◌∷◌, ◌++◌, refl, sym, ap, subst, ◌∙◌}
-use Rattle.std.specs.Prelude.{Option, Some, None, option_map, option_and_then, ◌-◌}
+use Rattle.std.proofs.Common.{◌≡◌, ℕ, ◌+◌, Bool, true, false, List, [], ◌∷◌, ◌++◌, refl, sym, ap, subst, ◌∙◌}
+use Rattle.std.specs.Prelude.{Option, Some, None, option_map, option_and_then, ◌-◌, if◌then◌else◌}
+use Rattle.cow_pages.specs.PrivateMemory.{PrivateMemory}
+use Rattle.wedge_events.specs.declared.cells.GateAsk.{GateAsk}
+use Rattle.wedge_base.specs.declared.grants.GateId.{GateId}
+use Rattle.wedge_events.specs.declared.cells.GateReply.TheVariants as gate_reply
+use Rattle.wedge_events.specs.declared.cells.GateAsk.TheVariants as gate_ask
 use Rattle.wedge_base.specs.Images.{Image, fetch}
 use Rattle.wedge_events.specs.declared.events.Want.{Want}
 use Rattle.wedge_events.specs.declared.events.Want.TheVariants as want
@@ -35,7 +40,7 @@ use Rattle.sthread_life.specs.Taking.{wanted, pair, runs, loads_by, loads_at, ha
 use Rattle.sthread_life.specs.Copying.{Preparation}
 use Rattle.cow_pages.specs.Listed.{bytes_listed}
 use Rattle.wedge_events.specs.Directories.{directory_reply}
-use Rattle.wedge_events.specs.Gates.{gate_reply}
+use Rattle.wedge_events.specs.Gates.{gate_reply as gate_reply_of}
 use Rattle.wedge_events.specs.Lives.{lives_reply}
 use Rattle.wedge_events.specs.Slots.{slot_reply as slot_reply_of}
 use Rattle.wedge_events.specs.Streams.{stream_reply as stream_reply_of}
@@ -237,6 +242,7 @@ Leaves (event.Slot slot q (slot_reply.Snapped pages)) p = MayPrepare p
 Leaves (event.Slot slot q slot_reply.Gone) p = MayPrepare p
 Leaves (event.Lives lives_ask.Claim lives_reply.Claimed) p = IsPreparing p
 Leaves (event.Enter run) p = MayWait p
+Leaves (event.Gate id (gate_ask.Enter run first) (gate_reply.Entered memory)) p = MayWait p
 Leaves e p = IsBetween p
 
 joined_between : (a : ActorState) (p : Phase) (e : End) → a.phase ≡ p → IsBetween (answered_end a p e).phase
@@ -282,6 +288,7 @@ takes_between i a (event.Lives lives_ask.Claim lives_reply.Released) = tt
 takes_between i a (event.Lives (lives_ask.Release e) r) = tt
 takes_between i a (event.Join k e fuel) = joined_between (record a { fuel = a.fuel + fuel; unjoined = without_child a.unjoined k }) a.phase e refl
 takes_between i a (event.Enter run) = entered_is (λ x. MayWait x.phase) a a.phase tt (λ x. tt)
+takes_between i a (event.Gate id (gate_ask.Enter run first) (gate_reply.Entered memory)) = entered_is (λ x. MayWait x.phase) a a.phase tt (λ x. tt)
 takes_between i a e = tt
 
 loaded_name : (ins : Instr) (n : Need) (a : ActorState) (value : ℕ) → (loads_by ins n a value).name ≡ a.name
@@ -326,6 +333,7 @@ takes_name i b (event.Lives lives_ask.Claim lives_reply.Released) = refl
 takes_name i b (event.Lives (lives_ask.Release e) r) = refl
 takes_name i b (event.Join k e fuel) = joined_is (λ x. x.name ≡ b.name) (record b { fuel = b.fuel + fuel; unjoined = without_child b.unjoined k }) b.phase e refl refl
 takes_name i b (event.Enter run) = entered_is (λ x. x.name ≡ b.name) b b.phase refl (λ x. refl)
+takes_name i b (event.Gate id (gate_ask.Enter run first) (gate_reply.Entered memory)) = entered_is (λ x. x.name ≡ b.name) b b.phase refl (λ x. refl)
 takes_name i b e = refl
 
 -- nor its fuel, where it is a load
@@ -361,7 +369,7 @@ event_for c b (want.Slot slot q) = event.Slot slot (slot_ask_with q (pair b (tag
 event_for c b (want.Fds q) = event.Fds q (directory_reply c.numbers q)
 event_for c b (want.Fd fd q) = event.Fd fd q (stream_reply_of (stream_in c fd) q)
 event_for c b (want.Lives q) = event.Lives q (lives_reply c.lives q)
-event_for c b (want.Gate id q) = event.Gate id q (gate_reply (kept_in c id) q)
+event_for c b (want.Gate id q) = event.Gate id q (gate_reply_of (kept_in c id) q)
 event_for c b (want.Start child) = event.Start child
 event_for c b (want.Enter run) = event.Enter run
 event_for c b (want.Leave end) = event.Leave end
@@ -375,6 +383,11 @@ pub record IsJoin (w : WorldState) (b : ActorState) (k : ℕ) (e : Event) : Type
   pub ended : end_reached child.phase ≡ Some how
   pub is : e ≡ event.Join k how child.fuel
 
+-- a recycled gate is entered while it is free
+abbrev pub IsFree : Cells → GateId → GateAsk → Type 0
+IsFree c id (gate_ask.Enter run first) = (kept_in c id).entered ≡ false
+IsFree c id (gate_ask.Leave e memory) = Unit {0}
+
 -- the event to which an actor comes with what it wants
 abbrev pub ComesOf : WorldState → ActorState → Want → Event → Type 0
 ComesOf w b (want.Slots q) e = e ≡ event_for w.cells b (want.Slots q)
@@ -382,7 +395,7 @@ ComesOf w b (want.Slot slot q) e = e ≡ event_for w.cells b (want.Slot slot q)
 ComesOf w b (want.Fds q) e = e ≡ event_for w.cells b (want.Fds q)
 ComesOf w b (want.Fd fd q) e = e ≡ event_for w.cells b (want.Fd fd q)
 ComesOf w b (want.Lives q) e = e ≡ event_for w.cells b (want.Lives q)
-ComesOf w b (want.Gate id q) e = e ≡ event_for w.cells b (want.Gate id q)
+ComesOf w b (want.Gate id q) e = IsFree w.cells id q × (e ≡ event_for w.cells b (want.Gate id q))
 ComesOf w b (want.Start child) e = e ≡ event.Start child
 ComesOf w b (want.Join k) e = IsJoin w b k e
 ComesOf w b (want.Enter run) e = e ≡ event.Enter run
@@ -397,13 +410,19 @@ join_comes : (w : WorldState) (b : ActorState) (k : ℕ) (o : Option ActorState)
 join_comes w b k None e there at = absurd cc
 join_comes w b k (Some c) e there at = join_ended w b k c (end_reached c.phase) e there refl at
 
+free_comes : (w : WorldState) (b : ActorState) (id : GateId) (run : List ℕ) (first : PrivateMemory) (e : Event) (t : Bool) → (kept_in w.cells id).entered ≡ t
+    → (if t then None else Some (event_for w.cells b (want.Gate id (gate_ask.Enter run first)))) ≡ Some e → ComesOf w b (want.Gate id (gate_ask.Enter run first)) e
+free_comes w b id run first e true is at = absurd cc
+free_comes w b id run first e false is at = (is, cc)
+
 pub comes_of : (w : WorldState) (b : ActorState) (q : Want) (e : Event) → event_at w b q ≡ Some e → ComesOf w b q e
 comes_of w b (want.Slots q) e at = cc
 comes_of w b (want.Slot slot q) e at = cc
 comes_of w b (want.Fds q) e at = cc
 comes_of w b (want.Fd fd q) e at = cc
 comes_of w b (want.Lives q) e at = cc
-comes_of w b (want.Gate id q) e at = cc
+comes_of w b (want.Gate id (gate_ask.Enter run first)) e at = free_comes w b id run first e (kept_in w.cells id).entered refl at
+comes_of w b (want.Gate id (gate_ask.Leave x memory)) e at = (tt, cc)
 comes_of w b (want.Start child) e at = cc
 comes_of w b (want.Join k) e at = join_comes w b k (actor_named w.actors (child_name b.name k)) e refl at
 comes_of w b (want.Enter run) e at = cc

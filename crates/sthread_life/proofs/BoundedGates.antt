@@ -31,7 +31,7 @@ use Rattle.sthread_life.proofs.Between.{takes_name}
 use Rattle.sthread_life.proofs.Bounding.{IsBounded, AllBounded, least_of, child_user, child_directory, within_bits, given_alone, rest_bounded, back_bounded, turn_bounded, opening_bounded, run_image}
 use Rattle.sthread_life.proofs.FamilyRuns.{Acts, ActsAlone, Starts, Enters, Joins, acts, one_begins}
 use Rattle.sthread_life.proofs.GateMoments.{event_makes_gates}
-use Rattle.sthread_life.proofs.GateRuns.{each_entered, entry_begins}
+use Rattle.sthread_life.proofs.GateRuns.{each_entered}
 use Rattle.sthread_life.proofs.KnownGates.{Grows, Keeps, Adds, step_grows, by_phase}
 use Rattle.sthread_life.proofs.Resting.{steps_step, stays, goes_on, rest-name}
 use Rattle.sthread_life.proofs.Settling.{AllReady, turn_happens, turn_ready, opening_ready, turned_there}
@@ -145,8 +145,8 @@ begun_gates w b e (Starts s) all c is =
     let same_child : child_of w.image b (child_name b.name (next_start b)) ≡ c = cc in
     subst (λ (x : ActorState). AreGatesBounded w.image x.gates) same_child all
 begun_gates w b e (Enters x) all c is =
-    let run = run_by b (child_name b.name (next_start b)) x.entrance in
-    let both : Some run ≡ Some c = sym (entry_begins w.image b e x) ∙ is in
+    let run = run_by b (child_name b.name (next_start b)) x.kept x.entrance in
+    let both : Some run ≡ Some c = sym x.begins ∙ is in
     let same_run : run ≡ c = cc in
     subst (λ (y : ActorState). AreGatesBounded w.image y.gates) same_run all
 begun_gates w b e (Joins k listed j) all c is = let f : None ≡ Some c = sym (ap (begun w.image b) j.is) ∙ is in absurd cc

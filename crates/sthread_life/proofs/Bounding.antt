@@ -5,6 +5,8 @@ use Rattle.std.specs.Cmp.{nat_cmp_total}
 use Rattle.std.specs.FinMap.Entries.{find-put}
 use Rattle.std.specs.Ordering.{nat_cmp, eq_by_cmp}
 use Rattle.std.specs.Prelude.{Option, Some, None, is_some, option_map, unwrap_or, nat_le, nat_lt, ◌&&◌, ◌||◌, ◌⊎◌, if◌then◌else◌}
+use Rattle.wedge_events.specs.declared.cells.GateReply.TheVariants as gate_reply
+use Rattle.wedge_events.specs.declared.cells.GateAsk.TheVariants as gate_ask
 use Rattle.wedge_base.specs.Images.{Image}
 use Rattle.wedge_base.specs.Maps.{Map, at, has, with}
 use Rattle.wedge_base.specs.Names.{same, root_name}
@@ -40,11 +42,10 @@ use Rattle.sthread_life.specs.Taking.{next_start, takes, begun, child_of, run_by
 use Rattle.sthread_life.specs.Worlds.{WorldState, opening, actor_named, put_actor, with_begun, ready, resumed, Runs}
 use Rattle.sthread_life.proofs.Between.{event_for, Leaves, IsPreparing, MayPrepare, MayNumber, MayWait, takes_name, takes_between}
 use Rattle.sthread_life.proofs.Directing.{claimed_number, next_number}
-use Rattle.sthread_life.proofs.GateRuns.{entry_begins}
 use Rattle.sthread_life.proofs.Meeting.{IsRequest}
 use Rattle.sthread_life.proofs.Families.{MadeBy, MadeNothing, MadeTag, MadeFd, takes_made, takes_sheet, happens_made, child_begins, run_begins}
 use Rattle.sthread_life.proofs.FamilyRuns.{Acts, ActsAlone, Starts, Enters, Joins, acts, one_begins, kept_at_rest}
-use Rattle.sthread_life.proofs.Happening.{Happens, Requested, Joined, Snaps, GateSnaps, Started, Opens, Releases, Numbers, OpensFile, LastJoined, Ended, EntersGate, LeavesGate, happens_claim, happens_number, opens_by_claim}
+use Rattle.sthread_life.proofs.Happening.{Happens, Requested, Joined, Snaps, GateSnaps, Started, Opens, Releases, Numbers, OpensFile, LastJoined, Ended, EntersGate, LeavesGate, EntersRecycled, LeavesRecycled, happens_claim, happens_number, opens_by_claim}
 use Rattle.sthread_life.proofs.Named.{same_equal, same_self}
 use Rattle.sthread_life.proofs.Resting.{rest-name, rest-uncalm}
 use Rattle.sthread_life.proofs.Settling.{AllReady, turn_happens, turned_there}
@@ -251,7 +252,9 @@ cells_above n w b e (OpensFile f) h = subst (λ y. GivesAbove n (cells_after w.c
 cells_above n w b e (LastJoined j) h = subst (λ y. GivesAbove n (cells_after w.cells y).numbers) (sym j.join.is) h
 cells_above n w b e (Ended f) h = subst (λ y. GivesAbove n (cells_after w.cells y).numbers) (sym f.is) h
 cells_above n w b e (EntersGate x) h = subst (λ y. GivesAbove n (cells_after w.cells y).numbers) (sym x.is) h
+cells_above n w b e (EntersRecycled x) h = subst (λ y. GivesAbove n (cells_after w.cells y).numbers) (sym x.is) h
 cells_above n w b e (LeavesGate l) h = subst (λ y. GivesAbove n (cells_after w.cells y).numbers) (sym l.is) h
+cells_above n w b e (LeavesRecycled l) h = subst (λ y. GivesAbove n (cells_after w.cells y).numbers) (sym l.is) h
 
 -- an actor has a number for its file only once it claimed one, or had one before
 numbered_by : (i : Image) (b : ActorState) (e : Event) (o : FileOpening) (fd : ℕ) → (takes i b e).phase ≡ phase.OpeningFile o → o.number ≡ Some fd
@@ -285,6 +288,7 @@ numbered_by i b e o fd is some = leaves_number e (takes i b e).phase (takes_betw
     leaves_number (event.Slot s q slot_reply.Gone) p h at_ = absurd (prepares p h at_)
     leaves_number (event.Slot s q r) p h at_ = absurd (between p h at_)
     leaves_number (event.Enter run) p h at_ = absurd (subst MayWait at_ h)
+    leaves_number (event.Gate id (gate_ask.Enter run first) (gate_reply.Entered memory)) p h at_ = absurd (subst MayWait at_ h)
     leaves_number y p h at_ = absurd (between p h at_)
 
 -- so its event leaves its actor bounded
@@ -381,10 +385,10 @@ turn_bounded w name e new all bounded p runs =
         subst (IsBounded w.image) same_child (child_bounded w.image b child (child_begins w.image b s.preparation s.at s.complete s.ready) bounded)
     begins_bounded w b e (Enters x) bounded runs c is =
         let name = child_name b.name (next_start b) in
-        let run = run_by b name x.entrance in
-        let both : Some run ≡ Some c = sym (entry_begins w.image b e x) ∙ is in
+        let run = run_by b name x.kept x.entrance in
+        let both : Some run ≡ Some c = sym x.begins ∙ is in
         let same_run : run ≡ c = cc in
-        let begins = run_begins b x.entrance x.at x.may in
+        let begins = run_begins b x.kept x.entrance x.at x.may in
         subst (IsBounded w.image) same_run (run_bounded w.image b run begins (runs run begins))
     begins_bounded w b e (Joins k listed j) bounded runs c is = let f : None ≡ Some c = sym (ap (begun w.image b) j.is) ∙ is in absurd cc
 

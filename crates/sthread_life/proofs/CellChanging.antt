@@ -1,6 +1,11 @@
 -- Whatever a cell holds beside its bytes is changed by its own events alone.
-use Rattle.std.proofs.Common.{◌≡◌, true, false, ℕ, ◌<◌, List, [], ◌∷◌, length, refl, sym, ap, subst, ◌∙◌}
-use Rattle.std.specs.Prelude.{Option, Some, None, option_map}
+use Rattle.std.proofs.Common.{◌≡◌, Bool, true, false, true≢false, ℕ, ◌<◌, List, [], ◌∷◌, length, refl, sym, ap, subst, ◌∙◌}
+use Rattle.std.specs.Prelude.{Option, Some, None, option_map, unwrap_or, find, if◌then◌else◌}
+use Rattle.sthread_life.proofs.KnownGates.{same_id}
+use Rattle.wedge_events.specs.declared.cells.GateReply.{GateReply}
+use Rattle.wedge_events.specs.declared.cells.GateAsk.{GateAsk}
+use Rattle.wedge_events.specs.Gates.{Kept, gate_opening, gate_next}
+use Rattle.wedge_base.specs.Identities.{same_gate}
 use Rattle.wedge_events.specs.Slots.{Segment, slot_reply as slot_reply_of, slot_after, opened, stored, placed, freed}
 use Rattle.wedge_events.specs.Streams.{Stream, opened as stream_opened, stream_reply as stream_reply_of, stream_after, moved, grown, closed}
 use Rattle.wedge_base.specs.declared.grants.GateId.{GateId}
@@ -25,12 +30,12 @@ use Rattle.sthread_life.specs.Actors.{ActorState}
 use Rattle.sthread_life.specs.Local.{rest}
 use Rattle.sthread_life.specs.Calls.{a0}
 use Rattle.sthread_life.specs.Taking.{pair}
-use Rattle.sthread_life.specs.Cells.{Cells, slot_in, stream_in, kept_in, cells_after}
+use Rattle.sthread_life.specs.Cells.{Cells, GateCell, slot_in, stream_in, kept_in, kept_among, put_kept, cells_after}
 use Rattle.sthread_life.specs.Worlds.{WorldState, turn_of, resumed, Runs}
 use Rattle.sthread_life.specs.CellHistories.{after_turns, Occupant, occupant, occupant_in, occupant_by, occupant_after_event, Mode, mode, mode_in, mode_by, mode_after_event, places_after_event, numbers_after_event, lives_after_event, kept_after_event, CellsFollow}
 use Rattle.sthread_life.proofs.Between.{event_for}
 use Rattle.sthread_life.proofs.Turns.{turn_from}
-use Rattle.sthread_life.proofs.Happening.{Happens, Requested, Joined, Snaps, GateSnaps, Started, Opens, Releases, Numbers, OpensFile, LastJoined, Ended, EntersGate, LeavesGate}
+use Rattle.sthread_life.proofs.Happening.{Happens, Requested, Joined, Snaps, GateSnaps, Started, Opens, Releases, Numbers, OpensFile, LastJoined, Ended, EntersGate, LeavesGate, EntersRecycled, LeavesRecycled}
 use Rattle.sthread_life.proofs.Settling.{AreCells, AllReady, turn_happens, turn_ready}
 use Rattle.sthread_life.proofs.Meeting.{IsRequest}
 use Rattle.sthread_life.proofs.StreamCalls.{read_cases, append_cases, close_cases, unopened_stays, IsStreamRequest}
@@ -193,6 +198,69 @@ file_changes c fd k bytes inside = record {
   gates = λ id. refl;
 }
 
+-- a gate goes on by its own events alone
+kept_put : (cs : List GateCell) (g id : GateId) (k : Kept) → kept_among (put_kept cs g k) id ≡ (if same_gate g id then k else kept_among cs id)
+kept_put [] g id k = by_test (same_gate g id)
+  where
+    by_test : (t : Bool) → unwrap_or (option_map (λ (c : GateCell). c.kept) (if t then Some (record { id = g; kept = k }) else None)) gate_opening ≡ (if t then k else gate_opening)
+    by_test true = refl
+    by_test false = refl
+kept_put (c ∷ cs) g id k = by_cell (same_gate c.id g) refl (kept_put cs g id k)
+  where
+    here : (t u v : Bool) (x y : Kept) → t ≡ u → unwrap_or (option_map (λ (c : GateCell). c.kept) (if t then Some (record { id = c.id; kept = x }) else find (λ d. same_gate d.id id) cs)) gate_opening
+        ≡ (if u then x else kept_among cs id)
+    here true true v x y e = refl
+    here false false v x y e = refl
+    here true false v x y e = absurd cc
+    here false true v x y e = absurd cc
+
+    skips : (t u : Bool) → (t ≡ true → u ≡ false) → (if t then c.kept else (if u then k else kept_among cs id)) ≡ (if u then k else (if t then c.kept else kept_among cs id))
+    skips true true apart = absurd (true≢false (apart refl))
+    skips true false apart = refl
+    skips false u apart = refl
+
+    first : (t : Bool) (d : GateCell) (o : Option GateCell) → unwrap_or (option_map (λ (c : GateCell). c.kept) (if t then Some d else o)) gate_opening ≡ (if t then d.kept else unwrap_or (option_map (λ (c : GateCell). c.kept) o) gate_opening)
+    first true d o = refl
+    first false d o = refl
+
+    passed : (t u : Bool) (x : Kept) → t ≡ u → (if t then k else x) ≡ (if u then k else (if t then c.kept else x))
+    passed true true x e = refl
+    passed false false x e = refl
+    passed true false x e = absurd cc
+    passed false true x e = absurd cc
+
+    others : same_gate c.id g ≡ false → same_gate c.id id ≡ true → same_gate g id ≡ false
+    others apart is = by_test (same_gate g id) refl
+      where
+        by_test : (t : Bool) → same_gate g id ≡ t → t ≡ false
+        by_test false e = refl
+        by_test true e = absurd (true≢false (sym (subst (λ x. same_gate c.id x ≡ true) (sym (same_id g id e)) is) ∙ apart))
+
+    by_cell : (t : Bool) → same_gate c.id g ≡ t → kept_among (put_kept cs g k) id ≡ (if same_gate g id then k else kept_among cs id) → kept_among (if t then record c { kept = k } ∷ cs else c ∷ put_kept cs g k) id ≡ (if same_gate g id then k else kept_among (c ∷ cs) id)
+    by_cell true is then_ =
+        first (same_gate c.id id) (record c { kept = k }) (find (λ d. same_gate d.id id) cs)
+        ∙ (passed (same_gate c.id id) (same_gate g id) (kept_among cs id) (ap (λ x. same_gate x id) (same_id c.id g is))
+        ∙ ap (λ x. if same_gate g id then k else x) (sym (first (same_gate c.id id) c (find (λ d. same_gate d.id id) cs))))
+    by_cell false is then_ =
+        first (same_gate c.id id) c (find (λ d. same_gate d.id id) (put_kept cs g k))
+        ∙ (ap (λ x. if same_gate c.id id then c.kept else x) then_
+        ∙ (skips (same_gate c.id id) (same_gate g id) (others is)
+        ∙ ap (λ x. if same_gate g id then k else x) (sym (first (same_gate c.id id) c (find (λ d. same_gate d.id id) cs)))))
+
+pub gate_changes : (c : Cells) (g : GateId) (q : GateAsk) (r : GateReply) → IsChanged c (event.Gate g q r) (cells_after c (event.Gate g q r))
+gate_changes c g q r = record {
+  occupants = λ slot. refl;
+  modes = λ fd. refl;
+  places = refl;
+  numbers = refl;
+  lives = refl;
+  gates = λ id. kept_put c.gates g id (gate_next (kept_in c g) q) ∙ by_gate id (same_gate g id) refl;
+}
+  where
+    by_gate : (id : GateId) (t : Bool) → same_gate g id ≡ t → (if t then gate_next (kept_in c g) q else kept_in c id) ≡ (if t then gate_next (kept_in c id) q else kept_in c id)
+    by_gate id true is = ap (λ x. gate_next (kept_in c x) q) (same_id g id is)
+    by_gate id false is = refl
+
 pub event_changes : (w : WorldState) (b : ActorState) (e : Event) → AreCells w.image w.cells → Happens w b e → IsChanged w.cells e (cells_after w.cells e)
 event_changes w b e cells (Requested r) = subst (λ y. IsChanged w.cells y (cells_after w.cells y)) (sym r.is) (want_changes _ w.cells b r.want r.own)
 event_changes w b e cells (Joined j) =
@@ -223,6 +291,8 @@ event_changes w b e cells (Ended f) =
     subst (λ y. IsChanged w.cells y (cells_after w.cells y)) (sym f.is) (record { occupants = λ slot. refl; modes = λ fd. refl; places = refl; numbers = refl; lives = refl; gates = λ id. refl })
 event_changes w b e cells (EntersGate x) =
     subst (λ y. IsChanged w.cells y (cells_after w.cells y)) (sym x.is) (record { occupants = λ slot. refl; modes = λ fd. refl; places = refl; numbers = refl; lives = refl; gates = λ id. refl })
+event_changes w b e cells (EntersRecycled x) = subst (λ y. IsChanged w.cells y (cells_after w.cells y)) (sym x.is) (gate_changes w.cells x.entrance.gate.id _ _)
+event_changes w b e cells (LeavesRecycled l) = subst (λ y. IsChanged w.cells y (cells_after w.cells y)) (sym l.is) (gate_changes w.cells l.gate.id _ _)
 event_changes w b e cells (LeavesGate l) =
     subst (λ y. IsChanged w.cells y (cells_after w.cells y)) (sym l.is) (record { occupants = λ slot. refl; modes = λ fd. refl; places = refl; numbers = refl; lives = refl; gates = λ id. refl })
 

@@ -3,6 +3,8 @@ use Rattle.std.proofs.Common.{◌≡◌, ℕ, zero, suc, ◌+◌, Bool, true, fa
 use Rattle.std.proofs.lemmas.Bool.{eqb-true}
 use Rattle.std.proofs.lemmas.Bool.Decides.{nat_tests}
 use Rattle.std.specs.Prelude.{Option, Some, None, option_and_then, not, ◌==◌, ◌||◌, nat_lt, nat_le, slice_get, if◌then◌else◌}
+use Rattle.wedge_events.specs.declared.cells.GateReply.TheVariants as gate_reply
+use Rattle.wedge_events.specs.declared.cells.GateAsk.TheVariants as gate_ask
 use Rattle.wedge_base.specs.Bytes.{number_of}
 use Rattle.wedge_base.specs.Images.{Image, fetch, in_text, read_text, slot_of}
 use Rattle.wedge_base.specs.Memory.{range_at}
@@ -43,7 +45,7 @@ use Rattle.sthread_life.specs.Private.{loads, stores, load_bytes, load_copy, loa
 use Rattle.sthread_life.specs.Children.{is_child, without_child}
 use Rattle.sthread_life.proofs.Between.{joined_is, numbered_is, opened_is, snapped_is, entered_is}
 use Rattle.sthread_life.proofs.Buffers.{path_is}
-use Rattle.sthread_life.specs.Calls.{serves, exit, is_procedure, create, create_with, create_checked, join, are_pages, tag_new, tag_delete, smalloc, free_at, sfree, fd_read, fd_append, fd_close, draft_call, sc_new, sc_mem_add, sc_fd_add, sc_cgate_add, add_gate_to, with_draft, add_right, add_right_to, add_bits, add_bits_to, bits, a0, a1, a2, a3, a7, set_user, sc_user, path_in, set_root, sc_root, file_at, mode_asked, suits, open_file, open_path, file_open, makes_or_waits, may_be_gate, make_checked, make_with, cgate_make, enter_kind, enter_checked, enter_lending, enter_held, cgate, lent_asked}
+use Rattle.sthread_life.specs.Calls.{serves, exit, is_procedure, create, create_with, create_checked, join, are_pages, tag_new, tag_delete, smalloc, free_at, sfree, fd_read, fd_append, fd_close, draft_call, sc_new, sc_mem_add, sc_fd_add, sc_cgate_add, add_gate_to, with_draft, add_right, add_right_to, add_bits, add_bits_to, bits, a0, a1, a2, a3, a7, set_user, sc_user, path_in, set_root, sc_root, file_at, mode_asked, suits, open_file, open_path, file_open, makes_or_waits, may_be_gate, make_checked, make_with, cgate_make, enter_checked, enter_lending, enter_held, cgate, lent_asked}
 use Rattle.sthread_life.specs.Drafting.{right_of_number, bits_of_number, edited, with_new, drafts_by_call, drafts_by_need, drafts_by_instr, drafts_by_fuel, drafts_by_word, drafts_after}
 use Rattle.sthread_life.specs.Local.{needed, executed, fuelled, fetched, step}
 use Rattle.sthread_life.specs.Refusals.{full, bad, right_refusal, bits_refusal, gate_refusal, fuel_short, user_refusal, root_refusal}
@@ -53,8 +55,6 @@ use Rattle.sthread_life.specs.declared.copy_grant.CopyGrant.{CopyGrant}
 use Rattle.sthread_life.specs.Lending.{may_lend, excess_lent}
 use Rattle.sthread_life.specs.Entrances.{Entrance}
 use Rattle.callgate.specs.declared.gate.Gate.{Gate}
-use Rattle.wedge_base.specs.declared.grants.GateKind.{GateKind}
-use Rattle.wedge_base.specs.declared.grants.GateKind.TheVariants as gate_kind
 
 -- ---- what leaves them as they are
 
@@ -124,14 +124,10 @@ open_stays i a None path = refl
 open_stays i a (Some b) None = refl
 open_stays i a (Some b) (Some path) = stays_if a (refuses a code.FuelShort) _ (nat_lt a.fuel (a1 a)) refl (file_stays a path b (file_at i path))
 
-kind_stays : (a : ActorState) (k : GateKind) (x : Entrance) → Stays a (enter_kind a k x)
-kind_stays a gate_kind.Fresh x = refl
-kind_stays a gate_kind.Recycled x = refl
-
 entry_stays : (a : ActorState) (g : Gate) (lent : Option Draft) (d : Option Denial) → Stays a (enter_checked a g lent d)
 entry_stays a g lent (Some d) = refl
 entry_stays a g lent None =
-    stays_if a (refuses a code.Deep) _ (nat_le most_parts (length a.name)) refl (stays_if a (refuses a code.FuelShort) _ (nat_lt a.fuel g.fuel) refl (kind_stays a g.kind _))
+    stays_if a (refuses a code.Deep) _ (nat_le most_parts (length a.name)) refl (stays_if a (refuses a code.FuelShort) _ (nat_lt a.fuel g.fuel) refl refl)
 
 lending_stays : (a : ActorState) (g : Gate) (lent : Option (Option Draft)) → Stays a (enter_lending a g lent)
 lending_stays a g None = refl
@@ -369,4 +365,5 @@ event_edits i a (event.Lives lives_ask.Claim lives_reply.Released) = refl
 event_edits i a (event.Lives (lives_ask.Release x) r) = refl
 event_edits i a (event.Join k e fuel) = joined_is (λ x. x.drafts ≡ a.drafts) (record a { fuel = a.fuel + fuel; unjoined = without_child a.unjoined k }) a.phase e refl refl
 event_edits i a (event.Enter run) = entered_is (λ x. x.drafts ≡ a.drafts) a a.phase refl (λ x. refl)
+event_edits i a (event.Gate id (gate_ask.Enter run first) (gate_reply.Entered memory)) = entered_is (λ x. x.drafts ≡ a.drafts) a a.phase refl (λ x. refl)
 event_edits i a e = refl

@@ -2,6 +2,11 @@
 use Rattle.std.proofs.Common.{◌≡◌, ℕ, ◌+◌, Bool, true, false, List, [], ◌∷◌, ◌++◌, refl, sym, ap, subst, ◌∙◌, arith}
 use Rattle.std.proofs.lemmas.Bool.{eq-eqb}
 use Rattle.std.specs.Prelude.{Option, Some, None, IsSomeAnd, option_and_then, unwrap_or, is_some, ◌&&◌, if◌then◌else◌, IfSome}
+use Rattle.cow_pages.specs.PrivateMemory.{PrivateMemory}
+use Rattle.wedge_base.specs.declared.grants.GateKind.TheVariants as gate_kind
+use Rattle.wedge_base.specs.declared.grants.GateKind.{GateKind}
+use Rattle.wedge_events.specs.declared.cells.GateReply.TheVariants as gate_reply
+use Rattle.wedge_events.specs.declared.cells.GateAsk.TheVariants as gate_ask
 use Rattle.wedge_base.specs.Images.{Image, fetch}
 use Rattle.wedge_base.specs.Names.{same}
 use Rattle.wedge_base.specs.Sheets.{Made, empty_draft, granted, Draft}
@@ -45,7 +50,7 @@ use Rattle.sthread_life.specs.Copying.{Preparation}
 use Rattle.sthread_life.specs.Taking.{runs, loads_by, loads_at, next_start, takes, child_of, memory_made, has_opened_file, has_entered, run_by, run_at}
 use Rattle.sthread_life.specs.Worlds.{WorldState, actor_named, put_actor, happened, with_actor, with_begun}
 use Rattle.sthread_life.proofs.Between.{event_for, IsJoin, joined_is, numbered_is, snapped_is, takes_name, entered_is, entered_by}
-use Rattle.sthread_life.proofs.Happening.{AtOpen, AtFile, Happens, Requested, Joined, Snaps, GateSnaps, Started, Opens, Releases, Numbers, OpensFile, LastJoined, Ended, joined_at, EntersGate, LeavesGate}
+use Rattle.sthread_life.proofs.Happening.{AtOpen, AtFile, Happens, Requested, Joined, Snaps, GateSnaps, Started, Opens, Releases, Numbers, OpensFile, LastJoined, Ended, joined_at, EntersGate, LeavesGate, EntersRecycled, LeavesRecycled, AtRecycledEnter, memory_for}
 use Rattle.sthread_life.proofs.Meeting.{IsRequest, IsStartable}
 use Rattle.sthread_life.proofs.Named.{put_put, named_put_other}
 use Rattle.sthread_life.proofs.Resting.{steps_step}
@@ -100,6 +105,7 @@ opened_same a (phase.Ended x) fd = record { compartment = refl; run_of = refl; s
 abbrev pub IsOfOne : Event → Type 0
 IsOfOne (event.Start child) = ⊥
 IsOfOne (event.Enter run) = ⊥
+IsOfOne (event.Gate id (gate_ask.Enter run first) (gate_reply.Entered memory)) = ⊥
 IsOfOne (event.Join k e fuel) = ⊥
 IsOfOne e = Unit {0}
 
@@ -137,6 +143,7 @@ takes_same i a (event.Lives lives_ask.Claim lives_reply.Released) h = record { c
 takes_same i a (event.Lives (lives_ask.Release x) r) h = record { compartment = refl; run_of = refl; sheet = refl; made = refl; labels = refl; starts = refl; unjoined = refl }
 takes_same i a (event.Start child) h = absurd h
 takes_same i a (event.Enter run) h = absurd h
+takes_same i a (event.Gate id (gate_ask.Enter run first) (gate_reply.Entered memory)) h = absurd h
 takes_same i a (event.Join k e fuel) h = absurd h
 takes_same i a e h = record { compartment = refl; run_of = refl; sheet = refl; made = refl; labels = refl; starts = refl; unjoined = refl }
 
@@ -165,7 +172,7 @@ step_family w b run =
 abbrev after : WorldState → ActorState → Event → WorldState
 after w b e = (happened w b e).world
 
-alone : (w : WorldState) (b : ActorState) (e : Event) → IsOfOne e → (after w b e).actors ≡ put_actor w.actors (takes w.image b e) → DoesNext b.phase (Some e) → (is_end_event (Some e) ≡ true → b.unjoined ≡ []) → EndsAsIs b.run_of (Some e)
+alone : (w : WorldState) (b : ActorState) (e : Event) → IsOfOne e → (after w b e).actors ≡ put_actor w.actors (takes w.image b e) → DoesNext b.phase (Some e) → (is_end_event (Some e) ≡ true → b.unjoined ≡ []) → EndsAsIs b.run_of b.memory (Some e)
     → ActsAlone (with_actor w b) b (Some e) (after w b e)
 alone w b e one actors next childless leaving =
     let s = takes_same w.image b e one in
@@ -210,7 +217,9 @@ takes_made i a (event.Slot slot q r) = (takes_same i a (event.Slot slot q r) tt)
 takes_made i a (event.Fds q r) = (takes_same i a (event.Fds q r) tt).made
 takes_made i a (event.Fd fd q r) = (takes_same i a (event.Fd fd q r) tt).made
 takes_made i a (event.Lives q r) = (takes_same i a (event.Lives q r) tt).made
-takes_made i a (event.Gate id q r) = (takes_same i a (event.Gate id q r) tt).made
+takes_made i a (event.Gate id (gate_ask.Enter run first) (gate_reply.Entered memory)) = entered_is (λ y. but_gates y.made ≡ but_gates a.made) a a.phase refl (λ x. refl)
+takes_made i a (event.Gate id (gate_ask.Enter run first) gate_reply.Left) = refl
+takes_made i a (event.Gate id (gate_ask.Leave x left) r) = refl
 takes_made i a (event.Enter run) = entered_is (λ y. but_gates y.made ≡ but_gates a.made) a a.phase refl (λ x. refl)
 takes_made i a (event.Leave end) = (takes_same i a (event.Leave end) tt).made
 
@@ -223,7 +232,9 @@ takes_sheet i a (event.Slot slot q r) = (takes_same i a (event.Slot slot q r) tt
 takes_sheet i a (event.Fds q r) = (takes_same i a (event.Fds q r) tt).sheet
 takes_sheet i a (event.Fd fd q r) = (takes_same i a (event.Fd fd q r) tt).sheet
 takes_sheet i a (event.Lives q r) = (takes_same i a (event.Lives q r) tt).sheet
-takes_sheet i a (event.Gate id q r) = (takes_same i a (event.Gate id q r) tt).sheet
+takes_sheet i a (event.Gate id (gate_ask.Enter run first) (gate_reply.Entered memory)) = entered_is (λ y. y.sheet ≡ a.sheet) a a.phase refl (λ x. refl)
+takes_sheet i a (event.Gate id (gate_ask.Enter run first) gate_reply.Left) = refl
+takes_sheet i a (event.Gate id (gate_ask.Leave x left) r) = refl
 takes_sheet i a (event.Enter run) = entered_is (λ y. y.sheet ≡ a.sheet) a a.phase refl (λ x. refl)
 takes_sheet i a (event.Leave end) = (takes_same i a (event.Leave end) tt).sheet
 
@@ -282,7 +293,9 @@ happens_made w b e (OpensFile f) = MadeFd f
 happens_made w b e (LastJoined j) = MadeNothing (ap (λ y. made_by b (Some y)) j.join.is)
 happens_made w b e (Ended f) = MadeNothing (ap (λ y. made_by b (Some y)) f.is)
 happens_made w b e (EntersGate x) = MadeNothing (ap (λ y. made_by b (Some y)) x.is)
+happens_made w b e (EntersRecycled x) = MadeNothing (ap (λ y. made_by b (Some y)) x.is)
 happens_made w b e (LeavesGate l) = MadeNothing (ap (λ y. made_by b (Some y)) l.is)
+happens_made w b e (LeavesRecycled l) = MadeNothing (ap (λ y. made_by b (Some y)) l.is)
 
 -- ---- a start
 
@@ -330,8 +343,8 @@ lent_drafted : (b : ActorState) (lent : Option Draft) → IfSome lent (λ d. IfS
 lent_drafted b None = tt
 lent_drafted b (Some d) = is_drafted b.sheet b.made d
 
-pub run_begins : (b : ActorState) (x : Entrance) → b.phase ≡ phase.Entering x → IsEnterable b x → IsRun b (run_by b (child_name b.name (next_start b)) x)
-run_begins b x at may = record {
+pub run_begins : (b : ActorState) (kept : Option PrivateMemory) (x : Entrance) → b.phase ≡ phase.Entering x → IsEnterable b x → IsRun b (run_by b (child_name b.name (next_start b)) kept x)
+run_begins b kept x at may = record {
   entrance = x;
   entering = at;
   held = may.held;
@@ -346,25 +359,43 @@ run_begins b x at may = record {
   compartment = refl;
   own = refl;
   hart = refl;
-  memory = refl;
   fuel = refl;
   gates = refl;
   fresh = (refl, refl, refl, refl, refl, refl, refl);
 }
 
 enter_family : (w : WorldState) (b : ActorState) (x : Entrance) → b.phase ≡ phase.Entering x → IsEnterable b x
-    → IsEnter (with_actor w b) b (child_name b.name (next_start b)) (after w b (event.Enter (child_name b.name (next_start b))))
-unfolding takes
-enter_family w b x at may =
+    → x.gate.kind ≡ gate_kind.Fresh → IsEnter (with_actor w b) b (event.Enter (child_name b.name (next_start b))) (child_name b.name (next_start b)) (after w b (event.Enter (child_name b.name (next_start b))))
+unfolding takes run_begins
+enter_family w b x at may fresh =
     let name = child_name b.name (next_start b) in
-    let is : after w b (event.Enter name) ≡ record w { actors = put_actor w.actors (entered_by b x) ++ run_by b name x ∷ [] } =
-    ap (λ p. record w { actors = with_begun (put_actor w.actors (has_entered b p)) (run_at b name p) }) at in
+    let run = run_by b name None x in
+    let is : (after w b (event.Enter name)).actors ≡ put_actor w.actors (entered_by b x) ++ run ∷ [] = ap (λ p. with_begun (put_actor w.actors (has_entered b p)) (run_at b name None p)) at in
     record {
-      run = run_by b name x;
-      begins = run_begins b x at may;
+      run = run;
+      begins = run_begins b None x at may;
+      memory = (fresh, refl);
       named = refl;
-      actors = ap (λ (v : WorldState). v.actors) is ∙ ap (λ (as_ : List ActorState). as_ ++ run_by b name x ∷ []) (sym (put_put w.actors b (entered_by b x) refl));
+      actors = is ∙ ap (λ (as_ : List ActorState). as_ ++ run ∷ []) (sym (put_put w.actors b (entered_by b x) refl));
     }
+
+-- that of a recycled one, which is free
+recycled_family : (w : WorldState) (b : ActorState) (e : Event) (x : AtRecycledEnter w b e) → KeepsFamily (with_actor w b) b (Some e) (after w b e)
+unfolding takes run_begins
+recycled_family w b e x =
+    let name = child_name b.name (next_start b) in
+    let m = memory_for w.cells x.entrance.gate in
+    let run = run_by b name (Some m) x.entrance in
+    let y = event.Gate x.entrance.gate.id (gate_ask.Enter name x.entrance.gate.memory) (gate_reply.Entered m) in
+    let is : (after w b y).actors ≡ put_actor w.actors (entered_by b x.entrance) ++ run ∷ [] = ap (λ p. with_begun (put_actor w.actors (has_entered b p)) (run_at b name (Some m) p)) x.at in
+    subst (λ z. KeepsFamily (with_actor w b) b (Some z) (after w b z)) (sym x.is)
+    (record {
+      run = run;
+      begins = run_begins b (Some m) x.entrance x.at x.may;
+      memory = (x.recycled, refl, refl, x.free, refl, refl);
+      named = refl;
+      actors = is ∙ ap (λ (as_ : List ActorState). as_ ++ run ∷ []) (sym (put_put w.actors b (entered_by b x.entrance) refl));
+    })
 
 -- ---- a join
 
@@ -453,10 +484,15 @@ event_family w b e (Numbers n) =
 event_family w b e (OpensFile f) =
     subst (λ y. KeepsFamily (with_actor w b) b (Some y) (after w b y)) (sym f.is)
     (alone w b (event.Fd f.fd (stream_ask.Open f.opening.kind f.opening.bytes) reply.Opened) tt refl (next_at b _ _ f.at tt) (λ h. absurd cc) tt)
-event_family w b e (EntersGate x) = subst (λ y. KeepsFamily (with_actor w b) b (Some y) (after w b y)) (sym x.is) (enter_family w b x.entrance x.at x.may)
+event_family w b e (EntersGate x) = subst (λ y. KeepsFamily (with_actor w b) b (Some y) (after w b y)) (sym x.is) (enter_family w b x.entrance x.at x.may x.fresh)
+event_family w b e (EntersRecycled x) = recycled_family w b e x
 event_family w b e (LeavesGate l) =
     subst (λ y. KeepsFamily (with_actor w b) b (Some y) (after w b y)) (sym l.is)
-    (alone w b (event.Leave l.end_) tt refl (next_at b _ _ l.at refl) (λ h. l.left) (ap is_some l.own))
+    (alone w b (event.Leave l.end_) tt refl (next_at b _ _ l.at refl) (λ h. l.left) (subst (λ g. IsSomeAnd g (λ h. h.kind ≡ gate_kind.Fresh)) (sym l.own) l.fresh))
+event_family w b e (LeavesRecycled l) =
+    subst (λ y. KeepsFamily (with_actor w b) b (Some y) (after w b y)) (sym l.is)
+    (alone w b (event.Gate l.gate.id (gate_ask.Leave l.end_ b.memory) gate_reply.Left) tt refl (next_at b _ _ l.at refl) (λ h. l.left)
+    (subst (λ g. IsSomeAnd g (λ h. (h.kind ≡ gate_kind.Recycled) × (l.gate.id ≡ h.id))) (sym l.own) (l.recycled, refl), refl))
 event_family w b e (Ended f) =
     subst (λ y. KeepsFamily (with_actor w b) b (Some y) (after w b y)) (sym f.is)
     (alone w b (event.Lives (lives_ask.Release f.end_) lives_reply.Released) tt refl (next_at b _ _ f.at refl) (λ h. f.left) f.own)

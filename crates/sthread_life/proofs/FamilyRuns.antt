@@ -1,6 +1,9 @@
 -- The actors of every run: they keep to the tree of names, no two have one name, and their fuel is kept.
 use Rattle.std.proofs.Common.{◌≡◌, ℕ, zero, suc, ◌+◌, Bool, true, false, List, [], ◌∷◌, ◌++◌, refl, sym, ap, subst, ◌∙◌, arith, inl}
 use Rattle.std.specs.Prelude.{Some, None, if◌then◌else◌}
+use Rattle.sthread_life.proofs.GateRuns.{IsEntry, fresh_entry, recycled_entry, entered_actors}
+use Rattle.wedge_events.specs.declared.cells.GateReply.TheVariants as gate_reply
+use Rattle.wedge_events.specs.declared.cells.GateAsk.TheVariants as gate_ask
 use Rattle.wedge_base.specs.Images.{Image}
 use Rattle.wedge_base.specs.Names.{same, root_name}
 use Rattle.wedge_base.specs.declared.rights.End.{End}
@@ -31,7 +34,7 @@ use Rattle.sthread_life.proofs.Families.{IsOfOne, takes_same, first_child}
 use Rattle.sthread_life.specs.FamilyTrees.{IsOfTree, Family, WaitsForOwn}
 use Rattle.sthread_life.proofs.FamilyKept.{family_alone, JoinsChild, family_joined, StartsChild, family_started, has_more}
 use Rattle.sthread_life.proofs.FuelSums.{sum_alone, sum_joined, sum_started}
-use Rattle.sthread_life.proofs.Happening.{Happens, Requested, Joined, Snaps, GateSnaps, Started, Opens, Releases, Numbers, OpensFile, LastJoined, Ended, AtStart, AtEnter, EntersGate, LeavesGate}
+use Rattle.sthread_life.proofs.Happening.{Happens, Requested, Joined, Snaps, GateSnaps, Started, Opens, Releases, Numbers, OpensFile, LastJoined, Ended, AtStart, AtEnter, EntersGate, LeavesGate, EntersRecycled, LeavesRecycled}
 use Rattle.sthread_life.proofs.Meeting.{IsRequest}
 use Rattle.sthread_life.proofs.Named.{found_name, same_equal}
 use Rattle.sthread_life.proofs.Paying.{step_pays, event_pays}
@@ -91,6 +94,7 @@ rest_units i a = units_taken i (a.fuel + 1) a _ refl
 pub one_begins : (i : Image) (b : ActorState) (e : Event) → IsOfOne e → begun i b e ≡ None
 one_begins i b (event.Start child) h = absurd h
 one_begins i b (event.Enter run) h = absurd h
+one_begins i b (event.Gate id (gate_ask.Enter run first) (gate_reply.Entered memory)) h = absurd h
 one_begins i b e h = refl
 
 one_brings : (e : Event) → IsOfOne e → brought_by (Some e) ≡ 0
@@ -100,6 +104,7 @@ one_brings e h = refl
 one_gives : (b : ActorState) (e : Event) → IsOfOne e → given_by b (Some e) ≡ 0
 one_gives b (event.Start child) h = absurd h
 one_gives b (event.Enter run) h = absurd h
+one_gives b (event.Gate id (gate_ask.Enter run first) (gate_reply.Entered memory)) h = absurd h
 one_gives b e h = refl
 
 pub request_of_one : (N : ℕ → Type 0) (c : Cells) (b : ActorState) (q : Want) → IsRequest N b q → IsOfOne (event_for c b q)
@@ -116,7 +121,7 @@ request_of_one N c b q own = absurd own
 pub data Acts (w : WorldState) (b : ActorState) (e : Event) : Type 0 where
   ActsAlone : IsOfOne e → Acts w b e
   Starts : AtStart b e → Acts w b e
-  Enters : AtEnter b e → Acts w b e
+  Enters : IsEntry w b e → Acts w b e
   Joins : (k : ℕ) → is_child b.unjoined k ≡ true → IsJoin w b k e → Acts w b e
 
 first_is_child : (first : ℕ × ℕ) (others : List (ℕ × ℕ)) → is_child (first ∷ others) first.0 ≡ true
@@ -134,8 +139,10 @@ acts w b e (Releases r) = ActsAlone (subst IsOfOne (sym r.is) tt)
 acts w b e (Numbers n) = ActsAlone (subst IsOfOne (sym n.is) tt)
 acts w b e (OpensFile f) = ActsAlone (subst IsOfOne (sym f.is) tt)
 acts w b e (Ended f) = ActsAlone (subst IsOfOne (sym f.is) tt)
-acts w b e (EntersGate x) = Enters x
+acts w b e (EntersGate x) = Enters (fresh_entry w b e x)
+acts w b e (EntersRecycled x) = Enters (recycled_entry w b e x)
 acts w b e (LeavesGate l) = ActsAlone (subst IsOfOne (sym l.is) tt)
+acts w b e (LeavesRecycled l) = ActsAlone (subst IsOfOne (sym l.is) tt)
 
 pub lives : (w : WorldState) (b : ActorState) (e : Event) → Happens w b e → has_ended b.phase ≡ false
 lives w b e (Requested r) = ap has_ended r.at
@@ -150,7 +157,9 @@ lives w b e (Numbers n) = ap has_ended n.at
 lives w b e (OpensFile f) = ap has_ended f.at
 lives w b e (Ended f) = ap has_ended f.at
 lives w b e (EntersGate x) = ap has_ended x.at
+lives w b e (EntersRecycled x) = ap has_ended x.at
 lives w b e (LeavesGate l) = ap has_ended l.at
+lives w b e (LeavesRecycled l) = ap has_ended l.at
 
 -- ---- a turn
 
@@ -208,18 +217,19 @@ start_keeps w a f there live paid =
       fuel = sum_started w.actors a x c (units_of_turn w.image a (event.Start name)) f p live s exact;
     }
 
-enter_keeps : (w : WorldState) (a : ActorState) (y : AtEnter (rest w.image a) (event.Enter (child_name (rest w.image a).name (next_start (rest w.image a))))) → Family w.actors → actor_named w.actors a.name ≡ Some a → has_ended a.phase ≡ false
-    → TurnKeeps w a (event.Enter (child_name (rest w.image a).name (next_start (rest w.image a)))) (record w { actors = put_actor w.actors (entered_by (rest w.image a) y.entrance) ++ run_by (rest w.image a) (child_name (rest w.image a).name (next_start (rest w.image a))) y.entrance ∷ [] })
-enter_keeps w a y f there live =
+enter_keeps : (w : WorldState) (a : ActorState) (e : Event) (y : IsEntry w (rest w.image a) e) → Family w.actors → actor_named w.actors a.name ≡ Some a → has_ended a.phase ≡ false
+    → TurnKeeps w a e (record w { actors = put_actor w.actors (entered_by (rest w.image a) y.entrance) ++ run_by (rest w.image a) (child_name (rest w.image a).name (next_start (rest w.image a))) y.kept y.entrance ∷ [] })
+enter_keeps w a e y f there live =
     let b = rest w.image a in
     let name = child_name b.name (next_start b) in
     let x = entered_by b y.entrance in
-    let c = run_by b name y.entrance in
+    let c = run_by b name y.kept y.entrance in
     let k = kept_at_rest w.image a _ refl in
     let p : IsPut w.actors a x = record { name = rest-name w.image a; there = there } in
     let next : next_start b ≡ a.starts + 1 = ap (λ n. n + 1) k.starts in
     let units = rest_units w.image a in
-    let exact : x.fuel + c.fuel + units_of_turn w.image a (event.Enter name) ≡ a.fuel = omega (arith, units, y.may.enough) in
+    let cost = y.free in
+    let exact : x.fuel + c.fuel + units_of_turn w.image a e ≡ a.fuel = omega (arith, units, y.may.enough, cost) in
     let s : StartsChild a x c = record {
       starts = next;
       unjoined = ap (λ n. with_child b.unjoined n c.fuel) next ∙ ap (λ cs. with_child cs (a.starts + 1) c.fuel) k.unjoined;
@@ -229,14 +239,8 @@ enter_keeps w a y f there live =
     } in
     record {
       family = family_started w.actors a x c f p live s (has_more b.unjoined (next_start b) y.entrance.gate.fuel) tt;
-      fuel = sum_started w.actors a x c (units_of_turn w.image a (event.Enter name)) f p live s exact;
+      fuel = sum_started w.actors a x c (units_of_turn w.image a e) f p live s exact;
     }
-
--- the world after the entry of a gate
-pub entered_world : (w : WorldState) (b : ActorState) (y : List ℕ) (x : Entrance) → b.phase ≡ phase.Entering x
-    → record w { actors = with_begun (put_actor w.actors (takes w.image b (event.Enter y))) (begun w.image b (event.Enter y)) } ≡ record w { actors = put_actor w.actors (entered_by b x) ++ run_by b y x ∷ [] }
-unfolding takes
-entered_world w b y x at = ap (λ p. record w { actors = with_begun (put_actor w.actors (has_entered b p)) (run_at b y p) }) at
 
 turn_keeps_at : (w : WorldState) (a : ActorState) (e : Event) → Family w.actors → actor_named w.actors a.name ≡ Some a → Happens w (rest w.image a) e → Acts w (rest w.image a) e
     → TurnKeeps w a e (record w { actors = with_begun (put_actor w.actors (takes w.image (rest w.image a) e)) (begun w.image (rest w.image a) e) })
@@ -264,10 +268,7 @@ turn_keeps_at w a e f there h (Starts s) =
     (start_keeps w a f there (sym (rest-ended w.image a) ∙ lives w b e h) (subst (λ y. (takes w.image b y).fuel + cost_by b y + given_by b (Some y) ≡ b.fuel + brought_by (Some y)) s.is (event_pays w b e h)))
 turn_keeps_at w a e f there h (Enters y) =
     let b = rest w.image a in
-    let name = child_name b.name (next_start b) in
-    subst (λ z. TurnKeeps w a z (record w { actors = with_begun (put_actor w.actors (takes w.image b z)) (begun w.image b z) })) (sym y.is)
-    (subst (TurnKeeps w a (event.Enter name)) (sym (entered_world w b name y.entrance y.at))
-    (enter_keeps w a (record { entrance = y.entrance; at = y.at; may = y.may; is = refl }) f there (sym (rest-ended w.image a) ∙ lives w b e h)))
+    subst (λ as_. TurnKeeps w a e (record w { actors = as_ })) (sym (entered_actors w w.actors b e y)) (enter_keeps w a e y f there (sym (rest-ended w.image a) ∙ lives w b e h))
 turn_keeps_at w a e f there h (Joins k listed j) =
     let b = rest w.image a in
     let x = takes w.image b e in

@@ -2,6 +2,8 @@
 use Rattle.std.proofs.Common.{◌≡◌, ℕ, zero, suc, ◌-◌, Bool, true, false, List, [], ◌∷◌, ◌+◌, refl, sym, ap, subst, ◌∙◌, arith, inl, inr}
 use Rattle.std.proofs.lemmas.Bool.{eqb-true}
 use Rattle.std.specs.Prelude.{Option, Some, None, is_none, not, nat_le, ◌==◌, ◌&&◌, option_map, option_and_then, slice_get, unwrap_or, if◌then◌else◌}
+use Rattle.wedge_events.specs.declared.cells.GateReply.TheVariants as gate_reply
+use Rattle.wedge_events.specs.declared.cells.GateAsk.TheVariants as gate_ask
 use Rattle.cow_pages.specs.Listed.{bytes_listed}
 use Rattle.cow_pages.specs.PrivateMemory.{PrivateMemory}
 use Rattle.wedge_base.specs.Images.{Image, fetch}
@@ -44,7 +46,7 @@ use Rattle.sthread_life.specs.Requests.{Request, Loads, Stores, Reads, Appends, 
 use Rattle.sthread_life.specs.Taking.{runs, loads_by, loads_at, has_snapped, copied_on, takes}
 use Rattle.sthread_life.specs.Worlds.{WorldState, with_actor}
 use Rattle.sthread_life.proofs.Between.{IsMaking, joined_is, numbered_is, opened_is, entered_is}
-use Rattle.sthread_life.proofs.Happening.{Happens, AtGateSnap, Requested, Joined, Snaps, GateSnaps, Started, Opens as OpensTag, Releases, Numbers, OpensFile, LastJoined, Ended, EntersGate, LeavesGate}
+use Rattle.sthread_life.proofs.Happening.{Happens, AtGateSnap, Requested, Joined, Snaps, GateSnaps, Started, Opens as OpensTag, Releases, Numbers, OpensFile, LastJoined, Ended, EntersGate, LeavesGate, EntersRecycled, LeavesRecycled}
 use Rattle.sthread_life.proofs.MakingGates.{MayGrant, was_making, longer}
 use Rattle.sthread_life.proofs.Meeting.{stuck, suits_so, gate_of_draft, unset, needed_comes}
 use Rattle.sthread_life.proofs.Preparing.{copies_are, prepared_so}
@@ -210,6 +212,7 @@ event_gates i a (event.Lives lives_ask.Claim lives_reply.Released) other = refl
 event_gates i a (event.Lives (lives_ask.Release x) r) other = refl
 event_gates i a (event.Join k e fuel) other = joined_is (λ x. gates_of x ≡ gates_of a) (record a { fuel = a.fuel + fuel; unjoined = without_child a.unjoined k }) a.phase e refl refl
 event_gates i a (event.Enter run) other = entered_is (λ x. gates_of x ≡ gates_of a) a a.phase refl (λ x. refl)
+event_gates i a (event.Gate id (gate_ask.Enter run first) (gate_reply.Entered memory)) other = entered_is (λ x. gates_of x ≡ gates_of a) a a.phase refl (λ x. refl)
 event_gates i a e other = refl
 
 not_making : (p : Phase) → (IsMaking p → ⊥) → NotMaking p
@@ -298,4 +301,6 @@ event_makes_gates w b e (OpensFile f) = keeps_at (with_actor w b) b e _ f.at (λ
 event_makes_gates w b e (LastJoined j) = keeps_at (with_actor w b) b e _ j.at (λ k. k)
 event_makes_gates w b e (Ended f) = keeps_at (with_actor w b) b e _ f.at (λ k. k)
 event_makes_gates w b e (EntersGate x) = keeps_at (with_actor w b) b e _ x.at (λ k. k)
+event_makes_gates w b e (EntersRecycled x) = keeps_at (with_actor w b) b e _ x.at (λ k. k)
 event_makes_gates w b e (LeavesGate l) = keeps_at (with_actor w b) b e _ l.at (λ k. k)
+event_makes_gates w b e (LeavesRecycled l) = keeps_at (with_actor w b) b e _ l.at (λ k. k)

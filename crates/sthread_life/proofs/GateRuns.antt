@@ -1,9 +1,8 @@
 -- What the run of a gate has from its caller: a gate that the caller knows, at an entry where the caller holds it.
-use Rattle.std.proofs.Common.{◌≡◌, ℕ, Bool, true, false, List, [], ◌∷◌, refl, ap, subst, ◌∙◌}
+use Rattle.std.proofs.Common.{◌≡◌, ℕ, Bool, true, false, List, [], ◌∷◌, ◌++◌, refl, ap, subst, ◌∙◌, inl, inr}
 use Rattle.std.specs.List.{AllByRecursion}
-use Rattle.std.specs.Prelude.{Option, Some, None, option_and_then, if◌then◌else◌}
+use Rattle.std.specs.Prelude.{Option, Some, None, option_and_then, ◌⊎◌, if◌then◌else◌}
 use Rattle.wedge_base.specs.Identities.{same_gate}
-use Rattle.wedge_base.specs.Images.{Image}
 use Rattle.wedge_base.specs.Sheets.{gate_at}
 use Rattle.wedge_events.specs.declared.events.Event.{Event}
 use Rattle.wedge_base.specs.declared.grants.GateId.{GateId}
@@ -11,8 +10,16 @@ use Rattle.callgate.specs.Gates.{gate_named}
 use Rattle.callgate.specs.declared.gate.Gate.{Gate}
 use Rattle.sthread_life.specs.Actors.{ActorState, gate_held}
 use Rattle.sthread_life.specs.Children.{child_name}
-use Rattle.sthread_life.specs.Taking.{next_start, begun, run_by, run_at}
-use Rattle.sthread_life.proofs.Happening.{AtEnter}
+use Rattle.cow_pages.specs.PrivateMemory.{PrivateMemory}
+use Rattle.sthread_life.specs.Entrances.{Entrance}
+use Rattle.sthread_life.specs.Families.{made_by}
+use Rattle.sthread_life.specs.Paying.{cost_by}
+use Rattle.sthread_life.specs.Taking.{next_start, takes, begun, run_by, run_at, has_entered}
+use Rattle.sthread_life.specs.Worlds.{WorldState, put_actor, with_begun}
+use Rattle.sthread_life.specs.declared.phase.Phase.TheVariants as phase
+use Rattle.sthread_life.proofs.Between.{entered_by}
+use Rattle.sthread_life.proofs.EnteringGates.{IsEnterable}
+use Rattle.sthread_life.proofs.Happening.{AtEnter, AtRecycledEnter, memory_for}
 
 -- the gate that an actor holds at an entry: its identity there, by which the actor knows it
 pub record IsHeld (a : ActorState) (entry : ℕ) (g : Gate) : Type 0 where
@@ -40,6 +47,47 @@ each_found P (x ∷ xs) id g all e = by_id (same_gate x.id id) e (each_found P x
 pub each_entered : (P : Gate → Type 0) (a : ActorState) (entry : ℕ) (g : Gate) → AllByRecursion P a.gates → gate_held a entry ≡ Some g → P g
 each_entered P a entry g all e = let h = held_is a entry g e in each_found P a.gates h.id g all h.known
 
--- whoever begins by the entry of a gate is its run
-pub entry_begins : (i : Image) (b : ActorState) (e : Event) (x : AtEnter b e) → begun i b e ≡ Some (run_by b (child_name b.name (next_start b)) x.entrance)
-entry_begins i b e x = ap (begun i b) x.is ∙ ap (run_at b (child_name b.name (next_start b))) x.at
+-- the entry of a gate, fresh or recycled: its caller waits for the run, which begins with what was kept for it or else with the gate's memory
+pub record IsEntry (w : WorldState) (b : ActorState) (e : Event) : Type 0 where
+  pub entrance : Entrance
+  pub at : b.phase ≡ phase.Entering entrance
+  pub may : IsEnterable b entrance
+  pub kept : Option PrivateMemory
+  pub brought : (kept ≡ None) ⊎ (kept ≡ Some (memory_for w.cells entrance.gate))
+  pub takes_so : takes w.image b e ≡ entered_by b entrance
+  pub begins : begun w.image b e ≡ Some (run_by b (child_name b.name (next_start b)) kept entrance)
+  pub free : cost_by b e ≡ 0
+  pub makes : made_by b (Some e) ≡ b.made
+
+unfoldable pub fresh_entry : (w : WorldState) (b : ActorState) (e : Event) → AtEnter b e → IsEntry w b e
+unfolding takes
+fresh_entry w b e x = record {
+  entrance = x.entrance;
+  at = x.at;
+  may = x.may;
+  kept = None;
+  brought = inl refl;
+  takes_so = ap (takes w.image b) x.is ∙ ap (has_entered b) x.at;
+  begins = ap (begun w.image b) x.is ∙ ap (run_at b (child_name b.name (next_start b)) None) x.at;
+  free = ap (cost_by b) x.is;
+  makes = ap (λ y. made_by b (Some y)) x.is;
+}
+
+unfoldable pub recycled_entry : (w : WorldState) (b : ActorState) (e : Event) → AtRecycledEnter w b e → IsEntry w b e
+unfolding takes
+recycled_entry w b e x = record {
+  entrance = x.entrance;
+  at = x.at;
+  may = x.may;
+  kept = Some (memory_for w.cells x.entrance.gate);
+  brought = inr refl;
+  takes_so = ap (takes w.image b) x.is ∙ ap (has_entered b) x.at;
+  begins = ap (begun w.image b) x.is ∙ ap (run_at b (child_name b.name (next_start b)) (Some (memory_for w.cells x.entrance.gate))) x.at;
+  free = ap (cost_by b) x.is;
+  makes = ap (λ y. made_by b (Some y)) x.is;
+}
+
+-- what it makes of the actors
+pub entered_actors : (w : WorldState) (actors : List ActorState) (b : ActorState) (e : Event) (y : IsEntry w b e)
+    → with_begun (put_actor actors (takes w.image b e)) (begun w.image b e) ≡ put_actor actors (entered_by b y.entrance) ++ run_by b (child_name b.name (next_start b)) y.kept y.entrance ∷ []
+entered_actors w actors b e y = ap (λ x. with_begun (put_actor actors x) (begun w.image b e)) y.takes_so ∙ ap (with_begun (put_actor actors (entered_by b y.entrance))) y.begins

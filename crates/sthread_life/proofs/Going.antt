@@ -33,7 +33,7 @@ use Rattle.wedge_base.specs.declared.rights.Right.TheVariants as right
 use Rattle.wedge_base.specs.declared.rights.FdBits.{FdBits}
 use Rattle.wedge_base.specs.declared.rights.Right.{Right}
 use Rattle.sthread_life.specs.Children.{is_child}
-use Rattle.sthread_life.specs.Calls.{serves, exit, is_procedure, create, create_with, create_checked, create_allowed, join, are_pages, tag_new, tag_delete, smalloc, free_at, sfree, fd_read, fd_append, fd_close, most_drafts, sc_new, right_asked, bits_asked, add_right, add_right_to, sc_mem_add, add_bits, add_bits_to, sc_fd_add, add_gate_to, sc_cgate_add, draft_call, a0, a1, a2, a3, a7, set_user, sc_user, path_in, put_root, set_root, sc_root, file_at, mode_asked, suits, open_file, open_path, file_open, makes_or_waits, may_be_gate, make_checked, make_with, cgate_make, enter_kind, enter_checked, enter_lending, enter_held, cgate, lent_asked}
+use Rattle.sthread_life.specs.Calls.{entrance_of, serves, exit, is_procedure, create, create_with, create_checked, create_allowed, join, are_pages, tag_new, tag_delete, smalloc, free_at, sfree, fd_read, fd_append, fd_close, most_drafts, sc_new, right_asked, bits_asked, add_right, add_right_to, sc_mem_add, add_bits, add_bits_to, sc_fd_add, add_gate_to, sc_cgate_add, draft_call, a0, a1, a2, a3, a7, set_user, sc_user, path_in, put_root, set_root, sc_root, file_at, mode_asked, suits, open_file, open_path, file_open, makes_or_waits, may_be_gate, make_checked, make_with, cgate_make, enter_checked, enter_lending, enter_held, cgate, lent_asked}
 use Rattle.sthread_life.specs.Local.{needed, executed, fuelled, fetched, step, is_running}
 use Rattle.sthread_life.specs.Worlds.{WorldState, actor_named, put_actor, with_actor}
 use Rattle.sthread_life.specs.Allowed.{next_word}
@@ -44,8 +44,6 @@ use Rattle.sthread_life.specs.declared.copy_grant.CopyGrant.{CopyGrant}
 use Rattle.sthread_life.specs.Lending.{may_lend, excess_lent}
 use Rattle.sthread_life.specs.Entrances.{Entrance}
 use Rattle.callgate.specs.declared.gate.Gate.{Gate}
-use Rattle.wedge_base.specs.declared.grants.GateKind.{GateKind}
-use Rattle.wedge_base.specs.declared.grants.GateKind.TheVariants as gate_kind
 
 -- if it runs it is at the next word, and if not its hart is as it was
 abbrev pub IsNext : Hart → ActorState → Type 0
@@ -164,15 +162,14 @@ next_make : (i : Image) (a : ActorState) (d : Option Draft) → IsNext a.hart (m
 next_make i a None = (λ e. refl, λ e. absurd cc)
 next_make i a (Some d) = next_if a.hart (refuses a code.Bad) _ (not (may_be_gate i a d)) (λ e. refl, λ e. absurd cc) (next_make_checked i a d (first_excess a.sheet a.made d))
 
-next_kind : (a : ActorState) (k : GateKind) (x : Entrance) → IsNext a.hart (enter_kind a k x)
-next_kind a gate_kind.Fresh x = (λ e. absurd cc, λ e. refl)
-next_kind a gate_kind.Recycled x = (λ e. refl, λ e. absurd cc)
+next_to_gate : (a : ActorState) (x : Entrance) → IsNext a.hart (record a { phase = phase.Entering x })
+next_to_gate a x = (λ e. absurd cc, λ e. refl)
 
 next_entry : (a : ActorState) (g : Gate) (lent : Option Draft) (d : Option Denial) → IsNext a.hart (enter_checked a g lent d)
 next_entry a g lent (Some d) = (λ e. refl, λ e. absurd cc)
 next_entry a g lent None =
     next_if a.hart (refuses a code.Deep) _ (nat_le most_parts (length a.name)) (λ e. refl, λ e. absurd cc)
-    (next_if a.hart (refuses a code.FuelShort) _ (nat_lt a.fuel g.fuel) (λ e. refl, λ e. absurd cc) (next_kind a g.kind _))
+    (next_if a.hart (refuses a code.FuelShort) _ (nat_lt a.fuel g.fuel) (λ e. refl, λ e. absurd cc) (next_to_gate a (entrance_of a g lent)))
 
 next_lending : (a : ActorState) (g : Gate) (lent : Option (Option Draft)) → IsNext a.hart (enter_lending a g lent)
 next_lending a g None = (λ e. refl, λ e. absurd cc)

@@ -1,7 +1,10 @@
 -- In every run the private copies of an actor, and of a child that it prepares, are at the slots of the grants of copies on their sheets.
 use Rattle.std.proofs.Common.{◌≡◌, ◌⊎◌, inl, inr, ℕ, zero, suc, ◌+◌, Bool, true, false, List, [], ◌∷◌, refl, sym, ap, subst, ◌∙◌}
-use Rattle.std.specs.Prelude.{Option, Some, None, not, is_some, option_and_then, ◌&&◌, ◌||◌, ◌==◌, ◌%◌, if◌then◌else◌}
+use Rattle.std.specs.Prelude.{Option, Some, None, not, is_some, option_and_then, ◌&&◌, ◌||◌, ◌==◌, ◌%◌, if◌then◌else◌, unwrap_or}
 use Rattle.std.proofs.lemmas.Bool.{eq-eqb}
+use Rattle.callgate.specs.Gates.{gate_named}
+use Rattle.callgate.specs.declared.gate.Gate.{Gate}
+use Rattle.wedge_events.specs.declared.cells.GateAsk.TheVariants as gate_ask
 use Rattle.cow_pages.specs.Copies.{Copies, is_slot, copy_at, with_copy, read_copy}
 use Rattle.cow_pages.specs.Listed.{bytes_listed}
 use Rattle.cow_pages.specs.PrivateMemory.{PrivateMemory}
@@ -36,11 +39,16 @@ use Rattle.sthread_life.specs.declared.copy_grant.CopyGrant.{CopyGrant}
 use Rattle.sthread_life.specs.declared.phase.Phase.TheVariants as phase
 use Rattle.sthread_life.specs.Actors.{ActorState, pristine, root}
 use Rattle.sthread_life.specs.Calls.{a0}
-use Rattle.sthread_life.specs.Cells.{slot_in}
+use Rattle.sthread_life.specs.Cells.{slot_in, kept_in}
 use Rattle.sthread_life.specs.Children.{child_name}
 use Rattle.sthread_life.specs.CopiesGranted.{grants_copy, AreGranted, AreOwnCopiesGranted, AreGateCopiesGranted}
 use Rattle.sthread_life.specs.Copying.{Preparation, with_declared, copied_from, is_copy_alone, prepared, behind_first}
-use Rattle.sthread_life.specs.Laws.{CopiesAreGranted}
+use Rattle.sthread_life.specs.FamilyTrees.{Family}
+use Rattle.sthread_life.specs.Laws.{CopiesAreGranted, RunsAreAlone}
+use Rattle.sthread_life.specs.RecycledGates.{AreRunsAlone}
+use Rattle.sthread_life.proofs.RecycledRuns.{entered_known, turn_alone, resumed_alone, rested_alone, opening_alone}
+use Rattle.sthread_life.proofs.FamilyRuns.{turn_family, opening_family}
+use Rattle.sthread_life.proofs.KnownGates.{AreHeld, rest_held, resumed_held, turn_held, opening_held, one_gate}
 use Rattle.sthread_life.specs.Local.{is_running, step, run_local, rest}
 use Rattle.sthread_life.specs.Remembering.{copied_bytes, Elsewhere, copy_target, target_among, LoadGives, StoreWrites, NeedRemembers, InstrRemembers, WordRemembers, memory_in, memory_after}
 use Rattle.sthread_life.specs.Lending.{sheet_lent}
@@ -50,16 +58,16 @@ use Rattle.sthread_life.proofs.Between.{IsPreparing, takes_name}
 use Rattle.sthread_life.proofs.ByNumber.{same_number, number_itself}
 use Rattle.sthread_life.proofs.Families.{takes_sheet}
 use Rattle.sthread_life.proofs.FamilyRuns.{Acts, ActsAlone, Starts, Enters, Joins, acts, one_begins}
-use Rattle.sthread_life.proofs.Happening.{Happens, snap_cases, Requested, Joined, Snaps, GateSnaps, Started, Opens, Releases, Numbers, OpensFile, LastJoined, Ended, AtEnter, EntersGate, LeavesGate}
+use Rattle.sthread_life.proofs.Happening.{Happens, snap_cases, Requested, Joined, Snaps, GateSnaps, Started, Opens, Releases, Numbers, OpensFile, LastJoined, Ended, AtEnter, EntersGate, LeavesGate, EntersRecycled, LeavesRecycled, memory_for}
 use Rattle.sthread_life.proofs.Keeping.{step_remembers, event_copies}
 use Rattle.sthread_life.proofs.Preparing.{was_preparing}
 use Rattle.sthread_life.proofs.Resting.{IsCalm, steps_step, rests, stays, goes_on, rest-stays, rest-name}
 use Rattle.sthread_life.proofs.Settling.{AllReady, turn_happens, turn_ready, opening_ready, turned_there}
-use Rattle.sthread_life.proofs.Trees.{IsPut, IsDoer, IsOther, FoundPut, find_put, found_or_last}
+use Rattle.sthread_life.proofs.Trees.{IsPut, IsDoer, IsOther, FoundPut, find_put, found_or_last, found_put}
 use Rattle.sthread_life.proofs.GrantedPreparing.{or_true, copied_granted, without_granted, AreAllGranted, IsGranted, grants_granted, prepared_granted, child_grants}
-use Rattle.sthread_life.proofs.GateRuns.{each_entered, entry_begins}
+use Rattle.sthread_life.proofs.GateRuns.{each_entered, IsEntry}
 use Rattle.sthread_life.proofs.GrantedRuns.{grants_lent}
-use Rattle.sthread_life.proofs.Turns.{ready_is, ready_name, turn_from}
+use Rattle.sthread_life.proofs.Turns.{ready_is, ready_name, turn_from, Turned}
 use Rattle.sthread_life.proofs.GrantedGates.{AreGatesGranted, gates_at_rest, event_gates_granted}
 
 -- ---- the root's copies
@@ -179,6 +187,7 @@ slot_granted gs m slot r q all = all
 memory_granted : (gs : Map Grant) (m : PrivateMemory) (e : Event) → AreGranted gs m.copies → AreGranted gs (memory_after m e).copies
 memory_granted gs m (event.Lives (lives_ask.Release x) r) all = λ slot there. absurd cc
 memory_granted gs m (event.Leave x) all = λ slot there. absurd cc
+memory_granted gs m (event.Gate id (gate_ask.Leave x left) r) all = λ slot there. absurd cc
 memory_granted gs m (event.Slot slot q r) all = slot_granted gs m slot r q all
 memory_granted gs m e all = all
 
@@ -255,7 +264,9 @@ event_granted w b e (OpensFile f) h p is = by_cause w b e p is (was_preparing w.
 event_granted w b e (LastJoined j) h p is = by_cause w b e p is (was_preparing w.image b e (subst IsPreparing (sym is) tt)) (λ k. subst IsPreparing j.at k)
 event_granted w b e (Ended f) h p is = by_cause w b e p is (was_preparing w.image b e (subst IsPreparing (sym is) tt)) (λ k. subst IsPreparing f.at k)
 event_granted w b e (EntersGate x) h p is = by_cause w b e p is (was_preparing w.image b e (subst IsPreparing (sym is) tt)) (λ k. subst IsPreparing x.at k)
+event_granted w b e (EntersRecycled x) h p is = by_cause w b e p is (was_preparing w.image b e (subst IsPreparing (sym is) tt)) (λ k. subst IsPreparing x.at k)
 event_granted w b e (LeavesGate l) h p is = by_cause w b e p is (was_preparing w.image b e (subst IsPreparing (sym is) tt)) (λ k. subst IsPreparing l.at k)
+event_granted w b e (LeavesRecycled l) h p is = by_cause w b e p is (was_preparing w.image b e (subst IsPreparing (sym is) tt)) (λ k. subst IsPreparing l.at k)
 
 doer_granted : (w : WorldState) (b : ActorState) (e : Event) → Happens w b e → HasGranted b → HasGranted (takes w.image b e)
 doer_granted w b e happens h =
@@ -271,29 +282,48 @@ child_granted i b name p at h = record {
   gates = h.gates;
 }
 
--- the run of a gate begins with the gate's copies
-run_of_granted : (b : ActorState) (e : Event) (x : AtEnter b e) (name : List ℕ) → HasGranted b → HasGranted (run_by b name x.entrance)
-run_of_granted b e x name h = record {
-  own = λ slot there.
+-- the memory with which the run of a gate begins has the copies alone that the gate's sheet grants
+memory_so : (w : WorldState) (b : ActorState) (g : Gate) → AreGateCopiesGranted g → gate_named b.gates g.id ≡ Some g → actor_named (put_actor w.actors b) b.name ≡ Some b
+    → AreHeld (put_actor w.actors b) → AreRunsAlone w.cells (put_actor w.actors b) → AreGranted g.sheet.tags (memory_for w.cells g).copies
+memory_so w b g own known there held alone = by_kept (kept_in w.cells g.id).kept refl
+  where
+    by_kept : (o : Option PrivateMemory) → (kept_in w.cells g.id).kept ≡ o → AreGranted g.sheet.tags (unwrap_or o g.memory).copies
+    by_kept None is = own
+    by_kept (Some m) is =
+        let k = alone.kept g.id m is in
+        let one : k.gate ≡ g = one_gate (put_actor w.actors b) held k.name b.name k.actor b g.id k.gate g k.there there k.known known in
+        subst (λ (x : Gate). AreGranted x.sheet.tags m.copies) one k.granted
+
+-- so the run of a gate begins with copies that its sheet grants
+run_of_granted : (w : WorldState) (b : ActorState) (e : Event) (x : IsEntry w b e) (name : List ℕ) → actor_named (put_actor w.actors b) b.name ≡ Some b → AreHeld (put_actor w.actors b) → AreRunsAlone w.cells (put_actor w.actors b)
+    → HasGranted b → HasGranted (run_by b name x.kept x.entrance)
+run_of_granted w b e x name there held alone h = record {
+  own = λ slot here.
       ap (λ (s : Sheet). grants_copy s.tags slot) x.may.sheet
-      ∙ grants_lent x.entrance.gate.sheet (sheet_lent b x.may.lent) slot (each_entered AreGateCopiesGranted b (a0 b) x.entrance.gate h.gates x.may.held slot there);
+      ∙ grants_lent x.entrance.gate.sheet (sheet_lent b x.may.lent) slot (elim x.brought [
+        | inl none ↦ gates_own slot (ap (λ o. is_some (copy_at (unwrap_or o x.entrance.gate.memory).copies slot)) (sym none) ∙ here)
+        | inr some ↦ memory_so w b x.entrance.gate gates_own (entered_known w b e x) there held alone slot (ap (λ o. is_some (copy_at (unwrap_or o x.entrance.gate.memory).copies slot)) (sym some) ∙ here)
+      ]);
   child = λ p is. absurd cc;
   making = λ p is. absurd cc;
   gates = h.gates;
 }
+  where
+    gates_own : AreGateCopiesGranted x.entrance.gate
+    gates_own = each_entered AreGateCopiesGranted b (a0 b) x.entrance.gate h.gates x.may.held
 
-begins_granted : (w : WorldState) (b : ActorState) (e : Event) → Acts w b e → HasGranted b → (c : ActorState) → begun w.image b e ≡ Some c → HasGranted c
-begins_granted w b e (ActsAlone one) h c is = let f : None ≡ Some c = sym (one_begins w.image b e one) ∙ is in absurd cc
-begins_granted w b e (Starts s) h c is =
+begins_granted : (w : WorldState) (b : ActorState) (e : Event) → Acts w b e → actor_named (put_actor w.actors b) b.name ≡ Some b → AreHeld (put_actor w.actors b) → AreRunsAlone w.cells (put_actor w.actors b) → HasGranted b → (c : ActorState) → begun w.image b e ≡ Some c → HasGranted c
+begins_granted w b e (ActsAlone one) there held alone h c is = let f : None ≡ Some c = sym (one_begins w.image b e one) ∙ is in absurd cc
+begins_granted w b e (Starts s) there held alone h c is =
     let both : Some (child_of w.image b (child_name b.name (next_start b))) ≡ Some c = sym (ap (begun w.image b) s.is) ∙ is in
     let same_one : child_of w.image b (child_name b.name (next_start b)) ≡ c = cc in
     subst HasGranted same_one (child_granted w.image b (child_name b.name (next_start b)) s.preparation s.at h)
-begins_granted w b e (Enters x) h c is =
-    let run = run_by b (child_name b.name (next_start b)) x.entrance in
-    let both : Some run ≡ Some c = sym (entry_begins w.image b e x) ∙ is in
+begins_granted w b e (Enters x) there held alone h c is =
+    let run = run_by b (child_name b.name (next_start b)) x.kept x.entrance in
+    let both : Some run ≡ Some c = sym x.begins ∙ is in
     let same_one : run ≡ c = cc in
-    subst HasGranted same_one (run_of_granted b e x (child_name b.name (next_start b)) h)
-begins_granted w b e (Joins k listed j) h c is = let f : None ≡ Some c = sym (ap (begun w.image b) j.is) ∙ is in absurd cc
+    subst HasGranted same_one (run_of_granted w b e x (child_name b.name (next_start b)) there held alone h)
+begins_granted w b e (Joins k listed j) there held alone h c is = let f : None ≡ Some c = sym (ap (begun w.image b) j.is) ∙ is in absurd cc
 
 -- ---- runs
 
@@ -320,9 +350,15 @@ resumed_granted w a all there m y found =
     let goes = ready_is HasGranted w.actors a h (λ k e fuel. record { own = h.own; child = λ p is. absurd cc; making = λ p is. absurd cc; gates = h.gates }) in
     put_granted w a (ready w.actors a) all put goes m y (find_put w.actors a (ready w.actors a) m y put found)
 
-turn_granted : (w : WorldState) (name : List ℕ) (e : Event) (new : WorldState) → AllReady w → AllGranted w → turn_of w name ≡ Some (record { event = e; world = new }) → AllGranted new
-turn_granted w name e new all_ready all t =
-    let p = turn_from w name e new t in
+rested_granted : (w : WorldState) (name : List ℕ) (e : Event) (new : WorldState) (p : Turned w name e new) → AllGranted w → HasGranted (rest w.image p.parts.actor)
+rested_granted w name e new p all =
+    let v = resumed w p.actor in
+    let a = p.parts.actor in
+    let goes = resumed_granted w p.actor all (turned_there w name p.actor p.named) in
+    rest_granted w.image a _ refl (goes a.name a (turned_there v name a p.parts.named))
+
+turn_granted : (w : WorldState) (name : List ℕ) (e : Event) (new : WorldState) → AllReady w → AllGranted w → AreHeld w.actors → AreRunsAlone w.cells w.actors → (p : Turned w name e new) → AllGranted new
+turn_granted w name e new all_ready all held alone p =
     let v = resumed w p.actor in
     let a = p.parts.actor in
     let b = rest w.image a in
@@ -330,8 +366,12 @@ turn_granted w name e new all_ready all t =
     let goes = resumed_granted w p.actor all (turned_there w name p.actor p.named) in
     let there = turned_there v name a p.parts.named in
     let put : IsPut v.actors a (takes w.image b e) = record { name = takes_name w.image b e ∙ rest-name w.image a; there = there } in
-    let rested = rest_granted w.image a _ refl (goes a.name a there) in
-    subst AllGranted (sym p.parts.new_is) (begun_granted v a (takes w.image b e) goes put (doer_granted v b e h rested) (begun w.image b e) (begins_granted v b e (acts v b e h) rested))
+    let rested = rested_granted w name e new p all in
+    let rests_so : IsPut v.actors a b = record { name = rest-name w.image a; there = there } in
+    let found : actor_named (put_actor v.actors b) b.name ≡ Some b = ap (actor_named (put_actor v.actors b)) (rest-name w.image a) ∙ found_put v.actors a b rests_so in
+    let held_so = rest_held v a there (resumed_held w p.actor (turned_there w name p.actor p.named) held) in
+    let alone_so = rested_alone v a there (resumed_alone w p.actor (turned_there w name p.actor p.named) alone) in
+    subst AllGranted (sym p.parts.new_is) (begun_granted v a (takes w.image b e) goes put (doer_granted v b e h rested) (begun w.image b e) (begins_granted v b e (acts v b e h) found held_so alone_so rested))
 
 opening_granted : (i : Image) → AllGranted (opening i)
 opening_granted i m y found = by_name (same root_name m) (opening_found m y found)
@@ -351,9 +391,33 @@ opening_granted i m y found = by_name (same root_name m) (opening_found m y foun
     opening_found : (n : List ℕ) (z : ActorState) → actor_named (opening i).actors n ≡ Some z → (if same root_name n then Some (root i) else None) ≡ Some z
     opening_found n z e = unfold root in e
 
-runs_granted : (old : WorldState) (turns : List Turn) (new : WorldState) → AllReady old → AllGranted old → Runs old turns new → AllGranted new
-runs_granted old [] new all_ready all run = subst AllGranted (sym run) all
-runs_granted old (t ∷ ts) new all_ready all run = runs_granted run.0 ts new (turn_ready old t.actor t.event run.0 all_ready run.1) (turn_granted old t.actor t.event run.0 all_ready all run.1) run.2
+-- what a turn keeps: each actor has its copies granted, knows its gates, and is alone in a recycled gate
+record AllKept (w : WorldState) : Type 0 where
+  granted : AllGranted w
+  family : Family w.actors
+  held : AreHeld w.actors
+  alone : AreRunsAlone w.cells w.actors
+
+turn_kept : (w : WorldState) (name : List ℕ) (e : Event) (new : WorldState) → AllReady w → AllKept w → turn_of w name ≡ Some (record { event = e; world = new }) → AllKept new
+turn_kept w name e new all k t =
+    let p = turn_from w name e new t in
+    record {
+      granted = turn_granted w name e new all k.granted k.held k.alone p;
+      family = turn_family w name e new all k.family t;
+      held = turn_held w name e new all k.held t;
+      alone = turn_alone w name e new all k.family p (rested_granted w name e new p k.granted).own k.alone;
+    }
+
+runs_kept : (old : WorldState) (turns : List Turn) (new : WorldState) → AllReady old → AllKept old → Runs old turns new → AllKept new
+runs_kept old [] new all k run = subst AllKept (sym run) k
+runs_kept old (t ∷ ts) new all k run = runs_kept run.0 ts new (turn_ready old t.actor t.event run.0 all run.1) (turn_kept old t.actor t.event run.0 all k run.1) run.2
+
+run_kept : (i : Image) (turns : List Turn) (new : WorldState) → Runs (opening i) turns new → AllKept new
+run_kept i turns new run =
+    runs_kept (opening i) turns new (opening_ready i) (record { granted = opening_granted i; family = opening_family i; held = opening_held i; alone = opening_alone i }) run
 
 pub copies_granted : CopiesAreGranted
-copies_granted i turns new run name a named = let h = runs_granted (opening i) turns new (opening_ready i) (opening_granted i) run name a named in record { own = h.own; gates = h.gates }
+copies_granted i turns new run name a named = let h = (run_kept i turns new run).granted name a named in record { own = h.own; gates = h.gates }
+
+pub runs_alone : RunsAreAlone
+runs_alone i turns new run = (run_kept i turns new run).alone

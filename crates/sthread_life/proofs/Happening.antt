@@ -1,6 +1,11 @@
 -- What an actor at rest comes to: the event of its request, the join of a child, the start of one, the entry of a gate, or its end.
 use Rattle.std.proofs.Common.{◌≡◌, ℕ, ◌+◌, ◌<◌, ◌≤◌, Bool, true, List, [], ◌∷◌, refl, sym, ap, subst, ◌∙◌}
-use Rattle.std.specs.Prelude.{Option, Some, None, false, ◌==◌, if◌then◌else◌}
+use Rattle.std.specs.Prelude.{Option, Some, None, false, ◌==◌, if◌then◌else◌, unwrap_or}
+use Rattle.cow_pages.specs.PrivateMemory.{PrivateMemory}
+use Rattle.wedge_base.specs.declared.grants.GateKind.TheVariants as gate_kind
+use Rattle.wedge_base.specs.declared.grants.GateKind.{GateKind}
+use Rattle.wedge_events.specs.declared.cells.GateReply.TheVariants as gate_reply
+use Rattle.wedge_events.specs.declared.cells.GateAsk.TheVariants as gate_ask
 use Rattle.wedge_events.specs.Directories.{directory_reply as directory_reply_of}
 use Rattle.wedge_base.specs.Images.{Image}
 use Rattle.wedge_events.specs.Slots.{Segment, slot_reply as slot_reply_of}
@@ -23,7 +28,7 @@ use Rattle.sthread_life.specs.declared.phase.Phase.TheVariants as phase
 use Rattle.sthread_life.specs.Actors.{ActorState}
 use Rattle.sthread_life.specs.Between.{IsBetween, GivesBelow}
 use Rattle.sthread_life.specs.Calls.{a0, a1, draft_at}
-use Rattle.sthread_life.specs.Cells.{Cells, slot_in, stream_in}
+use Rattle.sthread_life.specs.Cells.{Cells, slot_in, stream_in, kept_in}
 use Rattle.sthread_life.specs.Children.{Children, is_child, without_child, child_name}
 use Rattle.sthread_life.specs.Refusals.{refusal_after}
 use Rattle.sthread_life.specs.Requests.{request_at}
@@ -35,7 +40,7 @@ use Rattle.wedge_events.specs.declared.cells.StreamReply.TheVariants as stream_r
 use Rattle.wedge_base.specs.declared.rights.StreamKind.{StreamKind}
 use Rattle.sthread_life.specs.declared.copy_grant.CopyGrant.{CopyGrant}
 use Rattle.cow_pages.specs.Listed.{bytes_listed}
-use Rattle.sthread_life.specs.Taking.{next_start, starting_want, ending_want, wanted, wanted_at, has_snapped, opening_want, answered_end, takes, making_want, copied_on}
+use Rattle.sthread_life.specs.Taking.{next_start, starting_want, ending_want, entering_want, leaving_want, wanted, wanted_at, has_snapped, opening_want, answered_end, takes, making_want, copied_on}
 use Rattle.sthread_life.specs.Worlds.{WorldState, event_at}
 use Rattle.sthread_life.proofs.Between.{event_for, IsJoin, ComesOf, comes_of, Leaves, IsPreparing, MayPrepare, MayNumber, numbered_is, takes_between, IsMaking, made_is, entered_is, waiting_is, MayWait}
 use Rattle.sthread_life.proofs.Directing.{claimed_inside}
@@ -135,20 +140,45 @@ pub record AtLastJoin (w : WorldState) (b : ActorState) (e : Event) : Type 0 whe
   pub left : b.unjoined ≡ first ∷ others
   pub join : IsJoin w b first.0 e
 
--- the entry of a gate
+-- the entry of a fresh gate
 pub record AtEnter (b : ActorState) (e : Event) : Type 0 where
   pub entrance : Entrance
   pub at : b.phase ≡ phase.Entering entrance
   pub may : IsEnterable b entrance
+  pub fresh : entrance.gate.kind ≡ gate_kind.Fresh
   pub is : e ≡ event.Enter (child_name b.name (next_start b))
 
--- the leave of the run of a gate with no children
+-- the memory with which the next run of a recycled gate begins: what is kept, or the gate's
+abbrev pub memory_for : Cells → Gate → PrivateMemory
+memory_for c g = unwrap_or (kept_in c g.id).kept g.memory
+
+-- the entry of a recycled gate, in which no run is
+pub record AtRecycledEnter (w : WorldState) (b : ActorState) (e : Event) : Type 0 where
+  pub entrance : Entrance
+  pub at : b.phase ≡ phase.Entering entrance
+  pub may : IsEnterable b entrance
+  pub recycled : entrance.gate.kind ≡ gate_kind.Recycled
+  pub free : (kept_in w.cells entrance.gate.id).entered ≡ false
+  pub is : e ≡ event.Gate entrance.gate.id (gate_ask.Enter (child_name b.name (next_start b)) entrance.gate.memory) (gate_reply.Entered (memory_for w.cells entrance.gate))
+
+-- the leave of the run of a recycled gate with no children
+pub record AtRecycledLeave (b : ActorState) (e : Event) : Type 0 where
+  pub end_ : End
+  pub gate : Gate
+  pub at : b.phase ≡ phase.Ending end_
+  pub own : b.run_of ≡ Some gate
+  pub left : b.unjoined ≡ []
+  pub recycled : gate.kind ≡ gate_kind.Recycled
+  pub is : e ≡ event.Gate gate.id (gate_ask.Leave end_ b.memory) gate_reply.Left
+
+-- the leave of the run of a fresh gate with no children
 pub record AtLeave (b : ActorState) (e : Event) : Type 0 where
   pub end_ : End
   pub gate : Gate
   pub at : b.phase ≡ phase.Ending end_
   pub own : b.run_of ≡ Some gate
   pub left : b.unjoined ≡ []
+  pub fresh : gate.kind ≡ gate_kind.Fresh
   pub is : e ≡ event.Leave end_
 
 -- the end of any other actor with no children
@@ -173,6 +203,8 @@ pub data Happens (w : WorldState) (b : ActorState) (e : Event) : Type 0 where
   Ended : AtEnd b e → Happens w b e
   EntersGate : AtEnter b e → Happens w b e
   LeavesGate : AtLeave b e → Happens w b e
+  EntersRecycled : AtRecycledEnter w b e → Happens w b e
+  LeavesRecycled : AtRecycledLeave b e → Happens w b e
 
 -- whatever lives in a slot, a tag is opened there
 pub opens_so : (g : Option Segment) (tag pages : ℕ) → slot_reply_of g (slot_ask.Open tag pages) ≡ slot_reply.Opened
@@ -215,9 +247,22 @@ module _ (w : WorldState) (b : ActorState) (e : Event) where
   within (want.Enter run) rd s at asked own later comes = absurd own
   within (want.Leave end) rd s at asked own later comes = absurd own
 
-  ending : (g : Option Gate) (cs : Children) (x : End) (q : Want) → b.phase ≡ phase.Ending x → b.run_of ≡ g → b.unjoined ≡ cs → ending_want g cs x ≡ q → ComesOf w b q e → Happens w b e
+  leaving : (g : Gate) (k : GateKind) (x : End) (q : Want) → b.phase ≡ phase.Ending x → b.run_of ≡ Some g → b.unjoined ≡ [] → g.kind ≡ k → leaving_want k g.id b.memory x ≡ q → ComesOf w b q e → Happens w b e
+  leaving g gate_kind.Fresh x q at own left kind is comes =
+      LeavesGate (record { end_ = x; gate = g; at = at; own = own; left = left; fresh = kind; is = subst (λ y. ComesOf w b y e) (sym is) comes })
+  leaving g gate_kind.Recycled x q at own left kind is comes =
+      let so : ComesOf w b (want.Gate g.id (gate_ask.Leave x b.memory)) e = subst (λ y. ComesOf w b y e) (sym is) comes in
+      LeavesRecycled (record { end_ = x; gate = g; at = at; own = own; left = left; recycled = kind; is = so.1 })
+
+  entering : (x : Entrance) (k : GateKind) (q : Want) → b.phase ≡ phase.Entering x → IsEnterable b x → x.gate.kind ≡ k → entering_want k x.gate (child_name b.name (next_start b)) ≡ q → ComesOf w b q e → Happens w b e
+  entering x gate_kind.Fresh q at may kind is comes = EntersGate (record { entrance = x; at = at; may = may; fresh = kind; is = subst (λ y. ComesOf w b y e) (sym is) comes })
+  entering x gate_kind.Recycled q at may kind is comes =
+      let so : ComesOf w b (want.Gate x.gate.id (gate_ask.Enter (child_name b.name (next_start b)) x.gate.memory)) e = subst (λ y. ComesOf w b y e) (sym is) comes in
+      EntersRecycled (record { entrance = x; at = at; may = may; recycled = kind; free = so.0; is = so.1 })
+
+  ending : (g : Option Gate) (cs : Children) (x : End) (q : Want) → b.phase ≡ phase.Ending x → b.run_of ≡ g → b.unjoined ≡ cs → ending_want g b.memory cs x ≡ q → ComesOf w b q e → Happens w b e
   ending None [] x q at own left is comes = Ended (record { end_ = x; at = at; own = own; left = left; is = subst (λ y. ComesOf w b y e) (sym is) comes })
-  ending (Some g) [] x q at own left is comes = LeavesGate (record { end_ = x; gate = g; at = at; own = own; left = left; is = subst (λ y. ComesOf w b y e) (sym is) comes })
+  ending (Some g) [] x q at own left is comes = leaving g g.kind x q at own left refl is comes
   ending g (c ∷ cs) x q at own left is comes = LastJoined (record { end_ = x; first = c; others = cs; at = at; left = left; join = subst (λ y. ComesOf w b y e) (sym is) comes })
 
   preparing : (pre : Preparation) (gs : List CopyGrant) (q : Want) → b.phase ≡ phase.Starting pre → pre.left ≡ gs → starting_want b gs ≡ q → IsStartable b → ComesOf w b q e → Happens w b e
@@ -252,11 +297,11 @@ module _ (w : WorldState) (b : ActorState) (e : Event) where
       let is : want.Slots (directory_ask.Release slot) ≡ q = cc in
       Releases (record { slot = slot; at = at; is = subst (λ y. ComesOf w b y e) (sym is) comes })
   by_phase (phase.Entering x) q at reads wants comes =
-      let is : want.Enter (child_name b.name (next_start b)) ≡ q = cc in
-      EntersGate (record { entrance = x; at = at; may = reads; is = subst (λ y. ComesOf w b y e) (sym is) comes })
+      let is : entering_want x.gate.kind x.gate (child_name b.name (next_start b)) ≡ q = cc in
+      entering x x.gate.kind q at reads refl is comes
   by_phase (phase.Waiting k) q at reads wants comes = absurd cc
   by_phase (phase.OpeningFile o) q at reads wants comes = let is : opening_want o o.number ≡ q = cc in opening_at o o.number q at refl is reads comes
-  by_phase (phase.Ending x) q at reads wants comes = let is : ending_want b.run_of b.unjoined x ≡ q = cc in ending b.run_of b.unjoined x q at refl refl is comes
+  by_phase (phase.Ending x) q at reads wants comes = let is : ending_want b.run_of b.memory b.unjoined x ≡ q = cc in ending b.run_of b.unjoined x q at refl refl is comes
   by_phase (phase.Ended x) q at reads wants comes = absurd cc
 
 pub happens : (w : WorldState) (b : ActorState) (q : Want) (e : Event) → ReadsAs w.image b b.phase → wanted b ≡ Some q → event_at w b q ≡ Some e → Happens w b e
@@ -339,6 +384,7 @@ leaves_reads i x (event.Slot slot q (slot_reply.Snapped pages)) p h ready granti
 leaves_reads i x (event.Slot slot q slot_reply.Gone) p h ready granting opens numbers = preparing_reads i x p h ready granting
 leaves_reads i x (event.Slot slot q r) p h ready granting opens numbers = between_reads i x p h
 leaves_reads i x (event.Enter run) p h ready granting opens numbers = waiting_is (ReadsAs i x) p h tt (λ k. tt)
+leaves_reads i x (event.Gate id (gate_ask.Enter run first) (gate_reply.Entered memory)) p h ready granting opens numbers = waiting_is (ReadsAs i x) p h tt (λ k. tt)
 leaves_reads i x e p h ready granting opens numbers = between_reads i x p h
 
 -- an actor is about to open a tag only once it claimed the slot for it
@@ -364,6 +410,7 @@ opens_by_claim (event.Slot s q (slot_reply.Snapped pages)) p slot tag h is = abs
 opens_by_claim (event.Slot s q slot_reply.Gone) p slot tag h is = absurd (subst MayPrepare is h)
 opens_by_claim (event.Slot s q r) p slot tag h is = absurd (subst IsBetween is h)
 opens_by_claim (event.Enter run) p slot tag h is = absurd (subst MayWait is h)
+opens_by_claim (event.Gate id (gate_ask.Enter run first) (gate_reply.Entered memory)) p slot tag h is = absurd (subst MayWait is h)
 opens_by_claim e p slot tag h is = absurd (subst IsBetween is h)
 
 -- a life is claimed by an actor that is about to start a child, and by no other
@@ -387,7 +434,9 @@ happens_ready w b e (OpensFile f) is = let g = sym f.is ∙ is in absurd cc
 happens_ready w b e (LastJoined j) is = let f = sym j.join.is ∙ is in absurd cc
 happens_ready w b e (Ended f) is = let g = sym f.is ∙ is in absurd cc
 happens_ready w b e (EntersGate x) is = let g = sym x.is ∙ is in absurd cc
+happens_ready w b e (EntersRecycled x) is = let g = sym x.is ∙ is in absurd cc
 happens_ready w b e (LeavesGate l) is = let g = sym l.is ∙ is in absurd cc
+happens_ready w b e (LeavesRecycled l) is = let g = sym l.is ∙ is in absurd cc
 
 -- so it is by whoever prepares a child
 happens_preparing : (w : WorldState) (b : ActorState) (e : Event) → Happens w b e → IsPreparing b.phase → IsStartable b
@@ -403,7 +452,9 @@ happens_preparing w b e (OpensFile f) h = absurd (subst IsPreparing f.at h)
 happens_preparing w b e (LastJoined j) h = absurd (subst IsPreparing j.at h)
 happens_preparing w b e (Ended f) h = absurd (subst IsPreparing f.at h)
 happens_preparing w b e (EntersGate x) h = absurd (subst IsPreparing x.at h)
+happens_preparing w b e (EntersRecycled x) h = absurd (subst IsPreparing x.at h)
 happens_preparing w b e (LeavesGate l) h = absurd (subst IsPreparing l.at h)
+happens_preparing w b e (LeavesRecycled l) h = absurd (subst IsPreparing l.at h)
 
 pub no_preparing : {X : Type 0} (p : Phase) → IsBetween p → IsPreparing p → X
 no_preparing phase.Running h k = absurd k
@@ -450,6 +501,7 @@ takes_startable i b (event.Fds directory_ask.Claim directory_reply.Released) fir
 takes_startable i b (event.Fds (directory_ask.Release place) r) first ready k = absurd k
 takes_startable i b (event.Slot slot q r) first ready k = no_preparing (takes i b (event.Slot slot q r)).phase (takes_between i b (event.Slot slot q r)) k
 takes_startable i b (event.Enter run) first ready k = absurd (entered_is (λ x. IsPreparing x.phase → ⊥) b b.phase (λ y. y) (λ x y. y) k)
+takes_startable i b (event.Gate id (gate_ask.Enter run brought) (gate_reply.Entered memory)) first ready k = absurd (entered_is (λ x. IsPreparing x.phase → ⊥) b b.phase (λ y. y) (λ x y. y) k)
 takes_startable i b e first ready k = no_preparing (takes i b e).phase (takes_between i b e) k
 
 -- whoever makes a gate may give it its sheet
@@ -466,7 +518,9 @@ happens_making w b e (OpensFile f) x at = absurd (subst IsMaking (sym at ∙ f.a
 happens_making w b e (LastJoined j) x at = absurd (subst IsMaking (sym at ∙ j.at) tt)
 happens_making w b e (Ended f) x at = absurd (subst IsMaking (sym at ∙ f.at) tt)
 happens_making w b e (EntersGate y) x at = absurd (subst IsMaking (sym at ∙ y.at) tt)
+happens_making w b e (EntersRecycled y) x at = absurd (subst IsMaking (sym at ∙ y.at) tt)
 happens_making w b e (LeavesGate l) x at = absurd (subst IsMaking (sym at ∙ l.at) tt)
+happens_making w b e (LeavesRecycled l) x at = absurd (subst IsMaking (sym at ∙ l.at) tt)
 
 -- a slot is claimed by an actor that asks for pages that a tag may have, and is one of the directory's
 claims_slot : (b : ActorState) (x : Want) (c : Cells) (N : ℕ → Type 0) (slot tag : ℕ) → IsRequest N b x → event_for c b x ≡ event.Slots directory_ask.Claim (directory_reply.Claimed slot tag)
@@ -492,7 +546,9 @@ happens_claim w b e slot tag (OpensFile f) is = let g = sym f.is ∙ is in absur
 happens_claim w b e slot tag (LastJoined j) is = let f = sym j.join.is ∙ is in absurd cc
 happens_claim w b e slot tag (Ended f) is = let g = sym f.is ∙ is in absurd cc
 happens_claim w b e slot tag (EntersGate x) is = let g = sym x.is ∙ is in absurd cc
+happens_claim w b e slot tag (EntersRecycled x) is = let g = sym x.is ∙ is in absurd cc
 happens_claim w b e slot tag (LeavesGate l) is = let g = sym l.is ∙ is in absurd cc
+happens_claim w b e slot tag (LeavesRecycled l) is = let g = sym l.is ∙ is in absurd cc
 
 claimed_pages : (i : Image) (b : ActorState) (e : Event) (slot tag : ℕ) → e ≡ event.Slots directory_ask.Claim (directory_reply.Claimed slot tag) → AsksForPages b → AsksForPages (takes i b e)
 unfolding takes
@@ -520,7 +576,9 @@ happens_number w b e fd number (OpensFile o) is = let g = sym o.is ∙ is in abs
 happens_number w b e fd number (LastJoined j) is = let f = sym j.join.is ∙ is in absurd cc
 happens_number w b e fd number (Ended f) is = let g = sym f.is ∙ is in absurd cc
 happens_number w b e fd number (EntersGate x) is = let g = sym x.is ∙ is in absurd cc
+happens_number w b e fd number (EntersRecycled x) is = let g = sym x.is ∙ is in absurd cc
 happens_number w b e fd number (LeavesGate l) is = let g = sym l.is ∙ is in absurd cc
+happens_number w b e fd number (LeavesRecycled l) is = let g = sym l.is ∙ is in absurd cc
 
 numbered_pays : (i : Image) (b : ActorState) (e : Event) (fd number : ℕ) → e ≡ event.Fds directory_ask.Claim (directory_reply.Claimed fd number) → a1 b ≤ b.fuel → a1 (takes i b e) ≤ (takes i b e).fuel
 unfolding takes

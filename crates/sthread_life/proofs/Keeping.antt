@@ -34,6 +34,8 @@ use Rattle.cow_pages.specs.Copies.{copy_at, holds_copy, read_copy}
 use Rattle.cow_pages.specs.Listed.{bytes_listed}
 use Rattle.cow_pages.specs.PrivateMemory.{PrivateMemory}
 use Rattle.std.specs.Option.{option_or}
+use Rattle.wedge_events.specs.declared.cells.GateReply.TheVariants as gate_reply
+use Rattle.wedge_events.specs.declared.cells.GateAsk.TheVariants as gate_ask
 use Rattle.sthread_life.specs.Private.{load_bytes, load_copy, load_window, load_range, store_copy, store_window, store_range, has_loaded, has_stored, with_bytes, fits_read, fits_write}
 use Rattle.wedge_base.specs.Names.{most_parts}
 use Rattle.wedge_base.specs.Sheets.{Draft, takes_tag, takes_fd, takes_gate, first_excess}
@@ -47,14 +49,14 @@ use Rattle.wedge_base.specs.declared.rights.Right.{Right}
 use Rattle.wedge_base.specs.declared.rights.Right.TheVariants as right
 use Rattle.sthread_life.specs.Children.{is_child, without_child}
 use Rattle.sthread_life.proofs.Between.{event_for, joined_is, numbered_is, opened_is, snapped_is, entered_is}
-use Rattle.sthread_life.proofs.Happening.{Happens, Requested, Joined, Snaps, GateSnaps, Started, Opens, Releases, Numbers, OpensFile, LastJoined, Ended, EntersGate, LeavesGate}
+use Rattle.sthread_life.proofs.Happening.{Happens, Requested, Joined, Snaps, GateSnaps, Started, Opens, Releases, Numbers, OpensFile, LastJoined, Ended, EntersGate, LeavesGate, EntersRecycled, LeavesRecycled}
 use Rattle.sthread_life.proofs.Meeting.{IsRequest}
 use Rattle.sthread_life.proofs.StreamCalls.{IsStreamRequest, append_cases, close_cases}
 use Rattle.sthread_life.proofs.Reading.{read_remembers}
 use Rattle.sthread_life.specs.Cells.{Cells, stream_in}
 use Rattle.sthread_life.specs.Worlds.{WorldState}
 use Rattle.sthread_life.proofs.WritingCopies.{copied_there}
-use Rattle.sthread_life.specs.Calls.{serves, exit, is_procedure, create, create_with, create_checked, join, are_pages, tag_new, tag_delete, smalloc, free_at, sfree, fd_read, fd_append, fd_close, most_drafts, sc_new, right_asked, bits_asked, add_right, add_right_to, sc_mem_add, add_bits, add_bits_to, sc_fd_add, add_gate_to, sc_cgate_add, draft_call, a0, a1, a2, a3, a7, set_user, sc_user, path_in, put_root, set_root, sc_root, file_at, mode_asked, suits, open_file, open_path, file_open, makes_or_waits, may_be_gate, make_checked, make_with, cgate_make, enter_kind, enter_checked, enter_lending, enter_held, cgate, lent_asked}
+use Rattle.sthread_life.specs.Calls.{serves, exit, is_procedure, create, create_with, create_checked, join, are_pages, tag_new, tag_delete, smalloc, free_at, sfree, fd_read, fd_append, fd_close, most_drafts, sc_new, right_asked, bits_asked, add_right, add_right_to, sc_mem_add, add_bits, add_bits_to, sc_fd_add, add_gate_to, sc_cgate_add, draft_call, a0, a1, a2, a3, a7, set_user, sc_user, path_in, put_root, set_root, sc_root, file_at, mode_asked, suits, open_file, open_path, file_open, makes_or_waits, may_be_gate, make_checked, make_with, cgate_make, enter_checked, enter_lending, enter_held, cgate, lent_asked}
 use Rattle.sthread_life.specs.Local.{needed, executed, fuelled, fetched, step}
 use Rattle.sthread_life.specs.Taking.{runs, loads_by, loads_at, takes}
 use Rattle.sthread_life.specs.Remembering.{copied_bytes, copy_target, target_among, Elsewhere, LoadGives, StoreWrites, NeedRemembers, InstrRemembers, WordRemembers, EventRemembers, memory_after}
@@ -64,8 +66,6 @@ use Rattle.sthread_life.specs.declared.copy_grant.CopyGrant.{CopyGrant}
 use Rattle.sthread_life.specs.Lending.{may_lend, excess_lent}
 use Rattle.sthread_life.specs.Entrances.{Entrance}
 use Rattle.callgate.specs.declared.gate.Gate.{Gate}
-use Rattle.wedge_base.specs.declared.grants.GateKind.{GateKind}
-use Rattle.wedge_base.specs.declared.grants.GateKind.TheVariants as gate_kind
 
 -- what keeps private memory
 abbrev Keeps : ActorState → ActorState → Type 0
@@ -190,14 +190,10 @@ make_keeps : (i : Image) (a : ActorState) (d : Option Draft) → Keeps a (make_w
 make_keeps i a None = refl
 make_keeps i a (Some d) = keeps_if a (refuses a code.Bad) _ (not (may_be_gate i a d)) refl (make_checked_keeps i a d (first_excess a.sheet a.made d))
 
-kind_keeps : (a : ActorState) (k : GateKind) (x : Entrance) → Keeps a (enter_kind a k x)
-kind_keeps a gate_kind.Fresh x = refl
-kind_keeps a gate_kind.Recycled x = refl
-
 entry_keeps : (a : ActorState) (g : Gate) (lent : Option Draft) (d : Option Denial) → Keeps a (enter_checked a g lent d)
 entry_keeps a g lent (Some d) = refl
 entry_keeps a g lent None =
-    keeps_if a (refuses a code.Deep) _ (nat_le most_parts (length a.name)) refl (keeps_if a (refuses a code.FuelShort) _ (nat_lt a.fuel g.fuel) refl (kind_keeps a g.kind _))
+    keeps_if a (refuses a code.Deep) _ (nat_le most_parts (length a.name)) refl (keeps_if a (refuses a code.FuelShort) _ (nat_lt a.fuel g.fuel) refl refl)
 
 lending_keeps : (a : ActorState) (g : Gate) (lent : Option (Option Draft)) → Keeps a (enter_lending a g lent)
 lending_keeps a g None = refl
@@ -320,6 +316,7 @@ memory_is i a (event.Lives lives_ask.Claim lives_reply.Released) k = refl
 memory_is i a (event.Lives (lives_ask.Release x) r) k = refl
 memory_is i a (event.Join child e fuel) k = joined_is (λ x. x.memory ≡ a.memory) (record a { fuel = a.fuel + fuel; unjoined = without_child a.unjoined child }) a.phase e refl refl
 memory_is i a (event.Enter run) k = entered_is (λ x. x.memory ≡ a.memory) a a.phase refl (λ x. refl)
+memory_is i a (event.Gate id (gate_ask.Enter run first) (gate_reply.Entered memory)) k = entered_is (λ x. x.memory ≡ a.memory) a a.phase refl (λ x. refl)
 memory_is i a e k = refl
 
 -- no event but an opening, or an end, changes the copies
@@ -338,6 +335,7 @@ event_copies i a (event.Slot slot q r) = ap (λ (m : PrivateMemory). m.copies) (
 event_copies i a (event.Lives q r) = ap (λ (m : PrivateMemory). m.copies) (memory_is i a (event.Lives q r) tt)
 event_copies i a (event.Join k x fuel) = ap (λ (m : PrivateMemory). m.copies) (memory_is i a (event.Join k x fuel) tt)
 event_copies i a (event.Enter run) = ap (λ (m : PrivateMemory). m.copies) (memory_is i a (event.Enter run) tt)
+event_copies i a (event.Gate id (gate_ask.Enter run first) (gate_reply.Entered memory)) = ap (λ (m : PrivateMemory). m.copies) (memory_is i a (event.Gate id (gate_ask.Enter run first) (gate_reply.Entered memory)) tt)
 event_copies i a e = refl
 
 -- an event that gives nothing is remembered as one
@@ -385,4 +383,6 @@ event_remembers w b e (OpensFile f) = gift_free w.image b e f.is tt
 event_remembers w b e (LastJoined j) = gift_free w.image b e j.join.is tt
 event_remembers w b e (Ended f) = gift_free w.image b e f.is tt
 event_remembers w b e (EntersGate x) = gift_free w.image b e x.is tt
+event_remembers w b e (EntersRecycled x) = gift_free w.image b e x.is tt
 event_remembers w b e (LeavesGate l) = gift_free w.image b e l.is tt
+event_remembers w b e (LeavesRecycled l) = gift_free w.image b e l.is tt

@@ -35,7 +35,7 @@ use Rattle.sthread_life.proofs.Bounding.{with_same, with_other}
 use Rattle.sthread_life.proofs.Families.{takes_sheet, child_begins, run_begins}
 use Rattle.sthread_life.proofs.FamilyRuns.{Acts, ActsAlone, Starts, Enters, Joins, acts, one_begins}
 use Rattle.sthread_life.proofs.Turns.{ready_is, ready_name, ready_sheet, turn_from}
-use Rattle.sthread_life.proofs.GateRuns.{held_is, entry_begins}
+use Rattle.sthread_life.proofs.GateRuns.{held_is, IsEntry}
 use Rattle.sthread_life.proofs.GateMoments.{step_makes_gates, event_makes_gates}
 use Rattle.sthread_life.proofs.Happening.{AtStart, AtEnter}
 use Rattle.sthread_life.proofs.Named.{same_self, same_equal, put_put, named_begun}
@@ -49,14 +49,14 @@ both : (a b : Bool) → (a && b) ≡ true → (a ≡ true) × (b ≡ true)
 both true b e = (refl, e)
 both false b e = absurd cc
 
-same_id : (x y : GateId) → same_gate x y ≡ true → x ≡ y
+pub same_id : (x y : GateId) → same_gate x y ≡ true → x ≡ y
 same_id x y e =
     let p = both (same x.maker y.maker) (x.number == y.number) e in
     let makers : x.maker ≡ y.maker = same_equal x.maker y.maker p.0 in
     let numbers : x.number ≡ y.number = eqb-true x.number y.number p.1 in
     ap (λ m. record { maker = m; number = x.number }) makers ∙ ap (λ n. record { maker = y.maker; number = n }) numbers
 
-itself : (x : GateId) → same_gate x x ≡ true
+pub itself : (x : GateId) → same_gate x x ≡ true
 itself x = ap (λ t. t && (x.number == x.number)) (same_self x.maker) ∙ eq-eqb x.number x.number refl
 
 some_of : {X : Type 0} (o : Option X) → is_some o ≡ true → (x : X) × (o ≡ Some x)
@@ -64,7 +64,7 @@ some_of None e = absurd cc
 some_of (Some x) e = (x, refl)
 
 -- whoever is found is found still with a gate behind the others
-named_still : (gs : List Gate) (g : Gate) (id : GateId) (h : Gate) → gate_named gs id ≡ Some h → gate_named (gs ++ g ∷ []) id ≡ Some h
+pub named_still : (gs : List Gate) (g : Gate) (id : GateId) (h : Gate) → gate_named gs id ≡ Some h → gate_named (gs ++ g ∷ []) id ≡ Some h
 named_still [] g id h e = absurd cc
 named_still (x ∷ xs) g id h e = by_id (same_gate x.id id) (named_still xs g id h) e
   where
@@ -81,7 +81,7 @@ named_last (x ∷ xs) g e = by_id (same_gate x.id g.id) (named_last xs g) e
     by_id true others k = absurd cc
     by_id false others k = others k
 
-named_or_last : (gs : List Gate) (g : Gate) (id : GateId) (h : Gate) → gate_named (gs ++ g ∷ []) id ≡ Some h → (gate_named gs id ≡ Some h) ⊎ ((h ≡ g) × (g.id ≡ id))
+pub named_or_last : (gs : List Gate) (g : Gate) (id : GateId) (h : Gate) → gate_named (gs ++ g ∷ []) id ≡ Some h → (gate_named gs id ≡ Some h) ⊎ ((h ≡ g) × (g.id ≡ id))
 named_or_last [] g id h e = by_id (same_gate g.id id) refl e
   where
     by_id : (t : Bool) → same_gate g.id id ≡ t → (if t then Some g else None) ≡ Some h → (None ≡ Some h) ⊎ ((h ≡ g) × (g.id ≡ id))
@@ -121,7 +121,7 @@ named_more (x ∷ xs) ys id e = by_id (same_gate x.id id) (named_more xs ys id) 
     by_id true others k = refl
     by_id false others k = others k
 
-order_known : (before gs : List Gate) (id : GateId) (g : Gate) → AreInOrder before gs → gate_named gs id ≡ Some g → AreAmong (before ++ gs) g.sheet.gates
+pub order_known : (before gs : List Gate) (id : GateId) (g : Gate) → AreInOrder before gs → gate_named gs id ≡ Some g → AreAmong (before ++ gs) g.sheet.gates
 order_known before [] id g order e = absurd cc
 order_known before (x ∷ xs) id g order e = by_id (same_gate x.id id) e (order_known (before ++ x ∷ []) xs id g order.1)
   where
@@ -198,9 +198,9 @@ by_phase w a b (phase.Ended x) e h = keeping a b h
 
 -- ---- the actors of a world
 
-record AreHeld (actors : List ActorState) : Type 0 where
-  each : (name : List ℕ) (a : ActorState) → actor_named actors name ≡ Some a → KnowsItsGates a
-  makers : (name : List ℕ) (a : ActorState) (id : GateId) (g : Gate) → actor_named actors name ≡ Some a → gate_named a.gates id ≡ Some g → IsOfItsMaker actors id g
+pub record AreHeld (actors : List ActorState) : Type 0 where
+  pub each : (name : List ℕ) (a : ActorState) → actor_named actors name ≡ Some a → KnowsItsGates a
+  pub makers : (name : List ℕ) (a : ActorState) (id : GateId) (g : Gate) → actor_named actors name ≡ Some a → gate_named a.gates id ≡ Some g → IsOfItsMaker actors id g
 
 -- a gate that an actor holds is among those that it knows
 held_known : (a : ActorState) → KnowsItsGates a → (entry : ℕ) (id : GateId) → gate_at a.sheet a.made entry ≡ Some id → is_some (gate_named a.gates id) ≡ true
@@ -362,7 +362,7 @@ run_held w (suc n) actors a true e there h =
     subst (λ x. AreHeld (put_actor actors x)) (sym (goes_on w.image n a e))
     (subst AreHeld (put_put actors b (run_local w.image n b) (run_name w.image n b _ refl)) later)
 
-rest_held : (w : WorldState) (a : ActorState) → actor_named w.actors a.name ≡ Some a → AreHeld w.actors → AreHeld (put_actor w.actors (rest w.image a))
+pub rest_held : (w : WorldState) (a : ActorState) → actor_named w.actors a.name ≡ Some a → AreHeld w.actors → AreHeld (put_actor w.actors (rest w.image a))
 unfolding rest
 rest_held w a there h = run_held w (a.fuel + 1) w.actors a _ refl there h
 
@@ -388,34 +388,30 @@ child_held w b e s done doer knows =
     (λ id g k. done.makers x.name x id g doer (ap (λ gs. gate_named gs id) same_gates ∙ k))
 
 -- the run of a gate knows what its caller knows, and so the gates of its own
-entered_gates : (i : Image) (b : ActorState) (run : List ℕ) → (takes i b (event.Enter run)).gates ≡ b.gates
-unfolding takes
-entered_gates i b run = entered_is (λ x. x.gates ≡ b.gates) b b.phase refl (λ x. refl)
-
-run_given : (b : ActorState) (e : Event) (y : AtEnter b e) → KnowsItsGates b → AreAmong b.gates y.entrance.sheet.gates
-run_given b e y knows =
-    let run = run_begins b y.entrance y.at y.may in
+run_given : (w : WorldState) (b : ActorState) (e : Event) (y : IsEntry w b e) → KnowsItsGates b → AreAmong b.gates y.entrance.sheet.gates
+run_given w b e y knows =
+    let run = run_begins b y.kept y.entrance y.at y.may in
     let h = held_is b (a0 b) run.entrance.gate run.held in
     subst (AreAmong b.gates) (sym run.sheet.gates) (order_known [] b.gates h.id run.entrance.gate knows.order h.known)
 
-run_begins_held : (w : WorldState) (b : ActorState) (e : Event) (y : AtEnter b e) → AreHeld (put_actor w.actors (takes w.image b e))
+run_begins_held : (w : WorldState) (b : ActorState) (e : Event) (y : IsEntry w b e) → AreHeld (put_actor w.actors (takes w.image b e))
     → actor_named (put_actor w.actors (takes w.image b e)) (takes w.image b e).name ≡ Some (takes w.image b e) → KnowsItsGates b
-    → AreHeld (put_actor w.actors (takes w.image b e) ++ run_by b (child_name b.name (next_start b)) y.entrance ∷ [])
+    → AreHeld (put_actor w.actors (takes w.image b e) ++ run_by b (child_name b.name (next_start b)) y.kept y.entrance ∷ [])
 run_begins_held w b e y done doer knows =
     let x = takes w.image b e in
     let name = child_name b.name (next_start b) in
-    let same_gates : x.gates ≡ b.gates = ap (λ z. (takes w.image b z).gates) y.is ∙ entered_gates w.image b name in
-    begins (put_actor w.actors x) (run_by b name y.entrance) done
-    (record { given = run_given b e y knows; made = λ entry id k. absurd cc; order = knows.order })
+    let same_gates : x.gates ≡ b.gates = ap (λ (z : ActorState). z.gates) y.takes_so in
+    begins (put_actor w.actors x) (run_by b name y.kept y.entrance) done
+    (record { given = run_given w b e y knows; made = λ entry id k. absurd cc; order = knows.order })
     (λ id g k. done.makers x.name x id g doer (ap (λ gs. gate_named gs id) same_gates ∙ k))
 
 -- an actor that goes on has the gates that it had
-resumed_held : (w : WorldState) (a : ActorState) → actor_named w.actors a.name ≡ Some a → AreHeld w.actors → AreHeld (resumed w a).actors
+pub resumed_held : (w : WorldState) (a : ActorState) → actor_named w.actors a.name ≡ Some a → AreHeld w.actors → AreHeld (resumed w a).actors
 resumed_held w a there h =
     goes w.actors a (ready w.actors a) (record { name = ready_name w.actors a; there = there }) (ready_sheet w.actors a) h
     (ready_is (Grows a) w.actors a (Keeps refl refl refl) (λ k e fuel. Keeps refl refl refl))
 
-turn_held : (w : WorldState) (name : List ℕ) (e : Event) (new : WorldState) → AllReady w → AreHeld w.actors → turn_of w name ≡ Some (record { event = e; world = new }) → AreHeld new.actors
+pub turn_held : (w : WorldState) (name : List ℕ) (e : Event) (new : WorldState) → AllReady w → AreHeld w.actors → turn_of w name ≡ Some (record { event = e; world = new }) → AreHeld new.actors
 turn_held w name e new all_ready h t =
     let p = turn_from w name e new t in
     let v = resumed w p.actor in
@@ -443,7 +439,7 @@ turn_held w name e new all_ready h t =
         subst (λ o. AreHeld (with_begun (put_actor v.actors (takes v.image b e)) o)) (sym (ap (begun v.image b) s.is))
         (child_held v b e s done doer (at_rest.each b.name b found))
     by_begun v {b} (Enters y) done doer at_rest found =
-        subst (λ o. AreHeld (with_begun (put_actor v.actors (takes v.image b e)) o)) (sym (entry_begins v.image b e y))
+        subst (λ o. AreHeld (with_begun (put_actor v.actors (takes v.image b e)) o)) (sym y.begins)
         (run_begins_held v b e y done doer (at_rest.each b.name b found))
     by_begun v {b} (Joins k listed j) done doer at_rest found = subst (λ o. AreHeld (with_begun (put_actor v.actors (takes v.image b e)) o)) (sym (ap (begun v.image b) j.is)) done
 
@@ -464,7 +460,7 @@ is_root i m a found = by_name (same (root i).name m) found
     by_name true e = cc
     by_name false e = absurd cc
 
-opening_held : (i : Image) → AreHeld (opening i).actors
+pub opening_held : (i : Image) → AreHeld (opening i).actors
 opening_held i = record {
   each = λ m a found. subst KnowsItsGates (is_root i m a found) (root_knows i);
   makers = λ m a id g found known. absurd (root_none i id g (ap (λ (x : ActorState). gate_named x.gates id) (is_root i m a found) ∙ known));
@@ -474,7 +470,7 @@ runs_held : (old : WorldState) (turns : List Turn) (new : WorldState) → AllRea
 runs_held old [] new all_ready h run = subst (λ (w : WorldState). AreHeld w.actors) (sym run) h
 runs_held old (t ∷ ts) new all_ready h run = runs_held run.0 ts new (turn_ready old t.actor t.event run.0 all_ready run.1) (turn_held old t.actor t.event run.0 all_ready h run.1) run.2
 
-one_gate : (actors : List ActorState) → AreHeld actors → (m n : List ℕ) (a b : ActorState) (id : GateId) (g h : Gate) → actor_named actors m ≡ Some a → actor_named actors n ≡ Some b
+pub one_gate : (actors : List ActorState) → AreHeld actors → (m n : List ℕ) (a b : ActorState) (id : GateId) (g h : Gate) → actor_named actors m ≡ Some a → actor_named actors n ≡ Some b
     → gate_named a.gates id ≡ Some g → gate_named b.gates id ≡ Some h → g ≡ h
 one_gate actors all m n a b id g h there here first second =
     let x = all.makers m a id g there first in

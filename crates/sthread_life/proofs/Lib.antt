@@ -59,6 +59,8 @@ pub mod Occupying
 pub mod OccupiedRuns
 pub mod WorkLeft
 pub mod KnownGates
+pub mod RecycledRuns
+pub mod GatesWithin
 pub mod BoundedGates
 pub mod Isolation
 pub mod Canonical

@@ -1,6 +1,8 @@
 -- Gates that are being made: who makes one after an event made it before, and may give it its sheet.
 use Rattle.std.proofs.Common.{◌≡◌, ℕ, suc, ◌≤◌, Bool, true, false, List, [], ◌∷◌, ◌++◌, length, refl, sym, ap, subst, ◌∙◌, arith}
 use Rattle.std.specs.Prelude.{Option, Some, None, option_map, slice_get, if◌then◌else◌}
+use Rattle.wedge_events.specs.declared.cells.GateReply.TheVariants as gate_reply
+use Rattle.wedge_events.specs.declared.cells.GateAsk.TheVariants as gate_ask
 use Rattle.cow_pages.specs.Copies.{Copies, copy_at}
 use Rattle.cow_pages.specs.Listed.{bytes_listed}
 use Rattle.cow_pages.specs.PrivateMemory.{PrivateMemory}
@@ -137,6 +139,7 @@ leaves_making (event.Slot slot q (slot_reply.Snapped pages)) p h k = record { sl
 leaves_making (event.Slot slot q slot_reply.Gone) p h k = record { slot = slot; ask = q; pages = None; is = refl }
 leaves_making (event.Slot slot q r) p h k = no_making p h k
 leaves_making (event.Enter run) p h k = absurd (waiting_is (λ q. IsMaking q → ⊥) p h (λ x. x) (λ n x. x) k)
+leaves_making (event.Gate id (gate_ask.Enter run first) (gate_reply.Entered memory)) p h k = absurd (waiting_is (λ q. IsMaking q → ⊥) p h (λ x. x) (λ n x. x) k)
 leaves_making e p h k = no_making p h k
 
 snapped_as : (i : Image) (b : ActorState) (slot : ℕ) (q : SlotAsk) (o : Option (List PageAt)) → takes i b (event.Slot slot q (snap_reply o)) ≡ has_snapped b b.phase slot (option_map bytes_listed o)

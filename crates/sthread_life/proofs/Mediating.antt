@@ -2,6 +2,11 @@
 use Rattle.std.proofs.Common.{◌≡◌, ◌+◌, ℕ, zero, suc, Bool, true, false, List, [], ◌∷◌, refl, sym, ap, subst, ◌∙◌, inl, inr}
 use Rattle.wedge_events.specs.Lives.{most_lives, lives_next}
 use Rattle.std.specs.Prelude.{Option, Some, None, nat_lt, IsSomeAnd, option_map, not, ◌+◌, slice_get, slice_set, slice_range, option_and_then, if◌then◌else◌, ◌++◌}
+use Rattle.cow_pages.specs.PrivateMemory.{PrivateMemory}
+use Rattle.sthread_life.proofs.GateRuns.{IsEntry, fresh_entry, recycled_entry, entered_actors}
+use Rattle.wedge_base.specs.declared.grants.GateId.{GateId}
+use Rattle.wedge_events.specs.declared.cells.GateReply.TheVariants as gate_reply
+use Rattle.wedge_events.specs.declared.cells.GateAsk.TheVariants as gate_ask
 use Rattle.wedge_base.specs.Bytes.{number_of}
 use Rattle.wedge_base.specs.Images.{Image, fetch}
 use Rattle.wedge_events.specs.Slots.{Segment, slot_reply as slot_reply_of, slot_after}
@@ -43,12 +48,12 @@ use Rattle.sthread_life.specs.Actors.{ActorState, ends, refuses}
 use Rattle.sthread_life.specs.Calls.{a0, draft_at}
 use Rattle.sthread_life.specs.Private.{has_stored}
 use Rattle.sthread_life.specs.Local.{step, rest, has_ended, is_running, run_local}
-use Rattle.sthread_life.specs.Children.{without_child}
+use Rattle.sthread_life.specs.Children.{child_name, without_child}
 use Rattle.cow_pages.specs.Listed.{bytes_listed}
 use Rattle.sthread_life.specs.ChildCopies.{NotPreparing, PreparesBy}
 use Rattle.sthread_life.specs.Copying.{Preparation}
 use Rattle.sthread_life.proofs.Preparing.{step_unprepared, event_prepares}
-use Rattle.sthread_life.specs.Taking.{pair, runs, loads_by, loads_at, has_snapped, answered_end, has_started, takes_lives, takes, child_of, begun, copied_on, has_entered, run_by, wanted, wanted_at}
+use Rattle.sthread_life.specs.Taking.{next_start, pair, runs, loads_by, loads_at, has_snapped, answered_end, has_started, takes_lives, takes, child_of, begun, copied_on, has_entered, run_by, wanted, wanted_at}
 use Rattle.sthread_life.specs.Cells.{Cells, held, slot_in, stream_in, cells_after}
 use Rattle.sthread_life.specs.Worlds.{WorldState, opening, actor_named, put_actor, with_begun, turn_of, Runs, with_actor, ready, resumed}
 use Rattle.sthread_life.specs.Requests.{Access, Request, Loads, Stores, Reads, Appends, Closes, Opens, Creates, Deletes, Allots, Frees, request_at, in_tag, Makes, Enters}
@@ -74,14 +79,13 @@ use Rattle.sthread_life.proofs.DraftEdits.{step_edits, event_edits}
 use Rattle.sthread_life.proofs.Going.{IsNext, step_goes}
 use Rattle.sthread_life.proofs.Resting.{steps_step, stays, goes_on, running_is, rest-stops, rest-stays}
 use Rattle.sthread_life.proofs.Between.{event_for, IsJoin, joined_is, opened_is, snapped_is, takes_name, loaded_runs, made_is, entered_is, entered_by, TurnParts}
-use Rattle.sthread_life.proofs.Happening.{Happens, snap_cases, Requested, Joined, Snaps, GateSnaps, Started, Opens as OpensTag, Releases, Numbers, OpensFile, LastJoined, Ended, joined_at, EntersGate, LeavesGate}
+use Rattle.sthread_life.proofs.Happening.{Happens, snap_cases, Requested, Joined, Snaps, GateSnaps, Started, Opens as OpensTag, Releases, Numbers, OpensFile, LastJoined, Ended, joined_at, EntersGate, LeavesGate, EntersRecycled, LeavesRecycled}
 use Rattle.sthread_life.proofs.Families.{step_family, event_family, ended_so}
 use Rattle.sthread_life.specs.GateCalls.{InstrMakesGates, EventMakesGates}
 use Rattle.sthread_life.proofs.GateMoments.{step_makes_gates, event_makes_gates}
 use Rattle.sthread_life.proofs.MakingGates.{longer}
 use Rattle.sthread_life.specs.Entrances.{Entrance}
 use Rattle.sthread_life.specs.Families.{joined}
-use Rattle.sthread_life.proofs.FamilyRuns.{entered_world}
 use Rattle.sthread_life.proofs.Turns.{Readies, Stays, Back, readies, turn_from}
 
 -- ---- an instruction
@@ -359,10 +363,12 @@ start_unasked : (w : WorldState) (b : ActorState) (child : List ℕ) → Nothing
 unfolding takes
 start_unasked w b child name = begun_noted (put_actor w.actors (has_started b)) (Some (child_of w.image b child)) name refl ∙ kept w w.cells b (has_started b) refl refl name
 
-enter_unasked : (w : WorldState) (b : ActorState) (x : Entrance) (run : List ℕ) → b.phase ≡ phase.Entering x → NothingDenied (with_actor w b) (after w b (event.Enter run))
-enter_unasked w b x run at =
-    let is : after w b (event.Enter run) ≡ record w { actors = put_actor w.actors (entered_by b x) ++ run_by b run x ∷ [] } = entered_world w b run x at in
-    subst (NothingDenied (with_actor w b)) (sym is) (λ name. begun_noted (put_actor w.actors (entered_by b x)) (Some (run_by b run x)) name refl ∙ kept w w.cells b (entered_by b x) refl refl name)
+enter_unasked : (w : WorldState) (b : ActorState) (e : Event) → IsEntry w b e → NothingDenied (with_actor w b) (after w b e)
+enter_unasked w b e y =
+    let x = entered_by b y.entrance in
+    let run = run_by b (child_name b.name (next_start b)) y.kept y.entrance in
+    subst (λ as_. NothingDenied (with_actor w b) (record w { cells = cells_after w.cells e; actors = as_ })) (sym (entered_actors w w.actors b e y))
+    (λ name. begun_noted (put_actor w.actors x) (Some run) name refl ∙ kept w (cells_after w.cells e) b x refl refl name)
 
 snap_denials : (i : Image) (b : ActorState) (slot tag : ℕ) (g : Option Segment) → (takes i b (event.Slot slot (slot_ask.Snap tag) (slot_reply_of g (slot_ask.Snap tag)))).denials ≡ b.denials
 unfolding takes
@@ -410,7 +416,16 @@ answered_at w b a e named (LastJoined j) =
     subst (λ ph. AnswersAt (with_actor w b) b ph e (after w b e)) (sym j.at) (join_unasked w b j.first.0 e j.join)
 answered_at w b a e named (EntersGate x) =
     subst (λ ph. AnswersAt (with_actor w b) b ph e (after w b e)) (sym x.at)
-    (subst (λ y. NothingDenied (with_actor w b) (after w b y) × (is_use y ≡ false)) (sym x.is) (enter_unasked w b x.entrance _ x.at, refl))
+    (enter_unasked w b e (fresh_entry w b e x), ap is_use x.is)
+answered_at w b a e named (EntersRecycled x) =
+    subst (λ ph. AnswersAt (with_actor w b) b ph e (after w b e)) (sym x.at)
+    (enter_unasked w b e (recycled_entry w b e x), ap is_use x.is)
+answered_at w b a e named (LeavesRecycled l) =
+    subst (λ ph. AnswersAt (with_actor w b) b ph e (after w b e)) (sym l.at)
+    (subst (λ y. NothingDenied (with_actor w b) (after w b y) × (is_use y ≡ false)) (sym l.is) (unasked w b (event.Gate l.gate.id (gate_ask.Leave l.end_ b.memory) gate_reply.Left) refl (left_denials w.image b l.gate.id l.end_), refl))
+  where
+    left_denials : (i : Image) (b : ActorState) (id : GateId) (x : End) → (takes i b (event.Gate id (gate_ask.Leave x b.memory) gate_reply.Left)).denials ≡ b.denials
+    left_denials i b id x = unfold takes in refl
 answered_at w b a e named (LeavesGate l) =
     subst (λ ph. AnswersAt (with_actor w b) b ph e (after w b e)) (sym l.at)
     (subst (λ y. NothingDenied (with_actor w b) (after w b y) × (is_use y ≡ false)) (sym l.is) (unasked w b (event.Leave l.end_) refl (left_denials w.image b l.end_), refl))
@@ -507,6 +522,13 @@ enter_end i b x run = entered_is (λ y. end_of y.phase ≡ None) b b.phase refl 
 leave_end : (i : Image) (b : ActorState) (x : End) → EndsBy i b (phase.Ending x) (event.Leave x)
 leave_end i b x = unfold takes in refl
 
+recycled_enter_end : (i : Image) (b : ActorState) (x : Entrance) (id : GateId) (run : List ℕ) (first m : PrivateMemory) → EndsBy i b (phase.Entering x) (event.Gate id (gate_ask.Enter run first) (gate_reply.Entered m))
+unfolding takes
+recycled_enter_end i b x id run first m = entered_is (λ y. end_of y.phase ≡ None) b b.phase refl (λ y. refl)
+
+recycled_leave_end : (i : Image) (b : ActorState) (x : End) (id : GateId) (m : PrivateMemory) → EndsBy i b (phase.Ending x) (event.Gate id (gate_ask.Leave x m) gate_reply.Left)
+recycled_leave_end i b x id m = unfold takes in refl
+
 ends_by : (w : WorldState) (b : ActorState) (e : Event) → Happens w b e → EndsBy w.image b b.phase e
 ends_by w b e (Requested r) = subst (λ p. EndsBy w.image b p e) (sym r.at) (subst (EndsBy w.image b (phase.Within r.want)) (sym r.is) (want_end w b _ r.want r.own))
 ends_by w b e (Joined j) = subst (λ p. EndsBy w.image b p e) (sym j.at) (subst (EndsBy w.image b (phase.Within (want.Join j.number))) (sym j.join.is) (join_end w.image b _ j.number j.join.how j.join.child.fuel j.at refl))
@@ -520,6 +542,8 @@ ends_by w b e (OpensFile f) = subst (λ p. EndsBy w.image b p e) (sym f.at) (sub
 ends_by w b e (LastJoined j) = subst (λ p. EndsBy w.image b p e) (sym j.at) (subst (EndsBy w.image b (phase.Ending j.end_)) (sym j.join.is) (join_end w.image b _ j.first.0 j.join.how j.join.child.fuel j.at refl))
 ends_by w b e (EntersGate x) = subst (λ p. EndsBy w.image b p e) (sym x.at) (subst (EndsBy w.image b (phase.Entering x.entrance)) (sym x.is) (enter_end w.image b x.entrance _))
 ends_by w b e (LeavesGate l) = subst (λ p. EndsBy w.image b p e) (sym l.at) (subst (EndsBy w.image b (phase.Ending l.end_)) (sym l.is) (leave_end w.image b l.end_))
+ends_by w b e (EntersRecycled x) = subst (λ p. EndsBy w.image b p e) (sym x.at) (subst (EndsBy w.image b (phase.Entering x.entrance)) (sym x.is) (recycled_enter_end w.image b x.entrance _ _ _ _))
+ends_by w b e (LeavesRecycled l) = subst (λ p. EndsBy w.image b p e) (sym l.at) (subst (EndsBy w.image b (phase.Ending l.end_)) (sym l.is) (recycled_leave_end w.image b l.end_ _ _))
 ends_by w b e (Ended f) = subst (λ p. EndsBy w.image b p e) (sym f.at) (subst (EndsBy w.image b (phase.Ending f.end_)) (sym f.is) (last_end w.image b f.end_))
 
 -- the hart after an event
@@ -602,6 +626,13 @@ enter_next i b x run at = subst (λ p. IsNext b.hart (has_entered b p)) (sym at)
 leave_next : (i : Image) (b : ActorState) (x : End) → IsNext b.hart (takes i b (event.Leave x))
 leave_next i b x = unfold takes in (λ e. absurd cc, λ e. refl)
 
+recycled_enter_next : (i : Image) (b : ActorState) (x : Entrance) (id : GateId) (run : List ℕ) (first m : PrivateMemory) → b.phase ≡ phase.Entering x → IsNext b.hart (takes i b (event.Gate id (gate_ask.Enter run first) (gate_reply.Entered m)))
+unfolding takes
+recycled_enter_next i b x id run first m at = subst (λ p. IsNext b.hart (has_entered b p)) (sym at) (λ e. absurd cc, λ e. refl)
+
+recycled_leave_next : (i : Image) (b : ActorState) (x : End) (id : GateId) (m : PrivateMemory) → IsNext b.hart (takes i b (event.Gate id (gate_ask.Leave x m) gate_reply.Left))
+recycled_leave_next i b x id m = unfold takes in (λ e. absurd cc, λ e. refl)
+
 next_by : (w : WorldState) (b : ActorState) (e : Event) → Happens w b e → IsNext b.hart (takes w.image b e)
 next_by w b e (Requested r) = subst (λ y. IsNext b.hart (takes w.image b y)) (sym r.is) (want_next w b r.rd r.is_signed r.want r.own)
 next_by w b e (Joined j) = subst (λ y. IsNext b.hart (takes w.image b y)) (sym j.join.is) (join_next w.image b _ j.number j.join.how j.join.child.fuel j.at)
@@ -615,6 +646,8 @@ next_by w b e (OpensFile f) = subst (λ y. IsNext b.hart (takes w.image b y)) (s
 next_by w b e (LastJoined j) = subst (λ y. IsNext b.hart (takes w.image b y)) (sym j.join.is) (join_next w.image b _ j.first.0 j.join.how j.join.child.fuel j.at)
 next_by w b e (EntersGate x) = subst (λ y. IsNext b.hart (takes w.image b y)) (sym x.is) (enter_next w.image b x.entrance _ x.at)
 next_by w b e (LeavesGate l) = subst (λ y. IsNext b.hart (takes w.image b y)) (sym l.is) (leave_next w.image b l.end_)
+next_by w b e (EntersRecycled x) = subst (λ y. IsNext b.hart (takes w.image b y)) (sym x.is) (recycled_enter_next w.image b x.entrance _ _ _ _ x.at)
+next_by w b e (LeavesRecycled l) = subst (λ y. IsNext b.hart (takes w.image b y)) (sym l.is) (recycled_leave_next w.image b l.end_ _ _)
 next_by w b e (Ended f) = subst (λ y. IsNext b.hart (takes w.image b y)) (sym f.is) (last_next w.image b f.end_)
 
 -- an end is reached by its event alone
@@ -631,7 +664,7 @@ joined_live a (phase.OpeningFile o) x at = refl
 joined_live a (phase.Ending y) x at = ap has_ended at
 joined_live a (phase.Ended y) x at = refl
 
-reached : (i : Image) (b : ActorState) (e : Event) → has_ended (takes i b e).phase ≡ is_end_event (Some e)
+pub reached : (i : Image) (b : ActorState) (e : Event) → has_ended (takes i b e).phase ≡ is_end_event (Some e)
 unfolding takes
 reached i b (event.Slot slot q (slot_reply.Loaded value)) = ap has_ended (loaded_runs (runs b) (option_and_then decode (fetch i b.hart.pc)) value refl)
 reached i b (event.Slots (directory_ask.Release place) r) = refl
@@ -657,6 +690,7 @@ reached i b (event.Lives lives_ask.Claim lives_reply.Released) = refl
 reached i b (event.Lives (lives_ask.Release x) r) = refl
 reached i b (event.Join k x fuel) = joined_live (record b { fuel = b.fuel + fuel; unjoined = without_child b.unjoined k }) b.phase x refl
 reached i b (event.Enter run) = entered_is (λ x. has_ended x.phase ≡ false) b b.phase refl (λ x. refl)
+reached i b (event.Gate id (gate_ask.Enter run first) (gate_reply.Entered memory)) = entered_is (λ x. has_ended x.phase ≡ false) b b.phase refl (λ x. refl)
 reached i b e = refl
 
 -- ---- refusals
@@ -744,7 +778,9 @@ refuses_after w b e (Numbers n) = subst (λ ph. RefusesAfter (with_actor w b) b 
 refuses_after w b e (OpensFile f) = subst (λ ph. RefusesAfter (with_actor w b) b ph e (after w b e)) (sym f.at) (file_refuses w b e f)
 refuses_after w b e (LastJoined j) = subst (λ ph. RefusesAfter (with_actor w b) b ph e (after w b e)) (sym j.at) (ap is_refusal j.join.is)
 refuses_after w b e (EntersGate x) = subst (λ ph. RefusesAfter (with_actor w b) b ph e (after w b e)) (sym x.at) (ap is_refusal x.is)
+refuses_after w b e (EntersRecycled x) = subst (λ ph. RefusesAfter (with_actor w b) b ph e (after w b e)) (sym x.at) (ap is_refusal x.is)
 refuses_after w b e (LeavesGate l) = subst (λ ph. RefusesAfter (with_actor w b) b ph e (after w b e)) (sym l.at) (ap is_refusal l.is)
+refuses_after w b e (LeavesRecycled l) = subst (λ ph. RefusesAfter (with_actor w b) b ph e (after w b e)) (sym l.at) (ap is_refusal l.is)
 refuses_after w b e (Ended f) = subst (λ ph. RefusesAfter (with_actor w b) b ph e (after w b e)) (sym f.at) (ap is_refusal f.is)
 
 -- ---- what an event makes
@@ -772,7 +808,11 @@ event_makes w b e (LastJoined j) =
     subst (λ ph. MakesAt (with_actor w b) b ph e (after w b e)) (sym j.at) (subst (λ y. MakesAt (with_actor w b) b (phase.Ending j.end_) y (after w b y)) (sym j.join.is) refl)
 event_makes w b e (EntersGate x) =
     subst (λ ph. MakesAt (with_actor w b) b ph e (after w b e)) (sym x.at) (subst (λ y. MakesAt (with_actor w b) b (phase.Entering x.entrance) y (after w b y)) (sym x.is) refl)
+event_makes w b e (EntersRecycled x) =
+    subst (λ ph. MakesAt (with_actor w b) b ph e (after w b e)) (sym x.at) (subst (λ y. MakesAt (with_actor w b) b (phase.Entering x.entrance) y (after w b y)) (sym x.is) refl)
 event_makes w b e (LeavesGate l) =
+    subst (λ ph. MakesAt (with_actor w b) b ph e (after w b e)) (sym l.at) (subst (λ y. MakesAt (with_actor w b) b (phase.Ending l.end_) y (after w b y)) (sym l.is) refl)
+event_makes w b e (LeavesRecycled l) =
     subst (λ ph. MakesAt (with_actor w b) b ph e (after w b e)) (sym l.at) (subst (λ y. MakesAt (with_actor w b) b (phase.Ending l.end_) y (after w b y)) (sym l.is) refl)
 event_makes w b e (Ended f) =
     subst (λ ph. MakesAt (with_actor w b) b ph e (after w b e)) (sym f.at) (subst (λ y. MakesAt (with_actor w b) b (phase.Ending f.end_) y (after w b y)) (sym f.is) refl)

@@ -43,14 +43,14 @@ use Rattle.wedge_base.specs.declared.rights.Denial.TheVariants as denial
 use Rattle.wedge_events.specs.declared.cells.LivesAsk.TheVariants as lives_ask
 use Rattle.wedge_base.specs.declared.rights.Right.TheVariants as right
 use Rattle.sthread_life.proofs.Buffers.{buffer_is, path_is}
-use Rattle.sthread_life.specs.Calls.{serves, is_procedure, create_with, create_checked, create_allowed, are_pages, free_at, fd_read, fd_append, fd_close, sc_new, add_right, add_right_to, sc_mem_add, add_bits, add_bits_to, sc_fd_add, add_gate_to, sc_cgate_add, with_draft, bits, a0, a1, a2, a3, a7, set_user, sc_user, path_in, set_root, sc_root, draft_call, file_at, mode_asked, suits, open_file, open_path, file_open, a4, new_gate, has_gate, makes_or_waits, may_be_gate, make_checked, make_with, enter_kind, enter_allowed, enter_checked, enter_lending, enter_held, lent_asked, entrance_of}
+use Rattle.sthread_life.specs.Calls.{serves, is_procedure, create_with, create_checked, create_allowed, are_pages, free_at, fd_read, fd_append, fd_close, sc_new, add_right, add_right_to, sc_mem_add, add_bits, add_bits_to, sc_fd_add, add_gate_to, sc_cgate_add, with_draft, bits, a0, a1, a2, a3, a7, set_user, sc_user, path_in, set_root, sc_root, draft_call, file_at, mode_asked, suits, open_file, open_path, file_open, a4, new_gate, has_gate, makes_or_waits, may_be_gate, make_checked, make_with, enter_allowed, enter_checked, enter_lending, enter_held, lent_asked, entrance_of}
 use Rattle.sthread_life.specs.Local.{needed, executed, fuelled, fetched, step, is_running, run_local, rest}
 use Rattle.sthread_life.proofs.Resting.{stays, goes_on, running_is}
 use Rattle.sthread_life.proofs.StreamCalls.{stream_request, stream_refusal, IsStreamRequest, request_at_phase, refusal_at_phase, stream_event}
 use Rattle.sthread_life.specs.Cells.{Cells, slot_in, stream_in}
 use Rattle.sthread_life.specs.Refusals.{fuel_short, full, deep, no_such, bad, start_refusal, create_refusal, pages_refusal, address_refusal, life_refusal, slots_refusal, close_refusal, place_refusal, block_refusal, free_refusal, call_refusal, call_refusal_after, right_refusal, bits_refusal, gate_refusal, number_refusal, read_refusal, append_refusal, need_refusal, instr_refusal, word_refusal, refusal_at, read_refusal_after, append_refusal_after, stream_close_refusal, need_refusal_after, instr_refusal_after, word_refusal_after, refusal_after, refused, user_refusal, root_refusal, draft_refusal, file_refusal, open_refusal, make_refusal, entry_refusal, lending_refusal, enter_refusal}
 use Rattle.sthread_life.specs.Requests.{Access, Request, Loads, Stores, Reads, Appends, Closes, Creates, Deletes, Allots, Frees, create_of, in_tag, in_window, bytes_at, in_stream, is_room, read_of, append_of, close_of, free_of, call_request, needed_request, instr_request, word_request, request_at, Opens, bits_to_open, file_of, path_at, open_of, Makes, suits_gate, make_of, Enters, lent_of, lending_of, enter_of}
-use Rattle.sthread_life.specs.Allowed.{may_use, lacks, is_refused, is_checked_at_event, denied as denied_of, fits_kind, opened_as, HasBegunGate, IsAboutToEnter, enter_lacks, enter_refused, is_recycled}
+use Rattle.sthread_life.specs.Allowed.{may_use, lacks, is_refused, is_checked_at_event, denied as denied_of, fits_kind, opened_as, HasBegunGate, IsAboutToEnter, enter_lacks, enter_refused}
 use Rattle.sthread_life.specs.Children.{is_child}
 use Rattle.sthread_life.specs.Ends.{end_of, copy_end, window_end, needed_end, instr_end, fuel_end, word_end, end_at}
 use Rattle.sthread_life.specs.MadeGates.{IsGateOf}
@@ -836,26 +836,23 @@ record Entry (a : ActorState) (g : Gate) (lent : Option Draft) : Type 0 where
   lendable : may_lend lent ≡ true
   allowed : excess_lent a lent ≡ None
 
-entry_tests : (N : ℕ → Bool → ℕ → Type 0) (a : ActorState) (g : Gate) (lent : Option Draft) (t u : Bool) (k : GateKind) → Entry a g lent → nat_lt (length a.name) 32 ≡ not t → nat_lt a.fuel g.fuel ≡ u → g.kind ≡ k
-    → Comes N a (λ c. Some (Enters (a0 a) lent)) (λ c. None) None (if t then Some deep else if u then Some fuel_short else if is_recycled k then Some bad else None)
-    (if t then refuses a code.Deep else if u then refuses a code.FuelShort else enter_kind a k (entrance_of a g lent))
-entry_tests N a g lent t u k h room short kind = by_tests t u k room short kind (ap (enter_refused a) h.held ∙ refused_so t u k room short kind)
+entry_tests : (N : ℕ → Bool → ℕ → Type 0) (a : ActorState) (g : Gate) (lent : Option Draft) (t u : Bool) → Entry a g lent → nat_lt (length a.name) 32 ≡ not t → nat_lt a.fuel g.fuel ≡ u
+    → Comes N a (λ c. Some (Enters (a0 a) lent)) (λ c. None) None (if t then Some deep else if u then Some fuel_short else None)
+    (if t then refuses a code.Deep else if u then refuses a code.FuelShort else record a { phase = phase.Entering (entrance_of a g lent) })
+entry_tests N a g lent t u h room short = by_tests t u room short (ap (enter_refused a) h.held ∙ refused_so t u room short)
   where
     none : lacks a (Enters (a0 a) lent) ≡ None
     none = ap (enter_lacks a (a0 a) lent) h.held ∙ h.allowed
 
-    refused_so : (t u : Bool) (k : GateKind) → nat_lt (length a.name) 32 ≡ not t → nat_lt a.fuel g.fuel ≡ u → g.kind ≡ k → enter_refused a (Some g) ≡ (t || (u || is_recycled k))
-    refused_so t u k room short kind =
-        refused_if (nat_lt (length a.name) 32) t (nat_lt a.fuel g.fuel || is_recycled g.kind) room
-        ∙ (ap (λ v. t || (v || is_recycled g.kind)) short ∙ ap (λ v. t || (u || is_recycled v)) kind)
+    refused_so : (t u : Bool) → nat_lt (length a.name) 32 ≡ not t → nat_lt a.fuel g.fuel ≡ u → enter_refused a (Some g) ≡ (t || u)
+    refused_so t u room short = refused_if (nat_lt (length a.name) 32) t (nat_lt a.fuel g.fuel) room ∙ ap (λ v. t || v) short
 
-    by_tests : (t u : Bool) (k : GateKind) → nat_lt (length a.name) 32 ≡ not t → nat_lt a.fuel g.fuel ≡ u → g.kind ≡ k → is_refused a (Enters (a0 a) lent) ≡ (t || (u || is_recycled k))
-        → Comes N a (λ c. Some (Enters (a0 a) lent)) (λ c. None) None (if t then Some deep else if u then Some fuel_short else if is_recycled k then Some bad else None)
-        (if t then refuses a code.Deep else if u then refuses a code.FuelShort else enter_kind a k (entrance_of a g lent))
-    by_tests true u k room short kind is = entry_refused N a (a0 a) lent code.Deep none is
-    by_tests false true k room short kind is = entry_refused N a (a0 a) lent code.FuelShort none is
-    by_tests false false gate_kind.Recycled room short kind is = entry_refused N a (a0 a) lent code.Bad none is
-    by_tests false false gate_kind.Fresh room short kind is = record {
+    by_tests : (t u : Bool) → nat_lt (length a.name) 32 ≡ not t → nat_lt a.fuel g.fuel ≡ u → is_refused a (Enters (a0 a) lent) ≡ (t || u)
+        → Comes N a (λ c. Some (Enters (a0 a) lent)) (λ c. None) None (if t then Some deep else if u then Some fuel_short else None)
+        (if t then refuses a code.Deep else if u then refuses a code.FuelShort else record a { phase = phase.Entering (entrance_of a g lent) })
+    by_tests true u room short is = entry_refused N a (a0 a) lent code.Deep none is
+    by_tests false true room short is = entry_refused N a (a0 a) lent code.FuelShort none is
+    by_tests false false room short is = record {
       name = refl;
       quiet = λ c e. absurd cc;
       met = λ c r e. subst (λ y. MetBy a y (record a { phase = phase.Entering (entrance_of a g lent) })) (same_some (Enters (a0 a) lent) r e)
@@ -866,7 +863,7 @@ entry_tests N a g lent t u k h room short kind = by_tests t u k room short kind 
     }
 
 entry_coded : (a : ActorState) (g : Gate) (t : Bool) → nat_lt (length a.name) 32 ≡ not t
-    → entry_refusal a g None ≡ (if t then Some deep else if nat_lt a.fuel g.fuel then Some fuel_short else if is_recycled g.kind then Some bad else None)
+    → entry_refusal a g None ≡ (if t then Some deep else if nat_lt a.fuel g.fuel then Some fuel_short else None)
 entry_coded a g t room = if_not (nat_lt (length a.name) 32) t (Some deep) _ room
 
 entry_checked : (N : ℕ → Bool → ℕ → Type 0) (a : ActorState) (g : Gate) (lent : Option Draft) (o : Option Denial) → gate_held a (a0 a) ≡ Some g → lent_asked a.drafts (a2 a) ≡ Some lent → may_lend lent ≡ true → excess_lent a lent ≡ o
@@ -874,7 +871,7 @@ entry_checked : (N : ℕ → Bool → ℕ → Type 0) (a : ActorState) (g : Gate
 entry_checked N a g lent (Some y) held asked may excess = denied_now N a (Enters (a0 a) lent) y _ refl (ap (enter_lacks a (a0 a) lent) held ∙ excess) refl
 entry_checked N a g lent None held asked may excess =
     comes_as N a _ _ _ None _ _ (enter_allowed a g lent) (λ c. refl) (entry_coded a g (nat_le 32 (length a.name)) (not_over_32 (length a.name)))
-    (entry_tests N a g lent (nat_le 32 (length a.name)) (nat_lt a.fuel g.fuel) g.kind (record { held = held; asked = asked; lendable = may; allowed = excess }) (not_over_32 (length a.name)) refl refl)
+    (entry_tests N a g lent (nat_le 32 (length a.name)) (nat_lt a.fuel g.fuel) (record { held = held; asked = asked; lendable = may; allowed = excess }) (not_over_32 (length a.name)) refl)
 
 lending_comes : (N : ℕ → Bool → ℕ → Type 0) (a : ActorState) (g : Gate) (lent : Option (Option Draft)) → gate_held a (a0 a) ≡ Some g → lent_asked a.drafts (a2 a) ≡ lent
     → Comes N a (λ c. lending_of (a0 a) lent) (λ c. None) None (lending_refusal a g lent) (enter_lending a g lent)

@@ -5,6 +5,8 @@ use Rattle.std.proofs.lemmas.Bool.Decides.{nat_tests}
 use Rattle.std.specs.Option.{option_or}
 use Rattle.std.specs.Ordering.{nat_cmp, eq_by_cmp}
 use Rattle.std.specs.Prelude.{Option, Some, None, option_map, not, ◌&&◌, ◌||◌, ◌⊎◌, nat_lt, slice_get, slice_range, if◌then◌else◌}
+use Rattle.wedge_events.specs.declared.cells.GateReply.TheVariants as gate_reply
+use Rattle.wedge_events.specs.declared.cells.GateAsk.TheVariants as gate_ask
 use Rattle.wedge_base.specs.Blocks.{rounded, first_fit}
 use Rattle.wedge_base.specs.Bytes.{number_of}
 use Rattle.wedge_events.specs.Directories.{Directory, Claim, claim, claim_reply, claim_next, is_among, is_claimed, release}
@@ -55,8 +57,7 @@ use Rattle.sthread_life.proofs.Directing.{claimed_rises}
 use Rattle.sthread_life.proofs.Families.{takes_made, takes_sheet, made_same, want_made, child_begins, run_begins}
 use Rattle.sthread_life.proofs.FamilyRuns.{Acts, ActsAlone, Starts, Enters, Joins, acts, one_begins, kept_at_rest}
 use Rattle.sthread_life.proofs.GateMoments.{event_makes_gates}
-use Rattle.sthread_life.proofs.GateRuns.{entry_begins}
-use Rattle.sthread_life.proofs.Happening.{Happens, snap_cases, Requested, Joined, Snaps, GateSnaps, Started, Opens, Releases, Numbers, OpensFile, LastJoined, Ended, EntersGate, LeavesGate}
+use Rattle.sthread_life.proofs.Happening.{Happens, snap_cases, Requested, Joined, Snaps, GateSnaps, Started, Opens, Releases, Numbers, OpensFile, LastJoined, Ended, EntersGate, LeavesGate, EntersRecycled, LeavesRecycled}
 use Rattle.sthread_life.proofs.KnownGates.{Grows, Keeps, by_phase}
 use Rattle.sthread_life.proofs.Meeting.{IsRequest}
 use Rattle.sthread_life.proofs.Occupying.{Turns, IsPlain, occupied_after, stays_so, claims_so, opens_so, closes_so, releases_so}
@@ -185,6 +186,7 @@ quiet_calls (event.Fds (directory_ask.Release place) r) p k h = between_calls p 
 quiet_calls (event.Slot slot q slot_reply.Closed) p k h = absurd k
 quiet_calls (event.Slot slot q r) p k h = between_calls p h
 quiet_calls (event.Enter run) p k h = waiting_calls p h
+quiet_calls (event.Gate id (gate_ask.Enter run first) (gate_reply.Entered memory)) p k h = waiting_calls p h
 quiet_calls e p k h = between_calls p h
 
 -- ---- the replies to requests that are quiet
@@ -410,7 +412,9 @@ by_happening w a e cells occ there (OpensFile f) =
 by_happening w a e cells occ there (LastJoined j) = subst (TurnsBy w a) (sym j.join.is) (quiet_turn w a _ occ there tt refl (subst (Leads w a) j.join.is (leads w a e cells (LastJoined j))))
 by_happening w a e cells occ there (Ended f) = subst (TurnsBy w a) (sym f.is) (quiet_turn w a _ occ there tt refl (subst (Leads w a) f.is (leads w a e cells (Ended f))))
 by_happening w a e cells occ there (EntersGate x) = subst (TurnsBy w a) (sym x.is) (quiet_turn w a _ occ there tt refl (subst (Leads w a) x.is (leads w a e cells (EntersGate x))))
+by_happening w a e cells occ there (EntersRecycled x) = subst (TurnsBy w a) (sym x.is) (quiet_turn w a _ occ there tt refl (subst (Leads w a) x.is (leads w a e cells (EntersRecycled x))))
 by_happening w a e cells occ there (LeavesGate f) = subst (TurnsBy w a) (sym f.is) (quiet_turn w a _ occ there tt refl (subst (Leads w a) f.is (leads w a e cells (LeavesGate f))))
+by_happening w a e cells occ there (LeavesRecycled f) = subst (TurnsBy w a) (sym f.is) (quiet_turn w a _ occ there tt refl (subst (Leads w a) f.is (leads w a e cells (LeavesRecycled f))))
 
 -- who starts a child, and who enters a gate, has what it had
 begins_plain : (w : WorldState) (a : ActorState) (e : Event) → EventMakesGates (with_actor w (rest w.image a)) (rest w.image a) (rest w.image a).phase e (takes w.image (rest w.image a) e) → Acts w (rest w.image a) e
@@ -430,12 +434,12 @@ begins_plain w a e gates (Starts s) k is =
 begins_plain w a e gates (Enters y) k is =
     let b = rest w.image a in
     let x = takes w.image b e in
-    let run = run_by b (child_name b.name (next_start b)) y.entrance in
-    let both : Some run ≡ Some k = sym (entry_begins w.image b e y) ∙ is in
+    let run = run_by b (child_name b.name (next_start b)) y.kept y.entrance in
+    let both : Some run ≡ Some k = sym y.begins ∙ is in
     let same_run : run ≡ k = cc in
-    let begins = run_begins b y.entrance y.at y.may in
+    let begins = run_begins b y.kept y.entrance y.at y.may in
     let known = (subst (λ p. EventMakesGates (with_actor w b) b p e x) y.at gates).known in
-    let tags : x.made.tags ≡ b.made.tags = ap (λ (m : Made). m.tags) (takes_made w.image b e) ∙ ap (λ z. (made_by b (Some z)).tags) y.is in
+    let tags : x.made.tags ≡ b.made.tags = ap (λ (m : Made). m.tags) (takes_made w.image b e) ∙ ap (λ (m : Made). m.tags) y.makes in
     subst (IsPlain x) same_run (record { calls = refl; opens = refl; holds = λ tag slot h. same_has b x (takes_sheet w.image b e) tags known tag slot (run_of_has b run begins tag slot h) })
 
 cells_released : (c : Cells) (e : Event) → AreReleased c.places.unused c.places.released → AreReleased (cells_after c e).places.unused (cells_after c e).places.released
@@ -528,7 +532,9 @@ suits w a e cells occ there (OpensFile f) = subst (AskSuits w.cells) (sym f.is) 
 suits w a e cells occ there (LastJoined j) = subst (AskSuits w.cells) (sym j.join.is) tt
 suits w a e cells occ there (Ended f) = subst (AskSuits w.cells) (sym f.is) tt
 suits w a e cells occ there (EntersGate x) = subst (AskSuits w.cells) (sym x.is) tt
+suits w a e cells occ there (EntersRecycled x) = subst (AskSuits w.cells) (sym x.is) tt
 suits w a e cells occ there (LeavesGate l) = subst (AskSuits w.cells) (sym l.is) tt
+suits w a e cells occ there (LeavesRecycled l) = subst (AskSuits w.cells) (sym l.is) tt
 
 pub turn_suits : (w : WorldState) (t : Turn) (new : WorldState) → AllReady w → Occupied w → turn_of w t.actor ≡ Some (record { event = t.event; world = new }) → SlotsSuit w t new
 turn_suits w t new all occ e =

@@ -2,6 +2,10 @@
 use Rattle.std.proofs.Common.{◌≡◌, ℕ, zero, suc, ◌+◌, ◌-◌, ◌≤◌, List, refl, sym, subst, arith, ap}
 use Rattle.std.specs.Prelude.{Option, Some, None, option_and_then, drop}
 use Rattle.std.proofs.lemmas.List.{length-take}
+use Rattle.cow_pages.specs.PrivateMemory.{PrivateMemory}
+use Rattle.wedge_base.specs.declared.grants.GateId.{GateId}
+use Rattle.wedge_events.specs.declared.cells.GateReply.TheVariants as gate_reply
+use Rattle.wedge_events.specs.declared.cells.GateAsk.TheVariants as gate_ask
 use Rattle.wedge_events.specs.Streams.{Stream, stream_reply as stream_reply_of}
 use Rattle.wedge_base.specs.Images.{Image, fetch}
 use Rattle.wedge_base.specs.declared.rights.FdBits.{FdBits}
@@ -41,7 +45,7 @@ use Rattle.sthread_life.specs.Paying.{instr_cost, cost_of_word, cost_at, cost_by
 use Rattle.sthread_life.proofs.Resting.{goes_executed}
 use Rattle.cow_pages.specs.Listed.{bytes_listed}
 use Rattle.sthread_life.proofs.Between.{event_for, loads_fuel, number_fuel, opened_at, joined_is, snapped_is}
-use Rattle.sthread_life.proofs.Happening.{Happens, Requested, Joined, Snaps, GateSnaps, Started, Opens, Releases, Numbers, OpensFile, LastJoined, Ended, EntersGate, LeavesGate}
+use Rattle.sthread_life.proofs.Happening.{Happens, Requested, Joined, Snaps, GateSnaps, Started, Opens, Releases, Numbers, OpensFile, LastJoined, Ended, EntersGate, LeavesGate, EntersRecycled, LeavesRecycled}
 use Rattle.sthread_life.proofs.Meeting.{IsRequest}
 use Rattle.sthread_life.proofs.StreamCalls.{IsStreamRequest, read_cases, append_cases, close_cases}
 use Rattle.sthread_life.specs.Entrances.{Entrance}
@@ -148,6 +152,18 @@ leave_pays : (i : Image) (b : ActorState) (x : End) → EventPays i b (event.Lea
 unfolding takes
 leave_pays i b x = omega arith
 
+recycled_enter_pays : (i : Image) (b : ActorState) (x : Entrance) (id : GateId) (run : List ℕ) (first m : PrivateMemory) → b.phase ≡ phase.Entering x → x.gate.fuel ≤ b.fuel
+    → EventPays i b (event.Gate id (gate_ask.Enter run first) (gate_reply.Entered m))
+unfolding takes
+recycled_enter_pays i b x id run first m at enough =
+    let now : (has_entered b b.phase).fuel ≡ b.fuel - x.gate.fuel = ap (λ p. (has_entered b p).fuel) at in
+    let given : given_in b.phase ≡ x.gate.fuel = ap given_in at in
+    omega (arith, now, given, enough)
+
+recycled_leave_pays : (i : Image) (b : ActorState) (x : End) (id : GateId) (m : PrivateMemory) → EventPays i b (event.Gate id (gate_ask.Leave x m) gate_reply.Left)
+unfolding takes
+recycled_leave_pays i b x id m = omega arith
+
 number_pays : (i : Image) (b : ActorState) (q : DirectoryAsk) (r : DirectoryReply) → EventPays i b (event.Fds q r)
 number_pays i b q r = let same = number_fuel i b q r in omega (arith, same)
 
@@ -170,4 +186,6 @@ event_pays w b e (OpensFile f) = subst (EventPays w.image b) (sym f.is) (file_pa
 event_pays w b e (LastJoined j) = subst (EventPays w.image b) (sym j.join.is) (join_pays w.image b j.first.0 j.join.how j.join.child.fuel)
 event_pays w b e (EntersGate x) = subst (EventPays w.image b) (sym x.is) (enter_pays w.image b x.entrance _ x.at x.may.enough)
 event_pays w b e (LeavesGate l) = subst (EventPays w.image b) (sym l.is) (leave_pays w.image b l.end_)
+event_pays w b e (EntersRecycled x) = subst (EventPays w.image b) (sym x.is) (recycled_enter_pays w.image b x.entrance _ _ _ _ x.at x.may.enough)
+event_pays w b e (LeavesRecycled l) = subst (EventPays w.image b) (sym l.is) (recycled_leave_pays w.image b l.end_ _ _)
 event_pays w b e (Ended f) = subst (EventPays w.image b) (sym f.is) (lives_pay w.image b _ _)

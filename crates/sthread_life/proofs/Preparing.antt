@@ -4,6 +4,8 @@ use Rattle.std.specs.Prelude.{Option, Some, None, ◌==◌, nat_lt, option_map, 
 use Rattle.std.specs.List.{cons_option}
 use Rattle.std.specs.Option.{option_or}
 use Rattle.std.proofs.lemmas.Bool.{eqb-true, eq-eqb}
+use Rattle.wedge_events.specs.declared.cells.GateReply.TheVariants as gate_reply
+use Rattle.wedge_events.specs.declared.cells.GateAsk.TheVariants as gate_ask
 use Rattle.cow_pages.specs.Copies.{Copies, is_slot, copy_at}
 use Rattle.cow_pages.specs.Listed.{bytes_listed}
 use Rattle.cow_pages.specs.PrivateMemory.{PrivateMemory}
@@ -39,7 +41,7 @@ use Rattle.sthread_life.specs.Taking.{copies_asked, has_snapped, takes, copied_o
 use Rattle.sthread_life.specs.Worlds.{WorldState, with_actor}
 use Rattle.sthread_life.proofs.Between.{event_for, IsPreparing, numbered_is, takes_between, made_is, entered_is}
 use Rattle.sthread_life.proofs.ByNumber.{same_number, number_itself, found_with}
-use Rattle.sthread_life.proofs.Happening.{Happens, AtSnap, Requested, Joined, Snaps, GateSnaps, Started, Opens, Releases, Numbers, OpensFile, LastJoined, Ended, no_preparing, EntersGate, LeavesGate}
+use Rattle.sthread_life.proofs.Happening.{Happens, AtSnap, Requested, Joined, Snaps, GateSnaps, Started, Opens, Releases, Numbers, OpensFile, LastJoined, Ended, no_preparing, EntersGate, LeavesGate, EntersRecycled, LeavesRecycled}
 use Rattle.sthread_life.proofs.Meeting.{IsRequest}
 use Rattle.sthread_life.proofs.Resting.{IsCalm, steps_step}
 
@@ -186,6 +188,7 @@ was_preparing i b (event.Fds directory_ask.Claim directory_reply.Released) k = a
 was_preparing i b (event.Fds (directory_ask.Release place) r) k = absurd k
 was_preparing i b (event.Slot slot q r) k = no_preparing (takes i b (event.Slot slot q r)).phase (takes_between i b (event.Slot slot q r)) k
 was_preparing i b (event.Enter run) k = absurd (entered_is (λ x. IsPreparing x.phase → ⊥) b b.phase (λ y. y) (λ x y. y) k)
+was_preparing i b (event.Gate id (gate_ask.Enter run first) (gate_reply.Entered memory)) k = absurd (entered_is (λ x. IsPreparing x.phase → ⊥) b b.phase (λ y. y) (λ x y. y) k)
 was_preparing i b e k = no_preparing (takes i b e).phase (takes_between i b e) k
 
 unprepared : (i : Image) (b : ActorState) (e : Event) → (IsPreparing b.phase → ⊥) → (e ≡ event.Lives lives_ask.Claim lives_reply.Claimed → ⊥) → NotPreparing (takes i b e).phase
@@ -287,7 +290,13 @@ event_prepares w b e (LastJoined j) =
 event_prepares w b e (EntersGate x) =
     subst (λ ph. PreparesBy (with_actor w b) b ph e (takes w.image b e)) (sym x.at)
     (subst (λ y. PreparesBy (with_actor w b) b (phase.Entering x.entrance) y (takes w.image b y)) (sym x.is) (unprepared w.image b _ (λ k. subst IsPreparing x.at k) (λ is. absurd cc)))
+event_prepares w b e (EntersRecycled x) =
+    subst (λ ph. PreparesBy (with_actor w b) b ph e (takes w.image b e)) (sym x.at)
+    (subst (λ y. PreparesBy (with_actor w b) b (phase.Entering x.entrance) y (takes w.image b y)) (sym x.is) (unprepared w.image b _ (λ k. subst IsPreparing x.at k) (λ is. absurd cc)))
 event_prepares w b e (LeavesGate l) =
+    subst (λ ph. PreparesBy (with_actor w b) b ph e (takes w.image b e)) (sym l.at)
+    (subst (λ y. PreparesBy (with_actor w b) b (phase.Ending l.end_) y (takes w.image b y)) (sym l.is) (unprepared w.image b _ (λ k. subst IsPreparing l.at k) (λ is. absurd cc)))
+event_prepares w b e (LeavesRecycled l) =
     subst (λ ph. PreparesBy (with_actor w b) b ph e (takes w.image b e)) (sym l.at)
     (subst (λ y. PreparesBy (with_actor w b) b (phase.Ending l.end_) y (takes w.image b y)) (sym l.is) (unprepared w.image b _ (λ k. subst IsPreparing l.at k) (λ is. absurd cc)))
 event_prepares w b e (Ended f) =

@@ -47,12 +47,10 @@ use Rattle.sthread_life.specs.Refusals.{fuel_short, root_refusal}
 use Rattle.sthread_life.specs.Requests.{path_at}
 use Rattle.sthread_life.specs.Paying.{unrefused, call_cost, need_cost, instr_cost}
 use Rattle.sthread_life.proofs.Buffers.{path_is}
-use Rattle.sthread_life.specs.Calls.{serves, exit, is_procedure, create, create_with, create_checked, create_allowed, join, are_pages, tag_new, tag_delete, smalloc, free_at, sfree, fd_read, fd_append, fd_close, most_drafts, sc_new, right_asked, bits_asked, add_right, add_right_to, sc_mem_add, add_bits, add_bits_to, sc_fd_add, add_gate_to, sc_cgate_add, makes_or_waits, may_be_gate, make_checked, make_with, cgate_make, draft_call, a0, a1, a2, a3, a7, set_user, sc_user, path_in, set_root, sc_root, file_at, mode_asked, suits, open_file, open_path, file_open, enter_kind, enter_allowed, enter_checked, enter_lending, enter_held, cgate, lent_asked}
+use Rattle.sthread_life.specs.Calls.{serves, exit, is_procedure, create, create_with, create_checked, create_allowed, join, are_pages, tag_new, tag_delete, smalloc, free_at, sfree, fd_read, fd_append, fd_close, most_drafts, sc_new, right_asked, bits_asked, add_right, add_right_to, sc_mem_add, add_bits, add_bits_to, sc_fd_add, add_gate_to, sc_cgate_add, makes_or_waits, may_be_gate, make_checked, make_with, cgate_make, draft_call, a0, a1, a2, a3, a7, set_user, sc_user, path_in, set_root, sc_root, file_at, mode_asked, suits, open_file, open_path, file_open, enter_allowed, enter_checked, enter_lending, enter_held, cgate, lent_asked}
 use Rattle.sthread_life.specs.Local.{needed, executed, fuelled, fetched, step, is_running, has_ended, run_local, rest}
 use Rattle.sthread_life.specs.Lending.{may_lend, excess_lent}
 use Rattle.sthread_life.specs.Entrances.{Entrance}
-use Rattle.wedge_base.specs.declared.grants.GateKind.{GateKind}
-use Rattle.wedge_base.specs.declared.grants.GateKind.TheVariants as gate_kind
 
 -- no event is still to come of a call that had one
 abbrev pub IsCalm : Phase → Type 0
@@ -296,14 +294,13 @@ goes_make i a (Some d) = by_test (may_be_gate i a d)
     by_test true = goes_made i a d (first_excess a.sheet a.made d)
 
 -- the call that enters a gate
-goes_kind : (a : ActorState) (k : GateKind) (x : Entrance) → Goes 0 false a (enter_kind a k x)
-goes_kind a gate_kind.Fresh x = record { name = refl; compartment = refl; run_of = refl; sheet = refl; fuel = costs_nothing a.fuel; made = refl; labels = refl; starts = refl; unjoined = refl; live = λ h. refl; calm = λ h. tt; unmade = λ h. tt }
-goes_kind a gate_kind.Recycled x = goes_refused a code.Bad
+goes_to_gate : (a : ActorState) (x : Entrance) → Goes 0 false a (record a { phase = phase.Entering x })
+goes_to_gate a x = record { name = refl; compartment = refl; run_of = refl; sheet = refl; fuel = costs_nothing a.fuel; made = refl; labels = refl; starts = refl; unjoined = refl; live = λ h. refl; calm = λ h. tt; unmade = λ h. tt }
 
 goes_entry : (a : ActorState) (g : Gate) (lent : Option Draft) → Goes 0 false a (enter_allowed a g lent)
 goes_entry a g lent =
     goes_if a (refuses a code.Deep) _ (nat_le most_parts (length a.name)) (goes_refused a code.Deep)
-    (goes_if a (refuses a code.FuelShort) _ (nat_lt a.fuel g.fuel) (goes_refused a code.FuelShort) (goes_kind a g.kind _))
+    (goes_if a (refuses a code.FuelShort) _ (nat_lt a.fuel g.fuel) (goes_refused a code.FuelShort) (goes_to_gate a _))
 
 goes_entry_checked : (a : ActorState) (g : Gate) (lent : Option Draft) (d : Option Denial) → Goes 0 false a (enter_checked a g lent d)
 goes_entry_checked a g lent None = goes_entry a g lent

@@ -3,6 +3,9 @@
 use Rattle.std.proofs.Common.{◌≡◌, ℕ, zero, suc, ◌+◌, ◌-◌, ◌≤◌, Bool, true, false, List, [], ◌∷◌, length, refl, sym, ap, subst, ◌∙◌, arith, true≢false, inl, inr}
 use Rattle.std.proofs.lemmas.List.{map-append, length-append}
 use Rattle.std.specs.Prelude.{◌++◌, map, replicate, slice_set, Option, Some, None, option_map, if◌then◌else◌, ◌⊎◌}
+use Rattle.cow_pages.specs.PrivateMemory.{PrivateMemory}
+use Rattle.wedge_events.specs.declared.cells.GateReply.TheVariants as gate_reply
+use Rattle.wedge_events.specs.declared.cells.GateAsk.TheVariants as gate_ask
 use Rattle.wedge_base.specs.Names.{same, root_name}
 use Rattle.wedge_base.specs.Images.{Image, slots as most_slots}
 use Rattle.wedge_events.specs.Slots.{Segment, declared_slots, slot_after}
@@ -23,7 +26,7 @@ use Rattle.sthread_life.specs.Children.{child_name}
 use Rattle.sthread_life.specs.Taking.{wanted, wanted_at, takes, child_of, run_by, run_at, begun, asks}
 use Rattle.sthread_life.specs.Between.{GivesBelow}
 use Rattle.sthread_life.specs.Cells.{Cells, nothings, slot_in, stream_in, cells_after, event_of, live_at}
-use Rattle.sthread_life.specs.Worlds.{WorldState, opening, actor_named, put_actor, with_begun, event_at, happened, wanting, turn_with, turn_of, ended_with, resumes, ready_at, ready, resumed, at_rest, Runs, is_ended, is_whole, settled}
+use Rattle.sthread_life.specs.Worlds.{WorldState, opening, actor_named, put_actor, with_begun, event_at, gate_event, happened, wanting, turn_with, turn_of, ended_with, resumes, ready_at, ready, resumed, at_rest, Runs, is_ended, is_whole, settled}
 use Rattle.sthread_life.specs.Outcomes.{with_actor, lines_of, labels_of, streams_of, outcome_of}
 use Rattle.sthread_life.proofs.Resting.{rest-name, rest-ended, rest-labels, rest-stays, rest-uncalm, rest_rest, ended-stays}
 use Rattle.sthread_life.proofs.Turns.{back, RunEnded, Readies, Stays, Back, readies, ready_is, ready_name, ready_ended, ready_end, ready_else, waits_or, Turned, turn_from}
@@ -285,6 +288,7 @@ settled_event w b (want.Join k) = ap (option_map (λ (x : End × ℕ). event.Joi
 settled_event w b (want.Start child) = refl
 settled_event w b (want.Enter run) = refl
 settled_event w b (want.Leave e) = refl
+settled_event w b (want.Gate id q) = refl
 settled_event w b q = refl
 
 -- one that is put has ended as the one of its name did
@@ -312,7 +316,7 @@ ends_event v w b (want.Slot slot q) same ends = ap (λ c. event_of c (asks b (li
 ends_event v w b (want.Fds q) same ends = ap (λ c. event_of c (asks b (live_at c (want.Fds q)) (want.Fds q))) same
 ends_event v w b (want.Fd fd q) same ends = ap (λ c. event_of c (asks b (live_at c (want.Fd fd q)) (want.Fd fd q))) same
 ends_event v w b (want.Lives q) same ends = ap (λ c. event_of c (asks b (live_at c (want.Lives q)) (want.Lives q))) same
-ends_event v w b (want.Gate id q) same ends = ap (λ c. event_of c (asks b (live_at c (want.Gate id q)) (want.Gate id q))) same
+ends_event v w b (want.Gate id q) same ends = ap (λ c. gate_event c id q) same
 
 pub resumed_event : (w : WorldState) (a b : ActorState) (q : Want) → actor_named w.actors a.name ≡ Some a → event_at (resumed w a) b q ≡ event_at w b q
 resumed_event w a b q there = ends_event (resumed w a) w b q refl (resumed_ends w a there)
@@ -513,24 +517,25 @@ begun_reads i [] (Some c) all h = (h c refl, tt)
 begun_reads i (b ∷ bs) (Some c) all h = (all.0, begun_reads i bs (Some c) all.1 h)
 
 -- an actor that has just begun is as it should
-run_begins : (i : Image) (b : ActorState) (run : List ℕ) (p : Phase) (c : ActorState) → run_at b run p ≡ Some c → ReadsAs i c c.phase × AreFew c.drafts
-run_begins i b run (phase.Entering x) c is = let same_run : run_by b run x ≡ c = cc in subst (λ (y : ActorState). ReadsAs i y y.phase × AreFew y.drafts) same_run (tt, tt)
-run_begins i b run phase.Running c is = absurd cc
-run_begins i b run (phase.Within q) c is = absurd cc
-run_begins i b run (phase.Starting pre) c is = absurd cc
-run_begins i b run (phase.MakingGate pre) c is = absurd cc
-run_begins i b run (phase.Opening slot tag) c is = absurd cc
-run_begins i b run (phase.Releasing slot) c is = absurd cc
-run_begins i b run (phase.OpeningFile o) c is = absurd cc
-run_begins i b run (phase.Waiting k) c is = absurd cc
-run_begins i b run (phase.Ending e) c is = absurd cc
-run_begins i b run (phase.Ended e) c is = absurd cc
+run_begins : (i : Image) (b : ActorState) (run : List ℕ) (kept : Option PrivateMemory) (p : Phase) (c : ActorState) → run_at b run kept p ≡ Some c → ReadsAs i c c.phase × AreFew c.drafts
+run_begins i b run kept (phase.Entering x) c is = let same_run : run_by b run kept x ≡ c = cc in subst (λ (y : ActorState). ReadsAs i y y.phase × AreFew y.drafts) same_run (tt, tt)
+run_begins i b run kept phase.Running c is = absurd cc
+run_begins i b run kept (phase.Within q) c is = absurd cc
+run_begins i b run kept (phase.Starting pre) c is = absurd cc
+run_begins i b run kept (phase.MakingGate pre) c is = absurd cc
+run_begins i b run kept (phase.Opening slot tag) c is = absurd cc
+run_begins i b run kept (phase.Releasing slot) c is = absurd cc
+run_begins i b run kept (phase.OpeningFile o) c is = absurd cc
+run_begins i b run kept (phase.Waiting k) c is = absurd cc
+run_begins i b run kept (phase.Ending e) c is = absurd cc
+run_begins i b run kept (phase.Ended e) c is = absurd cc
 
 begins_ready : (i : Image) (b : ActorState) (e : Event) (c : ActorState) → begun i b e ≡ Some c → ReadsAs i c c.phase × AreFew c.drafts
 begins_ready i b (event.Start child) c is =
     let same_child : child_of i b child ≡ c = cc in
     subst (λ (x : ActorState). ReadsAs i x x.phase × AreFew x.drafts) same_child (tt, tt)
-begins_ready i b (event.Enter run) c is = run_begins i b run b.phase c is
+begins_ready i b (event.Enter run) c is = run_begins i b run None b.phase c is
+begins_ready i b (event.Gate id (gate_ask.Enter run first) (gate_reply.Entered memory)) c is = run_begins i b run (Some memory) b.phase c is
 begins_ready i b e c is = absurd cc
 
 -- an actor that goes on, and comes to rest, stays as it should be

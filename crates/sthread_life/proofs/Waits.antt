@@ -1,6 +1,8 @@
 -- Who waits for the run of a gate: whoever entered one, and nobody else.
 
 use Rattle.std.proofs.Common.{◌≡◌, ℕ, refl, sym, subst, ◌∙◌}
+use Rattle.wedge_events.specs.declared.cells.GateReply.TheVariants as gate_reply
+use Rattle.wedge_events.specs.declared.cells.GateAsk.TheVariants as gate_ask
 use Rattle.wedge_events.specs.declared.events.Event.{Event}
 use Rattle.wedge_events.specs.declared.events.Event.TheVariants as event
 use Rattle.wedge_events.specs.declared.cells.DirectoryAsk.TheVariants as directory_ask
@@ -56,4 +58,5 @@ leaves_awake (event.Slot slot q (slot_reply.Snapped pages)) p one h k is = subst
 leaves_awake (event.Slot slot q slot_reply.Gone) p one h k is = subst MayPrepare is h
 leaves_awake (event.Slot slot q r) p one h k is = between_awake p h k is
 leaves_awake (event.Enter run) p one h k is = absurd one
+leaves_awake (event.Gate id (gate_ask.Enter run first) (gate_reply.Entered memory)) p one h k is = absurd one
 leaves_awake e p one h k is = between_awake p h k is

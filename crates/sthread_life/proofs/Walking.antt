@@ -48,7 +48,7 @@ asked_at w b (want.Slot slot q) e at = asked_of w.cells _ e at
 asked_at w b (want.Fds q) e at = asked_of w.cells _ e at
 asked_at w b (want.Fd fd q) e at = asked_of w.cells _ e at
 asked_at w b (want.Lives q) e at = asked_of w.cells _ e at
-asked_at w b (want.Gate id q) e at = asked_of w.cells _ e at
+asked_at w b (want.Gate id q) e at = ap asked (comes_of w b (want.Gate id q) e at).1
 asked_at w b (want.Enter run) e at = ap asked (comes_of w b (want.Enter run) e at)
 asked_at w b (want.Leave end) e at = ap asked (comes_of w b (want.Leave end) e at)
 

@@ -4,6 +4,11 @@ use Rattle.std.specs.Prelude.{Option, Some, None, is_some, if◌then◌else◌}
 use Rattle.std.specs.Ordering.{nat_cmp, match_ordering}
 use Rattle.std.specs.declared.cmp.Ordering.{Ordering}
 use Rattle.std.specs.declared.cmp.Ordering.TheVariants.{Less, Equal, Greater}
+use Rattle.sthread_life.proofs.GateRuns.{IsEntry, fresh_entry, recycled_entry}
+use Rattle.cow_pages.specs.PrivateMemory.{PrivateMemory}
+use Rattle.wedge_base.specs.declared.grants.GateId.{GateId}
+use Rattle.wedge_events.specs.declared.cells.GateReply.TheVariants as gate_reply
+use Rattle.wedge_events.specs.declared.cells.GateAsk.TheVariants as gate_ask
 use Rattle.cow_pages.specs.Listed.{bytes_listed}
 use Rattle.wedge_base.specs.Images.{Image}
 use Rattle.wedge_base.specs.Sheets.{most_grants, Draft}
@@ -45,7 +50,7 @@ use Rattle.sthread_life.proofs.DraftsFit.{AreFew, few_copies}
 use Rattle.sthread_life.proofs.Preparing.{was_preparing}
 use Rattle.sthread_life.proofs.Families.{IsOfOne, takes_same, first_child}
 use Rattle.sthread_life.proofs.FamilyRuns.{kept_at_rest, rest_units, turn_keeps, turn_family, opening_family, one_begins, request_of_one, join_keeps_starts}
-use Rattle.sthread_life.proofs.Happening.{Happens, snap_cases, Requested, Joined, Snaps, GateSnaps, Started, Opens, Releases, Numbers, OpensFile, LastJoined, Ended, EntersGate, LeavesGate}
+use Rattle.sthread_life.proofs.Happening.{Happens, snap_cases, Requested, Joined, Snaps, GateSnaps, Started, Opens, Releases, Numbers, OpensFile, LastJoined, Ended, EntersGate, LeavesGate, EntersRecycled, LeavesRecycled}
 use Rattle.sthread_life.proofs.Named.{found_name}
 use Rattle.sthread_life.proofs.Resting.{IsCalm, HasPaid, rests, rest-stays, rest-name, running_is}
 use Rattle.sthread_life.proofs.Settling.{AllReady, actor_few, turn_happens, turn_ready, opening_ready, turned_there}
@@ -229,6 +234,7 @@ leaves_none (event.Slot slot q (slot_reply.Snapped pages)) p h = not_within p (�
 leaves_none (event.Slot slot q slot_reply.Gone) p h = not_within p (λ q is. subst MayPrepare is h)
 leaves_none (event.Slot slot q r) p h = between_one p h
 leaves_none (event.Enter run) p h = not_within p (λ q is. subst MayWait is h)
+leaves_none (event.Gate id (gate_ask.Enter run first) (gate_reply.Entered memory)) p h = not_within p (λ q is. subst MayWait is h)
 leaves_none e p h = between_one p h
 
 work_without : (p : Phase) → NotWithin p → (IsMaking p → ⊥) → ((pre : Preparation) → p ≡ phase.Starting pre → length pre.left ≤ most_grants) → phase_work p ≤ 6 + most_grants
@@ -347,16 +353,31 @@ file_work : (i : Image) (b : ActorState) (fd : ℕ) (q : StreamAsk) → phase_wo
 unfolding takes
 file_work i b fd q = opened_is (λ x. phase_work x.phase ≤ 2) b b.phase fd (omega arith) (λ o. omega arith)
 
-entered_tasks : (i : Image) (b : ActorState) (x : Entrance) (run : List ℕ) → b.phase ≡ phase.Entering x → tasks_of (takes i b (event.Enter run)) + begun_tasks (begun i b (event.Enter run)) ≤ 4 + length b.unjoined
-unfolding takes
-entered_tasks i b x run at =
+entered_tasks : (w : WorldState) (b : ActorState) (e : Event) → IsEntry w b e → tasks_of (takes w.image b e) + begun_tasks (begun w.image b e) ≤ 4 + length b.unjoined
+entered_tasks w b e y =
+    let x = y.entrance in
     let h = count_with b.unjoined (next_start b) x.gate.fuel in
-    let is : tasks_of (has_entered b b.phase) + begun_tasks (run_at b run b.phase) ≡ tasks_of (entered_by b x) + begun_tasks (Some (run_by b run x)) = ap (λ p. tasks_of (has_entered b p) + begun_tasks (run_at b run p)) at in
-    omega (arith, h, is)
+    let first : tasks_of (takes w.image b e) ≡ tasks_of (entered_by b x) = ap tasks_of y.takes_so in
+    let second : begun_tasks (begun w.image b e) ≡ begun_tasks (Some (run_by b (child_name b.name (next_start b)) y.kept x)) = ap begun_tasks y.begins in
+    omega (arith, h, first, second)
 
 left_tasks : (i : Image) (b : ActorState) (x : End) → tasks_of (takes i b (event.Leave x)) ≡ length b.unjoined
 unfolding takes
 left_tasks i b x = omega arith
+
+recycled_left_tasks : (i : Image) (b : ActorState) (x : End) (id : GateId) (m : PrivateMemory) → tasks_of (takes i b (event.Gate id (gate_ask.Leave x m) gate_reply.Left)) ≡ length b.unjoined
+unfolding takes
+recycled_left_tasks i b x id m = omega arith
+
+entry_less : (w : WorldState) (a : ActorState) (e : Event) → IsEntry w (rest w.image a) e
+    → tasks_of (takes w.image (rest w.image a) e) + begun_tasks (begun w.image (rest w.image a) e) < unit_work * units_of w.image (a.fuel + 1) a + tasks_of a
+entry_less w a e y =
+    let b = rest w.image a in
+    let k = kept_at_rest w.image a _ refl in
+    let paid = (rest_paid w.image a _ refl).entering y.entrance y.at in
+    let few = entered_tasks w b e y in
+    let count : length b.unjoined ≡ length a.unjoined = ap length k.unjoined in
+    omega (arith, paid, few, count)
 
 event_less : (w : WorldState) (a : ActorState) (e : Event) → AreFew (rest w.image a).drafts → Happens w (rest w.image a) e
     → tasks_of (takes w.image (rest w.image a) e) + begun_tasks (begun w.image (rest w.image a) e) < unit_work * units_of w.image (a.fuel + 1) a + tasks_of a
@@ -461,13 +482,14 @@ event_less w a e drafts (LastJoined j) =
     let count : length b.unjoined ≡ length a.unjoined = ap length k.unjoined in
     omega (arith, paid, few, left, fewer, count) in
     subst (λ y. tasks_of (takes w.image b y) + begun_tasks (begun w.image b y) < unit_work * units_of w.image (a.fuel + 1) a + tasks_of a) (sym j.join.is) less
-event_less w a e drafts (EntersGate x) =
+event_less w a e drafts (EntersGate x) = entry_less w a e (fresh_entry w (rest w.image a) e x)
+event_less w a e drafts (EntersRecycled x) = entry_less w a e (recycled_entry w (rest w.image a) e x)
+event_less w a e drafts (LeavesRecycled l) =
     let b = rest w.image a in
-    let k = kept_at_rest w.image a _ refl in
-    let paid = (rest_paid w.image a _ refl).entering x.entrance x.at in
-    let few = entered_tasks w.image b x.entrance (child_name b.name (next_start b)) x.at in
-    let count : length b.unjoined ≡ length a.unjoined = ap length k.unjoined in
-    subst (λ y. tasks_of (takes w.image b y) + begun_tasks (begun w.image b y) < unit_work * units_of w.image (a.fuel + 1) a + tasks_of a) (sym x.is) (omega (arith, paid, few, count))
+    let paid = (rest_paid w.image a _ refl).ending l.end_ l.at in
+    let few = recycled_left_tasks w.image b l.end_ l.gate.id b.memory in
+    let none : length b.unjoined ≡ 0 = ap length l.left in
+    subst (λ y. tasks_of (takes w.image b y) + begun_tasks (begun w.image b y) < unit_work * units_of w.image (a.fuel + 1) a + tasks_of a) (sym l.is) (omega (arith, paid, few, none))
 event_less w a e drafts (LeavesGate l) =
     let b = rest w.image a in
     let paid = (rest_paid w.image a _ refl).ending l.end_ l.at in

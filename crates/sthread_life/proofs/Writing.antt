@@ -42,7 +42,7 @@ use Rattle.sthread_life.specs.Laws.{RunsWriteTheirOwn}
 use Rattle.sthread_life.proofs.Resting.{rests, rest-stays}
 use Rattle.sthread_life.proofs.Between.{event_for}
 use Rattle.sthread_life.proofs.Turns.{turn_from, ready_sheet, ready_made}
-use Rattle.sthread_life.proofs.Happening.{Happens, Requested, Joined, Snaps, GateSnaps, Started, Opens, Releases, Numbers, OpensFile, LastJoined, Ended, EntersGate, LeavesGate}
+use Rattle.sthread_life.proofs.Happening.{Happens, Requested, Joined, Snaps, GateSnaps, Started, Opens, Releases, Numbers, OpensFile, LastJoined, Ended, EntersGate, LeavesGate, EntersRecycled, LeavesRecycled}
 use Rattle.sthread_life.proofs.Settling.{AreCells, AllReady, turn_happens, turn_ready, opening_ready}
 use Rattle.sthread_life.proofs.Meeting.{IsRequest}
 use Rattle.sthread_life.proofs.StreamCalls.{read_cases, append_cases, close_cases, unopened_stays, IsStreamRequest}
@@ -176,7 +176,9 @@ event_follows w b e cells (OpensFile f) = subst (IsFollowed w.cells) (sym f.is) 
 event_follows w b e cells (LastJoined j) = subst (IsFollowed w.cells) (sym j.join.is) (record { tags = λ slot. refl; streams = λ fd. refl })
 event_follows w b e cells (Ended f) = subst (IsFollowed w.cells) (sym f.is) (record { tags = λ slot. refl; streams = λ fd. refl })
 event_follows w b e cells (EntersGate x) = subst (IsFollowed w.cells) (sym x.is) (record { tags = λ slot. refl; streams = λ fd. refl })
+event_follows w b e cells (EntersRecycled x) = subst (IsFollowed w.cells) (sym x.is) (record { tags = λ slot. refl; streams = λ fd. refl })
 event_follows w b e cells (LeavesGate l) = subst (IsFollowed w.cells) (sym l.is) (record { tags = λ slot. refl; streams = λ fd. refl })
+event_follows w b e cells (LeavesRecycled l) = subst (IsFollowed w.cells) (sym l.is) (record { tags = λ slot. refl; streams = λ fd. refl })
 
 record TurnFollows (w : WorldState) (e : Event) (new : WorldState) : Type 0 where
   tags : (slot : ℕ) → bytes_in new.cells slot ≡ bytes_after_event slot (bytes_in w.cells slot) e
@@ -273,7 +275,9 @@ event_own w b e (OpensFile f) = subst (IsOwn w.cells b) (sym f.is) (record { sto
 event_own w b e (LastJoined j) = subst (IsOwn w.cells b) (sym j.join.is) (record { stores = λ slot h. absurd (true≢false (sym h)); appends = λ fd h. absurd (true≢false (sym h)) })
 event_own w b e (Ended f) = subst (IsOwn w.cells b) (sym f.is) (record { stores = λ slot h. absurd (true≢false (sym h)); appends = λ fd h. absurd (true≢false (sym h)) })
 event_own w b e (EntersGate x) = subst (IsOwn w.cells b) (sym x.is) (record { stores = λ slot h. absurd (true≢false (sym h)); appends = λ fd h. absurd (true≢false (sym h)) })
+event_own w b e (EntersRecycled x) = subst (IsOwn w.cells b) (sym x.is) (record { stores = λ slot h. absurd (true≢false (sym h)); appends = λ fd h. absurd (true≢false (sym h)) })
 event_own w b e (LeavesGate l) = subst (IsOwn w.cells b) (sym l.is) (record { stores = λ slot h. absurd (true≢false (sym h)); appends = λ fd h. absurd (true≢false (sym h)) })
+event_own w b e (LeavesRecycled l) = subst (IsOwn w.cells b) (sym l.is) (record { stores = λ slot h. absurd (true≢false (sym h)); appends = λ fd h. absurd (true≢false (sym h)) })
 
 -- an actor keeps its rights up to where it rests
 pub record SameRights (a b : ActorState) : Type 0 where

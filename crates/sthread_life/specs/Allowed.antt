@@ -41,8 +41,6 @@ use Rattle.sthread_life.specs.Actors.{ActorState, right_of, bits_of, slot_held}
 use Rattle.sthread_life.specs.Requests.{Access, Request, Loads, Stores, Reads, Appends, Closes, Opens, Creates, Makes, Deletes, Allots, Frees, Enters}
 use Rattle.sthread_life.specs.Holding.{gate_for, loan, loan_lacks}
 use Rattle.sthread_life.specs.Entrances.{Entrance}
-use Rattle.wedge_base.specs.declared.grants.GateKind.{GateKind}
-use Rattle.wedge_base.specs.declared.grants.GateKind.TheVariants as gate_kind
 
 -- whether a tag may be used as asked: a copy is never enough for the tag itself
 abbrev pub may_use : ActorState → ℕ → Right → Bool
@@ -83,14 +81,10 @@ lacks a (Frees p g) = if may_use a g.tag right.ReadWrite then None else Some (de
 abbrev pub fits_kind : StreamKind → FdBits → Bool
 fits_kind k b = if is_source k then b.read else b.append
 
--- a gate is not entered by an actor whose name has 32 parts, or that has less fuel than the gate's; nor a recycled gate yet
-abbrev pub is_recycled : GateKind → Bool
-is_recycled gate_kind.Fresh = false
-is_recycled gate_kind.Recycled = true
-
+-- a gate is not entered by an actor whose name has 32 parts, or that has less fuel than the gate's
 abbrev pub enter_refused : ActorState → Option Gate → Bool
 enter_refused a None = false
-enter_refused a (Some g) = not (nat_lt (length a.name) 32) || (nat_lt a.fuel g.fuel || is_recycled g.kind)
+enter_refused a (Some g) = not (nat_lt (length a.name) 32) || nat_lt a.fuel g.fuel
 
 -- whether one that is allowed is refused for a cause that comes after the denial: a stream or a file is of the other
 -- kind; a name has at most 32 parts, and a child or a run is given no more fuel than there is; no block begins at the place

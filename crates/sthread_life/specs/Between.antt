@@ -3,6 +3,8 @@ use Rattle.std.specs.Prelude.{◌≡◌, ℕ, ◌+◌, ◌<◌, ◌≤◌, true,
 use Rattle.std.specs.List.{AllByRecursion}
 use Rattle.wedge_events.specs.Directories.{Directory}
 use Rattle.wedge_base.specs.Names.{most_parts}
+use Rattle.wedge_base.specs.declared.grants.GateId.{GateId}
+use Rattle.wedge_base.specs.declared.grants.GateKind.TheVariants as gate_kind
 use Rattle.wedge_base.specs.Sheets.{Sheet, Made, Draft, first_excess}
 use Rattle.wedge_base.specs.Images.{slots, window, most_pages}
 use Rattle.wedge_events.specs.Slots.{IsAligned}
@@ -14,6 +16,7 @@ use Rattle.wedge_events.specs.declared.events.Want.{Want}
 use Rattle.wedge_events.specs.declared.events.Want.TheVariants as want
 use Rattle.wedge_events.specs.declared.cells.DirectoryAsk.TheVariants as directory_ask
 use Rattle.wedge_events.specs.declared.cells.DirectoryReply.TheVariants as directory_reply
+use Rattle.wedge_events.specs.declared.cells.GateAsk.TheVariants as gate_ask
 use Rattle.wedge_events.specs.declared.cells.LivesAsk.TheVariants as lives_ask
 use Rattle.wedge_events.specs.declared.cells.SlotReply.TheVariants as slot_reply
 use Rattle.wedge_events.specs.declared.cells.StreamAsk.{StreamAsk}
@@ -132,6 +135,10 @@ WantFitsWhere P R S J (want.Start child) = R × S child
 WantFitsWhere P R S J (want.Join child) = J child
 WantFitsWhere P R S J q = ⊥
 
+-- an actor is the run of this recycled gate
+abbrev pub RunsIn : Option Gate → GateId → Type 0
+RunsIn run_of id = IsSomeAnd run_of (λ g. (g.kind ≡ gate_kind.Recycled) × (g.id ≡ id))
+
 -- To enter a gate is wanted by who is about to enter one, for its next run; and to leave it, by its run as it ends. Neither is within a call.
 abbrev pub IsAtGate : Phase → Type 0
 IsAtGate (phase.Entering entrance) = Unit {0}
@@ -140,6 +147,8 @@ IsAtGate p = ⊥
 abbrev pub WantFits : ActorState → Want → Type 0
 WantFits a (want.Enter run) = IsAtGate a.phase × IsNextName a.name a.starts run
 WantFits a (want.Leave e) = Unit {0}
+WantFits a (want.Gate id (gate_ask.Enter run first)) = IsAtGate a.phase × IsNextName a.name a.starts run
+WantFits a (want.Gate id (gate_ask.Leave e memory)) = RunsIn a.run_of id
 WantFits a q = WantFitsWhere (AsksPages a.hart) (MayStart a) (IsNextName a.name a.starts) (λ k. is_child a.unjoined k ≡ true) q
 
 -- the slots of grants of copies are there

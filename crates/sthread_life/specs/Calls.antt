@@ -353,17 +353,12 @@ lent_asked ds n = if n == no_draft then Some None else option_map (λ d. Some d)
 abbrev pub entrance_of : ActorState → Gate → Option Draft → Entrance
 entrance_of a g lent = record { gate = g; sheet = lent_to g.sheet (sheet_lent a lent) }
 
--- a fresh gate is entered next; a recycled one can't be entered yet
-abbrev pub enter_kind : ActorState → GateKind → Entrance → ActorState
-enter_kind a gate_kind.Fresh entrance = record a { phase = phase.Entering entrance }
-enter_kind a gate_kind.Recycled entrance = refuses a code.Bad
-
 -- cgate: entry, argument, lent. Behind the denial come a name without room, and less fuel than the gate's.
 abbrev pub enter_allowed : ActorState → Gate → Option Draft → ActorState
 enter_allowed a g lent =
     if nat_le most_parts (length a.name) then refuses a code.Deep
     else if nat_lt a.fuel g.fuel then refuses a code.FuelShort
-    else enter_kind a g.kind (entrance_of a g lent)
+    else record a { phase = phase.Entering (entrance_of a g lent) }
 
 abbrev pub enter_checked : ActorState → Gate → Option Draft → Option Denial → ActorState
 enter_checked a g lent (Some d) = denies a d

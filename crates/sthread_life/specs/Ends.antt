@@ -9,6 +9,7 @@ use Rattle.wedge_base.specs.declared.rights.End.{End}
 use Rattle.wedge_base.specs.declared.rights.End.TheVariants as end_
 use Rattle.wedge_events.specs.declared.events.Event.{Event}
 use Rattle.wedge_events.specs.declared.events.Event.TheVariants as event
+use Rattle.wedge_events.specs.declared.cells.GateAsk.TheVariants as gate_ask
 use Rattle.wedge_events.specs.declared.cells.LivesAsk.TheVariants as lives_ask
 use Rattle.wedge_events.specs.declared.cells.SlotAsk.{SlotAsk}
 use Rattle.wedge_events.specs.declared.cells.SlotAsk.TheVariants as slot_ask
@@ -106,6 +107,7 @@ end_after i a (Some e) = end_by a.phase e
 abbrev pub is_end_event : Option Event → Bool
 is_end_event (Some (event.Lives (lives_ask.Release x) r)) = true
 is_end_event (Some (event.Leave x)) = true
+is_end_event (Some (event.Gate id (gate_ask.Leave x left) r)) = true
 is_end_event e = false
 
 -- an end is decided exactly by its cause, and reached exactly by its event

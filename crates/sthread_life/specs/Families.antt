@@ -1,5 +1,5 @@
 -- Starts, joins and ends among actors, read off the registers, the drafts and the child: a second statement, beside the step.
-use Rattle.std.specs.Prelude.{◌≡◌, ℕ, ◌+◌, ◌-◌, true, List, [], ◌∷◌, ◌++◌, replicate, slice_get, slice_set, Option, Some, None, IsSomeAnd, is_some, IfSome}
+use Rattle.std.specs.Prelude.{◌≡◌, ℕ, ◌+◌, ◌-◌, true, List, [], ◌∷◌, ◌++◌, replicate, slice_get, slice_set, Option, Some, None, IsSomeAnd, IfSome, false, unwrap_or}
 use Rattle.wedge_base.specs.Sheets.{Made, Draft, nothing_made, made_tag, made_fd, first_excess, granted}
 use Rattle.wedge_base.specs.declared.rights.End.{End}
 use Rattle.wedge_base.specs.declared.rights.End.TheVariants as end_
@@ -23,12 +23,18 @@ use Rattle.sthread_life.specs.Allowed.{answered}
 use Rattle.sthread_life.specs.Children.{Children, is_child, with_child, without_child}
 use Rattle.sthread_life.specs.Copying.{Preparation}
 use Rattle.sthread_life.specs.Ends.{is_end_event}
+use Rattle.cow_pages.specs.PrivateMemory.{PrivateMemory}
+use Rattle.sthread_life.specs.Cells.{Cells, kept_in}
 use Rattle.sthread_life.specs.Worlds.{WorldState, actor_named, put_actor}
 use Rattle.sthread_life.specs.Entrances.{Entrance}
 use Rattle.sthread_life.specs.Holding.{gate_for, loan, loan_lacks, is_loan, IsDrafted}
 use Rattle.sthread_life.specs.Requests.{lent_of}
 use Rattle.callgate.specs.Runs.{IsRunSheet}
 use Rattle.callgate.specs.declared.gate.Gate.{Gate}
+use Rattle.wedge_base.specs.declared.grants.GateKind.TheVariants as gate_kind
+use Rattle.wedge_events.specs.declared.cells.GateAsk.TheVariants as gate_ask
+use Rattle.wedge_events.specs.declared.cells.GateReply.{GateReply}
+use Rattle.wedge_events.specs.declared.cells.GateReply.TheVariants as gate_reply
 use Rattle.wedge_events.specs.declared.cells.LivesAsk.TheVariants as lives_ask
 
 -- ---- a start
@@ -76,10 +82,18 @@ pub record IsStart (old : WorldState) (a : ActorState) (name : List ℕ) (new : 
 
 -- ---- the entry of a gate
 
+-- With which memory a run begins: that of a fresh gate with the gate's own; that of a recycled gate, in which no run is, with what the run
+-- before left there, and the first with the gate's own.
+abbrev pub BeginsWith : Cells → Gate → Event → PrivateMemory → Type 0
+BeginsWith c g (event.Enter run) m = (g.kind ≡ gate_kind.Fresh) × (m ≡ g.memory)
+BeginsWith c g (event.Gate id (gate_ask.Enter run first) r) m =
+    (g.kind ≡ gate_kind.Recycled) × (id ≡ g.id) × (first ≡ g.memory) × ((kept_in c id).entered ≡ false) × (m ≡ unwrap_or (kept_in c id).kept g.memory) × (r ≡ gate_reply.Entered m)
+BeginsWith c g e m = ⊥
+
 -- The run of a gate as it begins, by the call of the actor that enters the gate: the entry, an argument and what is lent. The caller holds the
 -- gate at that entry, and lends grants on tags and descriptors alone, each of which it holds. The run has the gate's sheet, and what is
--- lent where that sheet names nothing; the gate's argument beside its caller's; and the gate's fuel and private memory.
-pub record IsRun (a c : ActorState) : Type 0 where
+-- lent where that sheet names nothing; the gate's argument beside its caller's; and the gate's fuel.
+pub record IsRun (a r : ActorState) : Type 0 where
   pub entrance : Entrance
   pub entering : a.phase ≡ phase.Entering entrance
   pub held : gate_for a (reg a.hart.regs 10) ≡ Some entrance.gate
@@ -89,18 +103,17 @@ pub record IsRun (a c : ActorState) : Type 0 where
   pub allowed : loan_lacks a lent ≡ None
   pub within : IfSome (loan a lent) (IsWithin a.sheet a.made)
   pub lends : IfSome lent (λ d. IfSome (loan a lent) (IsDrafted a.sheet a.made d))
-  pub sheet : IsRunSheet entrance.gate.sheet (loan a lent) c.sheet
-  pub name : c.name ≡ a.name ++ (a.starts + 1) ∷ []
-  pub compartment : c.compartment ≡ entrance.gate.entry
-  pub own : c.run_of ≡ Some entrance.gate
-  pub hart : c.hart ≡ record {
+  pub sheet : IsRunSheet entrance.gate.sheet (loan a lent) r.sheet
+  pub name : r.name ≡ a.name ++ (a.starts + 1) ∷ []
+  pub compartment : r.compartment ≡ entrance.gate.entry
+  pub own : r.run_of ≡ Some entrance.gate
+  pub hart : r.hart ≡ record {
     pc = entrance.gate.entry;
     regs = slice_set (slice_set (slice_set (replicate 32 0) 2 0x20020000) 10 (reg a.hart.regs 11)) 11 entrance.gate.argument;
   }
-  pub memory : c.memory ≡ entrance.gate.memory
-  pub fuel : c.fuel ≡ entrance.gate.fuel
-  pub gates : c.gates ≡ a.gates
-  pub fresh : IsFresh c
+  pub fuel : r.fuel ≡ entrance.gate.fuel
+  pub gates : r.gates ≡ a.gates
+  pub fresh : IsFresh r
 
 -- its caller: the gate's fuel goes from its own, and it waits for the run
 abbrev pub entered : ActorState → ℕ → ActorState
@@ -111,9 +124,10 @@ entered a fuel = record a {
   phase = phase.Waiting (a.starts + 1);
 }
 
-pub record IsEnter (old : WorldState) (a : ActorState) (name : List ℕ) (new : WorldState) : Type 0 where
+pub record IsEnter (old : WorldState) (a : ActorState) (e : Event) (name : List ℕ) (new : WorldState) : Type 0 where
   pub run : ActorState
   pub begins : IsRun a run
+  pub memory : BeginsWith old.cells begins.entrance.gate e run.memory
   pub named : name ≡ run.name
   pub actors : new.actors ≡ put_actor old.actors (entered a run.fuel) ++ run ∷ []
 
@@ -185,11 +199,12 @@ abbrev pub labels_by : ActorState → Option Event → List StreamLabel
 labels_by a (Some (event.Fd fd q stream_reply.Opened)) = labelled_under a.labels a.phase fd
 labels_by a e = a.labels
 
--- the run of a gate leaves the gate as it ends, and no other actor does
-abbrev pub EndsAsIs : Option Gate → Option Event → Type 0
-EndsAsIs gate (Some (event.Lives (lives_ask.Release x) r)) = gate ≡ None
-EndsAsIs gate (Some (event.Leave x)) = is_some gate ≡ true
-EndsAsIs gate e = Unit {0}
+-- the run of a gate leaves its own gate as it ends, and no other actor does; that of a recycled gate leaves its private memory there
+abbrev pub EndsAsIs : Option Gate → PrivateMemory → Option Event → Type 0
+EndsAsIs gate m (Some (event.Lives (lives_ask.Release x) r)) = gate ≡ None
+EndsAsIs gate m (Some (event.Leave x)) = IsSomeAnd gate (λ g. g.kind ≡ gate_kind.Fresh)
+EndsAsIs gate m (Some (event.Gate id (gate_ask.Leave x left) r)) = IsSomeAnd gate (λ g. (g.kind ≡ gate_kind.Recycled) × (id ≡ g.id)) × (left ≡ m)
+EndsAsIs gate m e = Unit {0}
 
 -- An actor does what it has come to: it claims the life that it wants, joins the child that it wants to join, starts the child whose memory is
 -- prepared and enters the gate that it is about to enter; it ends as was decided; and one that waits or has ended does nothing.
@@ -200,6 +215,7 @@ IsClaim e = ⊥
 abbrev pub IsEndAs : End → Option Event → Type 0
 IsEndAs x (Some (event.Lives (lives_ask.Release y) r)) = y ≡ x
 IsEndAs x (Some (event.Leave y)) = y ≡ x
+IsEndAs x (Some (event.Gate id (gate_ask.Leave y left) r)) = y ≡ x
 IsEndAs x e = ⊥
 
 abbrev pub ComesTo : Want → Option Event → Type 0
@@ -232,10 +248,11 @@ pub record ActsAlone (old : WorldState) (a : ActorState) (e : Option Event) (new
   pub unjoined : after.unjoined ≡ a.unjoined
   pub next : DoesNext a.phase e
   pub childless : is_end_event e ≡ true → a.unjoined ≡ []
-  pub leaving : EndsAsIs a.run_of e
+  pub leaving : EndsAsIs a.run_of a.memory e
 
 abbrev pub KeepsFamily : WorldState → ActorState → Option Event → WorldState → Type 0
 KeepsFamily old a (Some (event.Start child)) new = IsStart old a child new
-KeepsFamily old a (Some (event.Enter run)) new = IsEnter old a run new
+KeepsFamily old a (Some (event.Enter run)) new = IsEnter old a (event.Enter run) run new
+KeepsFamily old a (Some (event.Gate id (gate_ask.Enter run first) r)) new = IsEnter old a (event.Gate id (gate_ask.Enter run first) r) run new
 KeepsFamily old a (Some (event.Join k e fuel)) new = IsJoined old a k e fuel new
 KeepsFamily old a e new = ActsAlone old a e new

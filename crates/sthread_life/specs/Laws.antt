@@ -28,6 +28,8 @@ use Rattle.sthread_life.specs.ChildCopies.{MakesCopies}
 use Rattle.sthread_life.specs.CopiesGranted.{HasCopiesGranted}
 use Rattle.sthread_life.specs.KnownGates.{AreGatesKept}
 use Rattle.sthread_life.specs.Isolation.{IsAccess, TakesSameTurns}
+use Rattle.sthread_life.specs.RecycledGates.{AreRunsAlone}
+use Rattle.sthread_life.specs.GatesWithin.{NoneHoldsItsOwn}
 use Rattle.sthread_life.specs.Remembering.{Remembers}
 use Rattle.wedge_events.specs.Directories.{slots_opening, fds_opening}
 
@@ -107,6 +109,14 @@ CopiesAreGranted = (i : Image) (turns : List Turn) (new : WorldState) → Runs (
 -- in each world of a run, actors know the gates that they hold, as their makers made them
 abbrev pub GatesAreKept : Type 0
 GatesAreKept = (i : Image) (turns : List Turn) (new : WorldState) → Runs (opening i) turns new → AreGatesKept new.actors
+
+-- in each world of a run each run of a gate has its gate's sheet with what was lent to it, and is alone in a recycled one
+abbrev pub RunsAreAlone : Type 0
+RunsAreAlone = (i : Image) (turns : List Turn) (new : WorldState) → Runs (opening i) turns new → AreRunsAlone new.cells new.actors
+
+-- in each world of a run no actor at or under a run of a gate holds that gate
+abbrev pub NoneRunsWithin : Type 0
+NoneRunsWithin = (i : Image) (turns : List Turn) (new : WorldState) → Runs (opening i) turns new → NoneHoldsItsOwn new.actors
 
 -- what an actor loads, stores, reads and appends goes by what it may see, and by nothing else
 abbrev pub AccessesAreIsolated : Type 0

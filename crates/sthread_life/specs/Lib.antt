@@ -24,6 +24,8 @@ pub mod ChildCopies
 pub mod GateCalls
 pub mod CopiesGranted
 pub mod KnownGates
+pub mod RecycledGates
+pub mod GatesWithin
 pub mod Isolation
 pub mod Drafting
 pub mod Remembering

@@ -8,6 +8,8 @@ use Rattle.std.specs.Prelude.{◌≡◌, ◌+◌, ◌==◌, ℕ, zero, suc, List
 use Rattle.wedge_base.specs.Images.{Image, fetch}
 use Rattle.wedge_events.specs.declared.events.Event.{Event}
 use Rattle.wedge_events.specs.declared.events.Event.TheVariants as event
+use Rattle.wedge_events.specs.declared.cells.GateAsk.TheVariants as gate_ask
+use Rattle.wedge_events.specs.declared.cells.GateReply.TheVariants as gate_reply
 use Rattle.wedge_events.specs.declared.cells.StreamAsk.TheVariants as stream_ask
 use Rattle.wedge_events.specs.declared.cells.StreamReply.TheVariants as stream_reply
 use Rattle.rv_isa.specs.declared.Instr.{Instr}
@@ -67,6 +69,7 @@ given_in p = 0
 abbrev pub given_by : ActorState → Option Event → ℕ
 given_by a (Some (event.Start child)) = reg a.hart.regs 13
 given_by a (Some (event.Enter run)) = given_in a.phase
+given_by a (Some (event.Gate id (gate_ask.Enter run first) (gate_reply.Entered memory))) = given_in a.phase
 given_by a e = 0
 
 abbrev pub brought_by : Option Event → ℕ

@@ -35,7 +35,7 @@ use Rattle.sthread_life.specs.Cells.{Cells, slot_in, stream_in}
 use Rattle.sthread_life.specs.Children.{is_child}
 use Rattle.sthread_life.specs.Worlds.{WorldState, with_actor}
 use Rattle.sthread_life.specs.Requests.{bytes_at, path_at, is_room, bits_to_open, file_of, suits_gate, lent_of}
-use Rattle.sthread_life.specs.Allowed.{may_use, is_source, fits_kind, answered, is_recycled}
+use Rattle.sthread_life.specs.Allowed.{may_use, is_source, fits_kind, answered}
 use Rattle.sthread_life.specs.Holding.{gate_for, loan_lacks, is_loan}
 use Rattle.callgate.specs.declared.gate.Gate.{Gate}
 
@@ -101,13 +101,12 @@ make_refusal i entry kind None = Some no_such
 make_refusal i entry kind (Some d) = if suits_gate i entry kind d then None else Some bad
 
 -- cgate: where the actor holds a gate at the entry, no such draft; a draft that may not be lent; and where every grant of it may be given, a
--- name that has 32 parts already, or less fuel than the gate's. A recycled gate can't be entered yet.
+-- name that has 32 parts already, or less fuel than the gate's
 abbrev pub entry_refusal : ActorState → Gate → Option Denial → Option ℕ
 entry_refusal a g (Some d) = None
 entry_refusal a g None =
     if not (nat_lt (length a.name) 32) then Some deep
     else if nat_lt a.fuel g.fuel then Some fuel_short
-    else if is_recycled g.kind then Some bad
     else None
 
 abbrev pub lending_refusal : ActorState → Gate → Option (Option Draft) → Option ℕ

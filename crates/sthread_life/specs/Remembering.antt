@@ -8,6 +8,7 @@ use Rattle.wedge_base.specs.Bytes.{number_of, bytes_of}
 use Rattle.wedge_base.specs.Memory.{range_at, read_range}
 use Rattle.wedge_base.specs.Images.{Image, fetch, in_text, read_text, slot_of}
 use Rattle.wedge_base.specs.declared.address.Place.{Place}
+use Rattle.wedge_events.specs.declared.cells.GateAsk.TheVariants as gate_ask
 use Rattle.wedge_events.specs.declared.cells.LivesAsk.TheVariants as lives_ask
 use Rattle.wedge_events.specs.declared.cells.SlotAsk.{SlotAsk}
 use Rattle.wedge_events.specs.declared.cells.SlotAsk.TheVariants as slot_ask
@@ -122,6 +123,7 @@ memory_in m slot r q = m
 abbrev pub memory_after : PrivateMemory → Event → PrivateMemory
 memory_after m (event.Lives (lives_ask.Release x) r) = no_memory
 memory_after m (event.Leave x) = no_memory
+memory_after m (event.Gate id (gate_ask.Leave x left) r) = no_memory
 memory_after m (event.Slot slot q r) = memory_in m slot r q
 memory_after m e = m
 

@@ -1,5 +1,5 @@
 -- The actor's part of a shared event: what it wants and asks, and what the reply makes of it.
-use Rattle.std.specs.Prelude.{ℕ, ◌+◌, ◌-◌, List, [], ◌∷◌, ◌++◌, length, Option, Some, None, option_map, option_and_then}
+use Rattle.std.specs.Prelude.{ℕ, ◌+◌, ◌-◌, List, [], ◌∷◌, ◌++◌, length, Option, Some, None, option_map, option_and_then, unwrap_or}
 use Rattle.cow_pages.specs.Copies.{without_copy}
 use Rattle.cow_pages.specs.Listed.{bytes_listed}
 use Rattle.cow_pages.specs.PrivateMemory.{PrivateMemory, no_memory}
@@ -7,6 +7,8 @@ use Rattle.wedge_base.specs.Images.{Image, fetch, address_of}
 use Rattle.wedge_base.specs.Memory.{write_at}
 use Rattle.wedge_base.specs.Sheets.{nothing_made, granted, made_tag, made_fd}
 use Rattle.wedge_events.specs.Wants.{asked_with}
+use Rattle.wedge_base.specs.declared.grants.GateKind.{GateKind}
+use Rattle.wedge_base.specs.declared.grants.GateKind.TheVariants as gate_kind
 use Rattle.wedge_base.specs.declared.rights.Right.{Right}
 use Rattle.wedge_base.specs.declared.rights.Denial.TheVariants as denial
 use Rattle.wedge_base.specs.declared.rights.Code.TheVariants as code
@@ -32,6 +34,10 @@ use Rattle.wedge_events.specs.declared.cells.StreamReply.{StreamReply}
 use Rattle.wedge_events.specs.declared.cells.StreamReply.TheVariants as stream_reply
 use Rattle.wedge_events.specs.declared.cells.LivesAsk.{LivesAsk}
 use Rattle.wedge_events.specs.declared.cells.LivesAsk.TheVariants as lives_ask
+use Rattle.wedge_events.specs.declared.cells.GateAsk.{GateAsk}
+use Rattle.wedge_events.specs.declared.cells.GateAsk.TheVariants as gate_ask
+use Rattle.wedge_events.specs.declared.cells.GateReply.{GateReply}
+use Rattle.wedge_events.specs.declared.cells.GateReply.TheVariants as gate_reply
 use Rattle.wedge_events.specs.declared.cells.LivesReply.{LivesReply}
 use Rattle.wedge_events.specs.declared.cells.LivesReply.TheVariants as lives_reply
 use Rattle.rv_isa.specs.declared.Instr.{Instr}
@@ -49,23 +55,35 @@ use Rattle.sthread_life.specs.Children.{Children, least_child, with_child, witho
 use Rattle.sthread_life.specs.Copying.{Preparation, copy_grants, copied_from, prepared, behind_first}
 use Rattle.sthread_life.specs.declared.copy_grant.CopyGrant.{CopyGrant}
 use Rattle.callgate.specs.declared.gate.Gate.{Gate}
+use Rattle.wedge_base.specs.declared.grants.GateId.{GateId}
 use Rattle.sthread_life.specs.Entrances.{Entrance}
 
 -- the number of the next actor that it starts
 abbrev pub next_start : ActorState → ℕ
 next_start a = a.starts + 1
 
--- an actor whose end is decided joins its children, the least number first, and then ends: the run of a gate leaves the gate
-abbrev pub last_want : Option Gate → End → Want
-last_want None e = want.Lives (lives_ask.Release e)
-last_want (Some g) e = want.Leave e
+-- an actor whose end is decided joins its children, the least number first, and then ends: the run of a gate leaves the gate, and that of
+-- a recycled one leaves its private memory there
+abbrev pub leaving_want : GateKind → GateId → PrivateMemory → End → Want
+leaving_want gate_kind.Fresh id m e = want.Leave e
+leaving_want gate_kind.Recycled id m e = want.Gate id (gate_ask.Leave e m)
 
-abbrev pub ending_by : Option Gate → Option ℕ → End → Want
-ending_by gate None e = last_want gate e
-ending_by gate (Some k) e = want.Join k
+abbrev pub last_want : Option Gate → PrivateMemory → End → Want
+last_want None m e = want.Lives (lives_ask.Release e)
+last_want (Some g) m e = leaving_want g.kind g.id m e
 
-abbrev pub ending_want : Option Gate → Children → End → Want
-ending_want gate cs e = ending_by gate (least_child cs) e
+abbrev pub ending_by : Option Gate → PrivateMemory → Option ℕ → End → Want
+ending_by gate m None e = last_want gate m e
+ending_by gate m (Some k) e = want.Join k
+
+abbrev pub ending_want : Option Gate → PrivateMemory → Children → End → Want
+ending_want gate m cs e = ending_by gate m (least_child cs) e
+
+-- an actor that is about to enter a gate enters it in a run of the next name; into a recycled one it brings the memory with which the first
+-- run begins
+abbrev pub entering_want : GateKind → Gate → List ℕ → Want
+entering_want gate_kind.Fresh g run = want.Enter run
+entering_want gate_kind.Recycled g run = want.Gate g.id (gate_ask.Enter run g.memory)
 
 -- an actor that is about to start a child asks for a copy of the first tag of which one is to be made, and then for the start
 abbrev pub starting_want : ActorState → List CopyGrant → Want
@@ -91,9 +109,9 @@ wanted_at a (phase.MakingGate p) = making_want p.left
 wanted_at a (phase.Opening slot tag) = Some (want.Slot slot (slot_want.Open tag (a0 a)))
 wanted_at a (phase.OpeningFile o) = Some (opening_want o o.number)
 wanted_at a (phase.Releasing slot) = Some (want.Slots (directory_ask.Release slot))
-wanted_at a (phase.Entering entrance) = Some (want.Enter (child_name a.name (next_start a)))
+wanted_at a (phase.Entering entrance) = Some (entering_want entrance.gate.kind entrance.gate (child_name a.name (next_start a)))
 wanted_at a (phase.Waiting number) = None
-wanted_at a (phase.Ending e) = Some (ending_want a.run_of a.unjoined e)
+wanted_at a (phase.Ending e) = Some (ending_want a.run_of a.memory a.unjoined e)
 wanted_at a (phase.Ended e) = None
 
 abbrev pub wanted : ActorState → Option Want
@@ -251,6 +269,12 @@ answered_end a p e = answers_more a (end_value e) (end_number e)
 abbrev pub has_joined : ActorState → ℕ → End → ℕ → ActorState
 has_joined a k e fuel = answered_end (record a { fuel = a.fuel + fuel; unjoined = without_child a.unjoined k }) a.phase e
 
+-- The cell of a recycled gate: who entered it waits for the run, and a run that left it has ended.
+abbrev pub takes_gate : ActorState → GateAsk → GateReply → ActorState
+takes_gate a (gate_ask.Enter run first) (gate_reply.Entered memory) = has_entered a a.phase
+takes_gate a (gate_ask.Enter run first) gate_reply.Left = runs a
+takes_gate a (gate_ask.Leave e memory) r = record a { memory = no_memory; phase = phase.Ended e }
+
 -- what an event makes of the actor that did it
 unfoldable pub takes : Image → ActorState → Event → ActorState
 takes i a (event.Slots q r) = takes_place a q r
@@ -262,7 +286,7 @@ takes i a (event.Start child) = has_started a
 takes i a (event.Join k e fuel) = has_joined a k e fuel
 takes i a (event.Enter run) = has_entered a a.phase
 takes i a (event.Leave e) = record a { memory = no_memory; phase = phase.Ended e }
-takes i a e = runs a
+takes i a (event.Gate id q r) = takes_gate a q r
 
 -- ---- the actor that an event begins
 
@@ -292,10 +316,10 @@ child_of i a name = record {
   phase = phase.Running;
 }
 
--- The run of a gate as it begins: at the gate's entry, with the argument of its caller and the trusted one, and with the gate's fuel and
--- private memory.
-abbrev pub run_by : ActorState → List ℕ → Entrance → ActorState
-run_by a name entrance = record {
+-- The run of a gate as it begins: at the gate's entry, with the argument of its caller and the trusted one, and with the gate's fuel. Its
+-- private memory is the gate's, or what was kept for it.
+abbrev pub run_by : ActorState → List ℕ → Option PrivateMemory → Entrance → ActorState
+run_by a name kept entrance = record {
   name = name;
   compartment = entrance.gate.entry;
   run_of = Some entrance.gate;
@@ -305,7 +329,7 @@ run_by a name entrance = record {
   labels = [];
   drafts = [];
   hart = record (opening_hart entrance.gate.entry) { regs = put (put (opening_hart entrance.gate.entry).regs 10 (a1 a)) 11 entrance.gate.argument };
-  memory = entrance.gate.memory;
+  memory = unwrap_or kept entrance.gate.memory;
   fuel = entrance.gate.fuel;
   denials = [];
   starts = 0;
@@ -313,12 +337,17 @@ run_by a name entrance = record {
   phase = phase.Running;
 }
 
-abbrev pub run_at : ActorState → List ℕ → Phase → Option ActorState
-run_at a name (phase.Entering entrance) = Some (run_by a name entrance)
-run_at a name p = None
+abbrev pub run_at : ActorState → List ℕ → Option PrivateMemory → Phase → Option ActorState
+run_at a name kept (phase.Entering entrance) = Some (run_by a name kept entrance)
+run_at a name kept p = None
+
+abbrev pub begun_in : ActorState → GateAsk → GateReply → Option ActorState
+begun_in a (gate_ask.Enter run first) (gate_reply.Entered memory) = run_at a run (Some memory) a.phase
+begun_in a q r = None
 
 -- the actor that an event of this one begins, if it begins one
 abbrev pub begun : Image → ActorState → Event → Option ActorState
 begun i a (event.Start child) = Some (child_of i a child)
-begun i a (event.Enter run) = run_at a run a.phase
+begun i a (event.Enter run) = run_at a run None a.phase
+begun i a (event.Gate id q r) = begun_in a q r
 begun i a e = None

@@ -2,13 +2,17 @@
 use Rattle.std.specs.Prelude.{◌≡◌, ℕ, Bool, false, List, [], ◌∷◌, ◌++◌, map, find, Option, Some, None, option_map, if◌then◌else◌}
 use Rattle.wedge_base.specs.Images.{Image}
 use Rattle.wedge_base.specs.Names.{same, root_name}
+use Rattle.wedge_base.specs.declared.grants.GateId.{GateId}
+use Rattle.wedge_events.specs.declared.cells.GateAsk.{GateAsk}
+use Rattle.wedge_events.specs.declared.cells.GateAsk.TheVariants as gate_ask
+use Rattle.wedge_events.specs.declared.events.Ask.TheVariants as ask
 use Rattle.wedge_events.specs.declared.events.Want.{Want}
 use Rattle.wedge_events.specs.declared.events.Want.TheVariants as want
 use Rattle.wedge_events.specs.declared.events.Event.{Event}
 use Rattle.wedge_events.specs.declared.events.Event.TheVariants as event
 use Rattle.wedge_events.specs.declared.events.Turn.{Turn}
 use Rattle.sthread_life.specs.Actors.{ActorState, root}
-use Rattle.sthread_life.specs.Cells.{Cells, opening_cells, live_at, event_of, cells_after}
+use Rattle.sthread_life.specs.Cells.{Cells, opening_cells, live_at, event_of, cells_after, kept_in}
 use Rattle.sthread_life.specs.Children.{child_name}
 use Rattle.sthread_life.specs.Local.{rest, has_ended, end_reached}
 use Rattle.sthread_life.specs.Taking.{wanted, asks, takes, begun, has_joined}
@@ -65,13 +69,19 @@ ended_with (Some c) = option_map (λ e. (e, c.fuel)) (end_reached c.phase)
 abbrev pub join_event : ℕ → Option ActorState → Option Event
 join_event k c = option_map (λ (x : End × ℕ). event.Join k x.0 x.1) (ended_with c)
 
--- The event that an actor comes to with what it wants, if it can be now: a start and the entry and the leave of a gate take place at once, a
--- join once the child has ended, and any other when its cell is asked.
+-- a recycled gate is entered while no run is in it
+abbrev pub gate_event : Cells → GateId → GateAsk → Option Event
+gate_event c id (gate_ask.Enter run first) = if (kept_in c id).entered then None else event_of c (ask.Gate id (gate_ask.Enter run first))
+gate_event c id (gate_ask.Leave e memory) = event_of c (ask.Gate id (gate_ask.Leave e memory))
+
+-- The event that an actor comes to with what it wants, if it can be now: a start and the entry and the leave of a fresh gate take place at
+-- once, a join once the child has ended, the entry of a recycled gate once it is free, and any other when its cell is asked.
 abbrev pub event_at : WorldState → ActorState → Want → Option Event
 event_at w a (want.Start child) = Some (event.Start child)
 event_at w a (want.Enter run) = Some (event.Enter run)
 event_at w a (want.Leave e) = Some (event.Leave e)
 event_at w a (want.Join k) = join_event k (actor_named w.actors (child_name a.name k))
+event_at w a (want.Gate id q) = gate_event w.cells id q
 event_at w a q = event_of w.cells (asks a (live_at w.cells q) q)
 
 abbrev pub wanting : WorldState → ActorState → Option Want → Option Taken

@@ -1,12 +1,11 @@
 //! Entering gates: the call that enters one, the run that begins, and how its caller goes on.
 
 ghost use Rattle.std.specs.Arc.{arc_value};
-ghost use Rattle.std.specs.Prelude.{◌≡◌, ◌<◌, ◌≤◌, ◌+◌, ◌-◌, Some, None, option_map, option_copied, length, is_some, unwrap_or, IfOk, IfSome, OnOk, IsSomeAnd, false};
+ghost use Rattle.std.specs.Prelude.{◌≡◌, ◌<◌, ◌≤◌, ◌+◌, ◌-◌, Option, Some, None, option_map, option_copied, length, is_some, unwrap_or, IfOk, IfSome, OnOk, IsSomeAnd, false};
 ghost use Rattle.cow_pages.specs.PrivateMemory.{PrivateMemory, no_memory};
 ghost use Rattle.image_form.specs.Rules.{most_fuel};
 ghost use Rattle.wedge_base.specs.Names.{most_parts};
 ghost use Rattle.wedge_base.specs.Sheets.{lent_to};
-ghost use Rattle.wedge_events.specs.declared.events.Want.{Want as AWant};
 ghost use Rattle.sthread_life.specs.Actors.{gate_held, whole};
 ghost use Rattle.sthread_life.specs.Between.{EntersFrom, IsAtGate, IsPlaced, WantFits, funds};
 ghost use Rattle.sthread_life.specs.Calls as calls;
@@ -28,7 +27,7 @@ use rv_hart::Hart;
 use std::mem;
 use std::sync::Arc;
 use wedge_base::{ActorName, Code, Denial, End, GateKind, Items, MOST_PARTS, NameFault, NoMemory, PRIVATE_BASE, PRIVATE_SIZE};
-use wedge_events::Want;
+use wedge_events::{GateAsk, SavedView, Want};
 
 /// The number that lends nothing to the run of a gate.
 const NO_DRAFT: u32 = u32::MAX;
@@ -172,13 +171,7 @@ impl Actor {
             self.refuse(Code::FuelShort);
             return Ok(());
         }
-        match gate.kind {
-            GateKind::Fresh => self.come_to_enter(gate, number),
-            GateKind::Recycled => {
-                self.refuse(Code::Bad);
-                Ok(())
-            }
-        }
+        self.come_to_enter(gate, number)
     }
 
     /// It is about to enter a gate.
@@ -231,35 +224,57 @@ impl Actor {
         }
     }
 
-    /// To enter a gate: the name of the run is that of its next start.
-    pub(crate) fn entering_want(&self) -> Result<Want, NoMemory>
+    /// To enter a gate: the name of the run is that of its next start. Into a recycled gate it brings
+    /// the memory with which the first run begins.
+    pub(crate) fn entering_want(&self, gate: &Gate) -> Result<Want, NoMemory>
         requires shallow { length self.now.name < most_parts }
         requires gate { IsAtGate self.now.phase }
-        ensures is { IfOk result (λ q. q ≡ AWant.Enter (child_name self.now.name
-            (taking.next_start (whole self.now no_memory)))) }
+        ensures is { IfOk result (λ q. q ≡ taking.entering_want gate.now.kind gate.now
+            (child_name self.now.name (taking.next_start (whole self.now no_memory)))) }
         ensures fits { IfOk result (WantFits (whole self.now no_memory)) }
     {
+        let run = self.next_name()?;
+        match gate.kind {
+            GateKind::Fresh => Ok(Want::Enter { run }),
+            GateKind::Recycled => {
+                let memory = SavedView::of(self.alloc, &gate.memory)?;
+                Ok(Want::Gate {
+                    gate: gate.id.copy()?,
+                    ask: GateAsk::Enter { run, memory },
+                })
+            }
+        }
+    }
+
+    /// The name of its next start.
+    fn next_name(&self) -> Result<ActorName, NoMemory>
+        requires { length self.now.name < most_parts }
+        ensures { IfOk result (λ n. n
+            ≡ child_name self.now.name (taking.next_start (whole self.now no_memory))) }
+    {
         match self.name.child(self.alloc, self.starts + 1) {
-            Ok(run) => Ok(Want::Enter { run }),
+            Ok(name) => Ok(name),
             Err(NameFault::NoMemory) => Err(NoMemory),
             Err(NameFault::Deep) => unreachable!(),
         }
     }
 
-    /// A gate is entered: a run of this name begins, for which the actor waits.
+    /// A gate is entered: a run of this name begins, for which the actor waits. It begins with what
+    /// was kept for it, or else with the gate's memory.
     pub(crate) fn enter(
         &mut self,
         name: &ActorName,
+        kept: Option<&SavedView>,
     ) -> Result<Option<(Actor, PrivateView)>, NoMemory>
         ensures takes { OnOk result ((m : PrivateMemory) → whole self.new m
             ≡ taking.has_entered (whole self.old m) self.old.phase) }
-        ensures begun { IfOk result (λ c. option_map (λ p. whole p.0 p.1) c
-            ≡ taking.run_at (whole self.old no_memory) name.now self.old.phase) }
+        ensures begun { IfOk result (λ c. option_map (λ p. whole p.0 p.1) c ≡ taking.run_at
+            (whole self.old no_memory) name.now (option_copied kept.entry) self.old.phase) }
         ensures going { IfOk result (λ c. IfSome c (λ p. p.0.stopped ≡ false)) }
         ensures name { OnOk result (self.new.name ≡ self.old.name) }
     {
         match mem::replace(&mut self.phase, Phase::Running) {
-            Phase::Entering(entrance) => Ok(Some(self.begin_run(name, entrance)?)),
+            Phase::Entering(entrance) => Ok(Some(self.begin_run(name, kept, entrance)?)),
             _ => Ok(None),
         }
     }
@@ -269,17 +284,18 @@ impl Actor {
     fn begin_run(
         &mut self,
         name: &ActorName,
+        kept: Option<&SavedView>,
         entrance: Entrance,
     ) -> Result<(Actor, PrivateView), NoMemory>
         requires { EntersFrom (whole self.old no_memory) entrance }
         ensures takes { OnOk result ((m : PrivateMemory) → whole self.new m
             ≡ taking.has_entered (whole self.old m) (phase.Entering entrance)) }
-        ensures begun { IfOk result (λ p. whole p.0 p.1
-            ≡ taking.run_by (whole self.old no_memory) name.now entrance) }
+        ensures begun { IfOk result (λ p. whole p.0 p.1 ≡ taking.run_by
+            (whole self.old no_memory) name.now (option_copied kept.entry) entrance) }
         ensures going { IfOk result (λ p. p.0.stopped ≡ false) }
         ensures name { OnOk result (self.new.name ≡ self.old.name) }
     {
-        let memory = entrance.gate().memory.snapshot()?;
+        let memory = memory_of_run(kept, entrance.gate())?;
         let fuel = entrance.gate().fuel;
         let run = self.build_run(name, entrance)?;
         self.give_to_run(fuel)?;
@@ -289,8 +305,9 @@ impl Actor {
     /// The run of a gate, but for its private memory.
     fn build_run(&self, name: &ActorName, entrance: Entrance) -> Result<Actor, NoMemory>
         requires { EntersFrom (whole self.now no_memory) entrance }
-        ensures is { IfOk result (λ r. (m : PrivateMemory) → whole r entrance.gate.memory
-            ≡ taking.run_by (whole self.now m) name.now entrance) }
+        ensures is { IfOk result (λ r. (m : PrivateMemory) (kept : Option PrivateMemory)
+            → whole r (unwrap_or kept entrance.gate.memory)
+            ≡ taking.run_by (whole self.now m) name.now kept entrance) }
         ensures going { IfOk result (λ r. r.stopped ≡ false) }
     {
         let alloc = self.alloc;
@@ -363,6 +380,17 @@ impl Actor {
         self.fuel += fuel;
         self.phase = Phase::Running;
         self.hart.answer(end_value(end), 0, Some(end_number(end)));
+    }
+}
+
+/// The private memory with which a run begins: what was kept for it, or else the gate's, in pages that both
+/// hold.
+fn memory_of_run(kept: Option<&SavedView>, gate: &Gate) -> Result<PrivateView, NoMemory>
+    ensures { IfOk result (λ m. m ≡ unwrap_or (option_copied kept.entry) gate.now.memory) }
+{
+    match kept {
+        Some(kept) => kept.view().snapshot(),
+        None => gate.memory.snapshot(),
     }
 }
 

@@ -1,7 +1,7 @@
 //! Laws of the definitions: each is the contract of a function that does nothing.
 
 ghost use Rattle.wedge_base.specs.Images.{Image};
-ghost use Rattle.sthread_life.specs.Laws.{CellsOpen, AccessesAreIsolated, MomentsAreLawful, NamesAreDistinct, RunsWriteTheirOwn, FuelIsKept, RootBounds, SlotsAreOccupied, CopiesAreGranted, GatesAreKept, RunsEnd};
+ghost use Rattle.sthread_life.specs.Laws.{CellsOpen, AccessesAreIsolated, MomentsAreLawful, NamesAreDistinct, RunsWriteTheirOwn, FuelIsKept, RootBounds, SlotsAreOccupied, CopiesAreGranted, GatesAreKept, NoneRunsWithin, RunsAreAlone, RunsEnd};
 ghost use Rattle.sthread_life.specs.Walks.{RootsWalk};
 
 /// In every run, whatever the image and the order of the turns, each request that an instruction makes
@@ -13,8 +13,9 @@ ghost use Rattle.sthread_life.specs.Walks.{RootsWalk};
 /// directory or of a file that it opens. Its drafts are as its calls made them. Its private bytes are those that it stored, and
 /// a load gives them. It starts and joins its own children alone, each with no more rights than it has itself, and makes
 /// tags, gates and the copies with which children and the runs of gates begin by its own calls alone. It enters a gate that
-/// it holds alone, and the run begins with the sheet, the argument, the fuel and the memory that the gate's maker fixed, and with
-/// what the caller lends of its own where that sheet names nothing. Each turn of an actor that waited for such a run begins with the
+/// it holds alone, and the run begins with the sheet, the argument and the fuel that the gate's maker fixed; with the memory that
+/// the maker fixed too, or, in a recycled gate, with that which the gate's cell keeps; and with what the caller lends of its own
+/// where that sheet names nothing. Each turn of an actor that waited for such a run begins with the
 /// value, the end and the fuel that this run left, and each other turn with the actor as it was.
 pub fn moments_are_lawful()
     ensures { MomentsAreLawful }
@@ -89,4 +90,17 @@ pub fn gates_are_kept()
 /// cells still look alike to it.
 pub fn accesses_are_isolated()
     ensures { AccessesAreIsolated }
+{}
+
+/// In every world of a run, each run of a gate has the gate's sheet, with what was lent to it where that names nothing, and so no other
+/// grant of a copy. A recycled gate is entered exactly while one run of it has not ended, and what it keeps for the next run has the copies
+/// alone that the gate's sheet grants.
+pub fn runs_are_alone()
+    ensures { RunsAreAlone }
+{}
+
+/// In every world of a run, no actor that runs a gate, and none that such a run started or that these started, holds that gate: what it holds
+/// was made before the gate, or at or under the run. So no gate is entered from within.
+pub fn gates_are_not_held_within()
+    ensures { NoneRunsWithin }
 {}

@@ -85,7 +85,7 @@ impl Actor {
             → OnOk result (whole self.new memory.new ≡ whole self.old memory.old) }
     {
         self.run(program, memory)?;
-        self.next()
+        self.next(memory)
     }
 
     /// Runs instructions until it no longer runs: each takes a unit of fuel.
@@ -103,9 +103,9 @@ impl Actor {
 
     /// What it is at, at rest.
     #[inline(always)]
-    fn next(&self) -> Result<Next, NoMemory>
+    fn next(&self, memory: &PrivateView) -> Result<Next, NoMemory>
         requires { local.is_running self.now.phase ≡ false }
-        ensures wants { IfOk result (λ n. (m : PrivateMemory) → want_in n ≡ wanted (whole self.now m)) }
+        ensures wants { IfOk result (λ n. want_in n ≡ wanted (whole self.now memory.now)) }
         ensures ended { IfOk result (λ n. end_in n ≡ end_reached self.now.phase) }
         ensures waits { IfOk result (λ n. run_in n ≡ run_awaited self.now.phase) }
         ensures fits { IfOk result (NextFits (whole self.now no_memory)) }
@@ -117,9 +117,9 @@ impl Actor {
             Phase::Opening { slot, tag } => Ok(Next::Shared(self.opening_want(*slot, *tag))),
             Phase::Releasing { slot } => Ok(Next::Shared(releasing_want(*slot))),
             Phase::OpeningFile(opening) => Ok(Next::Shared(opening.want()?)),
-            Phase::Entering(_) => Ok(Next::Shared(self.entering_want()?)),
+            Phase::Entering(entrance) => Ok(Next::Shared(self.entering_want(entrance.gate())?)),
             Phase::Waiting { run } => Ok(Next::Waiting { run: *run }),
-            Phase::Ending(end) => Ok(Next::Shared(self.ending_want(*end))),
+            Phase::Ending(end) => Ok(Next::Shared(self.ending_want(memory, *end)?)),
             Phase::Ended(end) => Ok(Next::Ended(*end)),
             Phase::Running => unreachable!(),
         }

@@ -8,7 +8,7 @@ ghost use Rattle.wedge_events.specs.declared.events.Want.{Want as AWant};
 ghost use Rattle.cow_pages.specs.PrivateMemory.{PrivateMemory, no_memory};
 ghost use Rattle.wedge_base.specs.Images.{Image as AnImage};
 ghost use Rattle.image_form.specs.Rules.{most_fuel};
-ghost use Rattle.sthread_life.specs.Actors.{pristine, whole};
+ghost use Rattle.sthread_life.specs.Actors.{ActorState, pristine, whole};
 ghost use Rattle.sthread_life.specs.Between.{AreInSlots, MayStart, WantFits, funds};
 ghost use Rattle.sthread_life.specs.declared.phase.Phase.TheVariants as phase;
 ghost use Rattle.sthread_life.specs.Calls as calls;
@@ -27,10 +27,11 @@ use grant_sheet::{Made, first_excess, sheet_of};
 use image_form::Image;
 use ready_text::Program;
 use rv_hart::Hart;
+use std::alloc::Global;
 use std::mem;
 use std::sync::Arc;
-use wedge_base::{ActorName, Code, Denial, End, Items, MOST_PARTS, NameFault, NoMemory, PRIVATE_BASE, PRIVATE_SIZE, Slot};
-use wedge_events::{LivesAsk, LivesReply, SlotWant, Want};
+use wedge_base::{ActorName, Code, Denial, End, GateKind, Items, MOST_PARTS, NameFault, NoMemory, PRIVATE_BASE, PRIVATE_SIZE, Slot};
+use wedge_events::{GateAsk, LivesAsk, LivesReply, SavedView, SlotWant, Want};
 
 impl Actor {
     /// The call that starts a child, up to the claim of a life for it.
@@ -102,14 +103,15 @@ impl Actor {
 
     /// What it wants once its end is decided: to join its children, the least number first, and
     /// then to end; the run of a gate leaves the gate.
-    pub(crate) fn ending_want(&self, end: End) -> Want
-        ensures is { result ≡ taking.ending_want self.now.run_of self.now.unjoined end }
-        ensures fits { WantFits (whole self.now no_memory) result }
+    pub(crate) fn ending_want(&self, memory: &PrivateView, end: End) -> Result<Want, NoMemory>
+        ensures is { IfOk result (λ q. q
+            ≡ taking.ending_want self.now.run_of memory.now self.now.unjoined end) }
+        ensures fits { IfOk result (WantFits (whole self.now no_memory)) }
     {
         match (self.unjoined.least(), &self.run_of) {
-            (Some(child), _) => Want::Join { child },
-            (None, None) => Want::Lives(LivesAsk::Release { end }),
-            (None, Some(_)) => Want::Leave { end },
+            (Some(child), _) => Ok(Want::Join { child }),
+            (None, None) => Ok(Want::Lives(LivesAsk::Release { end })),
+            (None, Some(gate)) => leaving_want(self.alloc, gate, memory, end),
         }
     }
 
@@ -304,6 +306,29 @@ impl Actor {
                 self.phase = Phase::Running;
                 self.hart.answer(end_value(end), 0, Some(end_number(end)));
             }
+        }
+    }
+}
+
+/// To leave a gate at the end of a run. A recycled gate keeps the run's private memory.
+fn leaving_want(
+    alloc: Global,
+    gate: &Gate,
+    memory: &PrivateView,
+    end: End,
+) -> Result<Want, NoMemory>
+    ensures is { IfOk result (λ q. q
+        ≡ taking.leaving_want gate.now.kind gate.now.id memory.now end) }
+    ensures fits { IfOk result (λ q. (a : ActorState) → a.run_of ≡ Some gate.now → WantFits a q) }
+{
+    match gate.kind {
+        GateKind::Fresh => Ok(Want::Leave { end }),
+        GateKind::Recycled => {
+            let memory = SavedView::of(alloc, memory)?;
+            Ok(Want::Gate {
+                gate: gate.id.copy()?,
+                ask: GateAsk::Leave { end, memory },
+            })
         }
     }
 }

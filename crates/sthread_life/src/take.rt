@@ -17,7 +17,7 @@ use cow_pages::{Pages, PrivateView};
 use ready_text::Program;
 use rv_hart::Reply;
 use wedge_base::{Code, Denial, End, NoMemory, Right, Slot, TagNo, address_of};
-use wedge_events::{DirectoryAsk, DirectoryReply, Event, LivesAsk, LivesReply, SlotAsk, SlotReply};
+use wedge_events::{DirectoryAsk, DirectoryReply, Event, GateAsk, GateReply, LivesAsk, LivesReply, SlotAsk, SlotReply};
 
 impl Actor {
     /// What the event that it wanted makes of the actor; the child that it begins, with its private memory, where the event
@@ -90,13 +90,40 @@ impl Actor {
                 self.take_join(*child, *end, *fuel);
                 Ok(None)
             }
-            Event::Enter { run } => self.enter(run),
+            Event::Enter { run } => self.enter(run, None),
             Event::Leave { end } => {
                 self.leave(memory, *end);
                 Ok(None)
             }
-            Event::Gate { .. } => {
+            Event::Gate { ask, reply, .. } => self.take_gate(memory, ask, reply),
+        }
+    }
+
+    /// What the cell of a recycled gate makes of it: who entered it waits for the run that begins, and a run that left it has
+    /// ended.
+    #[inline(never)]
+    fn take_gate(
+        &mut self,
+        memory: &mut PrivateView,
+        ask: &GateAsk,
+        reply: &GateReply,
+    ) -> Result<Option<(Actor, PrivateView)>, NoMemory>
+        ensures takes { OnOk result (whole self.new memory.new
+            ≡ taking.takes_gate (whole self.old memory.old) ask.now reply.now) }
+        ensures begun { IfOk result (λ c. option_map (λ p. whole p.0 p.1) c
+            ≡ taking.begun_in (whole self.old memory.old) ask.now reply.now) }
+        ensures begun_going { IfOk result (λ c. IfSome c (λ p. p.0.stopped ≡ false)) }
+        ensures name { OnOk result (self.new.name ≡ self.old.name) }
+    {
+        match (ask, reply) {
+            (GateAsk::Enter { run, .. }, GateReply::Entered { memory: kept }) =>
+                self.enter(run, Some(kept)),
+            (GateAsk::Enter { .. }, GateReply::Left) => {
                 self.phase = Phase::Running;
+                Ok(None)
+            }
+            (GateAsk::Leave { end, .. }, _) => {
+                self.leave(memory, *end);
                 Ok(None)
             }
         }

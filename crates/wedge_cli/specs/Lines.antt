@@ -47,6 +47,7 @@ abbrev pub why_word : Why → List ℕ
 why_word why.Unknown = codes "unknown"
 why_word why.Ended = codes "ended"
 why_word why.Waits = codes "waits"
+why_word why.Busy = codes "busy"
 why_word why.Short = codes "short"
 why_word why.Extra = codes "extra"
 

@@ -129,6 +129,7 @@ fn why_word(why: Why) -> &'static str
         Why::Unknown => "unknown",
         Why::Ended => "ended",
         Why::Waits => "waits",
+        Why::Busy => "busy",
         Why::Short => "short",
         Why::Extra => "extra",
     }

@@ -1,25 +1,30 @@
 -- A run goes on by a turn, or its actor has to wait.
 use Rattle.std.proofs.Common.{◌≡◌, ℕ, zero, suc, ◌+◌, ◌-◌, List, [], ◌∷◌, ◌++◌, Bool, true, false, length, take, get_or, refl, sym, ap, subst, ◌∙◌, inl, inr, arith}
-use Rattle.std.specs.Prelude.{◌⊎◌}
+use Rattle.std.specs.Prelude.{Some, None}
 use Rattle.wedge_base.specs.Images.{Image}
 use Rattle.wedge_events.specs.Journals.{turns_of, numbered}
+use Rattle.wedge_events.specs.declared.cells.GateAsk.TheVariants as gate_ask
 use Rattle.wedge_events.specs.declared.events.Event.{Event}
+use Rattle.wedge_events.specs.declared.events.Want.TheVariants as want
 use Rattle.wedge_events.specs.declared.events.LogEntry.{LogEntry}
 use Rattle.wedge_events.specs.declared.events.Turn.{Turn}
 use Rattle.sthread_life.specs.Actors.{ActorState}
 use Rattle.sthread_life.specs.Cells.{Cells}
-use Rattle.sthread_life.specs.Worlds.{WorldState, opening, Runs, settled}
+use Rattle.sthread_life.specs.Worlds.{WorldState, opening, actor_named, at_rest, Runs, settled}
 use Rattle.sthread_life.specs.FamilyTrees.{Family}
+use Rattle.sthread_life.specs.Local.{has_ended}
+use Rattle.sthread_life.specs.Taking.{wanted, wanted_at}
 use Rattle.sthread_life.proofs.FamilyRuns.{turn_family}
+use Rattle.sthread_life.proofs.GrantedCopies.{runs_alone}
 use Rattle.sthread_life.proofs.Settling.{AllReady, all_alike, run_ready}
-use Rattle.wedge_core.specs.Progress.{Progress, IsRun, IsTurn, HasEnded, IsWaiting, GoesOnBy, state_of, rested_in}
+use Rattle.wedge_core.specs.Progress.{Progress, IsRun, IsTurn, HasEnded, IsWaiting, IsBusy, AreRecorded, GoesOnBy, state_of, rested, rested_in}
 use Rattle.wedge_core.specs.declared.turns.Went.{Went}
 use Rattle.wedge_core.specs.declared.turns.Went.TheVariants as went
 use Rattle.wedge_core.specs.Serial.{IsNumbered}
-use Rattle.wedge_core.specs.Turning.{WasTaken, HasWaited}
-use Rattle.wedge_core.proofs.AtRest.{family_at_rest}
+use Rattle.wedge_core.specs.Turning.{WasTaken, HasWaited, HasMetBusy}
+use Rattle.wedge_core.proofs.AtRest.{family_at_rest, recorded_alike}
 use Rattle.wedge_core.proofs.Numbering.{entry, numbered-push, turns_of-numbered, is_numbered, notes_turns, notes_numbered}
-use Rattle.wedge_core.proofs.Replays.{has_ended_turn, waiting_turn, waiting_lives}
+use Rattle.wedge_core.proofs.Replays.{has_ended_turn, waiting_turn, waiting_lives, busy_turn, busy_lives}
 use Rattle.wedge_core.proofs.Turning.{run_goes_on, rested_settled, not_ended}
 
 -- what the type of a world keeps
@@ -51,22 +56,20 @@ goes_on_by i cells new_cells actors new entries new_entries name stopped t = rec
   noted = notes_turns entries new_entries name t.event t.noted;
 }
 
--- a run whose actor waits has come no further
-pub kept_waited : (i : Image) (cells new_cells : Cells) (actors new : List ActorState) (entries new_entries : List LogEntry) (name : List ℕ) (stopped : Bool)
-    → IsKept i cells actors entries stopped → HasWaited i cells actors name new_cells new → new_entries ≡ entries → IsKept i new_cells new new_entries stopped
-kept_waited i cells new_cells actors new entries new_entries name stopped k h same =
+-- a run whose actor is at rest has come no further
+kept_rested : (i : Image) (cells new_cells : Cells) (actors new : List ActorState) (entries new_entries : List LogEntry) (name : List ℕ) (stopped : Bool) (a : ActorState) → actor_named actors name ≡ Some a → has_ended a.phase ≡ false
+    → IsKept i cells actors entries stopped → state_of i new_cells new ≡ rested (state_of i cells actors) name → new_entries ≡ entries → IsKept i new_cells new new_entries stopped
+kept_rested i cells new_cells actors new entries new_entries name stopped a named lives k rests same =
     let w = state_of i cells actors in
-    let v = state_of i new_cells new in
     subst (λ es. IsKept i new_cells new es stopped) (sym same)
     (record {
       numbered = k.numbered;
       run = record {
         last = k.run.last;
         run = k.run.run;
-        current = λ going. (ap settled h.rests ∙ rested_settled w name h.waits.actor h.waits.named) ∙ k.run.current going;
+        current = λ going. (ap settled rests ∙ rested_settled w name a named) ∙ k.run.current going;
       };
-      family = λ going. subst Family (sym (ap (λ (x : WorldState). x.actors) h.rests ∙ ap (rested_in i actors) h.waits.named))
-          (family_at_rest w name h.waits.actor (k.family going) h.waits.named (waiting_lives w name h.waits));
+      family = λ going. subst Family (sym (ap (λ (x : WorldState). x.actors) rests ∙ ap (rested_in i actors) named)) (family_at_rest w name a (k.family going) named lives);
     })
 
 pub kept_same : (i : Image) (cells new_cells : Cells) (actors new : List ActorState) (entries new_entries : List LogEntry) (stopped : Bool)
@@ -80,13 +83,22 @@ kept_same i cells new_cells actors new entries new_entries stopped k c a e =
 pub kept_by : (r : Went) (i : Image) (cells new_cells : Cells) (actors new : List ActorState) (entries new_entries : List LogEntry) (name : List ℕ) (stopped : Bool)
     → IsKept i cells actors entries stopped → stopped ≡ false
     → (r ≡ went.Took → WasTaken i cells actors entries name new_cells new new_entries) → (r ≡ went.Ended → HasEnded actors name × (new_cells ≡ cells) × (new ≡ actors))
-    → (r ≡ went.Waits → HasWaited i cells actors name new_cells new) → ((r ≡ went.Ended) ⊎ (r ≡ went.Waits) → new_entries ≡ entries)
+    → (r ≡ went.Waits → HasWaited i cells actors name new_cells new) → (r ≡ went.Busy → HasMetBusy i cells actors name new_cells new) → ((r ≡ went.Took → ⊥) → new_entries ≡ entries)
     → IsKept i new_cells new new_entries stopped
-kept_by went.Took i cells new_cells actors new entries new_entries name stopped k going took ended waits same = kept_taken i cells new_cells actors new entries new_entries name stopped k going (took refl)
-kept_by went.Ended i cells new_cells actors new entries new_entries name stopped k going took ended waits same = let e = ended refl in kept_same i cells new_cells actors new entries new_entries stopped k e.1 e.2 (same (inl refl))
-kept_by went.Waits i cells new_cells actors new entries new_entries name stopped k going took ended waits same = kept_waited i cells new_cells actors new entries new_entries name stopped k (waits refl) (same (inr refl))
+kept_by went.Took i cells new_cells actors new entries new_entries name stopped k going took ended waits busy same = kept_taken i cells new_cells actors new entries new_entries name stopped k going (took refl)
+kept_by went.Ended i cells new_cells actors new entries new_entries name stopped k going took ended waits busy same = let e = ended refl in kept_same i cells new_cells actors new entries new_entries stopped k e.1 e.2 (same (λ is. cc))
+kept_by went.Waits i cells new_cells actors new entries new_entries name stopped k going took ended waits busy same =
+    let h = waits refl in
+    kept_rested i cells new_cells actors new entries new_entries name stopped h.waits.actor h.waits.named (waiting_lives (state_of i cells actors) name h.waits) k h.rests (same (λ is. cc))
+kept_by went.Busy i cells new_cells actors new entries new_entries name stopped k going took ended waits busy same =
+    let h = busy refl in
+    kept_rested i cells new_cells actors new entries new_entries name stopped h.busy.actor h.busy.named (busy_lives (state_of i cells actors) name h.busy) k h.rests (same (λ is. cc))
 
--- ---- who has ended, or waits, takes no turn
+-- an actor that is in a recycled gate is so in the run that led here
+pub run_recorded : (p : Progress) → IsRun p → p.stopped ≡ false → AreRecorded p.state.cells p.state.actors
+run_recorded p r going = recorded_alike p.state r.last (r.current going) (λ name a named id h. (runs_alone p.state.image p.turns r.last r.run).entered name a id named h)
+
+-- ---- who has ended, or waits, or finds the gate busy, takes no turn
 
 pub ended_turns_not : {A : Type 0} (w : WorldState) (name : List ℕ) (e : Event) (new : WorldState) → HasEnded w.actors name → IsTurn w name e new → A
 ended_turns_not w name e new ended turn = let none = has_ended_turn w name ended in absurd cc
@@ -96,6 +108,24 @@ waiting_turns_not w name e new waits turn = let none = waiting_turn w name waits
 
 pub waiting_ended_not : {A : Type 0} (w : WorldState) (name : List ℕ) → IsWaiting w name → HasEnded w.actors name → A
 waiting_ended_not w name waits ended = not_ended w.actors name waits.actor waits.named (waiting_lives w name waits) ended
+
+pub busy_turns_not : {A : Type 0} (w : WorldState) (name : List ℕ) (e : Event) (new : WorldState) → IsBusy w name → IsTurn w name e new → A
+busy_turns_not w name e new busy turn = let none = busy_turn w name busy in absurd cc
+
+pub busy_ended_not : {A : Type 0} (w : WorldState) (name : List ℕ) → IsBusy w name → HasEnded w.actors name → A
+busy_ended_not w name busy ended = not_ended w.actors name busy.actor busy.named (busy_lives w name busy) ended
+
+pub busy_waits_not : {A : Type 0} (w : WorldState) (name : List ℕ) → IsBusy w name → IsWaiting w name → A
+busy_waits_not w name busy waits = elim waits.awaits [
+    | inl joins ↦ let both : Some (want.Gate busy.gate (gate_ask.Enter busy.run busy.first)) ≡ Some (want.Join waits.number) = sym busy.wants ∙ (same_one ∙ joins) in absurd cc
+    | inr at ↦ let both : Some (want.Gate busy.gate (gate_ask.Enter busy.run busy.first)) ≡ None = sym busy.wants ∙ (same_one ∙ ap (wanted_at (at_rest w waits.actor)) at) in absurd cc
+  ]
+  where
+    two : Some busy.actor ≡ Some waits.actor
+    two = sym busy.named ∙ waits.named
+
+    same_one : wanted (at_rest w busy.actor) ≡ wanted (at_rest w waits.actor)
+    same_one = let one : busy.actor ≡ waits.actor = cc in ap (λ x. wanted (at_rest w x)) one
 
 -- ---- a turn whose event can't be copied
 

@@ -3,20 +3,24 @@
 use Rattle.std.proofs.Common.{◌≡◌, ℕ, Bool, true, false, true≢false, List, refl, sym, ap, subst, ◌∙◌, arith, inl, inr}
 use Rattle.std.specs.Prelude.{Option, Some, None, is_some, option_map, ◌⊎◌}
 use Rattle.wedge_base.specs.Images.{Image}
+use Rattle.wedge_base.specs.declared.grants.GateId.{GateId}
 use Rattle.wedge_base.specs.declared.rights.End.{End}
 use Rattle.sthread_life.specs.declared.phase.Phase.{Phase}
 use Rattle.sthread_life.specs.declared.phase.Phase.TheVariants as phase
 use Rattle.sthread_life.specs.Actors.{ActorState}
+use Rattle.sthread_life.specs.Cells.{Cells, kept_in}
 use Rattle.sthread_life.specs.FamilyTrees.{Family}
 use Rattle.sthread_life.specs.Local.{rest, is_running, has_ended, end_reached, run_awaited}
-use Rattle.sthread_life.specs.Worlds.{WorldState, actor_named, put_actor, is_ended, ended_with, ready, resumed, at_rest}
+use Rattle.sthread_life.specs.RecycledGates.{IsInside}
+use Rattle.sthread_life.specs.Worlds.{WorldState, actor_named, put_actor, is_ended, ended_with, ready, resumed, at_rest, settled}
 use Rattle.sthread_life.proofs.FamilyKept.{family_alone}
 use Rattle.sthread_life.proofs.FamilyRuns.{kept_at_rest, rest_units, resumed_family}
 use Rattle.sthread_life.proofs.Named.{put_put, found_name}
-use Rattle.sthread_life.proofs.Resting.{rest-name, rest-ended, rest-stays, rest-uncalm, ended-stays}
-use Rattle.sthread_life.proofs.Settling.{none_ended}
-use Rattle.sthread_life.proofs.Turns.{ready_named, ready_ended, waits_or}
+use Rattle.sthread_life.proofs.Resting.{rest-name, rest-ended, rest-stays, rest-uncalm, ended-stays, rests}
+use Rattle.sthread_life.proofs.Settling.{none_ended, at_rest-ended, settled_named}
+use Rattle.sthread_life.proofs.Turns.{ready_named, ready_ended, ready_is, waits_or}
 use Rattle.sthread_life.proofs.Waits.{IsAwake, waits_none}
+use Rattle.wedge_core.specs.Progress.{IsRecorded, AreRecorded}
 
 pub unjoined_at_rest : (i : Image) (a : ActorState) → (rest i a).unjoined ≡ a.unjoined
 unjoined_at_rest i a = (kept_at_rest i a (is_running a.phase) refl).unjoined
@@ -102,3 +106,51 @@ family_at_rest w name a f named live = by_phase (waits_or b.phase)
     by_phase : ((k : ℕ) × (b.phase ≡ phase.Waiting k)) ⊎ ((k : ℕ) → b.phase ≡ phase.Waiting k → ⊥) → Family (put_actor w.actors (at_rest w a))
     by_phase (inl (k, at)) = subst (λ x. Family (put_actor w.actors x)) (sym (rest-stays w.image b (ap is_running at))) goes
     by_phase (inr awake) = subst Family (put_put w.actors b (rest w.image b) (rest-name w.image b)) (family_rests w.image (resumed w a).actors b goes there (ready_ended w.actors a ∙ live) awake)
+
+-- ---- who is in a recycled gate is in it still
+inside_back : (a b : ActorState) (id : GateId) → b.run_of ≡ a.run_of → has_ended b.phase ≡ has_ended a.phase → IsInside id b → IsInside id a
+inside_back a b id run_of ended h = record { gate = h.gate; own = sym run_of ∙ h.own; recycled = h.recycled; named = h.named; live = sym ended ∙ h.live }
+
+rest_run_of : (i : Image) (a : ActorState) → (rest i a).run_of ≡ a.run_of
+rest_run_of i a = by_run (is_running a.phase) refl
+  where
+    by_run : (t : Bool) → is_running a.phase ≡ t → (rest i a).run_of ≡ a.run_of
+    by_run true e = (rests i a e).run_of
+    by_run false e = ap (λ (x : ActorState). x.run_of) (rest-stays i a e)
+
+ready_run_of : (actors : List ActorState) (a : ActorState) → (ready actors a).run_of ≡ a.run_of
+ready_run_of actors a = ready_is (λ x. x.run_of ≡ a.run_of) actors a refl (λ k e fuel. refl)
+
+pub recorded_at_rest : (c : Cells) (i : Image) (a : ActorState) → IsRecorded c a → IsRecorded c (rest i a)
+recorded_at_rest c i a recorded id h = recorded id (inside_back a (rest i a) id (rest_run_of i a) (rest-ended i a) h)
+
+pub recorded_ready : (c : Cells) (actors : List ActorState) (a : ActorState) → IsRecorded c a → IsRecorded c (ready actors a)
+recorded_ready c actors a recorded id h = recorded id (inside_back a (ready actors a) id (ready_run_of actors a) (ready_ended actors a) h)
+
+-- so it is in every world that differs from one of a run in local events alone
+at_rest_inside : (w : WorldState) (a : ActorState) (id : GateId) → IsInside id a → IsInside id (at_rest w a)
+at_rest_inside w a id h = record {
+  gate = h.gate;
+  own = (rest_run_of w.image (ready w.actors a) ∙ ready_run_of w.actors a) ∙ h.own;
+  recycled = h.recycled;
+  named = h.named;
+  live = at_rest-ended w a ∙ h.live;
+}
+
+at_rest_back : (w : WorldState) (a : ActorState) (id : GateId) → IsInside id (at_rest w a) → IsInside id a
+at_rest_back w a id h = inside_back a (at_rest w a) id (rest_run_of w.image (ready w.actors a) ∙ ready_run_of w.actors a) (at_rest-ended w a) h
+
+pub recorded_alike : (v w : WorldState) → settled v ≡ settled w → AreRecorded w.cells w.actors → AreRecorded v.cells v.actors
+recorded_alike v w alike recorded name a named id h =
+    ap (λ (x : WorldState). (kept_in x.cells id).entered) alike
+    ∙ by_other (actor_named w.actors name) refl
+  where
+    here : option_map (at_rest w) (actor_named w.actors name) ≡ Some (at_rest v a)
+    here = sym (settled_named w name) ∙ (ap (λ (x : WorldState). actor_named x.actors name) (sym alike) ∙ (settled_named v name ∙ ap (option_map (at_rest v)) named))
+
+    by_other : (o : Option ActorState) → actor_named w.actors name ≡ o → (kept_in w.cells id).entered ≡ true
+    by_other None none = let f : None ≡ Some (at_rest v a) = sym (ap (option_map (at_rest w)) none) ∙ here in absurd cc
+    by_other (Some b) there =
+        let two : Some (at_rest w b) ≡ Some (at_rest v a) = sym (ap (option_map (at_rest w)) there) ∙ here in
+        let one : at_rest w b ≡ at_rest v a = cc in
+        recorded name b there id (at_rest_back w b id (subst (IsInside id) (sym one) (at_rest_inside v a id h)))

@@ -1,9 +1,17 @@
--- What the actor at an index wants of actors alone.
+-- What the actor at an index wants that other actors have part in.
 use Rattle.std.proofs.Common.{◌≡◌, ℕ, zero, suc, ◌+◌, ◌≤◌, Bool, true, false, List, [], ◌∷◌, ◌++◌, refl, sym, ap, subst, ◌∙◌, arith, inl}
-use Rattle.std.specs.Prelude.{Result, Ok, Err, IfOk, IfSome, IfNone, Option, Some, None, IsSomeAnd, is_some, option_map, slice_get, slice_set, if◌then◌else◌}
+use Rattle.std.specs.Prelude.{Result, Ok, Err, IfOk, IfSome, IfNone, Option, Some, None, IsSomeAnd, is_some, option_map, unwrap_or, slice_get, slice_set, if◌then◌else◌}
 use Rattle.wedge_base.specs.Images.{Image}
 use Rattle.wedge_base.specs.Names.{same}
+use Rattle.wedge_base.specs.declared.grants.GateId.{GateId}
 use Rattle.wedge_base.specs.declared.rights.End.{End}
+use Rattle.callgate.specs.declared.gate.Gate.{Gate}
+use Rattle.cow_pages.specs.PrivateMemory.{PrivateMemory}
+use Rattle.wedge_events.specs.Gates.{gate_reply}
+use Rattle.wedge_events.specs.declared.cells.GateAsk.{GateAsk}
+use Rattle.wedge_events.specs.declared.cells.GateAsk.TheVariants as gate_ask
+use Rattle.wedge_events.specs.declared.cells.GateReply.TheVariants as gate_replies
+use Rattle.wedge_events.specs.declared.events.Ask.TheVariants as ask
 use Rattle.wedge_events.specs.declared.events.Want.{Want}
 use Rattle.wedge_events.specs.declared.events.Want.TheVariants as want
 use Rattle.wedge_events.specs.declared.events.Event.{Event}
@@ -12,13 +20,13 @@ use Rattle.wedge_events.specs.declared.events.LogEntry.{LogEntry}
 use Rattle.sthread_life.specs.declared.phase.Phase.{Phase}
 use Rattle.sthread_life.specs.declared.phase.Phase.TheVariants as phase
 use Rattle.sthread_life.specs.Actors.{ActorState}
-use Rattle.sthread_life.specs.Between.{IsAtGate}
-use Rattle.sthread_life.specs.Cells.{Cells, cells_after}
+use Rattle.sthread_life.specs.Between.{IsAtGate, RunsIn, TakesFit}
+use Rattle.sthread_life.specs.Cells.{Cells, cells_after, event_of, kept_in}
 use Rattle.sthread_life.specs.Children.{fuel_given, is_child, child_name}
 use Rattle.sthread_life.specs.FamilyTrees.{worth, Family}
 use Rattle.sthread_life.specs.Local.{rest, has_ended, end_reached}
-use Rattle.sthread_life.specs.Taking.{wanted, takes, begun, child_of, run_by, run_at}
-use Rattle.sthread_life.specs.Worlds.{actor_named, put_actor, with_begun, event_at, join_event, is_ended, ended_with, ready}
+use Rattle.sthread_life.specs.Taking.{wanted, wanted_at, takes, begun, child_of, run_by, run_at}
+use Rattle.sthread_life.specs.Worlds.{WorldState, actor_named, put_actor, with_begun, event_at, join_event, is_ended, ended_with, ready}
 use Rattle.sthread_life.proofs.Between.{takes_name}
 use Rattle.sthread_life.proofs.FamilyKept.{brings_back, next_is_new}
 use Rattle.sthread_life.proofs.Named.{found_name}
@@ -26,10 +34,10 @@ use Rattle.sthread_life.proofs.Resting.{rest-name}
 use Rattle.sthread_life.proofs.Settling.{put_ends}
 use Rattle.sthread_life.proofs.Turns.{ready_else}
 use Rattle.sthread_life.proofs.Waits.{IsAwake}
-use Rattle.wedge_core.specs.Progress.{IsFound, IsTurn, state_of, rested_in}
+use Rattle.wedge_core.specs.Progress.{IsFound, IsRecorded, IsTurn, state_of, rested, rested_in}
 use Rattle.wedge_core.specs.Serial.{Notes}
-use Rattle.wedge_core.specs.Turning.{IsOfCell, IsMade, IsLeft, WantsOfFamily, IsBeginning, IsGoingAlone, IsJoining, HasTaken, HasDone, IsDoneAt, WasTaken, HasWaited}
-use Rattle.wedge_core.proofs.AtRest.{family_rests, rest_end}
+use Rattle.wedge_core.specs.Turning.{IsOfCell, IsMade, IsLeft, WantsOfFamily, IsBeginning, IsGoingAlone, IsJoining, HasTaken, HasDone, IsDoneAt, FindsBusy, WasTaken, HasWaited, HasMetBusy}
+use Rattle.wedge_core.proofs.AtRest.{family_rests, rest_end, recorded_at_rest}
 use Rattle.wedge_core.proofs.Turning.{found_set, cell_turn, family_turn, ended_alike}
 
 -- a name that no actor has, where one goes on under its own
@@ -99,16 +107,16 @@ alone_done i actors place e o new name entries new_entries g t noted =
     one_of h = cc
 
 -- ---- what is wanted is done
-pub done_at : (i : Image) (actors : List ActorState) (place : ℕ) (name : List ℕ) (q : Want) (e : Event) (entries : List LogEntry) (new : List ActorState) (new_entries : List LogEntry)
-    → WantsOfFamily i actors place name q → ((a : ActorState) (c : Cells) → event_at (state_of i c actors) a q ≡ Some e) → ((c : Cells) → cells_after c e ≡ c)
-    → HasDone i actors place e entries name new new_entries → IsDoneAt i actors place q entries name new new_entries
-done_at i actors place name q e entries new new_entries w comes stay d = record {
+pub done_at : (i : Image) (cells new_cells : Cells) (actors : List ActorState) (place : ℕ) (name : List ℕ) (q : Want) (e : Event) (entries : List LogEntry) (new : List ActorState) (new_entries : List LogEntry)
+    → WantsOfFamily i cells actors place name q → ((a : ActorState) → event_at (state_of i cells actors) a q ≡ Some e) → new_cells ≡ cells_after cells e
+    → HasDone i actors place e entries name new new_entries → IsDoneAt i cells actors place q entries name new_cells new new_entries
+done_at i cells new_cells actors place name q e entries new new_entries w comes after d = record {
   actor = d.actor;
   inside = w.inside;
   there = d.there;
   event = e;
   comes = comes d.actor;
-  cells_stay = stay;
+  cells_are = after;
   new_is = d.new_is;
   noted = d.noted;
 }
@@ -155,10 +163,10 @@ joining_alone i actors place name child e fuel j ends =
       begins_none = refl;
     }
 
-pub joined : (i : Image) (actors : List ActorState) (place : ℕ) (name : List ℕ) (child : ℕ) (e : End) (fuel : ℕ) (new : List ActorState) (entries new_entries : List LogEntry)
+pub joined : (i : Image) (cells : Cells) (actors : List ActorState) (place : ℕ) (name : List ℕ) (child : ℕ) (e : End) (fuel : ℕ) (new : List ActorState) (entries new_entries : List LogEntry)
     → (j : IsJoining actors place name child) → ended_with (actor_named actors (child_name name child)) ≡ Some (e, fuel) → HasDone i actors place (event.Join child e fuel) entries name new new_entries
-    → IsDoneAt i actors place (want.Join child) entries name new new_entries
-joined i actors place name child e fuel new entries new_entries j ends d =
+    → IsDoneAt i cells actors place (want.Join child) entries name cells new new_entries
+joined i cells actors place name child e fuel new entries new_entries j ends d =
     let is : d.actor ≡ j.actor = one_of (sym d.there ∙ j.there) in
     let own : d.actor.name ≡ name = ap (λ (x : ActorState). x.name) is ∙ j.own in
     record {
@@ -166,8 +174,8 @@ joined i actors place name child e fuel new entries new_entries j ends d =
       inside = j.inside;
       there = d.there;
       event = event.Join child e fuel;
-      comes = λ c. ap (λ n. join_event child (actor_named actors (child_name n child))) own ∙ ap (option_map (λ (x : End × ℕ). event.Join child x.0 x.1)) ends;
-      cells_stay = λ c. refl;
+      comes = ap (λ n. join_event child (actor_named actors (child_name n child))) own ∙ ap (option_map (λ (x : End × ℕ). event.Join child x.0 x.1)) ends;
+      cells_are = refl;
       new_is = d.new_is;
       noted = d.noted;
     }
@@ -175,53 +183,86 @@ joined i actors place name child e fuel new entries new_entries j ends d =
     one_of : {x y : ActorState} → Some x ≡ Some y → x ≡ y
     one_of h = cc
 
--- ---- what an actor at rest wants of actors alone
+-- ---- what an actor at rest wants that other actors have part in
 -- the name of its next start is that of nobody
-next_fresh : (i : Image) (actors : List ActorState) (place : ℕ) (name : List ℕ) (q : Want) (child : List ℕ) → (w : WantsOfFamily i actors place name q) → child ≡ child_name w.actor.name (w.actor.starts + 1) → actor_named actors child ≡ None
-next_fresh i actors place name q child w is = ap (actor_named actors) is ∙ next_is_new actors w.family w.actor (ap (actor_named actors) w.own ∙ w.named)
+next_fresh : (i : Image) (cells : Cells) (actors : List ActorState) (place : ℕ) (name : List ℕ) (q : Want) (child : List ℕ) → (w : WantsOfFamily i cells actors place name q) → child ≡ child_name w.actor.name (w.actor.starts + 1) → actor_named actors child ≡ None
+next_fresh i cells actors place name q child w is = ap (actor_named actors) is ∙ next_is_new actors w.family w.actor (ap (actor_named actors) w.own ∙ w.named)
 
 -- an actor that wants to start a child may
-pub starting : (i : Image) (actors : List ActorState) (place : ℕ) (name child : List ℕ) → WantsOfFamily i actors place name (want.Start child) → IsBeginning i actors place (event.Start child)
-starting i actors place name child w = record {
+pub starting : (i : Image) (cells : Cells) (actors : List ActorState) (place : ℕ) (name child : List ℕ) → WantsOfFamily i cells actors place name (want.Start child) → IsBeginning i actors place (event.Start child)
+starting i cells actors place name child w = record {
   actor = w.actor;
   inside = w.inside;
   there = w.there;
   fits = (tt, w.fits.0);
   begun_ = child_of i w.actor child;
   begins = refl;
-  fresh = next_fresh i actors place name (want.Start child) child w w.fits.1;
+  fresh = next_fresh i cells actors place name (want.Start child) child w w.fits.1;
 }
 
--- one that wants to enter a gate is about to
-run_begins : (i : Image) (actors : List ActorState) (place : ℕ) (name run : List ℕ) (w : WantsOfFamily i actors place name (want.Enter run)) (p : Phase) → w.actor.phase ≡ p → IsAtGate p → IsBeginning i actors place (event.Enter run)
-run_begins i actors place name run w (phase.Entering x) at gate = record {
+-- one that is about to enter a gate may, in a run of its next name
+run_begins : (i : Image) (cells : Cells) (actors : List ActorState) (place : ℕ) (name run : List ℕ) (q : Want) (e : Event) (kept : Option PrivateMemory) (w : WantsOfFamily i cells actors place name q) → run ≡ child_name w.actor.name (w.actor.starts + 1)
+    → ((a : ActorState) → TakesFit a e) → ((a : ActorState) → begun i a e ≡ run_at a run kept a.phase) → (p : Phase) → w.actor.phase ≡ p → IsAtGate p → IsBeginning i actors place e
+run_begins i cells actors place name run q e kept w next fits begins (phase.Entering x) at gate = record {
   actor = w.actor;
   inside = w.inside;
   there = w.there;
-  fits = (tt, tt);
-  begun_ = run_by w.actor run x;
-  begins = ap (run_at w.actor run) at;
-  fresh = next_fresh i actors place name (want.Enter run) run w w.fits.1;
+  fits = fits w.actor;
+  begun_ = run_by w.actor run kept x;
+  begins = begins w.actor ∙ ap (run_at w.actor run kept) at;
+  fresh = next_fresh i cells actors place name q run w next;
 }
-run_begins i actors place name run w phase.Running at gate = absurd gate
-run_begins i actors place name run w (phase.Within q) at gate = absurd gate
-run_begins i actors place name run w (phase.Starting pre) at gate = absurd gate
-run_begins i actors place name run w (phase.MakingGate pre) at gate = absurd gate
-run_begins i actors place name run w (phase.Opening slot tag) at gate = absurd gate
-run_begins i actors place name run w (phase.Releasing slot) at gate = absurd gate
-run_begins i actors place name run w (phase.OpeningFile o) at gate = absurd gate
-run_begins i actors place name run w (phase.Waiting k) at gate = absurd gate
-run_begins i actors place name run w (phase.Ending e) at gate = absurd gate
-run_begins i actors place name run w (phase.Ended e) at gate = absurd gate
+run_begins i cells actors place name run q e kept w next fits begins p at gate = absurd gate
 
-pub entering : (i : Image) (actors : List ActorState) (place : ℕ) (name run : List ℕ) → WantsOfFamily i actors place name (want.Enter run) → IsBeginning i actors place (event.Enter run)
-entering i actors place name run w = run_begins i actors place name run w w.actor.phase refl w.fits.0
+pub entering : (i : Image) (cells : Cells) (actors : List ActorState) (place : ℕ) (name run : List ℕ) → WantsOfFamily i cells actors place name (want.Enter run) → IsBeginning i actors place (event.Enter run)
+entering i cells actors place name run w = run_begins i cells actors place name run (want.Enter run) (event.Enter run) None w w.fits.1 (λ a. (tt, tt)) (λ a. refl) w.actor.phase refl w.fits.0
 
-pub leaving : (i : Image) (actors : List ActorState) (place : ℕ) (name : List ℕ) (x : End) → WantsOfFamily i actors place name (want.Leave x) → IsGoingAlone i actors place (event.Leave x)
-leaving i actors place name x w = record { actor = w.actor; inside = w.inside; there = w.there; fits = (tt, tt); begins_none = refl }
+-- ---- a recycled gate
+-- whoever wants to leave one is in it
+pub leaves_entered : (i : Image) (cells : Cells) (actors : List ActorState) (place : ℕ) (name : List ℕ) (id : GateId) (x : End) (m : PrivateMemory) → WantsOfFamily i cells actors place name (want.Gate id (gate_ask.Leave x m))
+    → (kept_in cells id).entered ≡ true
+leaves_entered i cells actors place name id x m w = by_run w.actor.run_of refl w.fits
+  where
+    live : has_ended w.actor.phase ≡ false
+    live = by_phase w.actor.phase refl
+      where
+        by_phase : (p : Phase) → w.actor.phase ≡ p → has_ended w.actor.phase ≡ false
+        by_phase (phase.Ended e) at = let none : None ≡ Some (want.Gate id (gate_ask.Leave x m)) = sym (ap (wanted_at w.actor) at) ∙ w.wants in absurd cc
+        by_phase p at = ap has_ended at
 
-pub joining : (i : Image) (actors : List ActorState) (place : ℕ) (name : List ℕ) (child : ℕ) → WantsOfFamily i actors place name (want.Join child) → IsJoining actors place name child
-joining i actors place name child w = record {
+    by_run : (o : Option Gate) → w.actor.run_of ≡ o → RunsIn o id → (kept_in cells id).entered ≡ true
+    by_run None own h = absurd h
+    by_run (Some g) own h = w.recorded id (record { gate = g; own = own; recycled = h.0; named = h.1; live = live })
+
+entry_is : (cells : Cells) (id : GateId) (q : GateAsk) (e : Event) → event_of cells (ask.Gate id q) ≡ Some e → event.Gate id q (gate_reply (kept_in cells id) q) ≡ e
+entry_is cells id q e is = cc
+
+-- whoever wants to enter one may
+pub entering_gate : (i : Image) (cells : Cells) (actors : List ActorState) (place : ℕ) (name run : List ℕ) (id : GateId) (m : PrivateMemory) (e : Event) → WantsOfFamily i cells actors place name (want.Gate id (gate_ask.Enter run m))
+    → event_of cells (ask.Gate id (gate_ask.Enter run m)) ≡ Some e → IsBeginning i actors place e
+entering_gate i cells actors place name run id m e w comes =
+    let memory = unwrap_or (kept_in cells id).kept m in
+    let x : Event = event.Gate id (gate_ask.Enter run m) (gate_replies.Entered memory) in
+    subst (IsBeginning i actors place) (entry_is cells id (gate_ask.Enter run m) e comes)
+    (run_begins i cells actors place name run (want.Gate id (gate_ask.Enter run m)) x (Some memory) w w.fits.1 (λ a. (tt, tt)) (λ a. refl) w.actor.phase refl w.fits.0)
+
+-- and whoever wants to leave one leaves it alone
+pub leaving_gate : (i : Image) (cells : Cells) (actors : List ActorState) (place : ℕ) (name : List ℕ) (id : GateId) (x : End) (m : PrivateMemory) (e : Event) → WantsOfFamily i cells actors place name (want.Gate id (gate_ask.Leave x m))
+    → event_of cells (ask.Gate id (gate_ask.Leave x m)) ≡ Some e → IsGoingAlone i actors place e
+leaving_gate i cells actors place name id x m e w comes =
+    subst (IsGoingAlone i actors place) (entry_is cells id (gate_ask.Leave x m) e comes)
+    (record { actor = w.actor; inside = w.inside; there = w.there; fits = (tt, tt); begins_none = refl })
+
+-- the entry comes where no run is in the gate
+pub entry_comes : (w : WorldState) (a : ActorState) (id : GateId) (run : List ℕ) (m : PrivateMemory) (e : Event) → (kept_in w.cells id).entered ≡ false → event_of w.cells (ask.Gate id (gate_ask.Enter run m)) ≡ Some e
+    → event_at w a (want.Gate id (gate_ask.Enter run m)) ≡ Some e
+entry_comes w a id run m e free comes = ap (λ t. if t then None else event_of w.cells (ask.Gate id (gate_ask.Enter run m))) free ∙ comes
+
+pub leaving : (i : Image) (cells : Cells) (actors : List ActorState) (place : ℕ) (name : List ℕ) (x : End) → WantsOfFamily i cells actors place name (want.Leave x) → IsGoingAlone i actors place (event.Leave x)
+leaving i cells actors place name x w = record { actor = w.actor; inside = w.inside; there = w.there; fits = (tt, tt); begins_none = refl }
+
+pub joining : (i : Image) (cells : Cells) (actors : List ActorState) (place : ℕ) (name : List ℕ) (child : ℕ) → WantsOfFamily i cells actors place name (want.Join child) → IsJoining actors place name child
+joining i cells actors place name child w = record {
   actor = w.actor;
   inside = w.inside;
   there = w.there;
@@ -232,15 +273,15 @@ joining i actors place name child w = record {
 }
 
 -- an actor that has come to rest in its place
-pub wants_of_family : (i : Image) (actors : List ActorState) (place : ℕ) (name : List ℕ) (a : ActorState) (q : Want) (new : ActorState) → IsFound actors name place a → has_ended a.phase ≡ false → IsAwake a.phase → Family actors → IsLeft i a q new
-    → WantsOfFamily i (slice_set actors place new) place name q
-wants_of_family i actors place name a q new found lives awake family left =
+pub wants_of_family : (i : Image) (cells : Cells) (actors : List ActorState) (place : ℕ) (name : List ℕ) (a : ActorState) (q : Want) (new : ActorState) → IsFound actors name place a → has_ended a.phase ≡ false → IsAwake a.phase → Family actors
+    → IsRecorded cells a → IsLeft i a q new → WantsOfFamily i cells (slice_set actors place new) place name q
+wants_of_family i cells actors place name a q new found lives awake family recorded left =
     let b = rest i a in
     let name_is = found_name actors name a found.named in
     let own : b.name ≡ name = rest-name i a ∙ name_is in
     let at = found_set actors name place a b found own in
     let there : actor_named actors a.name ≡ Some a = ap (actor_named actors) name_is ∙ found.named in
-    subst (λ x. WantsOfFamily i (slice_set actors place x) place name q) (sym left.rests)
+    subst (λ x. WantsOfFamily i cells (slice_set actors place x) place name q) (sym left.rests)
     (record {
       actor = b;
       inside = at.inside;
@@ -251,36 +292,64 @@ wants_of_family i actors place name a q new found lives awake family left =
       fits = left.fits;
       of_family = left.of_family;
       family = subst Family (found.put b own) (family_rests i actors a family there lives awake);
+      recorded = recorded_at_rest cells i a recorded;
     })
 
--- an actor that has to wait for a child
-pub waited : (i : Image) (cells new_cells : Cells) (actors new : List ActorState) (place : ℕ) (name : List ℕ) (a : ActorState) (q : Want) (b : ActorState) (child : ℕ) → IsFound actors name place a → IsAwake a.phase → IsLeft i a q b
-    → q ≡ want.Join child → is_ended (actor_named (slice_set actors place b) (child_name name child)) ≡ false → new ≡ slice_set actors place b → new_cells ≡ cells
-    → HasWaited i cells actors name new_cells new
-waited i cells new_cells actors new place name a q b child found awake left join not_ended is same =
-    let name_is = found_name actors name a found.named in
-    let own : b.name ≡ name = ap (λ (x : ActorState). x.name) left.rests ∙ (rest-name i a ∙ name_is) in
-    let calm : ready actors a ≡ a = ready_else actors a awake in
-    let rest_is : rest i (ready actors a) ≡ rest i a = ap (rest i) calm in
-    let put : slice_set actors place b ≡ put_actor actors (rest i a) = sym (found.put b own) ∙ ap (put_actor actors) left.rests in
-    let there : actor_named actors a.name ≡ Some a = ap (actor_named actors) name_is ∙ found.named in
-    let ends = put_ends actors a (rest i a) there (rest-name i a) (rest_end i a) in
-    record {
-      waits = record {
-        actor = a;
-        number = child;
-        named = found.named;
-        awaits = inl (ap (λ (x : ActorState). wanted x) rest_is ∙ (left.wants ∙ ap (λ x. Some x) join));
-        not_ended = sym (ended_alike (put_actor actors (rest i a)) actors (child_name name child) ends) ∙ (ap (λ as_. is_ended (actor_named as_ (child_name name child))) (sym put) ∙ not_ended);
-      };
-      rests = ap (λ c. state_of i c new) same ∙ (ap (λ as_. state_of i cells as_) (is ∙ put) ∙ (ap (λ x. state_of i cells (put_actor actors x)) (sym rest_is) ∙ ap (λ o. state_of i cells (rested_in i actors o)) (sym found.named)));
-    }
+-- an actor that has come to rest in its place, and takes no turn
+module _ (i : Image) (cells new_cells : Cells) (actors new : List ActorState) (place : ℕ) (name : List ℕ) (a : ActorState) (q : Want) (b : ActorState) (found : IsFound actors name place a) (awake : IsAwake a.phase) (left : IsLeft i a q b) where
+  at_rest_so : rest i (ready actors a) ≡ rest i a
+  at_rest_so = ap (rest i) (ready_else actors a awake)
 
--- ---- a turn by what is of actors alone
+  put_so : slice_set actors place b ≡ put_actor actors (rest i a)
+  put_so =
+      let own : b.name ≡ name = ap (λ (x : ActorState). x.name) left.rests ∙ (rest-name i a ∙ found_name actors name a found.named) in
+      sym (found.put b own) ∙ ap (put_actor actors) left.rests
+
+  rested_so : new ≡ slice_set actors place b → new_cells ≡ cells → state_of i new_cells new ≡ rested (state_of i cells actors) name
+  rested_so is same_cells =
+      ap (λ c. state_of i c new) same_cells ∙ (ap (λ as_. state_of i cells as_) (is ∙ put_so) ∙ (ap (λ x. state_of i cells (put_actor actors x)) (sym at_rest_so) ∙ ap (λ o. state_of i cells (rested_in i actors o)) (sym found.named)))
+
+  -- it has to wait for a child
+  pub waited : (child : ℕ) → q ≡ want.Join child → is_ended (actor_named (slice_set actors place b) (child_name name child)) ≡ false → new ≡ slice_set actors place b → new_cells ≡ cells
+      → HasWaited i cells actors name new_cells new
+  waited child join not_ended is same_cells =
+      let there : actor_named actors a.name ≡ Some a = ap (actor_named actors) (found_name actors name a found.named) ∙ found.named in
+      let ends = put_ends actors a (rest i a) there (rest-name i a) (rest_end i a) in
+      record {
+        waits = record {
+          actor = a;
+          number = child;
+          named = found.named;
+          awaits = inl (ap (λ (x : ActorState). wanted x) at_rest_so ∙ (left.wants ∙ ap (λ x. Some x) join));
+          not_ended = sym (ended_alike (put_actor actors (rest i a)) actors (child_name name child) ends) ∙ (ap (λ as_. is_ended (actor_named as_ (child_name name child))) (sym put_so) ∙ not_ended);
+        };
+        rests = rested_so is same_cells;
+      }
+
+  -- a run is in the gate that it is to enter
+  pub met_busy : FindsBusy cells q → new ≡ slice_set actors place b → new_cells ≡ cells → HasMetBusy i cells actors name new_cells new
+  met_busy busy is same_cells = record {
+    busy = record {
+      actor = a;
+      gate = busy.gate;
+      run = busy.run;
+      first = busy.first;
+      named = found.named;
+      wants = ap (λ (x : ActorState). wanted x) at_rest_so ∙ (left.wants ∙ ap (λ x. Some x) busy.is);
+      entered = busy.entered;
+    };
+    rests = rested_so is same_cells;
+  }
+
+-- ---- a turn that other actors have part in
 
 pub if_ok : {X E : Type 0} {A B : X → Type 0} (r : Result X E) → ((x : X) → A x → B x) → IfOk r A → IfOk r B
 if_ok (Ok x) f h = f x h
 if_ok (Err e) f h = tt
+
+pub if_both : {X E : Type 0} {A B C : X → Type 0} (r : Result X E) → ((x : X) → A x → B x → C x) → IfOk r A → IfOk r B → IfOk r C
+if_both (Ok x) f h k = f x h k
+if_both (Err e) f h k = tt
 
 pub if_none : {X A : Type 0} (o : Option X) → o ≡ None → IfNone o A → A
 if_none None e h = h
@@ -290,15 +359,17 @@ pub if_some : {X A : Type 0} (o : Option X) (x : X) → o ≡ Some x → IfSome 
 if_some None x e h = absurd cc
 if_some (Some y) x e h = h
 
-pub family_taken : (i : Image) (cells new_cells : Cells) (actors new : List ActorState) (place : ℕ) (name : List ℕ) (a : ActorState) (q : Want) (b : ActorState) (entries mid_entries new_entries : List LogEntry)
-    → IsFound actors name place a → IsAwake a.phase → IsLeft i a q b → IsDoneAt i (slice_set actors place b) place q mid_entries name new new_entries → new_cells ≡ cells → mid_entries ≡ entries
+pub family_taken : (i : Image) (cells mid_cells new_cells : Cells) (actors new : List ActorState) (place : ℕ) (name : List ℕ) (a : ActorState) (q : Want) (b : ActorState) (entries mid_entries new_entries : List LogEntry)
+    → IsFound actors name place a → IsAwake a.phase → IsLeft i a q b → IsDoneAt i mid_cells (slice_set actors place b) place q mid_entries name new_cells new new_entries → mid_cells ≡ cells → mid_entries ≡ entries
     → WasTaken i cells actors entries name new_cells new new_entries
-family_taken i cells new_cells actors new place name a q b entries mid_entries new_entries found awake left done same_cells same =
-    let at : IsDoneAt i (slice_set actors place (rest i a)) place q entries name new new_entries =
-    subst (λ x. IsDoneAt i (slice_set actors place x) place q entries name new new_entries) left.rests (subst (λ es. IsDoneAt i (slice_set actors place b) place q es name new new_entries) same done) in
+family_taken i cells mid_cells new_cells actors new place name a q b entries mid_entries new_entries found awake left done same_cells same =
+    let at : IsDoneAt i cells (slice_set actors place (rest i a)) place q entries name new_cells new new_entries =
+    subst (λ x. IsDoneAt i cells (slice_set actors place x) place q entries name new_cells new new_entries) left.rests
+    (subst (λ es. IsDoneAt i cells (slice_set actors place b) place q es name new_cells new new_entries) same
+    (subst (λ c. IsDoneAt i c (slice_set actors place b) place q mid_entries name new_cells new new_entries) same_cells done)) in
     record {
       event = at.event;
-      turn = subst (λ c. IsTurn (state_of i cells actors) name at.event (state_of i c new)) (sym same_cells) (family_turn i cells actors new place name a q entries new_entries found awake left.wants at);
+      turn = family_turn i cells new_cells actors new place name a q entries new_entries found awake left.wants at;
       noted = at.noted;
     }
 

@@ -16,12 +16,9 @@ use Rattle.wedge_events.specs.declared.events.Event.{Event}
 use Rattle.wedge_events.specs.declared.events.Event.TheVariants as event
 use Rattle.wedge_events.specs.declared.cells.DirectoryAsk.TheVariants as directory_ask
 use Rattle.wedge_events.specs.declared.cells.LivesAsk.TheVariants as lives_ask
-use Rattle.wedge_events.specs.declared.events.Ask.{Ask}
-use Rattle.wedge_events.specs.declared.events.Ask.TheVariants as ask
 use Rattle.wedge_events.specs.Directories.{directory_reply}
-use Rattle.wedge_events.specs.Gates.{gate_reply}
 use Rattle.sthread_life.specs.Between.{WantFits, IsInBounds, SuitsActor, TakesFit}
-use Rattle.sthread_life.specs.Cells.{Cells, AskFits, live_at, slot_in, stream_in, kept_in, event_of}
+use Rattle.sthread_life.specs.Cells.{Cells, AskFits, live_at, slot_in, stream_in, event_of}
 use Rattle.sthread_life.specs.Taking.{asks, pair, begun}
 use Rattle.sthread_life.specs.Worlds.{WorldState, event_at}
 use Rattle.wedge_core.specs.Turning.{IsOfCell, event_asked}
@@ -50,7 +47,7 @@ asks_fit c a b (want.Start child) h k = absurd k
 asks_fit c a b (want.Join child) h k = absurd k
 asks_fit c a b (want.Enter run) h k = absurd k
 asks_fit c a b (want.Leave end) h k = absurd k
-asks_fit c a b q h k = absurd h
+asks_fit c a b (want.Gate id q) h k = absurd k
 
 -- what comes of an ask of a cell suits whoever asked
 event_suits : (c : Cells) (a : ActorState) (q : Want) (l : Option ℕ) (e : Event) → WantFits a q → IsOfCell q → event_of c (asks a l q) ≡ Some e → SuitsActor a e
@@ -63,7 +60,7 @@ event_suits c a (want.Fds q) l e h k comes = let is : event.Fds q (directory_rep
 event_suits c a (want.Fd fd q) l e h k comes = let is : event.Fd fd q (stream_reply (stream_in c fd) q) ≡ e = cc in subst (SuitsActor a) is tt
 event_suits c a (want.Lives lives_ask.Claim) l e h k comes = let is : event.Lives lives_ask.Claim (lives_reply c.lives lives_ask.Claim) ≡ e = cc in subst (SuitsActor a) is h
 event_suits c a (want.Lives (lives_ask.Release x)) l e h k comes = let is : event.Lives (lives_ask.Release x) (lives_reply c.lives (lives_ask.Release x)) ≡ e = cc in subst (SuitsActor a) is tt
-event_suits c a (want.Gate id q) l e h k comes = absurd h
+event_suits c a (want.Gate id q) l e h k comes = absurd k
 event_suits c a (want.Start child) l e h k comes = absurd k
 event_suits c a (want.Join child) l e h k comes = absurd k
 event_suits c a (want.Enter run) l e h k comes = absurd k
@@ -74,22 +71,24 @@ event_fits c a q l e h k comes bounds = (bounds, event_suits c a q l e h k comes
 
 -- it begins no actor, and is the one to which the actor comes
 pub begins_none : (i : Image) (c : Cells) (a : ActorState) (q : Want) (e : Event) → IsOfCell q → event_asked c a q ≡ Some e → begun i a e ≡ None
-begins_none i c a q e k comes = none_of (asks a (live_at c q) q) comes
+begins_none i c a q e k comes = none_of q k comes
   where
     is_none : (x : Event) → Some x ≡ Some e → begun i a x ≡ None → begun i a e ≡ None
     is_none x is none = let same : x ≡ e = cc in ap (begun i a) (sym same) ∙ none
 
-    none_of : (k : Ask) → event_of c k ≡ Some e → begun i a e ≡ None
-    none_of (ask.Slots q) is = is_none (event.Slots q (directory_reply c.places q)) is refl
-    none_of (ask.Slot slot q) is = is_none (event.Slot slot q (slot_reply (slot_in c slot) q)) is refl
-    none_of (ask.Fds q) is = is_none (event.Fds q (directory_reply c.numbers q)) is refl
-    none_of (ask.Fd fd q) is = is_none (event.Fd fd q (stream_reply (stream_in c fd) q)) is refl
-    none_of (ask.Lives q) is = is_none (event.Lives q (lives_reply c.lives q)) is refl
-    none_of (ask.Gate id q) is = is_none (event.Gate id q (gate_reply (kept_in c id) q)) is refl
-    none_of (ask.Start child) is = absurd cc
-    none_of (ask.Join child) is = absurd cc
-    none_of (ask.Enter run) is = absurd cc
-    none_of (ask.Leave end) is = absurd cc
+    none_of : (p : Want) → IsOfCell p → event_asked c a p ≡ Some e → begun i a e ≡ None
+    none_of (want.Slots p) h is = is_none (event.Slots p (directory_reply c.places p)) is refl
+    none_of (want.Slot slot p) h is =
+        let asked = slot_ask_with p (pair a (live_at c (want.Slot slot p))) in
+        is_none (event.Slot slot asked (slot_reply (slot_in c slot) asked)) is refl
+    none_of (want.Fds p) h is = is_none (event.Fds p (directory_reply c.numbers p)) is refl
+    none_of (want.Fd fd p) h is = is_none (event.Fd fd p (stream_reply (stream_in c fd) p)) is refl
+    none_of (want.Lives p) h is = is_none (event.Lives p (lives_reply c.lives p)) is refl
+    none_of (want.Gate id p) h is = absurd h
+    none_of (want.Start child) h is = absurd h
+    none_of (want.Join child) h is = absurd h
+    none_of (want.Enter run) h is = absurd h
+    none_of (want.Leave end) h is = absurd h
 
 pub asked_is : (w : WorldState) (a : ActorState) (q : Want) → IsOfCell q → event_at w a q ≡ event_asked w.cells a q
 asked_is w a (want.Start child) k = absurd k
@@ -99,6 +98,6 @@ asked_is w a (want.Slot slot q) k = refl
 asked_is w a (want.Fds q) k = refl
 asked_is w a (want.Fd fd q) k = refl
 asked_is w a (want.Lives q) k = refl
-asked_is w a (want.Gate id q) k = refl
+asked_is w a (want.Gate id q) k = absurd k
 asked_is w a (want.Enter run) k = absurd k
 asked_is w a (want.Leave end) k = absurd k

@@ -17,11 +17,11 @@ use Rattle.sthread_life.proofs.FamilyRuns.{resumed_family}
 use Rattle.sthread_life.proofs.Named.{found_name}
 use Rattle.sthread_life.proofs.Turns.{ready_name, ready_ended, ready_else}
 use Rattle.sthread_life.proofs.Waits.{IsAwake}
-use Rattle.wedge_core.specs.Progress.{IsFound, state_of}
-use Rattle.wedge_core.specs.Turning.{HasGoneOn, IsAwakeAt, WasTaken, HasWaited}
-use Rattle.wedge_core.proofs.AtRest.{awake_of}
+use Rattle.wedge_core.specs.Progress.{IsFound, IsRecorded, state_of}
+use Rattle.wedge_core.specs.Turning.{HasGoneOn, IsAwakeAt, WasTaken, HasWaited, HasMetBusy}
+use Rattle.wedge_core.proofs.AtRest.{awake_of, recorded_ready}
 use Rattle.wedge_core.proofs.FamilyTurns.{given_back}
-use Rattle.wedge_core.proofs.Turning.{own_there, found_set, found_through, set_same, goes_turn, goes_waiting}
+use Rattle.wedge_core.proofs.Turning.{own_there, found_set, found_through, set_same, goes_turn, goes_waiting, goes_busy}
 
 -- ---- whether it goes on
 
@@ -79,14 +79,15 @@ back_given actors place name a k e fuel found family at ends =
 -- ---- what follows
 
 -- the actor that is read at its index, awake
-pub record ReadsAwake (items : List ActorState) (name : List ℕ) (place : ℕ) (a : ActorState) : Type 0 where
+pub record ReadsAwake (cells : Cells) (items : List ActorState) (name : List ℕ) (place : ℕ) (a : ActorState) : Type 0 where
   pub found : IsFound items name place a
   pub lives : has_ended a.phase ≡ false
   pub awake : IsAwake a.phase
   pub family : Family items
+  pub recorded : IsRecorded cells a
 
-pub reads_awake : (items actors : List ActorState) (place : ℕ) (name : List ℕ) (a : ActorState) → items ≡ actors → IsAwakeAt actors place name → a ≡ get_or items place a → ReadsAwake items name place a
-reads_awake items actors place name a same h value =
+pub reads_awake : (cells : Cells) (items actors : List ActorState) (place : ℕ) (name : List ℕ) (a : ActorState) → items ≡ actors → IsAwakeAt cells actors place name → a ≡ get_or items place a → ReadsAwake cells items name place a
+reads_awake cells items actors place name a same h value =
     let found = found_through items actors name place a same (h.actor, h.found) value in
     let is : h.actor ≡ a = one_of (sym h.found.there ∙ (ap (λ as_. slice_get as_ place) (sym same) ∙ found.there)) in
     record {
@@ -94,27 +95,29 @@ reads_awake items actors place name a same h value =
       lives = subst (λ (x : ActorState). has_ended x.phase ≡ false) is h.lives;
       awake = awake_of a.phase (subst (λ (x : ActorState). run_awaited x.phase ≡ None) is h.awake);
       family = subst Family (sym same) h.family;
+      recorded = subst (IsRecorded cells) is h.recorded;
     }
   where
     one_of : {x y : ActorState} → Some x ≡ Some y → x ≡ y
     one_of e = cc
 
 -- it is awake then, in its place, and the family is kept
-pub gone_on : (i : Image) (cells : Cells) (actors : List ActorState) (place : ℕ) (name : List ℕ) (new : List ActorState) (h : HasGoneOn actors place name new) → Family actors → has_ended h.actor.phase ≡ false
-    → IsAwakeAt new place name
-gone_on i cells actors place name new h f lives =
+pub gone_on : (i : Image) (cells : Cells) (actors : List ActorState) (place : ℕ) (name : List ℕ) (new : List ActorState) (h : HasGoneOn actors place name new) → Family actors → IsRecorded cells h.actor → has_ended h.actor.phase ≡ false
+    → IsAwakeAt cells new place name
+gone_on i cells actors place name new h f recorded lives =
     let a = h.actor in
     let b = ready actors a in
     let own : b.name ≡ name = ready_name actors a ∙ found_name actors name a h.found.named in
     let at = found_set actors name place a b h.found own in
     let put = h.found.put b own in
-    subst (λ as_. IsAwakeAt as_ place name) (sym h.new_is)
+    subst (λ as_. IsAwakeAt cells as_ place name) (sym h.new_is)
     (record {
       actor = b;
       found = at;
       lives = ready_ended actors a ∙ lives;
       awake = h.awake;
       family = subst Family put (resumed_family (state_of i cells actors) name a f h.found.named);
+      recorded = recorded_ready cells actors a recorded;
     })
 
 put_is : (actors : List ActorState) (place : ℕ) (name : List ℕ) (mid : List ActorState) (h : HasGoneOn actors place name mid) → mid ≡ put_actor actors (ready actors h.actor)
@@ -137,3 +140,8 @@ pub goes_waited : (i : Image) (cells new_cells : Cells) (actors mid new : List A
     → HasWaited i cells mid name new_cells new → HasWaited i cells actors name new_cells new
 goes_waited i cells new_cells actors mid new place name h waited =
     goes_waiting i cells new_cells actors new name h.actor h.found.named (awake_of (ready actors h.actor).phase h.awake) (subst (λ as_. HasWaited i cells as_ name new_cells new) (put_is actors place name mid h) waited)
+
+pub goes_met : (i : Image) (cells new_cells : Cells) (actors mid new : List ActorState) (place : ℕ) (name : List ℕ) → HasGoneOn actors place name mid
+    → HasMetBusy i cells mid name new_cells new → HasMetBusy i cells actors name new_cells new
+goes_met i cells new_cells actors mid new place name h met =
+    goes_busy i cells new_cells actors new name h.actor h.found.named (awake_of (ready actors h.actor).phase h.awake) (subst (λ as_. HasMetBusy i cells as_ name new_cells new) (put_is actors place name mid h) met)

@@ -1,33 +1,46 @@
 -- Runs in serial order: the actor that was started last and has not ended never waits, and those that live are a stack.
 use Rattle.std.proofs.Common.{◌≡◌, ℕ, suc, ◌<◌, Bool, true, false, true≢false, List, [], ◌∷◌, ◌++◌, length, refl, sym, ap, subst, ◌∙◌, append-nil, arith, inl, inr}
-use Rattle.std.specs.Prelude.{Option, Some, None, IsSomeAnd, is_some, if◌then◌else◌}
+use Rattle.std.specs.Prelude.{Option, Some, None, IsSomeAnd, is_some, ◌==◌, ◌&&◌, if◌then◌else◌}
+use Rattle.callgate.specs.declared.gate.Gate.{Gate}
+use Rattle.cow_pages.specs.PrivateMemory.{PrivateMemory}
 use Rattle.wedge_base.specs.Images.{Image}
 use Rattle.wedge_base.specs.Names.{same, root_name}
+use Rattle.wedge_base.specs.declared.grants.GateId.{GateId}
+use Rattle.wedge_base.specs.declared.grants.GateKind.{GateKind}
+use Rattle.wedge_base.specs.declared.grants.GateKind.TheVariants as gate_kind
 use Rattle.wedge_base.specs.declared.rights.End.{End}
+use Rattle.wedge_events.specs.declared.cells.GateAsk.TheVariants as gate_ask
 use Rattle.wedge_events.specs.declared.events.Turn.{Turn}
 use Rattle.wedge_events.specs.declared.events.Want.TheVariants as want
 use Rattle.sthread_life.specs.declared.copy_grant.CopyGrant.{CopyGrant}
 use Rattle.sthread_life.specs.declared.phase.Phase.{Phase}
 use Rattle.sthread_life.specs.declared.phase.Phase.TheVariants as phase
 use Rattle.sthread_life.specs.Actors.{ActorState, root}
+use Rattle.sthread_life.specs.Calls.{a0}
 use Rattle.sthread_life.specs.Children.{Children, is_number, fuel_given, is_child, without_child, child_name}
+use Rattle.sthread_life.specs.Entrances.{Entrance}
 use Rattle.sthread_life.specs.FamilyTrees.{Holds, AllBehind, WaitsForOwn, Family}
+use Rattle.sthread_life.specs.GatesWithin.{is_under}
+use Rattle.sthread_life.specs.Holding.{gate_for}
 use Rattle.sthread_life.specs.Local.{has_ended}
 use Rattle.sthread_life.specs.Opening.{FileOpening}
 use Rattle.sthread_life.specs.Names.{IsNew, AreDistinct}
-use Rattle.sthread_life.specs.Taking.{making_want, starting_want, opening_want, wanted, wanted_at, last_want, ending_want}
+use Rattle.sthread_life.specs.Taking.{next_start, making_want, starting_want, opening_want, entering_want, leaving_want, wanted, wanted_at, last_want, ending_want}
 use Rattle.sthread_life.specs.Worlds.{WorldState, opening, actor_named, put_actor, ready, at_rest, Runs, is_ended}
+use Rattle.sthread_life.proofs.EnteringGates.{IsEnterable}
 use Rattle.sthread_life.proofs.FamilyKept.{found_apart}
 use Rattle.sthread_life.proofs.FamilyRuns.{run_family}
 use Rattle.sthread_life.proofs.FuelGiven.{number_is, number_self, given_elsewhere, given_gone}
+use Rattle.sthread_life.proofs.GatesWithin.{under_itself, none_at_rest}
+use Rattle.sthread_life.proofs.GrantedCopies.{runs_alone}
 use Rattle.sthread_life.proofs.Meeting.{IsWanted, ReadsAs, LoadsAt}
-use Rattle.sthread_life.proofs.Named.{same_self}
+use Rattle.sthread_life.proofs.Named.{same_self, same_equal}
 use Rattle.sthread_life.proofs.Resting.{rest-uncalm}
 use Rattle.sthread_life.proofs.Settling.{AllReady, named_ready, run_ready}
 use Rattle.sthread_life.proofs.Trees.{apart_too}
 use Rattle.sthread_life.proofs.Turns.{Readies, Stays, Back, readies}
-use Rattle.wedge_core.specs.Progress.{Progress, Awaits, IsWaiting, opened}
-use Rattle.wedge_core.specs.Serial.{newest, live_names, IsSerial}
+use Rattle.wedge_core.specs.Progress.{Progress, Awaits, IsWaiting, IsBusy, opened}
+use Rattle.wedge_core.specs.Serial.{newest, live_names, AreUnder, AreNested, IsSerial}
 use Rattle.wedge_core.specs.declared.serially.Live.{Live}
 use Rattle.wedge_core.proofs.AtRest.{unjoined_at_rest}
 use Rattle.wedge_core.proofs.FamilyTurns.{is_given}
@@ -148,15 +161,16 @@ ended_in (y ∷ ys) m none there = by_name (same y.name m) refl (ended_in ys m)
 first_listed : (c : ℕ × ℕ) (cs : Children) → is_child (c ∷ cs) c.0 ≡ true
 first_listed c cs = ap (λ t. is_some (if t then Some c.1 else fuel_given cs c.0)) (number_self c.0)
 
-of_either : {G : Type 0} (P : Option G → Type 0) → P None → ((g : G) → P (Some g)) → (o : Option G) → P o
-of_either P none some None = none
-of_either P none some (Some g) = some g
+last_joins : (o : Option Gate) (p : PrivateMemory) (x : End) (k : ℕ) → last_want o p x ≡ want.Join k → ⊥
+last_joins None p x k is = cc
+last_joins (Some g) p x k is = by_kind g.kind is
+  where
+    by_kind : (kind : GateKind) → leaving_want kind g.id p x ≡ want.Join k → ⊥
+    by_kind gate_kind.Fresh h = cc
+    by_kind gate_kind.Recycled h = cc
 
-last_joins : (b : ActorState) (x : End) (k : ℕ) → last_want b.run_of x ≡ want.Join k → ⊥
-last_joins b x k = of_either (λ o. last_want o x ≡ want.Join k → ⊥) (λ is. cc) (λ g is. cc) b.run_of
-
-ending_listed : (b : ActorState) (cs : Children) (x : End) (k : ℕ) → ending_want b.run_of cs x ≡ want.Join k → is_child cs k ≡ true
-ending_listed b [] x k is = absurd (last_joins b x k is)
+ending_listed : (b : ActorState) (cs : Children) (x : End) (k : ℕ) → ending_want b.run_of b.memory cs x ≡ want.Join k → is_child cs k ≡ true
+ending_listed b [] x k is = absurd (last_joins b.run_of b.memory x k is)
 ending_listed b (c ∷ cs) x k is = let one : c.0 ≡ k = cc in subst (λ n. is_child (c ∷ cs) n ≡ true) one (first_listed c cs)
 
 starting_joins : (b : ActorState) (gs : List CopyGrant) (k : ℕ) → Some (starting_want b gs) ≡ Some (want.Join k) → ⊥
@@ -171,6 +185,10 @@ opening_joins : (o : FileOpening) (n : Option ℕ) (k : ℕ) → Some (opening_w
 opening_joins o None k is = cc
 opening_joins o (Some fd) k is = cc
 
+entering_joins : (kind : GateKind) (g : Gate) (run : List ℕ) (k : ℕ) → Some (entering_want kind g run) ≡ Some (want.Join k) → ⊥
+entering_joins gate_kind.Fresh g run k is = cc
+entering_joins gate_kind.Recycled g run k is = cc
+
 waits_for : (i : Image) (b : ActorState) (p : Phase) (k : ℕ) → ReadsAs i b p → wanted_at b p ≡ Some (want.Join k) → is_child b.unjoined k ≡ true
 waits_for i b phase.Running k reads wants = absurd cc
 waits_for i b (phase.Within q) k reads wants = let is : q ≡ want.Join k = cc in subst (λ x. IsWanted (LoadsAt i b.hart reads.0 reads.1) b x) is reads.3
@@ -178,7 +196,7 @@ waits_for i b (phase.Starting pre) k reads wants = absurd (starting_joins b pre.
 waits_for i b (phase.MakingGate pre) k reads wants = absurd (making_joins pre.left k wants)
 waits_for i b (phase.Opening slot tag) k reads wants = absurd cc
 waits_for i b (phase.Releasing slot) k reads wants = absurd cc
-waits_for i b (phase.Entering entrance) k reads wants = absurd cc
+waits_for i b (phase.Entering entrance) k reads wants = absurd (entering_joins entrance.gate.kind entrance.gate (child_name b.name (next_start b)) k wants)
 waits_for i b (phase.Waiting number) k reads wants = absurd cc
 waits_for i b (phase.OpeningFile o) k reads wants = absurd (opening_joins o o.number k wants)
 waits_for i b (phase.Ending x) k reads wants = ending_listed b b.unjoined x k cc
@@ -238,6 +256,121 @@ newest_waits_not i turns w a name run n own s =
     there_of None g h = h
     there_of (Some c) g h = tt
 
+-- ---- those that live are each under those before it
+
+under_grows : (m n : List ℕ) (k : ℕ) → is_under m n ≡ true → is_under m (child_name n k) ≡ true
+under_grows [] n k e = refl
+under_grows (x ∷ xs) [] k e = absurd cc
+under_grows (x ∷ xs) (y ∷ ys) k e = by_first (x == y) e (under_grows xs ys k)
+  where
+    by_first : (t : Bool) → (t && is_under xs ys) ≡ true → (is_under xs ys ≡ true → is_under xs (child_name ys k) ≡ true) → (t && is_under xs (child_name ys k)) ≡ true
+    by_first true h others = others h
+    by_first false h others = h
+
+under_last : (n : List ℕ) (ms : List (List ℕ)) (x : List ℕ) → AreUnder n (ms ++ x ∷ []) → is_under n x ≡ true
+under_last n [] x h = h.0
+under_last n (m ∷ ms) x h = under_last n ms x h.1
+
+under_pop : (n : List ℕ) (ms : List (List ℕ)) (x : List ℕ) → AreUnder n (ms ++ x ∷ []) → AreUnder n ms
+under_pop n [] x h = tt
+under_pop n (m ∷ ms) x h = (h.0, under_pop n ms x h.1)
+
+under_push : (n : List ℕ) (ms : List (List ℕ)) (x : List ℕ) → AreUnder n ms → is_under n x ≡ true → AreUnder n (ms ++ x ∷ [])
+under_push n [] x h under = (under, tt)
+under_push n (m ∷ ms) x h under = (h.0, under_push n ms x h.1 under)
+
+pub nested_pop : (ns : List (List ℕ)) (x : List ℕ) → AreNested (ns ++ x ∷ []) → AreNested ns
+nested_pop [] x h = tt
+nested_pop (n ∷ ns) x h = (under_pop n ns x h.0, nested_pop ns x h.1)
+
+-- a child of the last of them comes behind it
+pub nested_push : (ns : List (List ℕ)) (x : List ℕ) (k : ℕ) → AreNested (ns ++ x ∷ []) → AreNested ((ns ++ x ∷ []) ++ child_name x k ∷ [])
+nested_push [] x k h = ((under_grows x x k (under_itself x), tt), (tt, tt))
+nested_push (n ∷ ns) x k h = (under_push n (ns ++ x ∷ []) (child_name x k) h.0 (under_grows n x k (under_last n ns x h.0)), nested_push ns x k h.1)
+
+-- so the newest is under whoever lives
+under_in : (before behind : List ActorState) (a r : ActorState) (m : List ℕ) → AreNested (live_names (before ++ a ∷ behind)) → has_ended a.phase ≡ false → live_names behind ≡ [] → actor_named (before ++ a ∷ behind) m ≡ Some r
+    → has_ended r.phase ≡ false → is_under m a.name ≡ true
+under_in [] behind a r m nested lives others found live = by_name (same a.name m) refl found
+  where
+    by_name : (t : Bool) → same a.name m ≡ t → (if t then Some a else actor_named behind m) ≡ Some r → is_under m a.name ≡ true
+    by_name true e is = ap (is_under m) (same_equal a.name m e) ∙ under_itself m
+    by_name false e is =
+        let ended : is_ended (actor_named behind m) ≡ true = ended_in behind m others (subst (λ o. IsSomeAnd o (λ (c : ActorState). Unit {0})) (sym is) tt) in
+        absurd (true≢false (sym ended ∙ (ap is_ended is ∙ live)))
+under_in (y ∷ ys) behind a r m nested lives others found live = by_name (same y.name m) refl found (λ below there. under_in ys behind a r m below lives others there live)
+  where
+    by_end : (t : Bool) → has_ended y.phase ≡ t → AreNested (live_names (ys ++ a ∷ behind))
+    by_end true e = subst AreNested (one_ended y (ys ++ a ∷ behind) e) nested
+    by_end false e = (subst AreNested (one_lives y (ys ++ a ∷ behind) e) nested).1
+
+    by_name : (t : Bool) → same y.name m ≡ t → (if t then Some y else actor_named (ys ++ a ∷ behind) m) ≡ Some r → (AreNested (live_names (ys ++ a ∷ behind)) → actor_named (ys ++ a ∷ behind) m ≡ Some r → is_under m a.name ≡ true) → is_under m a.name ≡ true
+    by_name true e is later =
+        let one : y ≡ r = cc in
+        let alive : has_ended y.phase ≡ false = ap (λ (z : ActorState). has_ended z.phase) one ∙ live in
+        let all = (subst AreNested (one_lives y (ys ++ a ∷ behind) alive) nested).0 in
+        ap (λ n. is_under n a.name) (sym (same_equal y.name m e)) ∙ under_last y.name (live_names ys) a.name (subst (AreUnder y.name) (live_where ys behind a lives others) all)
+    by_name false e is later = later (by_end (has_ended y.phase) refl) is
+
+-- ---- it finds no gate busy
+
+-- who wants to enter a recycled gate holds it
+record EntersHeld (b : ActorState) (id : GateId) : Type 0 where
+  gate : Gate
+  held : gate_for b (a0 b) ≡ Some gate
+  is : gate.id ≡ id
+
+entering_held : (b : ActorState) (x : Entrance) (k : GateKind) (name run : List ℕ) (id : GateId) (m : PrivateMemory) → IsEnterable b x → entering_want k x.gate name ≡ want.Gate id (gate_ask.Enter run m) → EntersHeld b id
+entering_held b x gate_kind.Fresh name run id m may is = absurd cc
+entering_held b x gate_kind.Recycled name run id m may is = let one : x.gate.id ≡ id = cc in record { gate = x.gate; held = may.held; is = one }
+
+last_enters : (o : Option Gate) (p : PrivateMemory) (x : End) (run : List ℕ) (id : GateId) (m : PrivateMemory) → last_want o p x ≡ want.Gate id (gate_ask.Enter run m) → ⊥
+last_enters None p x run id m is = cc
+last_enters (Some g) p x run id m is = by_kind g.kind is
+  where
+    by_kind : (k : GateKind) → leaving_want k g.id p x ≡ want.Gate id (gate_ask.Enter run m) → ⊥
+    by_kind gate_kind.Fresh h = cc
+    by_kind gate_kind.Recycled h = cc
+
+ending_enters : (o : Option Gate) (p : PrivateMemory) (cs : Children) (x : End) (run : List ℕ) (id : GateId) (m : PrivateMemory) → ending_want o p cs x ≡ want.Gate id (gate_ask.Enter run m) → ⊥
+ending_enters o p [] x run id m is = last_enters o p x run id m is
+ending_enters o p (c ∷ cs) x run id m is = cc
+
+starting_enters : (b : ActorState) (gs : List CopyGrant) (run : List ℕ) (id : GateId) (m : PrivateMemory) → Some (starting_want b gs) ≡ Some (want.Gate id (gate_ask.Enter run m)) → ⊥
+starting_enters b [] run id m is = cc
+starting_enters b (g ∷ gs) run id m is = cc
+
+making_enters : (gs : List CopyGrant) (run : List ℕ) (id : GateId) (m : PrivateMemory) → making_want gs ≡ Some (want.Gate id (gate_ask.Enter run m)) → ⊥
+making_enters [] run id m is = cc
+making_enters (g ∷ gs) run id m is = cc
+
+opening_enters : (o : FileOpening) (n : Option ℕ) (run : List ℕ) (id : GateId) (m : PrivateMemory) → Some (opening_want o n) ≡ Some (want.Gate id (gate_ask.Enter run m)) → ⊥
+opening_enters o None run id m is = cc
+opening_enters o (Some fd) run id m is = cc
+
+enters_held : (i : Image) (b : ActorState) (p : Phase) (run : List ℕ) (id : GateId) (m : PrivateMemory) → ReadsAs i b p → wanted_at b p ≡ Some (want.Gate id (gate_ask.Enter run m)) → EntersHeld b id
+enters_held i b phase.Running run id m reads wants = absurd cc
+enters_held i b (phase.Within q) run id m reads wants = let is : q ≡ want.Gate id (gate_ask.Enter run m) = cc in absurd (subst (λ x. IsWanted (LoadsAt i b.hart reads.0 reads.1) b x) is reads.3)
+enters_held i b (phase.Starting pre) run id m reads wants = absurd (starting_enters b pre.left run id m wants)
+enters_held i b (phase.MakingGate pre) run id m reads wants = absurd (making_enters pre.left run id m wants)
+enters_held i b (phase.Opening slot tag) run id m reads wants = absurd cc
+enters_held i b (phase.Releasing slot) run id m reads wants = absurd cc
+enters_held i b (phase.Entering x) run id m reads wants = entering_held b x x.gate.kind (child_name b.name (next_start b)) run id m reads cc
+enters_held i b (phase.Waiting number) run id m reads wants = absurd cc
+enters_held i b (phase.OpeningFile o) run id m reads wants = absurd (opening_enters o o.number run id m wants)
+enters_held i b (phase.Ending x) run id m reads wants = absurd (ending_enters b.run_of b.memory b.unjoined x run id m cc)
+enters_held i b (phase.Ended x) run id m reads wants = absurd cc
+
+-- so the newest actor, which is under every run that lives, is to enter none of their gates
+pub newest_busy_not : (i : Image) (turns : List Turn) (w : WorldState) (a : ActorState) (name : List ℕ) → Runs (opening i) turns w → IsNewest w.actors a → a.name ≡ name → AreNested (live_names w.actors) → IsBusy w name → ⊥
+newest_busy_not i turns w a name run n own nested s =
+    let x = (runs_alone i turns w run).lived s.gate s.entered in
+    let b = at_rest w s.actor in
+    let under : is_under x.name name ≡ true =
+    ap (is_under x.name) (sym own) ∙ under_in n.before n.behind a x.actor x.name (subst (λ as_. AreNested (live_names as_)) n.is nested) n.lives n.others (ap (λ as_. actor_named as_ x.name) (sym n.is) ∙ x.there) x.inside.live in
+    let h = enters_held w.image b b.phase s.run s.gate s.first (named_ready w name s.actor (run_ready i turns w run) s.named) s.wants in
+    none_at_rest i turns w run x.name name x.actor s.actor x.inside.gate h.gate (a0 b) x.there x.inside.own s.named under h.held (h.is ∙ sym x.inside.named)
+
 -- ---- the stack of those that live
 
 pub opening_serial : (i : Image) (p : Progress) (live : List Live) → p ≡ opened i → live ≡ record { name = root_name; place = 0 } ∷ [] → IsSerial i p live
@@ -250,4 +383,5 @@ opening_serial i p live is one = subst (λ q. IsSerial i q live) (sym is) (subst
   stack = refl;
   placed = (refl, tt);
   root_first = record { root_ = root i; others = []; first = refl; named = refl; last = λ e. refl };
+  nested = (tt, tt);
 }))

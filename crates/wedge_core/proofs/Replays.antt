@@ -4,12 +4,15 @@ use Rattle.std.specs.Prelude.{Option, Some, None, option_map, Ok, Err, IsSomeAnd
 use Rattle.std.proofs.lemmas.List.{map-append}
 use Rattle.wedge_base.specs.Images.{Image}
 use Rattle.wedge_events.specs.Journals.{turns_of}
+use Rattle.wedge_events.specs.declared.cells.GateAsk.TheVariants as gate_ask
+use Rattle.wedge_events.specs.declared.events.Ask.TheVariants as ask
 use Rattle.wedge_events.specs.declared.events.Want.TheVariants as want
 use Rattle.wedge_events.specs.declared.events.Event.{Event}
 use Rattle.wedge_events.specs.declared.events.Event.TheVariants as event
 use Rattle.wedge_events.specs.declared.events.Turn.{Turn}
 use Rattle.wedge_base.specs.declared.rights.End.{End}
 use Rattle.sthread_life.specs.Actors.{ActorState}
+use Rattle.sthread_life.specs.Cells.{event_of}
 use Rattle.sthread_life.specs.Local.{has_ended}
 use Rattle.sthread_life.specs.Moments.{EachStep}
 use Rattle.sthread_life.specs.Children.{child_name}
@@ -19,7 +22,8 @@ use Rattle.sthread_life.specs.declared.phase.Phase.TheVariants as phase
 use Rattle.sthread_life.specs.Worlds.{WorldState, Taken, opening, actor_named, is_ended, join_event, event_at, happened, wanting, turn_with, turn_of, resumed, at_rest, Runs, is_whole}
 use Rattle.sthread_life.proofs.FamilyRuns.{fuel_kept}
 use Rattle.sthread_life.proofs.BoundedGates.{root_bounds}
-use Rattle.sthread_life.proofs.GrantedCopies.{copies_granted}
+use Rattle.sthread_life.proofs.GrantedCopies.{copies_granted, runs_alone}
+use Rattle.sthread_life.proofs.GatesWithin.{none_within}
 use Rattle.sthread_life.proofs.KnownGates.{gates_kept}
 use Rattle.sthread_life.proofs.OccupiedRuns.{slots_occupied}
 use Rattle.sthread_life.proofs.Mediating.{moments_lawful}
@@ -27,9 +31,9 @@ use Rattle.sthread_life.proofs.Writing.{runs_write_their_own}
 use Rattle.sthread_life.proofs.Named.{found_name}
 use Rattle.sthread_life.proofs.Settling.{at_rest-name, at_rest-ended, at_rest-stays, resumed_event}
 use Rattle.wedge_core.specs.declared.error.Why.TheVariants as why
-use Rattle.wedge_core.specs.Progress.{Progress, IsTurn, HasEnded, Awaits, IsWaiting}
+use Rattle.wedge_core.specs.Progress.{Progress, IsTurn, HasEnded, Awaits, IsWaiting, IsBusy}
 use Rattle.wedge_core.specs.Serial.{IsCompleteRun, RootGoesOn}
-use Rattle.wedge_core.specs.Replay.{why_of, why_none, replayed, names_of, Follows, CompleteRunsReplay, ReplaysAreComplete, JournalsReplay}
+use Rattle.wedge_core.specs.Replay.{why_held, why_of, why_none, replayed, names_of, Follows, CompleteRunsReplay, ReplaysAreComplete, JournalsReplay}
 use Rattle.wedge_core.proofs.AtRest.{none_with}
 use Rattle.wedge_core.proofs.Runs.{Runs-push}
 
@@ -67,7 +71,7 @@ unknown_turn w name none = ap (turn_with w) none
 
 pub replayed_unknown : (w : WorldState) (at : ℕ) (name : List ℕ) (names : List (List ℕ)) → is_whole w ≡ false → actor_named w.actors name ≡ None
     → replayed w at (name ∷ names) ≡ Err (at, why.Unknown)
-replayed_unknown w at name names going none = replayed_none w at name names going (unknown_turn w name none) ∙ ap (λ o. Err (at, why_of o)) none
+replayed_unknown w at name names going none = replayed_none w at name names going (unknown_turn w name none) ∙ ap (λ o. Err (at, why_of w o)) none
 
 -- an actor that has ended wants nothing
 ended_wants : (a : ActorState) (p : Phase) → has_ended p ≡ true → wanted_at a p ≡ None
@@ -87,9 +91,9 @@ ended_turn : (w : WorldState) (o : Option ActorState) → IsSomeAnd o (λ (a : A
 ended_turn w None h = absurd h
 ended_turn w (Some a) h = ap (λ (x : ActorState). wanting (resumed w a) x (wanted x)) (at_rest-stays w a h) ∙ ap (wanting (resumed w a) a) (ended_wants a a.phase h)
 
-ended_why : (o : Option ActorState) → IsSomeAnd o (λ (a : ActorState). has_ended a.phase ≡ true) → why_of o ≡ why.Ended
-ended_why None h = absurd h
-ended_why (Some a) h = ap (λ t. if t then why.Ended else why.Waits) h
+ended_why : (w : WorldState) (o : Option ActorState) → IsSomeAnd o (λ (a : ActorState). has_ended a.phase ≡ true) → why_of w o ≡ why.Ended
+ended_why w None h = absurd h
+ended_why w (Some a) h = ap (λ t. if t then why.Ended else why_held (wanted (at_rest w a))) h
 
 pub has_ended_turn : (w : WorldState) (name : List ℕ) → HasEnded w.actors name → turn_of w name ≡ None
 unfolding turn_of
@@ -97,7 +101,7 @@ has_ended_turn w name h = ended_turn w (actor_named w.actors name) h
 
 pub replayed_ended : (w : WorldState) (at : ℕ) (name : List ℕ) (names : List (List ℕ)) → is_whole w ≡ false → HasEnded w.actors name
     → replayed w at (name ∷ names) ≡ Err (at, why.Ended)
-replayed_ended w at name names going h = replayed_none w at name names going (has_ended_turn w name h) ∙ ap (λ y. Err (at, y)) (ended_why (actor_named w.actors name) h)
+replayed_ended w at name names going h = replayed_none w at name names going (has_ended_turn w name h) ∙ ap (λ y. Err (at, y)) (ended_why w (actor_named w.actors name) h)
 
 -- an actor that waits for a child, or for the run of a gate
 no_event : (k : ℕ) (o : Option ActorState) → is_ended o ≡ false → join_event k o ≡ None
@@ -138,7 +142,37 @@ pub replayed_waits : (w : WorldState) (at : ℕ) (name : List ℕ) (names : List
     → replayed w at (name ∷ names) ≡ Err (at, why.Waits)
 replayed_waits w at name names going s =
     replayed_none w at name names going (waiting_turn w name s)
-    ∙ ap (λ y. Err (at, y)) (ap why_of s.named ∙ ap (λ t. if t then why.Ended else why.Waits) (waiting_lives w name s))
+    ∙ ap (λ y. Err (at, y)) (ap (why_of w) s.named ∙ (ap (λ t. if t then why.Ended else why_held (wanted (at_rest w s.actor))) (waiting_lives w name s) ∙ by_case s.awaits))
+  where
+    by_case : Awaits (at_rest w s.actor) s.number → why_held (wanted (at_rest w s.actor)) ≡ why.Waits
+    by_case (inl wants) = ap why_held wants
+    by_case (inr at_) = ap (λ p. why_held (wanted_at (at_rest w s.actor) p)) at_
+
+-- an actor that is to enter a recycled gate in which a run is
+pub busy_turn : (w : WorldState) (name : List ℕ) → IsBusy w name → turn_of w name ≡ None
+unfolding turn_of
+busy_turn w name s =
+    let b = at_rest w s.actor in
+    let v = resumed w s.actor in
+    let none : event_at v b (want.Gate s.gate (gate_ask.Enter s.run s.first)) ≡ None =
+    ap (λ t. if t then None else event_of w.cells (ask.Gate s.gate (gate_ask.Enter s.run s.first))) s.entered in
+    ap (turn_with w) s.named ∙ (ap (wanting v b) s.wants ∙ ap (option_map (happened v b)) none)
+
+pub busy_lives : (w : WorldState) (name : List ℕ) (s : IsBusy w name) → has_ended s.actor.phase ≡ false
+busy_lives w name s = by_end (has_ended s.actor.phase) refl
+  where
+    by_end : (t : Bool) → has_ended s.actor.phase ≡ t → has_ended s.actor.phase ≡ false
+    by_end false e = e
+    by_end true e =
+        let none : wanted (at_rest w s.actor) ≡ None = ap (λ (x : ActorState). wanted x) (at_rest-stays w s.actor e) ∙ ended_wants s.actor s.actor.phase e in
+        let f : Some (want.Gate s.gate (gate_ask.Enter s.run s.first)) ≡ None = sym s.wants ∙ none in
+        absurd cc
+
+pub replayed_busy : (w : WorldState) (at : ℕ) (name : List ℕ) (names : List (List ℕ)) → is_whole w ≡ false → IsBusy w name
+    → replayed w at (name ∷ names) ≡ Err (at, why.Busy)
+replayed_busy w at name names going s =
+    replayed_none w at name names going (busy_turn w name s)
+    ∙ ap (λ y. Err (at, y)) (ap (why_of w) s.named ∙ (ap (λ t. if t then why.Ended else why_held (wanted (at_rest w s.actor))) (busy_lives w name s) ∙ ap why_held s.wants))
 
 pub not_true : (b : Bool) → (b ≡ true → ⊥) → b ≡ false
 not_true false h = refl
@@ -225,6 +259,8 @@ complete_of i turns last run whole goes = record {
   bounded = root_bounds i turns last run;
   copies = copies_granted i turns last run;
   gates = gates_kept i turns last run;
+  runs = runs_alone i turns last run;
+  within = none_within i turns last run;
 }
 
 pub replays_are_complete : ReplaysAreComplete

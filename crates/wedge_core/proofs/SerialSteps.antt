@@ -4,34 +4,38 @@ use Rattle.std.specs.Prelude.{Option, Some, None, IfSome, IsSome, slice_get, sli
 use Rattle.std.specs.Option.{option_to_list}
 use Rattle.wedge_base.specs.Images.{Image}
 use Rattle.wedge_base.specs.Names.{same, root_name}
+use Rattle.cow_pages.specs.PrivateMemory.{PrivateMemory}
+use Rattle.wedge_events.specs.declared.cells.GateAsk.TheVariants as gate_ask
+use Rattle.wedge_events.specs.declared.cells.GateReply.TheVariants as gate_reply
 use Rattle.wedge_events.specs.declared.events.Event.{Event}
 use Rattle.wedge_events.specs.declared.events.Event.TheVariants as event
 use Rattle.wedge_events.specs.declared.events.Turn.{Turn}
 use Rattle.sthread_life.specs.declared.phase.Phase.{Phase}
 use Rattle.sthread_life.specs.declared.phase.Phase.TheVariants as phase
 use Rattle.sthread_life.specs.Actors.{ActorState}
+use Rattle.sthread_life.specs.Children.{child_name}
 use Rattle.sthread_life.specs.Fuel.{work_left}
 use Rattle.sthread_life.specs.Local.{rest, has_ended}
 use Rattle.sthread_life.specs.Names.{IsNew, AreDistinct}
-use Rattle.sthread_life.specs.Taking.{takes, begun, child_of, has_entered, run_by, run_at}
+use Rattle.sthread_life.specs.Taking.{next_start, takes, begun, child_of, has_entered, run_by, run_at}
 use Rattle.sthread_life.specs.Worlds.{WorldState, opening, actor_named, put_actor, with_begun, ready, resumed, Runs, is_ended, is_whole}
 use Rattle.sthread_life.proofs.Between.{takes_name}
-use Rattle.sthread_life.proofs.FamilyRuns.{run_family}
+use Rattle.sthread_life.proofs.FamilyRuns.{Acts, ActsAlone, Starts, Enters, Joins, acts, one_begins, run_family}
 use Rattle.sthread_life.proofs.Named.{same_self, same_equal, found_name, put_put}
 use Rattle.sthread_life.proofs.Resting.{rest-name}
-use Rattle.sthread_life.proofs.Settling.{run_ready}
+use Rattle.sthread_life.proofs.Settling.{AllReady, run_ready, turn_happens}
 use Rattle.sthread_life.proofs.Trees.{apart_too}
 use Rattle.sthread_life.proofs.Turns.{ready_name, turn_from}
 use Rattle.sthread_life.proofs.WorkLeft.{turn_works}
-use Rattle.wedge_core.specs.Progress.{Progress, IsFound, IsPlaceOf, IsTurn, IsWaiting, GoesOnBy, HasEnded}
-use Rattle.wedge_core.specs.Serial.{newest, live_names, InSerialOrder, RootGoesOn, RootIsFirst, ArePlaced, names_in, IsSerial, LivesAfter}
+use Rattle.wedge_core.specs.Progress.{Progress, IsFound, IsPlaceOf, IsTurn, IsWaiting, IsBusy, GoesOnBy, HasEnded}
+use Rattle.wedge_core.specs.Serial.{newest, live_names, AreNested, InSerialOrder, RootGoesOn, RootIsFirst, ArePlaced, names_in, IsSerial, LivesAfter}
 use Rattle.wedge_core.specs.Places.{place_in}
 use Rattle.wedge_core.specs.declared.serially.Live.{Live}
 use Rattle.wedge_core.proofs.Indexing.{place_found, place_push, place_put_back}
 use Rattle.wedge_core.proofs.Advancing.{length-push}
 use Rattle.wedge_core.proofs.Replays.{EachStep-push}
 use Rattle.wedge_core.proofs.Runs.{Runs-push}
-use Rattle.wedge_core.proofs.LiveStack.{IsNewest, newest_of, live_where, ended_where, live_append, one_lives, newest_is, named_in, put_in, newest_waits_not}
+use Rattle.wedge_core.proofs.LiveStack.{IsNewest, newest_of, live_where, ended_where, live_append, one_lives, newest_is, named_in, put_in, nested_pop, nested_push, newest_waits_not, newest_busy_not}
 use Rattle.wedge_core.proofs.Turning.{set_get, set_length, not_ended}
 
 -- ---- lists
@@ -124,18 +128,36 @@ newest_lives p name n ended = not_ended p.state.actors name n.actor n.named n.is
 pub newest_goes_on : {A : Type 0} (i : Image) (p : Progress) (live : List Live) (name : List ℕ) → IsSerial i p live → Newest p name → IsWaiting p.state name → A
 newest_goes_on i p live name s n waits = absurd (newest_waits_not i p.turns p.state n.actor name s.run n.is_newest n.own waits)
 
+-- and no gate that it is to enter is busy
+pub newest_enters : {A : Type 0} (i : Image) (p : Progress) (live : List Live) (name : List ℕ) → IsSerial i p live → Newest p name → IsBusy p.state name → A
+newest_enters i p live name s n busy = absurd (newest_busy_not i p.turns p.state n.actor name s.run n.is_newest n.own s.nested busy)
+
 -- ---- what its turn leaves
 
 -- an event that begins an actor leaves both alive
-run_alive : (b : ActorState) (run : List ℕ) (c : ActorState) (p : Phase) → run_at b run p ≡ Some c → (has_ended c.phase ≡ false) × (has_ended (has_entered b p).phase ≡ false)
-run_alive b run c (phase.Entering x) is = let same_one : run_by b run x ≡ c = cc in (ap (λ (y : ActorState). has_ended y.phase) (sym same_one), refl)
-run_alive b run c p is = absurd cc
+run_alive : (b : ActorState) (run : List ℕ) (kept : Option PrivateMemory) (c : ActorState) (p : Phase) → run_at b run kept p ≡ Some c → (has_ended c.phase ≡ false) × (has_ended (has_entered b p).phase ≡ false)
+run_alive b run kept c (phase.Entering x) is = let same_one : run_by b run kept x ≡ c = cc in (ap (λ (y : ActorState). has_ended y.phase) (sym same_one), refl)
+run_alive b run kept c p is = absurd cc
 
 begins_alive : (i : Image) (b : ActorState) (e : Event) (c : ActorState) → begun i b e ≡ Some c → (has_ended c.phase ≡ false) × (has_ended (takes i b e).phase ≡ false)
 unfolding takes
 begins_alive i b (event.Start child) c is = let same_one : child_of i b child ≡ c = cc in (ap (λ (x : ActorState). has_ended x.phase) (sym same_one), refl)
-begins_alive i b (event.Enter run) c is = run_alive b run c b.phase is
+begins_alive i b (event.Enter run) c is = run_alive b run None c b.phase is
+begins_alive i b (event.Gate id (gate_ask.Enter run first) (gate_reply.Entered memory)) c is = run_alive b run (Some memory) c b.phase is
 begins_alive i b e c is = absurd cc
+
+-- and it is named as a child
+begins_named : (v : WorldState) (b : ActorState) (e : Event) (c : ActorState) → Acts v b e → begun v.image b e ≡ Some c → (k : ℕ) × (c.name ≡ child_name b.name k)
+begins_named v b e c (ActsAlone one) is = let none : None ≡ Some c = sym (one_begins v.image b e one) ∙ is in absurd cc
+begins_named v b e c (Starts s) is =
+    let two : Some (child_of v.image b (child_name b.name (next_start b))) ≡ Some c = sym (ap (begun v.image b) s.is) ∙ is in
+    let one : child_of v.image b (child_name b.name (next_start b)) ≡ c = cc in
+    (next_start b, ap (λ (x : ActorState). x.name) (sym one))
+begins_named v b e c (Enters y) is =
+    let two : Some (run_by b (child_name b.name (next_start b)) y.kept y.entrance) ≡ Some c = sym y.begins ∙ is in
+    let one : run_by b (child_name b.name (next_start b)) y.kept y.entrance ≡ c = cc in
+    (next_start b, ap (λ (x : ActorState). x.name) (sym one))
+begins_named v b e c (Joins k listed j) is = let none : None ≡ Some c = sym (ap (begun v.image b) j.is) ∙ is in absurd cc
 
 -- the actor whose turn it was, and the one that began
 record After (w : WorldState) (name : List ℕ) (new : WorldState) : Type 0 where
@@ -143,6 +165,7 @@ record After (w : WorldState) (name : List ℕ) (new : WorldState) : Type 0 wher
   begins : Option ActorState
   own : after.name ≡ name
   alive : (c : ActorState) → begins ≡ Some c → (has_ended c.phase ≡ false) × (has_ended after.phase ≡ false)
+  named : AllReady w → (c : ActorState) → begins ≡ Some c → (k : ℕ) × (c.name ≡ child_name name k)
   are : new.actors ≡ with_begun (put_actor w.actors after) begins
 
 turn_leaves : (w : WorldState) (name : List ℕ) (e : Event) (new : WorldState) → IsTurn w name e new → After w name new
@@ -158,6 +181,9 @@ turn_leaves w name e new turn =
       begins = begun i b e;
       own = own;
       alive = begins_alive i b e;
+      named = λ all c is.
+          let x = begins_named (resumed w t.actor) b e c (acts (resumed w t.actor) b e (turn_happens w name e new all t)) is in
+          (x.0, x.1 ∙ ap (λ m. child_name m x.0) (rest-name i t.parts.actor ∙ found_name (resumed w t.actor).actors name t.parts.actor t.parts.named));
       are = ap (λ (x : WorldState). x.actors) t.parts.new_is ∙ ap (λ as_. with_begun as_ (begun i b e)) (put_put w.actors a (takes i b e) (own ∙ sym was));
     }
 
@@ -166,6 +192,7 @@ record Left (p : Progress) (name : List ℕ) (n : Newest p name) (q : Progress) 
   begins : Option ActorState
   own : after.name ≡ name
   alive : (c : ActorState) → begins ≡ Some c → (has_ended c.phase ≡ false) × (has_ended after.phase ≡ false)
+  named : AllReady p.state → (c : ActorState) → begins ≡ Some c → (k : ℕ) × (c.name ≡ child_name name k)
   put : put_actor p.state.actors after ≡ n.is_newest.before ++ after ∷ n.is_newest.behind
   are : q.state.actors ≡ with_begun (put_actor p.state.actors after) begins
 
@@ -177,6 +204,7 @@ left p name n q g =
       begins = t.begins;
       own = t.own;
       alive = t.alive;
+      named = t.named;
       put = ap (λ as_. put_actor as_ t.after) n.is_newest.is ∙ put_in n.is_newest.before n.is_newest.behind n.actor t.after n.distinct (t.own ∙ sym n.own);
       are = t.are;
     }
@@ -251,6 +279,40 @@ stack_after p q live new name place n stack at l after = by_begun l.begins refl
       where
         one_of : {x y : ActorState} → Some x ≡ Some y → x ≡ y
         one_of e = cc
+
+-- ---- and each is under those before it
+
+nested_after : (p q : Progress) (name : List ℕ) (n : Newest p name) → AreNested (live_names p.state.actors) → AllReady p.state → Left p name n q → AreNested (live_names q.state.actors)
+nested_after p q name n nested all l = by_begun l.begins refl
+  where
+    before : List ActorState
+    before = n.is_newest.before
+
+    behind : List ActorState
+    behind = n.is_newest.behind
+
+    put : List ActorState
+    put = put_actor p.state.actors l.after
+
+    was : AreNested (live_names before ++ name ∷ [])
+    was = subst (λ m. AreNested (live_names before ++ m ∷ [])) n.own (subst AreNested (ap live_names n.is_newest.is ∙ live_where before behind n.actor n.is_newest.lives n.is_newest.others) nested)
+
+    goes_on : has_ended l.after.phase ≡ false → live_names put ≡ live_names before ++ name ∷ []
+    goes_on e = ap live_names l.put ∙ (live_where before behind l.after e n.is_newest.others ∙ ap (λ m. live_names before ++ m ∷ []) l.own)
+
+    by_end : (t : Bool) → has_ended l.after.phase ≡ t → AreNested (live_names put)
+    by_end true e = subst AreNested (sym (ap live_names l.put ∙ ended_where before behind l.after e n.is_newest.others)) (nested_pop (live_names before) name was)
+    by_end false e = subst AreNested (sym (goes_on e)) was
+
+    by_begun : (o : Option ActorState) → l.begins ≡ o → AreNested (live_names q.state.actors)
+    by_begun None e = subst (λ as_. AreNested (live_names as_)) (sym (l.are ∙ ap (with_begun put) e)) (by_end (has_ended l.after.phase) refl)
+    by_begun (Some c) e =
+        let alive = l.alive c e in
+        let child = l.named all c e in
+        let are : live_names q.state.actors ≡ (live_names before ++ name ∷ []) ++ child_name name child.0 ∷ [] =
+        ap live_names (l.are ∙ ap (with_begun put) e) ∙ (live_append put (c ∷ []) ∙ (ap (λ ns. ns ++ live_names (c ∷ [])) (goes_on alive.1)
+        ∙ ap (λ ns. (live_names before ++ name ∷ []) ++ ns) (one_lives c [] alive.0 ∙ ap (λ m. m ∷ []) child.1))) in
+        subst AreNested (sym are) (nested_push (live_names before) name child.0 was)
 
 -- ---- each is at its index still
 
@@ -421,6 +483,7 @@ serial_next i p q live new name place count s some n at many g going after =
       stack = stack_after p q (names_in live) (names_in new) name place n s.stack at l (names_after q.state.actors place (length p.state.actors) live new after_all);
       placed = placed_after p q live new name place n s.placed at (run_family i q.turns q.state run).distinct l after_all;
       root_first = root_after p q name n s.root_first l;
+      nested = nested_after p q name n s.nested (run_ready i p.turns p.state s.run) l;
     }
 
 pub serial_less : (i : Image) (p q : Progress) (live : List Live) (name : List ℕ) → IsSerial i p live → GoesOnBy p name q → work_left q.state < work_left p.state

@@ -17,7 +17,7 @@ use Rattle.sthread_life.proofs.Named.{found_name, named_put, put_put}
 use Rattle.sthread_life.proofs.Resting.{rest-name, rest-stays}
 use Rattle.sthread_life.proofs.Settling.{EndAlike, turns_alike, put_ends, ends_event, resumed_ends, rests_settled}
 use Rattle.wedge_core.specs.Progress.{IsRun, IsTurn, HasEnded, IsFound, IsPlaceOf, Awaits, state_of, rested, rested_in}
-use Rattle.wedge_core.specs.Turning.{event_asked, IsOfCell, StillWaits, IsDoneAt, HasWaited}
+use Rattle.wedge_core.specs.Turning.{event_asked, IsOfCell, StillWaits, IsDoneAt, HasWaited, HasMetBusy}
 use Rattle.wedge_core.proofs.Fitting.{asked_is, begins_none}
 use Rattle.wedge_core.proofs.Places.{get_at}
 use Rattle.wedge_core.proofs.Runs.{Runs-push}
@@ -94,19 +94,19 @@ rested_event i c actors name place a b q found =
     ap (λ as_. event_at (state_of i c as_) b q) (sym (found.put (rest i a) own))
     ∙ ends_event (state_of i c (put_actor actors (rest i a))) (state_of i c actors) b q refl (put_ends actors a (rest i a) (own_there actors name a found.named) (rest-name i a) (rest_end i a))
 
--- what is of actors alone makes a turn
-pub family_turn : (i : Image) (cells : Cells) (actors new : List ActorState) (place : ℕ) (name : List ℕ) (a : ActorState) (q : Want) (entries new_entries : List LogEntry)
-    → IsFound actors name place a → IsAwake a.phase → wanted (rest i a) ≡ Some q → (d : IsDoneAt i (slice_set actors place (rest i a)) place q entries name new new_entries)
-    → IsTurn (state_of i cells actors) name d.event (state_of i cells new)
-family_turn i cells actors new place name a q entries new_entries found awake wants d =
+-- what other actors have part in makes a turn
+pub family_turn : (i : Image) (cells new_cells : Cells) (actors new : List ActorState) (place : ℕ) (name : List ℕ) (a : ActorState) (q : Want) (entries new_entries : List LogEntry)
+    → IsFound actors name place a → IsAwake a.phase → wanted (rest i a) ≡ Some q → (d : IsDoneAt i cells (slice_set actors place (rest i a)) place q entries name new_cells new new_entries)
+    → IsTurn (state_of i cells actors) name d.event (state_of i new_cells new)
+family_turn i cells new_cells actors new place name a q entries new_entries found awake wants d =
     let b = rest i a in
     let is : d.actor ≡ b = one_of (sym d.there ∙ set_get actors place b found.inside) in
     let e = d.event in
     let own : (takes i b e).name ≡ name = takes_name i b e ∙ (rest-name i a ∙ found_name actors name a found.named) in
     let put : put_actor actors (takes i b e) ≡ slice_set actors place (takes i b e) = found.put (takes i b e) own in
-    is_turn i cells cells actors new name a q e found.named awake wants
-    (sym (rested_event i cells actors name place a b q found) ∙ (ap (λ x. event_at (state_of i cells (slice_set actors place b)) x q) (sym is) ∙ d.comes cells))
-    (sym (d.cells_stay cells))
+    is_turn i cells new_cells actors new name a q e found.named awake wants
+    (sym (rested_event i cells actors name place a b q found) ∙ (ap (λ x. event_at (state_of i cells (slice_set actors place b)) x q) (sym is) ∙ d.comes))
+    d.cells_are
     (d.new_is ∙ (ap (λ x. with_begun (slice_set (slice_set actors place b) place (takes i x e)) (begun i x e)) is
     ∙ ap (λ as_. with_begun as_ (begun i b e)) (set_set actors place b (takes i b e) ∙ sym put)))
   where
@@ -172,6 +172,17 @@ goes_turn i cells actors name a e new named awake turn =
 pub ended_alike : (as_ bs : List ActorState) (m : List ℕ) → EndAlike as_ bs → is_ended (actor_named as_ m) ≡ is_ended (actor_named bs m)
 ended_alike as_ bs m ends = sym (ended_is (actor_named as_ m)) ∙ (ap is_some (ends m) ∙ ended_is (actor_named bs m))
 
+-- at rest it is the actor at rest that it was before
+goes_rested : (i : Image) (cells : Cells) (actors : List ActorState) (name : List ℕ) (a : ActorState) → actor_named actors name ≡ Some a → IsAwake (ready actors a).phase
+    → rested (state_of i cells (put_actor actors (ready actors a))) name ≡ rested (state_of i cells actors) name
+goes_rested i cells actors name a named awake =
+    let w = state_of i cells actors in
+    let b = ready actors a in
+    let mid = put_actor actors b in
+    let calm : ready mid b ≡ b = ready_else mid b awake in
+    ap (λ o. state_of i cells (rested_in i mid o)) (ready_named w name a named) ∙ (ap (λ x. state_of i cells (put_actor mid (rest i x))) calm
+    ∙ (ap (state_of i cells) (put_put actors b (rest i b) (rest-name i b)) ∙ sym (ap (λ o. state_of i cells (rested_in i actors o)) named)))
+
 -- and so is its wait
 pub goes_waiting : (i : Image) (cells new_cells : Cells) (actors new : List ActorState) (name : List ℕ) (a : ActorState) → actor_named actors name ≡ Some a → IsAwake (ready actors a).phase
     → HasWaited i cells (put_actor actors (ready actors a)) name new_cells new → HasWaited i cells actors name new_cells new
@@ -191,8 +202,34 @@ goes_waiting i cells new_cells actors new name a named awake h =
         awaits = subst (λ x. Awaits x h.waits.number) rest_is h.waits.awaits;
         not_ended = sym (ended_alike mid actors (child_name name h.waits.number) (resumed_ends w a (own_there actors name a named))) ∙ h.waits.not_ended;
       };
-      rests = h.rests ∙ (ap (λ o. state_of i cells (rested_in i mid o)) here ∙ (ap (λ x. state_of i cells (put_actor mid (rest i x))) calm
-          ∙ (ap (state_of i cells) (put_put actors b (rest i b) (rest-name i b)) ∙ sym (ap (λ o. state_of i cells (rested_in i actors o)) named))));
+      rests = h.rests ∙ goes_rested i cells actors name a named awake;
+    }
+  where
+    one_of : {x y : ActorState} → Some x ≡ Some y → x ≡ y
+    one_of e = cc
+
+-- or that it finds a run in the gate that it is to enter
+pub goes_busy : (i : Image) (cells new_cells : Cells) (actors new : List ActorState) (name : List ℕ) (a : ActorState) → actor_named actors name ≡ Some a → IsAwake (ready actors a).phase
+    → HasMetBusy i cells (put_actor actors (ready actors a)) name new_cells new → HasMetBusy i cells actors name new_cells new
+goes_busy i cells new_cells actors new name a named awake h =
+    let w = state_of i cells actors in
+    let b = ready actors a in
+    let mid = put_actor actors b in
+    let here = ready_named w name a named in
+    let same_one : h.busy.actor ≡ b = one_of (sym h.busy.named ∙ here) in
+    let calm : ready mid b ≡ b = ready_else mid b awake in
+    let rest_is : rest i (ready mid h.busy.actor) ≡ rest i b = ap (λ x. rest i (ready mid x)) same_one ∙ ap (rest i) calm in
+    record {
+      busy = record {
+        actor = a;
+        gate = h.busy.gate;
+        run = h.busy.run;
+        first = h.busy.first;
+        named = named;
+        wants = ap (λ (x : ActorState). wanted x) (sym rest_is) ∙ h.busy.wants;
+        entered = h.busy.entered;
+      };
+      rests = h.rests ∙ goes_rested i cells actors name a named awake;
     }
   where
     one_of : {x y : ActorState} → Some x ≡ Some y → x ≡ y

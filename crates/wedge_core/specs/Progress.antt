@@ -4,12 +4,15 @@ use Rattle.wedge_base.specs.Images.{Image}
 use Rattle.wedge_events.specs.declared.events.Turn.{Turn}
 use Rattle.wedge_events.specs.Gates.{Kept}
 use Rattle.wedge_base.specs.declared.grants.GateId.{GateId}
-use Rattle.sthread_life.specs.Cells.{Cells, GateCell, kept_among, put_kept}
+use Rattle.sthread_life.specs.Cells.{Cells, GateCell, kept_among, kept_in, put_kept}
 use Rattle.sthread_life.specs.Worlds.{WorldState, opening, actor_named, put_actor, turn_of, Runs, is_ended, settled, ready, at_rest}
 use Rattle.sthread_life.specs.Actors.{ActorState}
 use Rattle.sthread_life.specs.Local.{rest, has_ended}
 use Rattle.sthread_life.specs.Children.{child_name}
+use Rattle.sthread_life.specs.RecycledGates.{IsInside}
 use Rattle.sthread_life.specs.Taking.{wanted}
+use Rattle.cow_pages.specs.PrivateMemory.{PrivateMemory}
+use Rattle.wedge_events.specs.declared.cells.GateAsk.TheVariants as gate_ask
 use Rattle.wedge_events.specs.declared.events.Want.TheVariants as want
 use Rattle.wedge_events.specs.declared.events.Event.{Event}
 use Rattle.sthread_life.specs.declared.phase.Phase.TheVariants as phase
@@ -83,6 +86,16 @@ pub record IsWaiting (w : WorldState) (name : List ℕ) : Type 0 where
   pub awaits : Awaits (at_rest w actor) number
   pub not_ended : is_ended (actor_named w.actors (child_name name number)) ≡ false
 
+-- the actor of a name, at rest, is to enter a recycled gate in which a run is
+pub record IsBusy (w : WorldState) (name : List ℕ) : Type 0 where
+  pub actor : ActorState
+  pub gate : GateId
+  pub run : List ℕ
+  pub first : PrivateMemory
+  pub named : actor_named w.actors name ≡ Some actor
+  pub wants : wanted (at_rest w actor) ≡ Some (want.Gate gate (gate_ask.Enter run first))
+  pub entered : (kept_in w.cells gate).entered ≡ true
+
 -- the actor of a name has gone on if it could, and is at rest, and all else is as before
 abbrev pub rested_in : Image → List ActorState → Option ActorState → List ActorState
 rested_in i actors None = actors
@@ -96,3 +109,12 @@ pub record GoesOnBy (old : Progress) (name : List ℕ) (new : Progress) : Type 0
   pub event : Event
   pub turn : IsTurn old.state name event new.state
   pub noted : new.turns ≡ old.turns ++ record { actor = name; event = event } ∷ []
+
+-- ---- actors that are in recycled gates
+
+-- where an actor is in a recycled gate, the gate's cell says that a run is
+abbrev pub IsRecorded : Cells → ActorState → Type 0
+IsRecorded c a = (id : GateId) → IsInside id a → (kept_in c id).entered ≡ true
+
+abbrev pub AreRecorded : Cells → List ActorState → Type 0
+AreRecorded c actors = (name : List ℕ) (a : ActorState) → actor_named actors name ≡ Some a → IsRecorded c a

@@ -2,6 +2,8 @@
 use Rattle.std.specs.Prelude.{◌≡◌, ℕ, ◌+◌, true, false, List, [], ◌∷◌, ◌++◌, map, Option, Some, None, Result, Ok, Err, if◌then◌else◌}
 use Rattle.wedge_base.specs.Images.{Image}
 use Rattle.wedge_events.specs.declared.events.Event.{Event}
+use Rattle.wedge_events.specs.declared.events.Want.{Want}
+use Rattle.wedge_events.specs.declared.events.Want.TheVariants as want
 use Rattle.wedge_events.specs.declared.events.Turn.{Turn}
 use Rattle.wedge_events.specs.declared.events.LogEntry.{LogEntry}
 use Rattle.wedge_base.specs.declared.outcome.Outcome.{Outcome}
@@ -9,7 +11,8 @@ use Rattle.wedge_events.specs.Journals.{turns_of}
 use Rattle.sthread_life.specs.Actors.{ActorState}
 use Rattle.sthread_life.specs.Local.{has_ended}
 use Rattle.sthread_life.specs.Outcomes.{outcome_of}
-use Rattle.sthread_life.specs.Worlds.{WorldState, opening, actor_named, turn_of, Runs, is_whole}
+use Rattle.sthread_life.specs.Taking.{wanted}
+use Rattle.sthread_life.specs.Worlds.{WorldState, opening, actor_named, turn_of, at_rest, Runs, is_whole}
 use Rattle.wedge_core.specs.declared.error.Why.{Why}
 use Rattle.wedge_core.specs.declared.error.Why.TheVariants as why
 use Rattle.wedge_core.specs.declared.error.ReplayFault.{ReplayFault}
@@ -17,13 +20,18 @@ use Rattle.wedge_core.specs.declared.error.ReplayFault.TheVariants as fault
 use Rattle.wedge_core.specs.Progress.{Progress, IsTurn}
 use Rattle.wedge_core.specs.Serial.{IsCompleteRun, IsWholeRun, RootGoesOn}
 
+-- why an actor that has not ended has no turn: the recycled gate that it is to enter is busy, or it waits
+abbrev pub why_held : Option Want → Why
+why_held (Some (want.Gate id q)) = why.Busy
+why_held q = why.Waits
+
 -- why an actor has no turn
-abbrev pub why_of : Option ActorState → Why
-why_of None = why.Unknown
-why_of (Some a) = if has_ended a.phase then why.Ended else why.Waits
+abbrev pub why_of : WorldState → Option ActorState → Why
+why_of w None = why.Unknown
+why_of w (Some a) = if has_ended a.phase then why.Ended else why_held (wanted (at_rest w a))
 
 abbrev pub why_none : WorldState → List ℕ → Why
-why_none w name = why_of (actor_named w.actors name)
+why_none w name = why_of w (actor_named w.actors name)
 
 -- the state to which the turns of these actors lead, the last of them the end of the root; or the number of
 -- the first name that has no turn, and why. The first of the names has the number `at`.

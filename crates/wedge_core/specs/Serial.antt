@@ -15,7 +15,9 @@ use Rattle.wedge_events.specs.declared.events.Turn.{Turn}
 use Rattle.sthread_life.specs.Moments.{EachStep, EachMoment}
 use Rattle.sthread_life.specs.Bounds.{IsWithinRoot}
 use Rattle.sthread_life.specs.CopiesGranted.{HasCopiesGranted}
+use Rattle.sthread_life.specs.GatesWithin.{is_under, NoneHoldsItsOwn}
 use Rattle.sthread_life.specs.KnownGates.{AreGatesKept}
+use Rattle.sthread_life.specs.RecycledGates.{AreRunsAlone}
 use Rattle.sthread_life.specs.Fuel.{fuel_of, TakesItsUnits}
 use Rattle.sthread_life.specs.Laws.{IsLawful, IsWrittenByOwners, AreSlotsKept}
 use Rattle.sthread_life.specs.Worlds.{WorldState, opening, actor_named, Runs, is_whole}
@@ -28,8 +30,9 @@ RootGoesOn w turns = EachStep (λ old t new. is_whole old ≡ false) w turns
 -- The turns are a complete run of the image, up to the end of its root: each moment of it is lawful; the bytes of each tag
 -- and of each stream come from those who may write them alone; each turn takes exactly its units of the image's fuel; each
 -- slot was never used, or was released, or is held by one call, or one tag lives there; whatever an actor has on a declared tag
--- or descriptor, or the sheet of a gate gives, the root began with; each private copy is at the slot of a grant of a copy; and a
--- gate is what its maker made, whoever knows it.
+-- or descriptor, or the sheet of a gate gives, the root began with; each private copy is at the slot of a grant of a copy; a gate
+-- is what its maker made, whoever knows it; each run has its gate's sheet with what was lent, a recycled gate has one run at a time, and
+-- what it keeps has copies where its sheet grants them alone; and nobody at or under a run of a gate holds that gate.
 pub record IsCompleteRun (i : Image) (turns : List Turn) (last : WorldState) : Type 0 where
   pub run : Runs (opening i) turns last
   pub whole : is_whole last ≡ true
@@ -42,6 +45,8 @@ pub record IsCompleteRun (i : Image) (turns : List Turn) (last : WorldState) : T
   pub bounded : (name : List ℕ) (a : ActorState) → actor_named last.actors name ≡ Some a → IsWithinRoot i a
   pub copies : (name : List ℕ) (a : ActorState) → actor_named last.actors name ≡ Some a → HasCopiesGranted a
   pub gates : AreGatesKept last.actors
+  pub runs : AreRunsAlone last.cells last.actors
+  pub within : NoneHoldsItsOwn last.actors
 
 -- entries tell a complete run of the image with this outcome
 pub record IsWholeRun (i : Image) (entries : List LogEntry) (outcome : Outcome) : Type 0 where
@@ -87,6 +92,15 @@ ArePlaced actors (l ∷ ls) = (place_in actors l.name ≡ Some l.place) × ArePl
 abbrev pub names_in : List Live → List (List ℕ)
 names_in live = map (λ l. l.name) live
 
+-- each is under every one before it
+abbrev pub AreUnder : List ℕ → List (List ℕ) → Type 0
+AreUnder n [] = Unit {0}
+AreUnder n (m ∷ ms) = (is_under n m ≡ true) × AreUnder n ms
+
+abbrev pub AreNested : List (List ℕ) → Type 0
+AreNested [] = Unit {0}
+AreNested (n ∷ ns) = AreUnder n ns × AreNested ns
+
 -- turns taken in serial order so far, and the actors that have not ended
 pub record IsSerial (i : Image) (p : Progress) (live : List Live) : Type 0 where
   pub going : p.stopped ≡ false
@@ -96,6 +110,7 @@ pub record IsSerial (i : Image) (p : Progress) (live : List Live) : Type 0 where
   pub stack : names_in live ≡ live_names p.state.actors
   pub placed : ArePlaced p.state.actors live
   pub root_first : RootIsFirst p.state.actors
+  pub nested : AreNested (live_names p.state.actors)
 
 -- Those that live after a turn, by those before: one behind them where there is an actor more, and one less where the actor at this
 -- index has ended.

@@ -1,19 +1,22 @@
 -- What the parts of a turn make of cells, actors and entries.
 use Rattle.std.specs.Prelude.{◌≡◌, ℕ, ◌<◌, true, List, length, slice_get, slice_set, Option, Some, None, false}
 use Rattle.wedge_base.specs.Images.{Image}
+use Rattle.cow_pages.specs.PrivateMemory.{PrivateMemory}
+use Rattle.wedge_base.specs.declared.grants.GateId.{GateId}
+use Rattle.wedge_events.specs.declared.cells.GateAsk.TheVariants as gate_ask
 use Rattle.wedge_events.specs.declared.events.Want.{Want}
 use Rattle.wedge_events.specs.declared.events.Want.TheVariants as want
 use Rattle.wedge_events.specs.declared.events.Event.{Event}
 use Rattle.wedge_events.specs.declared.events.LogEntry.{LogEntry}
 use Rattle.sthread_life.specs.Actors.{ActorState}
 use Rattle.sthread_life.specs.Between.{WantFits, TakesFit}
-use Rattle.sthread_life.specs.Cells.{Cells, live_at, event_of, cells_after}
+use Rattle.sthread_life.specs.Cells.{Cells, live_at, event_of, cells_after, kept_in}
 use Rattle.sthread_life.specs.Children.{is_child, child_name}
 use Rattle.sthread_life.specs.FamilyTrees.{Family}
 use Rattle.sthread_life.specs.Local.{rest, run_awaited, has_ended}
 use Rattle.sthread_life.specs.Taking.{wanted, asks, takes, begun}
 use Rattle.sthread_life.specs.Worlds.{with_begun, event_at, actor_named, ready, is_ended}
-use Rattle.wedge_core.specs.Progress.{IsTurn, IsWaiting, state_of, rested, IsFound}
+use Rattle.wedge_core.specs.Progress.{IsTurn, IsWaiting, IsBusy, IsRecorded, state_of, rested, IsFound}
 use Rattle.wedge_core.specs.Serial.{Notes}
 use Rattle.sthread_life.specs.declared.phase.Phase.TheVariants as phase
 
@@ -21,12 +24,13 @@ use Rattle.sthread_life.specs.declared.phase.Phase.TheVariants as phase
 abbrev pub event_asked : Cells → ActorState → Want → Option Event
 event_asked c a q = event_of c (asks a (live_at c q) q)
 
--- what is of a cell
+-- what is of the actor and of one cell alone
 abbrev pub IsOfCell : Want → Type 0
 IsOfCell (want.Start child) = ⊥
 IsOfCell (want.Join child) = ⊥
 IsOfCell (want.Enter run) = ⊥
 IsOfCell (want.Leave e) = ⊥
+IsOfCell (want.Gate id q) = ⊥
 IsOfCell q = Unit {0}
 
 -- the event that an actor at rest wants of a cell is done and noted
@@ -38,15 +42,16 @@ pub record IsMade (i : Image) (cells : Cells) (a : ActorState) (q : Want) (entri
   pub name_stays : new.name ≡ a.name
   pub noted : Notes entries name event new_entries
 
--- what is of actors alone: a start, a join, and the entry and the leave of a gate
+-- what other actors have part in: a start, a join, and the entry and the leave of a gate
 abbrev pub IsOfFamily : Want → Type 0
 IsOfFamily (want.Start child) = Unit {0}
 IsOfFamily (want.Join child) = Unit {0}
 IsOfFamily (want.Enter run) = Unit {0}
 IsOfFamily (want.Leave e) = Unit {0}
+IsOfFamily (want.Gate id q) = Unit {0}
 IsOfFamily q = ⊥
 
--- an actor has come to rest, and wants what is of actors alone
+-- an actor has come to rest, and wants what other actors have part in
 pub record IsLeft (i : Image) (old : ActorState) (q : Want) (new : ActorState) : Type 0 where
   pub rests : new ≡ rest i old
   pub wants : wanted (rest i old) ≡ Some q
@@ -72,15 +77,16 @@ pub record StillWaits (actors : List ActorState) (place : ℕ) (name : List ℕ)
   pub new_is : new ≡ actors
 
 -- it is the one of a name, has not ended and waits for no run
-pub record IsAwakeAt (actors : List ActorState) (place : ℕ) (name : List ℕ) : Type 0 where
+pub record IsAwakeAt (cells : Cells) (actors : List ActorState) (place : ℕ) (name : List ℕ) : Type 0 where
   pub actor : ActorState
   pub found : IsFound actors name place actor
   pub lives : has_ended actor.phase ≡ false
   pub awake : run_awaited actor.phase ≡ None
   pub family : Family actors
+  pub recorded : IsRecorded cells actor
 
--- it is the one of a name, and wants what is of actors alone
-pub record WantsOfFamily (i : Image) (actors : List ActorState) (place : ℕ) (name : List ℕ) (q : Want) : Type 0 where
+-- it is the one of a name, and wants what other actors have part in
+pub record WantsOfFamily (i : Image) (cells : Cells) (actors : List ActorState) (place : ℕ) (name : List ℕ) (q : Want) : Type 0 where
   pub actor : ActorState
   pub inside : place < length actors
   pub there : slice_get actors place ≡ Some actor
@@ -90,6 +96,7 @@ pub record WantsOfFamily (i : Image) (actors : List ActorState) (place : ℕ) (n
   pub fits : WantFits actor q
   pub of_family : IsOfFamily q
   pub family : Family actors
+  pub recorded : IsRecorded cells actor
 
 -- it may take an event by which another begins, of a name that no actor has
 pub record IsBeginning (i : Image) (actors : List ActorState) (place : ℕ) (e : Event) : Type 0 where
@@ -140,16 +147,24 @@ pub record HasDone (i : Image) (actors : List ActorState) (place : ℕ) (e : Eve
   pub new_is : new ≡ with_begun (slice_set actors place (takes i actor e)) (begun i actor e)
   pub noted : Notes entries name e new_entries
 
--- its event takes place, whatever the cells are, and is noted
-pub record IsDoneAt (i : Image) (actors : List ActorState) (place : ℕ) (q : Want) (entries : List LogEntry) (name : List ℕ) (new : List ActorState) (new_entries : List LogEntry) : Type 0 where
+-- its event takes place, and is noted
+pub record IsDoneAt (i : Image) (cells : Cells) (actors : List ActorState) (place : ℕ) (q : Want) (entries : List LogEntry) (name : List ℕ) (new_cells : Cells) (new : List ActorState) (new_entries : List LogEntry) : Type 0 where
   pub actor : ActorState
   pub inside : place < length actors
   pub there : slice_get actors place ≡ Some actor
   pub event : Event
-  pub comes : (c : Cells) → event_at (state_of i c actors) actor q ≡ Some event
-  pub cells_stay : (c : Cells) → cells_after c event ≡ c
+  pub comes : event_at (state_of i cells actors) actor q ≡ Some event
+  pub cells_are : new_cells ≡ cells_after cells event
   pub new_is : new ≡ with_begun (slice_set actors place (takes i actor event)) (begun i actor event)
   pub noted : Notes entries name event new_entries
+
+-- it is to enter a recycled gate in which a run is
+pub record FindsBusy (cells : Cells) (q : Want) : Type 0 where
+  pub gate : GateId
+  pub run : List ℕ
+  pub first : PrivateMemory
+  pub is : q ≡ want.Gate gate (gate_ask.Enter run first)
+  pub entered : (kept_in cells gate).entered ≡ true
 
 -- ---- what came of a turn
 
@@ -162,4 +177,9 @@ pub record WasTaken (i : Image) (cells : Cells) (actors : List ActorState) (entr
 -- it has to wait: its actor is at rest, and all else is as before
 pub record HasWaited (i : Image) (cells : Cells) (actors : List ActorState) (name : List ℕ) (new_cells : Cells) (new : List ActorState) : Type 0 where
   pub waits : IsWaiting (state_of i cells actors) name
+  pub rests : state_of i new_cells new ≡ rested (state_of i cells actors) name
+
+-- or a run is in the recycled gate that it is to enter
+pub record HasMetBusy (i : Image) (cells : Cells) (actors : List ActorState) (name : List ℕ) (new_cells : Cells) (new : List ActorState) : Type 0 where
+  pub busy : IsBusy (state_of i cells actors) name
   pub rests : state_of i new_cells new ≡ rested (state_of i cells actors) name

@@ -9,10 +9,10 @@ ghost use Rattle.wedge_events.specs.Slots.{SlotFits, slot_reply, slot_next, decl
 ghost use Rattle.wedge_events.specs.Streams.{most_fds, declared_stream, stream_reply, stream_next};
 ghost use Rattle.image_form.specs.Rules.{IsTag};
 ghost use Rattle.sthread_life.specs.Between.{GivesBelow, IsInBounds};
-ghost use Rattle.sthread_life.specs.Cells.{AskFits, opening_cells, nothings, held, live_at, event_of, cells_after};
+ghost use Rattle.sthread_life.specs.Cells.{AskFits, opening_cells, nothings, held, kept_in, live_at, event_of, cells_after};
 ghost use Rattle.sthread_life.specs.Written.{bytes_in};
 
-use crate::gates::{GateCell, ask_gate};
+use crate::gates::{GateCell, ask_gate, is_entered};
 use fd_table::Stream;
 use image_form::Image;
 use std::alloc::Global;
@@ -20,7 +20,7 @@ use std::marker::Model;
 use sthread_life::Lives;
 use tag_directory::Directory;
 use tag_segment::SlotState;
-use wedge_base::{Bytes, FdEntry, FdNo, MOST_FDS, NoMemory, SLOTS, Slot, TagEntry, TagNo};
+use wedge_base::{Bytes, FdEntry, FdNo, GateId, MOST_FDS, NoMemory, SLOTS, Slot, TagEntry, TagNo};
 use wedge_events::{Ask, DirectoryAsk, DirectoryReply, Event, Object, SlotAsk, SlotReply, StreamAsk, StreamReply, Want};
 
 /// The cells of a world: the directory of slots, 4,096 slots with the tag that lives in each, the directory of
@@ -97,6 +97,13 @@ impl Cells {
             None => Ok(None),
             Some(state) => state.copy_bytes(self.alloc),
         }
+    }
+
+    /// Whether a run is in a recycled gate.
+    pub fn is_entered(&self, gate: &GateId) -> bool
+        ensures { result ≡ (kept_in self.now gate.now).entered }
+    {
+        is_entered(&self.gates, gate)
     }
 
     /// The tag that lives in the slot of what is wanted.

@@ -17,6 +17,8 @@ pub enum NoTurn {
     Ended,
     /// The actor awaits a child or the run of a gate that has not ended.
     Waits,
+    /// The actor is to enter a recycled gate in which a run is.
+    Busy,
 }
 
 impl From<NoMemory> for NoTurn {
@@ -36,6 +38,8 @@ pub enum Why {
     Ended,
     /// The actor awaits a child or the run of a gate that has not ended.
     Waits,
+    /// The actor is to enter a recycled gate in which a run is.
+    Busy,
     /// No name is left, and the root has not ended.
     Short,
     /// The root has ended before this name.

@@ -36,6 +36,19 @@ impl GateCell {
     }
 }
 
+/// Whether a run is in a gate.
+pub(crate) fn is_entered(gates: &[GateCell], id: &GateId) -> bool
+    ensures { result ≡ (kept_among gates.now id.now).entered }
+{
+    match place_of(gates, id) {
+        Some(place) => {
+            let cell = &gates[place];
+            cell.kept.entered()
+        }
+        None => false,
+    }
+}
+
 /// Asks the cell of a gate. One that was never asked begins now.
 pub(crate) fn ask_gate(
     alloc: Global,

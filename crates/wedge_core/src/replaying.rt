@@ -78,6 +78,10 @@ fn follow(
             at,
             why: Why::Waits,
         }),
+        Err(NoTurn::Busy) => Err(ReplayFault::BadSchedule {
+            at,
+            why: Why::Busy,
+        }),
     }
 }
 

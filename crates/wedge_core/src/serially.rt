@@ -60,6 +60,7 @@ fn take_turn(world: &mut World<'_>, live: &mut Vec<Live>) -> Result<(), NoMemory
         Went::Took => note_lives(world, live, place, count),
         Went::Ended => unreachable!(),
         Went::Waits => unreachable!(),
+        Went::Busy => unreachable!(),
     }
 }
 

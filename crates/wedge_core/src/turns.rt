@@ -5,7 +5,7 @@ ghost use Rattle.sthread_life.specs.Actors.{whole};
 ghost use Rattle.wedge_events.specs.declared.events.SlotWant.{SlotWant as ASlotWant};
 ghost use Rattle.wedge_events.specs.declared.events.Want.{Want as AWant};
 ghost use Rattle.sthread_life.specs.Between.{WantFits};
-ghost use Rattle.sthread_life.specs.Cells.{cells_after};
+ghost use Rattle.sthread_life.specs.Cells.{Cells as SomeCells, cells_after};
 ghost use Rattle.sthread_life.specs.Children.{child_name};
 ghost use Rattle.sthread_life.specs.Laws.{IsLawful};
 ghost use Rattle.sthread_life.specs.FamilyTrees.{Family};
@@ -14,9 +14,9 @@ ghost use Rattle.sthread_life.specs.Moments.{TurnHas};
 ghost use Rattle.sthread_life.specs.Taking.{wanted, takes};
 ghost use Rattle.sthread_life.specs.Worlds.{actor_named, is_ended};
 ghost use Rattle.sthread_life.specs.Written.{StepAppendsOwn, StepWritesOwn};
-ghost use Rattle.wedge_core.specs.Progress.{IsTurn, HasEnded, IsPlaceOf, IsWaiting, rested, GoesOnBy};
+ghost use Rattle.wedge_core.specs.Progress.{IsTurn, HasEnded, IsPlaceOf, IsWaiting, IsBusy, AreRecorded, rested, GoesOnBy};
 ghost use Rattle.wedge_core.specs.Serial.{Notes};
-ghost use Rattle.wedge_core.specs.Turning.{event_asked, IsOfCell, IsOfFamily, IsMade, IsLeft, HasGoneOn, StillWaits, IsAwakeAt, WantsOfFamily, IsBeginning, IsGoingAlone, IsJoining, IsTaking, HasTaken, HasDone, IsDoneAt, WasTaken, HasWaited};
+ghost use Rattle.wedge_core.specs.Turning.{event_asked, IsOfCell, IsOfFamily, IsMade, IsLeft, HasGoneOn, StillWaits, IsAwakeAt, WantsOfFamily, IsBeginning, IsGoingAlone, IsJoining, IsTaking, HasTaken, HasDone, IsDoneAt, FindsBusy, WasTaken, HasWaited, HasMetBusy};
 
 use crate::cells::Cells;
 use crate::error::NoTurn;
@@ -25,8 +25,8 @@ use crate::world::World;
 use cow_pages::PrivateView;
 use ready_text::Program;
 use sthread_life::{Actor, Next};
-use wedge_base::{ActorName, NoMemory, Slot, Stamp};
-use wedge_events::{Event, LogEntry, SlotWant, Want};
+use wedge_base::{ActorName, GateId, NoMemory, Slot, Stamp};
+use wedge_events::{Ask, Event, GateAsk, LogEntry, SlotWant, Want};
 
 /// A turn that was taken: its one shared event.
 #[derive(Debug, Drop)]
@@ -43,13 +43,15 @@ pub(crate) enum Went {
     Ended,
     /// The actor awaits a child or the run of a gate that has not ended.
     Waits,
+    /// The actor is to enter a recycled gate in which a run is.
+    Busy,
 }
 
 /// Takes a turn of the actor of a name: its local events up to its next shared event, and that event.
 /// After `Unknown` or `Ended` the world is unchanged. `Waits` comes exactly where the actor's next event is the
-/// join of a child that has not ended, or where it waits for the run of a gate that has not: the actor is then at
-/// rest, and all else is unchanged. After `NoMemory` the
-/// world has stopped.
+/// join of a child that has not ended, or where it waits for the run of a gate that has not; and `Busy` where its
+/// next event is the entry of a recycled gate in which a run is. The actor is then at rest, and all else is
+/// unchanged. After `NoMemory` the world has stopped.
 pub fn turn(world: &mut World<'_>, name: &ActorName) -> Result<Taken, NoTurn>
     ensures took { IfOk result (λ t. IsTurn world.old.state name.now t.event world.new.state) }
     ensures noted { IfOk result (λ t. world.new.turns
@@ -70,7 +72,11 @@ pub fn turn(world: &mut World<'_>, name: &ActorName) -> Result<Taken, NoTurn>
         → (world.old.stopped ≡ false) × IsWaiting world.old.state name.now }
     ensures waiting { world.old.stopped ≡ false → IsWaiting world.old.state name.now
         → IsErrOf result NoTurn.Waits ⊎ IsErrOf result NoTurn.NoMemory }
-    ensures rests { IsErrOf result NoTurn.Waits
+    ensures busy { IsErrOf result NoTurn.Busy
+        → (world.old.stopped ≡ false) × IsBusy world.old.state name.now }
+    ensures being_busy { world.old.stopped ≡ false → IsBusy world.old.state name.now
+        → IsErrOf result NoTurn.Busy ⊎ IsErrOf result NoTurn.NoMemory }
+    ensures rests { IsErrOf result NoTurn.Waits ⊎ IsErrOf result NoTurn.Busy
         → world.new ≡ record world.old { state = rested world.old.state name.now } }
 
     // out of memory
@@ -89,6 +95,7 @@ pub fn turn(world: &mut World<'_>, name: &ActorName) -> Result<Taken, NoTurn>
         Err(NoMemory) => Err(NoTurn::NoMemory),
         Ok(Went::Ended) => Err(NoTurn::Ended),
         Ok(Went::Waits) => Err(NoTurn::Waits),
+        Ok(Went::Busy) => Err(NoTurn::Busy),
         Ok(Went::Took) => match world.last_event() {
             Ok(event) => Ok(Taken { event }),
             Err(NoMemory) => {
@@ -112,6 +119,8 @@ pub(crate) fn advance(
     ensures ended { IfOk result (λ r. r ≡ Went.Ended
         → HasEnded world.old.state.actors name.now × (world.new ≡ world.old)) }
     ensures waits { IfOk result (λ r. r ≡ Went.Waits → IsWaiting world.old.state name.now
+        × (world.new ≡ record world.old { state = rested world.old.state name.now })) }
+    ensures busy { IfOk result (λ r. r ≡ Went.Busy → IsBusy world.old.state name.now
         × (world.new ≡ record world.old { state = rested world.old.state name.now })) }
     ensures going { OnOk result (world.new.stopped ≡ false) }
     ensures stops { OnErr result (world.new.stopped ≡ true) }
@@ -146,14 +155,16 @@ fn advance_over(
 ) -> Result<Went, NoMemory>
     requires there { IsPlaceOf residents.old name.now place }
     requires family { Family residents.old }
+    requires recorded { AreRecorded cells.old residents.old }
     ensures took { IfOk result (λ r. r ≡ Went.Took → WasTaken program.now cells.old residents.old
         entries.old.items name.now cells.new residents.new entries.new.items) }
     ensures ended { IfOk result (λ r. r ≡ Went.Ended → HasEnded residents.old name.now
         × (cells.new ≡ cells.old) × (residents.new ≡ residents.old)) }
     ensures waits { IfOk result (λ r. r ≡ Went.Waits
         → HasWaited program.now cells.old residents.old name.now cells.new residents.new) }
-    ensures same { IfOk result (λ r. r ≡ Went.Ended ⊎ r ≡ Went.Waits
-        → entries.new.items ≡ entries.old.items) }
+    ensures busy { IfOk result (λ r. r ≡ Went.Busy
+        → HasMetBusy program.now cells.old residents.old name.now cells.new residents.new) }
+    ensures same { IfOk result (λ r. (r ≡ Went.Took → ⊥) → entries.new.items ≡ entries.old.items) }
     ensures lives { OnErr result (HasEnded residents.old name.now → ⊥) }
     ensures kept { OnErr result (entries.new.items ≡ entries.old.items) }
 {
@@ -194,13 +205,15 @@ fn advance_awake(
     name: &ActorName,
     place: usize,
 ) -> Result<Went, NoMemory>
-    requires { IsAwakeAt residents.old place name.now }
+    requires { IsAwakeAt cells.old residents.old place name.now }
     ensures took { IfOk result (λ r. r ≡ Went.Took → WasTaken program.now cells.old residents.old
         entries.old.items name.now cells.new residents.new entries.new.items) }
     ensures ended { IfOk result (λ r. r ≡ Went.Ended → ⊥) }
     ensures waits { IfOk result (λ r. r ≡ Went.Waits
         → HasWaited program.now cells.old residents.old name.now cells.new residents.new) }
-    ensures same { IfOk result (λ r. r ≡ Went.Waits → entries.new.items ≡ entries.old.items) }
+    ensures busy { IfOk result (λ r. r ≡ Went.Busy
+        → HasMetBusy program.now cells.old residents.old name.now cells.new residents.new) }
+    ensures same { IfOk result (λ r. (r ≡ Went.Took → ⊥) → entries.new.items ≡ entries.old.items) }
     ensures kept { OnErr result (entries.new.items ≡ entries.old.items) }
 {
     let resident = &mut residents.list[place];
@@ -210,12 +223,12 @@ fn advance_awake(
             Err(NoMemory)
         }
         Ok(None) => Ok(Went::Took),
-        Ok(Some(want)) => do_family(program, residents, entries, name, place, want),
+        Ok(Some(want)) => do_family(program, cells, residents, entries, name, place, want),
     }
 }
 
-/// The turn of an actor that has not ended and waits for no run, up to what is of actors alone. Loads and stores have a function
-/// of their own, since they are the most.
+/// The turn of an actor that has not ended and waits for no run, up to what other actors have part in. Loads and stores
+/// have a function of their own, since they are the most.
 fn advance_one(
     program: &Program<'_>,
     cells: &mut Cells,
@@ -241,7 +254,7 @@ fn advance_one(
     }
 }
 
-/// The event that an actor at rest wants, done and noted, unless that is of actors alone.
+/// The event that an actor at rest wants, done and noted, unless other actors have part in it.
 #[inline(always)]
 fn do_want(
     program: &Program<'_>,
@@ -269,6 +282,7 @@ fn do_want(
         Want::Join { child } => Ok(Some(Want::Join { child })),
         Want::Enter { run } => Ok(Some(Want::Enter { run })),
         Want::Leave { end } => Ok(Some(Want::Leave { end })),
+        Want::Gate { gate, ask } => Ok(Some(Want::Gate { gate, ask })),
         _ => {
             do_other(program, cells, resident, entries, name, want)?;
             Ok(None)
@@ -276,21 +290,24 @@ fn do_want(
     }
 }
 
-/// What the actor at an index wants at rest that is of actors alone.
+/// What the actor at an index wants at rest that other actors have part in.
 #[inline(never)]
 fn do_family(
     program: &Program<'_>,
+    cells: &mut Cells,
     residents: &mut Residents,
     entries: &mut Vec<LogEntry>,
     name: &ActorName,
     place: usize,
     want: Want,
 ) -> Result<Went, NoMemory>
-    requires { WantsOfFamily program.now residents.old place name.now want }
-    ensures took { IfOk result (λ r. r ≡ Went.Took → IsDoneAt program.now residents.old place want
-        entries.old.items name.now residents.new entries.new.items) }
+    requires { WantsOfFamily program.now cells.old residents.old place name.now want }
+    ensures took { IfOk result (λ r. r ≡ Went.Took → IsDoneAt program.now cells.old residents.old place want
+        entries.old.items name.now cells.new residents.new entries.new.items) }
     ensures waits { IfOk result (λ r. r ≡ Went.Waits → (child : ℕ) × (want ≡ AWant.Join child)
-        × (is_ended (actor_named residents.old (child_name name.now child)) ≡ false)
+        × (is_ended (actor_named residents.old (child_name name.now child)) ≡ false)) }
+    ensures busy { IfOk result (λ r. r ≡ Went.Busy → FindsBusy cells.old want) }
+    ensures same { IfOk result (λ r. (r ≡ Went.Took → ⊥) → (cells.new ≡ cells.old)
         × (residents.new ≡ residents.old) × (entries.new.items ≡ entries.old.items)) }
     ensures lives { IfOk result (λ r. r ≡ Went.Ended → ⊥) }
     ensures kept { OnErr result (entries.new.items ≡ entries.old.items) }
@@ -330,7 +347,49 @@ fn do_family(
             Ok(Went::Took)
         }
         Want::Join { child } => join(program, residents, entries, name, place, child),
+        Want::Gate { gate, ask } => {
+            do_gate(program, cells, residents, entries, name, place, gate, ask)
+        }
         _ => unreachable!(),
+    }
+}
+
+/// What the actor at an index wants of a recycled gate: to enter it, unless a run is in it, or to leave it.
+fn do_gate(
+    program: &Program<'_>,
+    cells: &mut Cells,
+    residents: &mut Residents,
+    entries: &mut Vec<LogEntry>,
+    name: &ActorName,
+    place: usize,
+    gate: GateId,
+    ask: GateAsk,
+) -> Result<Went, NoMemory>
+    requires { WantsOfFamily program.now cells.old residents.old place name.now (AWant.Gate gate ask) }
+    ensures took { IfOk result (λ r. r ≡ Went.Took → IsDoneAt program.now cells.old residents.old place
+        (AWant.Gate gate ask) entries.old.items name.now cells.new residents.new entries.new.items) }
+    ensures busy { IfOk result (λ r. r ≡ Went.Busy → FindsBusy cells.old (AWant.Gate gate ask)) }
+    ensures same { IfOk result (λ r. (r ≡ Went.Took → ⊥) → (cells.new ≡ cells.old)
+        × (residents.new ≡ residents.old) × (entries.new.items ≡ entries.old.items)) }
+    ensures lives { IfOk result (λ r. r ≡ Went.Ended ⊎ r ≡ Went.Waits → ⊥) }
+    ensures kept { OnErr result (entries.new.items ≡ entries.old.items) }
+{
+    match ask {
+        GateAsk::Enter { run, memory } => {
+            if cells.is_entered(&gate) {
+                return Ok(Went::Busy);
+            }
+            let ask = GateAsk::Enter { run, memory };
+            let event = cells.act(Ask::Gate { gate, ask })?;
+            begin(program, residents, entries, name, place, event)?;
+            Ok(Went::Took)
+        }
+        GateAsk::Leave { end, memory } => {
+            let ask = GateAsk::Leave { end, memory };
+            let event = cells.act(Ask::Gate { gate, ask })?;
+            go_alone(program, residents, entries, name, place, event)?;
+            Ok(Went::Took)
+        }
     }
 }
 
@@ -405,12 +464,13 @@ fn join(
     child: u32,
 ) -> Result<Went, NoMemory>
     requires { IsJoining residents.old place name.now child }
-    ensures took { IfOk result (λ r. r ≡ Went.Took → IsDoneAt program.now residents.old place
-        (AWant.Join child) entries.old.items name.now residents.new entries.new.items) }
+    ensures took { IfOk result (λ r. r ≡ Went.Took → (c : SomeCells) → IsDoneAt program.now c residents.old place
+        (AWant.Join child) entries.old.items name.now c residents.new entries.new.items) }
     ensures waits { IfOk result (λ r. r ≡ Went.Waits
-        → (is_ended (actor_named residents.old (child_name name.now child)) ≡ false)
-        × (residents.new ≡ residents.old) × (entries.new.items ≡ entries.old.items)) }
-    ensures lives { IfOk result (λ r. r ≡ Went.Ended → ⊥) }
+        → is_ended (actor_named residents.old (child_name name.now child)) ≡ false) }
+    ensures same { IfOk result (λ r. (r ≡ Went.Took → ⊥) → (residents.new ≡ residents.old)
+        × (entries.new.items ≡ entries.old.items)) }
+    ensures lives { IfOk result (λ r. r ≡ Went.Ended ⊎ r ≡ Went.Busy → ⊥) }
     ensures kept { OnErr result (entries.new.items ≡ entries.old.items) }
 {
     let Some((end, fuel)) = residents.ended_with(name, child)? else {

@@ -1,8 +1,8 @@
 use Rattle.std.proofs.Common.{◌≡◌, false, ap, Err, rules}
 use Rattle.sthread_life.specs.Worlds.{is_whole}
-use Rattle.wedge_core.proofs.Replays.{not_true, replayed_unknown, replayed_ended, replayed_waits}
+use Rattle.wedge_core.proofs.Replays.{not_true, replayed_unknown, replayed_ended, replayed_waits, replayed_busy}
 use Rattle.wedge_core.proofs.replaying.follow.Goals as goal
-use Rattle.wedge_core.proofs.replaying.follow.Goals.{in-Ok, in-Err-NoMemory, in-Err-Unknown, in-Err-Ended, in-Err-Waits}
+use Rattle.wedge_core.proofs.replaying.follow.Goals.{in-Ok, in-Err-NoMemory, in-Err-Unknown, in-Err-Ended, in-Err-Waits, in-Err-Busy}
 
 pub returns-clause-rejected : goal.returns-clause-rejected
 returns-clause-rejected c =
@@ -16,6 +16,7 @@ returns-clause-rejected c =
       | in-Err-Unknown b ↦ rw b.result-is (λ names. replayed_unknown w at name names going (b.in-Err-Unknown.ensures.unknown.0 (ap (λ x. Err x) b.in-Err-Unknown.field-0-is)).1)
       | in-Err-Ended b ↦ rw b.result-is (λ names. replayed_ended w at name names going (b.in-Err-Ended.ensures.ended.0 (ap (λ x. Err x) b.in-Err-Ended.field-0-is)).1)
       | in-Err-Waits b ↦ rw b.result-is (λ names. replayed_waits w at name names going (b.in-Err-Waits.ensures.waits (ap (λ x. Err x) b.in-Err-Waits.field-0-is)).1)
+      | in-Err-Busy b ↦ rw b.result-is (λ names. replayed_busy w at name names going (b.in-Err-Busy.ensures.busy (ap (λ x. Err x) b.in-Err-Busy.field-0-is)).1)
     ]
 
 pub returns-clause-ok : goal.returns-clause-ok
@@ -33,4 +34,5 @@ returns-clause-ok c =
       | in-Err-Unknown b ↦ rw b.result-is tt
       | in-Err-Ended b ↦ rw b.result-is tt
       | in-Err-Waits b ↦ rw b.result-is tt
+      | in-Err-Busy b ↦ rw b.result-is tt
     ]

@@ -2,7 +2,7 @@ use Rattle.std.proofs.Common.{◌≡◌, ◌-◌, sym, subst, length, get_or, ru
 use Rattle.sthread_life.proofs.Creating.{on_ok}
 use Rattle.wedge_core.specs.Progress.{IsPlaceOf}
 use Rattle.wedge_core.specs.Serial.{IsSerial}
-use Rattle.wedge_core.proofs.SerialSteps.{Newest, newest_named, newest_placed, newest_lives, newest_goes_on, serial_next, serial_less, place_still}
+use Rattle.wedge_core.proofs.SerialSteps.{Newest, newest_named, newest_placed, newest_lives, newest_goes_on, newest_enters, serial_next, serial_less, place_still}
 use Rattle.wedge_core.proofs.serially.take_turn.Goals as goal
 
 pub advance-requires-clause-there : goal.advance-requires-clause-there
@@ -30,6 +30,13 @@ unreachable-requires-in-Waits c =
     let l = c.index-newest.result.now in
     let n : Newest p l.name = newest_named p.state.image p c.args.live.now.items l c.requires.serial c.requires.some (search rules) in
     newest_goes_on p.state.image p c.args.live.now.items l.name c.requires.serial n (c.in_ok-advance.ensures.waits c.in-Waits.is).0
+
+pub unreachable-requires-in-Busy : goal.unreachable-requires-in-Busy
+unreachable-requires-in-Busy c =
+    let p = c.args.world.now in
+    let l = c.index-newest.result.now in
+    let n : Newest p l.name = newest_named p.state.image p c.args.live.now.items l c.requires.serial c.requires.some (search rules) in
+    newest_enters p.state.image p c.args.live.now.items l.name c.requires.serial n (c.in_ok-advance.ensures.busy c.in-Busy.is).0
 
 pub returns-clause-serial : goal.returns-clause-serial
 returns-clause-serial c =

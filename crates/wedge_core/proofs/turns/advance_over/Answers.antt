@@ -2,7 +2,7 @@ use Rattle.std.proofs.Common.{◌≡◌, ◌∙◌, true, false, refl, sym}
 use Rattle.sthread_life.specs.Local.{has_ended}
 use Rattle.wedge_core.specs.Turning.{HasGoneOn}
 use Rattle.wedge_core.proofs.FamilyTurns.{if_ok}
-use Rattle.wedge_core.proofs.GoingOn.{ended_there, gone_on, goes_taken, goes_waited}
+use Rattle.wedge_core.proofs.GoingOn.{ended_there, gone_on, goes_taken, goes_waited, goes_met}
 use Rattle.wedge_core.proofs.Turning.{still_waiting}
 use Rattle.wedge_core.proofs.turns.advance_over.Goals as goal
 
@@ -21,7 +21,7 @@ advance_awake-requires c =
     let went : c.in_ok-go_on.field-0 ≡ true = c.if-not-branch.false in
     let goes : HasGoneOn actors c.args.place name mid = c.in_ok-go_on.ensures.goes went in
     let lives : has_ended goes.actor.phase ≡ false = sym (ended_there actors c.args.place goes.actor c.has_ended.result goes.found.there c.has_ended.ensures) ∙ c.if-has_ended.false in
-    gone_on i cells actors c.args.place name mid goes c.requires.family lives
+    gone_on i cells actors c.args.place name mid goes c.requires.family (c.requires.recorded name goes.actor goes.found.named) lives
 
 pub returns-clause-took : goal.returns-clause-took
 returns-clause-took c =
@@ -44,3 +44,14 @@ returns-clause-waits c =
     let went : c.in_ok-go_on.field-0 ≡ true = c.if-not-branch.false in
     let goes : HasGoneOn actors c.args.place name mid = c.in_ok-go_on.ensures.goes went in
     if_ok c.advance_awake.result (λ r waits is. goes_waited i cells c.advance_awake.new.cells actors mid c.advance_awake.new.residents c.args.place name goes (waits is)) c.advance_awake.ensures.waits
+
+pub returns-clause-busy : goal.returns-clause-busy
+returns-clause-busy c =
+    let i = c.args.program.now in
+    let cells = c.args.cells.now in
+    let actors = c.args.residents.now in
+    let mid = c.go_on.new.residents in
+    let name = c.args.name.now in
+    let went : c.in_ok-go_on.field-0 ≡ true = c.if-not-branch.false in
+    let goes : HasGoneOn actors c.args.place name mid = c.in_ok-go_on.ensures.goes went in
+    if_ok c.advance_awake.result (λ r met is. goes_met i cells c.advance_awake.new.cells actors mid c.advance_awake.new.residents c.args.place name goes (met is)) c.advance_awake.ensures.busy

@@ -3,7 +3,7 @@ use Rattle.wedge_events.specs.Journals.{turns_of}
 use Rattle.sthread_life.proofs.Mediating.{turn_lawful}
 use Rattle.sthread_life.proofs.Writing.{step_appends_own, step_writes_own}
 use Rattle.wedge_core.specs.Progress.{Progress, IsRun, IsTurn}
-use Rattle.wedge_core.proofs.Advancing.{run_is_ready, ended_turns_not, waiting_turns_not, waiting_ended_not, IsUndone, undone, stopped_run}
+use Rattle.wedge_core.proofs.Advancing.{run_is_ready, ended_turns_not, waiting_turns_not, waiting_ended_not, busy_turns_not, busy_ended_not, busy_waits_not, IsUndone, undone, stopped_run}
 use Rattle.wedge_core.proofs.turns.turn.Goals as goal
 
 pub returns-in-Err-clause-ended : goal.returns-in-Err-clause-ended
@@ -29,6 +29,24 @@ pub returns-in-Err-last_event-clause-ended : goal.returns-in-Err-last_event-clau
 returns-in-Err-last_event-clause-ended c =
     let on = c.in-Ok-Took.ensures.took c.in-Ok-Took.field-0-is in
     (λ h. cc, λ e. ended_turns_not c.args.world.now.state c.args.name.now on.event c.advance.new.world.state e.1 on.turn)
+
+-- a gate that it is to enter is busy
+pub returns-in-Ok-Busy-clause-ended : goal.returns-in-Ok-Busy-clause-ended
+returns-in-Ok-Busy-clause-ended c = (λ h. cc, λ e. busy_ended_not c.args.world.now.state c.args.name.now (c.in-Ok-Busy.ensures.busy c.in-Ok-Busy.field-0-is).0 e.1)
+
+pub returns-in-Ok-Busy-clause-waiting : goal.returns-in-Ok-Busy-clause-waiting
+returns-in-Ok-Busy-clause-waiting c = λ going waits. busy_waits_not c.args.world.now.state c.args.name.now (c.in-Ok-Busy.ensures.busy c.in-Ok-Busy.field-0-is).0 waits
+
+pub returns-in-Ok-Waits-clause-being_busy : goal.returns-in-Ok-Waits-clause-being_busy
+returns-in-Ok-Waits-clause-being_busy c = λ going busy. busy_waits_not c.args.world.now.state c.args.name.now busy (c.in-Ok-Waits.ensures.waits c.in-Ok-Waits.field-0-is).0
+
+pub returns-in-Ok-Ended-clause-being_busy : goal.returns-in-Ok-Ended-clause-being_busy
+returns-in-Ok-Ended-clause-being_busy c = λ going busy. busy_ended_not c.args.world.now.state c.args.name.now busy (c.in-Ok-Ended.ensures.ended c.in-Ok-Ended.field-0-is).0
+
+pub returns-in-Ok-clause-being_busy : goal.returns-in-Ok-clause-being_busy
+returns-in-Ok-clause-being_busy c = λ going busy.
+    let on = c.in-Ok-Took.ensures.took c.in-Ok-Took.field-0-is in
+    busy_turns_not c.args.world.now.state c.args.name.now on.event c.advance.new.world.state busy on.turn
 
 -- what its event is, once it is noted
 pub returns-in-Ok-clause-lawful : goal.returns-in-Ok-clause-lawful
