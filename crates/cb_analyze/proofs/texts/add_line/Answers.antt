@@ -21,9 +21,8 @@ returns c =
     let es = c.args.sheets.now.entries in
     let key = c.args.holder.now.comp in
     let x = holding_view (c.args.holder.now, c.args.fitting.now) in
-    let before : c.unwrap_or.result ≡ unwrap_or (lookup (bytes_eq key.now) (map text_view es)) (sheet_line key.now) =
-    c.unwrap_or.ensures
-    ∙ ap (unwrap_or c.in_ok-before.before) c.in_ok-begun.ensures
+    let before : c.in_ok-begun.begun ≡ unwrap_or (lookup (bytes_eq key.now) (map text_view es)) (sheet_line key.now) =
+    c.in_ok-begun.ensures
     ∙ ap (λ o. unwrap_or o (sheet_line key.now)) (c.in_ok-before.ensures.old ∙ lookup_view same_ref bytes_eq (λ k. k.now) (λ a b. refl) key es) in
     let line : c.new-3.result ≡ unwrap_or (lookup (bytes_eq key.now) (map text_view es)) (sheet_line key.now) ++ holding_line x =
     c.new-3.ensures ∙ c.in_ok-write_line.ensures ∙ ap (λ (t : List ℕ). t ++ holding_line x) (c.into_vec-text.ensures ∙ before) in
