@@ -140,7 +140,11 @@ fn each_check_of_headers(rt: HostRuntime) -> Result<(), Fail> {
     let file = small(rt.alloc())?;
     let cases = [
         expected(&[(0, 0x7e)], 0, Why::Magic),
+        expected(&[(1, 0x65)], 0, Why::Magic),
+        expected(&[(2, 0x6c)], 0, Why::Magic),
+        expected(&[(3, 0x47)], 0, Why::Magic),
         expected(&[(3, 0x47), (4, 2)], 0, Why::Magic),
+        expected(&[(4, 2)], 4, Why::Class),
         expected(&[(4, 2), (16, 3)], 4, Why::Class),
         expected(&[(5, 2)], 5, Why::Class),
         expected(&[(6, 0)], 6, Why::Class),
@@ -157,6 +161,8 @@ fn each_check_of_headers(rt: HostRuntime) -> Result<(), Fail> {
             52,
             Why::Layout,
         ),
+        // A byte more of memory than there is behind the address, and nothing else.
+        expected(&[(72, 1), (73, 0), (74, 0xff), (75, 0xff)], 52, Why::Layout),
         expected(&[(56, 85)], 52, Why::Truncated),
         expected(
             &[(59, 0xff), (58, 0xff), (57, 0xff), (56, 0xff)],
@@ -179,6 +185,41 @@ fn each_check_of_headers(rt: HostRuntime) -> Result<(), Fail> {
     // As many sections as there is room for; none of them is a symbol table.
     assert_eq!(rt;
         fault_after(rt.alloc(), &file, &[(46, 40), (48, 1), (32, 88)])?,
+        None
+    );
+    Ok(())
+}
+
+/// The text's header is at 52, that of the data at 84.
+#[test]
+fn each_check_of_two_loads(rt: HostRuntime) -> Result<(), Fail> {
+    let file = linked(rt.alloc())?;
+    let cases = [
+        // Both are executable, and neither is.
+        expected(&[(108, 7)], 28, Why::Layout),
+        expected(&[(76, 4)], 28, Why::Layout),
+        // The data alone is executable, and the entry is not in it.
+        expected(&[(76, 4), (108, 7)], 24, Why::Layout),
+        // The data have more bytes in the file than in memory, memory past 2^32, and bytes past the end of the file.
+        expected(&[(104, 4)], 84, Why::Layout),
+        expected(
+            &[(104, 0xff), (105, 0xff), (106, 0xfd), (107, 0xff)],
+            84,
+            Why::Layout,
+        ),
+        expected(&[(89, 2)], 84, Why::Truncated),
+        // The text is checked first.
+        expected(&[(72, 43), (104, 4)], 52, Why::Layout),
+    ];
+    for case in &cases {
+        assert_eq!(rt;
+            fault_after(rt.alloc(), &file, case.changes)?,
+            Some(case.fault)
+        );
+    }
+    // An executable load without memory is no text.
+    assert_eq!(rt;
+        fault_after(rt.alloc(), &file, &[(100, 0), (104, 0), (108, 7)])?,
         None
     );
     Ok(())
