@@ -4,14 +4,14 @@ use super::user_tests::{Owned, runs};
 use super::*;
 use std::test::Fail;
 
-/// No right on the tag `box`, a path that climbs out of the root directory, and a file that its owner alone may read.
+/// ReadWrite on the tag `box`, a path that climbs out of the root directory, and a file that its owner alone may read.
 static OWNERS: &str =
-    "none\"\n[[data]]\nname = \"path\"\nbase = 131072\ntext = \"/../../etc/key\"\n\
+    "ReadWrite\"\n[[data]]\nname = \"path\"\nbase = 131072\ntext = \"/../../etc/key\"\n\
     [[file]]\npath = \"/box/etc/key\"\nowner = 0\nmode = 1\nkind = \"source\"\ntext = \"key";
 
 /// The same file, which others may read too.
 static EVERYONES: &str =
-    "none\"\n[[data]]\nname = \"path\"\nbase = 131072\ntext = \"/../../etc/key\"\n\
+    "ReadWrite\"\n[[data]]\nname = \"path\"\nbase = 131072\ntext = \"/../../etc/key\"\n\
     [[file]]\npath = \"/box/etc/key\"\nowner = 0\nmode = 5\nkind = \"source\"\ntext = \"key";
 
 /// The file of the path is opened to be read, and the code is the value.

@@ -206,6 +206,11 @@ fn a_partition_is_rejected(rt: HostRuntime) -> Result<(), Fail> {
         ),
         (
             owner,
+            "fuel = 1\ntext = \"\"\n",
+            "wedge: partition refused: key text\n",
+        ),
+        (
+            owner,
             "fuel = 1\ntext = \"\"\nhex = \"\"\n",
             "wedge: partition refused: key hex\n",
         ),

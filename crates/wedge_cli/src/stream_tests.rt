@@ -4,9 +4,9 @@ use super::sthread_tests::{Row, runs};
 use super::*;
 use std::test::Fail;
 
-/// No right on the tag `box`, and before the append stream `out` a source `in`, which the root may read.
+/// ReadWrite on the tag `box`, and before the append stream `out` a source `in`, which the root may read.
 static SOURCE: &str =
-    "none\"\n[[fd]]\nname = \"in\"\nkind = \"source\"\nbits = \"read\"\ntext = \"ab";
+    "ReadWrite\"\n[[fd]]\nname = \"in\"\nkind = \"source\"\nbits = \"read\"\ntext = \"ab";
 
 /// The same source, with which the root may do nothing.
 static FORBIDDEN: &str =
