@@ -12,7 +12,7 @@
 /* ---- codes: what a call answers in a1 */
 
 enum wedge_code {
-    WEDGE_OK = 0,
+    WEDGE_OK = 0,         /* done */
     WEDGE_DENIED = 1,     /* the sheet does not allow it; the report names the grant that is missing */
     WEDGE_FULL = 2,       /* no room: of blocks, slots, drafts, grants, descriptors or actors */
     WEDGE_FUEL_SHORT = 3, /* less fuel is left than the call takes or gives away */
@@ -32,22 +32,22 @@ enum wedge_right {
 enum wedge_bits {
     WEDGE_BIT_READ = 1,   /* to read a source */
     WEDGE_BIT_APPEND = 2, /* to append to an append stream */
-    WEDGE_BIT_BOTH = 3
+    WEDGE_BIT_BOTH = 3    /* both bits: a stream is used by one of them, and no file is opened with both */
 };
 
 /* ---- how a child or a run ended: wedge_joined.end */
 
 enum wedge_end {
-    WEDGE_END_EXITED = 0,
-    WEDGE_END_DENIED = 1,
-    WEDGE_END_MISALIGNED = 2,
-    WEDGE_END_JUMP_MISALIGNED = 3,
-    WEDGE_END_BAD_INSTRUCTION = 4,
-    WEDGE_END_FETCH_FAULT = 5,
-    WEDGE_END_TEXT_STORE = 6,
-    WEDGE_END_UNMAPPED = 7,
-    WEDGE_END_BREAK = 8,
-    WEDGE_END_FUEL_OUT = 9
+    WEDGE_END_EXITED = 0,          /* it called wedge_exit; the value is the one that it passed, at each other end 0 */
+    WEDGE_END_DENIED = 1,          /* it loaded or stored in a tag without the right */
+    WEDGE_END_MISALIGNED = 2,      /* a load or a store at an address that is no multiple of its width */
+    WEDGE_END_JUMP_MISALIGNED = 3, /* a jump to an address that is no multiple of 4 */
+    WEDGE_END_BAD_INSTRUCTION = 4, /* a word that is no instruction */
+    WEDGE_END_FETCH_FAULT = 5,     /* its program counter was outside the text */
+    WEDGE_END_TEXT_STORE = 6,      /* a store into the text */
+    WEDGE_END_UNMAPPED = 7,        /* a load or a store where there is no memory */
+    WEDGE_END_BREAK = 8,           /* EBREAK */
+    WEDGE_END_FUEL_OUT = 9         /* it had no fuel left */
 };
 
 /* ---- numbers of tags and descriptors
@@ -79,34 +79,41 @@ static inline void *wedge_declared(uint32_t tag)
 
 /* ---- answers */
 
+/* Of most calls. */
 struct wedge_reply {
     uint32_t value; /* 0 where the call is refused */
     uint32_t code;  /* an enum wedge_code */
 };
 
+/* Of wedge_join and wedge_enter. */
 struct wedge_joined {
     uint32_t value; /* what the child or the run exited with, or 0 */
-    uint32_t code;
-    uint32_t end; /* an enum wedge_end, where the code is WEDGE_OK */
+    uint32_t code;  /* an enum wedge_code */
+    uint32_t end;   /* an enum wedge_end, where the code is WEDGE_OK */
 };
 
+/* Of wedge_tag_new. */
 struct wedge_tag {
-    uint32_t tag;
-    uint32_t code;
-    void *bytes; /* where its bytes begin, where the code is WEDGE_OK */
+    uint32_t tag;  /* the tag's number, or 0 where the call is refused */
+    uint32_t code; /* an enum wedge_code */
+    void *bytes;   /* where its bytes begin, where the code is WEDGE_OK */
 };
 
+/* Of wedge_smalloc. */
 struct wedge_block {
-    void *bytes; /* where the block begins, or NULL where it is refused */
-    uint32_t code;
+    void *bytes;   /* where the block begins, or NULL where the call is refused */
+    uint32_t code; /* an enum wedge_code */
 };
 
 /* ---- the call itself */
 
+/* The registers as the call leaves them. */
 struct wedge_answer {
-    uint32_t a0, a1, a2;
+    uint32_t a0, a1, a2; /* the value, the code, and a further number where the call has one */
 };
 
+/* Makes the call of a number with up to four arguments, and answers the registers. The compiler takes it that the call
+ * may read and write any memory. The functions below are made of it, but for wedge_make_gate, which has five arguments. */
 static inline struct wedge_answer wedge_ask(uint32_t number, uint32_t w0, uint32_t w1, uint32_t w2, uint32_t w3)
 {
     register uint32_t a0 __asm__("a0") = w0;
@@ -118,6 +125,7 @@ static inline struct wedge_answer wedge_ask(uint32_t number, uint32_t w0, uint32
     return (struct wedge_answer){a0, a1, a2};
 }
 
+/* The same, of which only the value and the code are wanted. */
 static inline struct wedge_reply wedge_call(uint32_t number, uint32_t w0, uint32_t w1, uint32_t w2, uint32_t w3)
 {
     struct wedge_answer answer = wedge_ask(number, w0, w1, w2, w3);
@@ -255,6 +263,7 @@ static inline struct wedge_reply wedge_make_gate(uint32_t draft, void (*entry)(u
     return (struct wedge_reply){a0, a1};
 }
 
+/* For wedge_enter, in place of a draft: nothing is lent to the run. */
 #define WEDGE_LEND_NOTHING 0xffffffffu
 
 /* Enters the gate that this actor has at an entry, and waits for the run. A draft of tags and descriptors is lent to it
