@@ -1,6 +1,7 @@
 #!/bin/sh
 # Measures the program: local instructions, shared accesses, a schedule printed and replayed, children started and joined,
-# with much data too, gates entered, tags made and deleted, reading a large image, assembling a long text.
+# with much data too, gates entered, tags made and deleted, reading a large image, assembling a long text; and where python3
+# is there, which bench/inputs.py needs, linking ELF files of many functions, and reading traces of many records.
 # It prints the seconds that each takes and, where valgrind is there, the host instructions that an instruction
 # of the program costs, and fails where that is more than its bound. The program is the one that bin/wedge builds, or $WEDGE.
 root=$(cd "$(dirname "$(readlink -f "$0")")/.." && pwd) || exit 1
@@ -27,7 +28,7 @@ measure() {
     "$@" > "$work/out" || exit 1
     after=$(date +%s.%N)
     awk -v what="$what" -v count="$count" -v from="$before" -v to="$after" \
-        'BEGIN { s = to - from; printf "%-28s %9d in %6.2f s: %10.0f a second\n", what, count, s, count / s }'
+        'BEGIN { s = to - from; printf "%-30s %9d in %7.3f s: %10.0f a second\n", what, count, s, count / s }'
 }
 
 # An endless loop of two instructions, which ends with the fuel.
@@ -113,6 +114,27 @@ measure 'lines, assembled' 100000 "$wedge" build "$work/long.toml"
 awk 'BEGIN { print ".proc main"; print "ret"; for (k = 1; k < 4096; k++) { printf ".proc p%d\n", k; print "ret" } }' | partition 1 > "$work/many.toml"
 "$wedge" build "$work/many.toml" > "$work/many.wedge" || exit 1
 measure 'procedures, listed' 4096 "$wedge" show "$work/many.wedge"
+
+# So many records of a trace, of so many compartments: checked, and the sheets derived, what is accessed under a procedure that
+# is in each chain, and who uses an item of one of the compartments.
+measure_trace() {
+    python3 "$root/bench/inputs.py" trace "$1" "$2" > "$work/trace" || exit 1
+    measure "records, $2 names, derived" "$1" "$wedge" derive "$work/trace"
+    measure "records, $2 names, by chain" "$1" "$wedge" analyze "$work/trace" accessed top
+    measure "records, $2 names, by item" "$1" "$wedge" analyze "$work/trace" users tag:t0
+}
+
+if command -v python3 > /dev/null; then
+    # Functions at 4,096 addresses, of which an image has no more procedures.
+    printf 'fuel = 1\nuser = 0\nroot = "/"\n' > "$work/link.toml"
+    for functions in 25000 50000 100000; do
+        python3 "$root/bench/inputs.py" elf $functions 4096 > "$work/functions.elf" || exit 1
+        measure 'functions, linked' $functions "$wedge" link "$work/functions.elf" "$work/link.toml"
+    done
+    measure_trace 100000 5000
+    measure_trace 200000 10000
+    measure_trace 450000 5000
+fi
 
 # Host instructions for each instruction of a loop: what a run with more fuel counts more than one with less, over
 # the instructions that it makes more. What is counted, the name of the loop, less and more fuel, how many
