@@ -74,7 +74,7 @@ enum wedge_end {
  * elsewhere, at the address that wedge_tag_new answers. */
 static inline void *wedge_declared(uint32_t tag)
 {
-    return (void *)(WEDGE_WINDOWS + tag * WEDGE_WINDOW);
+    return (void *)(uintptr_t)(WEDGE_WINDOWS + tag * WEDGE_WINDOW);
 }
 
 /* ---- answers */
@@ -105,16 +105,20 @@ struct wedge_block {
     uint32_t code; /* an enum wedge_code */
 };
 
-/* ---- the call itself */
+/* ---- the call itself. Where the compiler is one for another machine, wedge_ask_five is a function of another file:
+ * sdk/host.c has one, by which a program runs there, to compare what it computes. An address there may have more than
+ * 32 bits, so the words that are passed are as wide as an address. */
 
 /* The registers as the call leaves them. */
 struct wedge_answer {
     uint32_t a0, a1, a2; /* the value, the code, and a further number where the call has one */
 };
 
+#ifdef __riscv
+
 /* Makes the call of a number with up to four arguments, and answers the registers. The compiler takes it that the call
- * may read and write any memory. The functions below are made of it, but for wedge_make_gate, which has five arguments. */
-static inline struct wedge_answer wedge_ask(uint32_t number, uint32_t w0, uint32_t w1, uint32_t w2, uint32_t w3)
+ * may read and write any memory. */
+static inline struct wedge_answer wedge_ask(uint32_t number, uintptr_t w0, uintptr_t w1, uintptr_t w2, uintptr_t w3)
 {
     register uint32_t a0 __asm__("a0") = w0;
     register uint32_t a1 __asm__("a1") = w1;
@@ -125,8 +129,34 @@ static inline struct wedge_answer wedge_ask(uint32_t number, uint32_t w0, uint32
     return (struct wedge_answer){a0, a1, a2};
 }
 
-/* The same, of which only the value and the code are wanted. */
-static inline struct wedge_reply wedge_call(uint32_t number, uint32_t w0, uint32_t w1, uint32_t w2, uint32_t w3)
+/* The same with a fifth argument. */
+static inline struct wedge_answer wedge_ask_five(uint32_t number, uintptr_t w0, uintptr_t w1, uintptr_t w2,
+                                                 uintptr_t w3, uintptr_t w4)
+{
+    register uint32_t a0 __asm__("a0") = w0;
+    register uint32_t a1 __asm__("a1") = w1;
+    register uint32_t a2 __asm__("a2") = w2;
+    register uint32_t a3 __asm__("a3") = w3;
+    register uint32_t a4 __asm__("a4") = w4;
+    register uint32_t a7 __asm__("a7") = number;
+    __asm__ volatile("ecall" : "+r"(a0), "+r"(a1), "+r"(a2) : "r"(a3), "r"(a4), "r"(a7) : "memory");
+    return (struct wedge_answer){a0, a1, a2};
+}
+
+#else
+
+struct wedge_answer wedge_ask_five(uint32_t number, uintptr_t w0, uintptr_t w1, uintptr_t w2, uintptr_t w3,
+                                   uintptr_t w4);
+
+static inline struct wedge_answer wedge_ask(uint32_t number, uintptr_t w0, uintptr_t w1, uintptr_t w2, uintptr_t w3)
+{
+    return wedge_ask_five(number, w0, w1, w2, w3, 0);
+}
+
+#endif
+
+/* The same as wedge_ask, of which only the value and the code are wanted. */
+static inline struct wedge_reply wedge_call(uint32_t number, uintptr_t w0, uintptr_t w1, uintptr_t w2, uintptr_t w3)
 {
     struct wedge_answer answer = wedge_ask(number, w0, w1, w2, w3);
     return (struct wedge_reply){answer.a0, answer.a1};
@@ -156,7 +186,7 @@ __attribute__((noreturn)) static inline void wedge_exit(uint32_t value)
  * child's number. Each child has a stack, a heap and data of its own, which begin as those of the program. */
 static inline struct wedge_reply wedge_create(uint32_t draft, void (*entry)(uint32_t), uint32_t argument, uint32_t fuel)
 {
-    return wedge_call(1, draft, (uint32_t)entry, argument, fuel);
+    return wedge_call(1, draft, (uintptr_t)entry, argument, fuel);
 }
 
 /* Waits for a child to end, and takes back the fuel that it has left. */
@@ -172,7 +202,7 @@ static inline struct wedge_joined wedge_join(uint32_t child)
 static inline struct wedge_tag wedge_tag_new(uint32_t pages)
 {
     struct wedge_answer answer = wedge_ask(3, pages, 0, 0, 0);
-    return (struct wedge_tag){answer.a0, answer.a1, (void *)answer.a2};
+    return (struct wedge_tag){answer.a0, answer.a1, (void *)(uintptr_t)answer.a2};
 }
 
 /* Deletes a tag that this actor made. */
@@ -185,13 +215,13 @@ static inline struct wedge_reply wedge_tag_delete(uint32_t tag)
 static inline struct wedge_block wedge_smalloc(uint32_t tag, uint32_t size)
 {
     struct wedge_reply reply = wedge_call(5, tag, size, 0, 0);
-    return (struct wedge_block){(void *)reply.value, reply.code};
+    return (struct wedge_block){(void *)(uintptr_t)reply.value, reply.code};
 }
 
 /* Frees a block. */
 static inline struct wedge_reply wedge_sfree(void *block)
 {
-    return wedge_call(6, (uint32_t)block, 0, 0, 0);
+    return wedge_call(6, (uintptr_t)block, 0, 0, 0);
 }
 
 /* ---- drafts: of what the sheet of a child or of a gate is made, and what is lent to a run. Nothing is checked against
@@ -218,7 +248,7 @@ static inline struct wedge_reply wedge_grant_fd(uint32_t draft, uint32_t fd, enu
 /* Puts the gate that this actor has at an entry into a draft. */
 static inline struct wedge_reply wedge_grant_gate(uint32_t draft, void (*entry)(uint32_t, uint32_t))
 {
-    return wedge_call(10, draft, (uint32_t)entry, 0, 0);
+    return wedge_call(10, draft, (uintptr_t)entry, 0, 0);
 }
 
 /* Has the child run as a user. Without it, it runs as this actor's. */
@@ -231,7 +261,7 @@ static inline struct wedge_reply wedge_set_user(uint32_t draft, uint32_t user)
  * each of its bytes, of which it has 1 to 256. */
 static inline struct wedge_reply wedge_set_root(uint32_t draft, const char *path, uint32_t length)
 {
-    return wedge_call(12, draft, (uint32_t)path, length, 0);
+    return wedge_call(12, draft, (uintptr_t)path, length, 0);
 }
 
 /* ---- gates: code with rights that those who enter it do not have */
@@ -247,20 +277,34 @@ static inline struct wedge_reply wedge_set_root(uint32_t draft, const char *path
     void name(uint32_t argument, uint32_t own) { wedge_exit(name##_body(argument, own)); }                 \
     static uint32_t name##_body(__attribute__((unused)) uint32_t argument, __attribute__((unused)) uint32_t own)
 
-/* Makes a gate of a draft: each run of it begins at an entry, under the sheet that a child of the draft would have, with
- * this argument, and with so much of the fuel of whoever enters it. A gate's draft has no user and no directory. This
- * actor has the gate at that entry then, and may enter it and grant it. */
+enum wedge_kind {
+    WEDGE_FRESH = 0,   /* each run begins with the memory that was fixed when the gate was made */
+    WEDGE_RECYCLED = 1 /* each run but the first begins with the memory that the run before left */
+};
+
+static inline struct wedge_reply wedge_make_gate_of(enum wedge_kind kind, uint32_t draft,
+                                                    void (*entry)(uint32_t, uint32_t), uint32_t own, uint32_t fuel)
+{
+    struct wedge_answer answer = wedge_ask_five(13, draft, (uintptr_t)entry, own, fuel, kind);
+    return (struct wedge_reply){answer.a0, answer.a1};
+}
+
+/* Makes a fresh gate of a draft: each run of it begins at an entry, under the sheet that a child of the draft would
+ * have, with this argument, and with so much of the fuel of whoever enters it. A gate's draft has no user and no
+ * directory. This actor has the gate at that entry then, and may enter it and grant it. */
 static inline struct wedge_reply wedge_make_gate(uint32_t draft, void (*entry)(uint32_t, uint32_t), uint32_t own,
                                                  uint32_t fuel)
 {
-    register uint32_t a0 __asm__("a0") = draft;
-    register uint32_t a1 __asm__("a1") = (uint32_t)entry;
-    register uint32_t a2 __asm__("a2") = own;
-    register uint32_t a3 __asm__("a3") = fuel;
-    register uint32_t a4 __asm__("a4") = 0;
-    register uint32_t a7 __asm__("a7") = 13;
-    __asm__ volatile("ecall" : "+r"(a0), "+r"(a1) : "r"(a2), "r"(a3), "r"(a4), "r"(a7) : "memory");
-    return (struct wedge_reply){a0, a1};
+    return wedge_make_gate_of(WEDGE_FRESH, draft, entry, own, fuel);
+}
+
+/* Makes a recycled gate: as wedge_make_gate does, but what a run leaves in its private memory, so in its variables, the
+ * next run finds there, whoever enters the gate then. What one caller has sent may so come to another, if the gate's
+ * code does not keep them apart. docs/MACHINE.md says when such a gate can be entered. */
+static inline struct wedge_reply wedge_make_recycled_gate(uint32_t draft, void (*entry)(uint32_t, uint32_t),
+                                                          uint32_t own, uint32_t fuel)
+{
+    return wedge_make_gate_of(WEDGE_RECYCLED, draft, entry, own, fuel);
 }
 
 /* For wedge_enter, in place of a draft: nothing is lent to the run. */
@@ -270,7 +314,7 @@ static inline struct wedge_reply wedge_make_gate(uint32_t draft, void (*entry)(u
  * where the gate's own sheet names nothing, for this run alone; or WEDGE_LEND_NOTHING. */
 static inline struct wedge_joined wedge_enter(void (*entry)(uint32_t, uint32_t), uint32_t argument, uint32_t lent)
 {
-    struct wedge_answer answer = wedge_ask(14, (uint32_t)entry, argument, lent, 0);
+    struct wedge_answer answer = wedge_ask(14, (uintptr_t)entry, argument, lent, 0);
     return (struct wedge_joined){answer.a0, answer.a1, answer.a2};
 }
 
@@ -280,13 +324,13 @@ static inline struct wedge_joined wedge_enter(void (*entry)(uint32_t, uint32_t),
 /* Reads the next bytes of a source. The value is their number, 0 at the end. */
 static inline struct wedge_reply wedge_read(uint32_t fd, void *buffer, uint32_t length)
 {
-    return wedge_call(15, fd, (uint32_t)buffer, length, 0);
+    return wedge_call(15, fd, (uintptr_t)buffer, length, 0);
 }
 
 /* Appends bytes to an append stream. The value is their number. */
 static inline struct wedge_reply wedge_append(uint32_t fd, const void *buffer, uint32_t length)
 {
-    return wedge_call(16, fd, (uint32_t)buffer, length, 0);
+    return wedge_call(16, fd, (uintptr_t)buffer, length, 0);
 }
 
 /* Closes a stream, for every actor. */
@@ -298,7 +342,7 @@ static inline struct wedge_reply wedge_close(uint32_t fd)
 /* Opens the file of a path below the actor's directory. The value is its descriptor. */
 static inline struct wedge_reply wedge_open(const char *path, uint32_t length, enum wedge_bits bits)
 {
-    return wedge_call(18, (uint32_t)path, length, bits, 0);
+    return wedge_call(18, (uintptr_t)path, length, bits, 0);
 }
 
 #endif
