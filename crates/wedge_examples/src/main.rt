@@ -36,7 +36,7 @@ struct Example {
     wanted: &'static str,
 }
 
-static EXAMPLES: [Example; 29] = [
+static EXAMPLES: [Example; 32] = [
     Example {
         name: "hello.toml",
         source: Source::Partition,
@@ -220,6 +220,30 @@ static EXAMPLES: [Example; 29] = [
         words: &["run", "image"],
         schedule: None,
         wanted: "server.report",
+    },
+    Example {
+        name: "notary.toml",
+        source: Source::Linked("notary.elf"),
+        title: "link and run",
+        words: &["run", "image"],
+        schedule: None,
+        wanted: "notary.report",
+    },
+    Example {
+        name: "notary.toml",
+        source: Source::Linked("notary.elf"),
+        title: "link and run --schedule",
+        words: &["run", "image", "--schedule"],
+        schedule: None,
+        wanted: "notary.schedule",
+    },
+    Example {
+        name: "notary.toml",
+        source: Source::Linked("notary.elf"),
+        title: "link and replay",
+        words: &["replay", "image", "schedule"],
+        schedule: Some("notary.schedule"),
+        wanted: "notary.report",
     },
     Example {
         name: "ok.wedge",

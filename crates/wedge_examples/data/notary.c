@@ -1,0 +1,147 @@
+/* A notary in three compartments, in C: the code that reads requests has them signed, and has no right on the key.
+ *
+ *     sdk/README.md says how it is compiled
+ *     bin/wedge link examples/notary.elf examples/notary.toml > notary.wedge
+ *     bin/wedge run notary.wedge
+ *
+ * `main` makes a gate: `sign`, whose runs may load from the tag `key` and do nothing else that is shared. It puts each
+ * request into the tag `request`, and starts a child that runs `worker`, under a sheet with Read on the request, the
+ * bit to append to the log, and the gate. `worker` trusts an index in the request. That of the second request leads to
+ * the key: the load is denied, that child has ended, and the notary goes on.
+ */
+#include "wedge.h"
+
+/* The tags and descriptors of notary.toml, in the order of their names. */
+enum { TAG_KEY, TAG_REQUEST };
+WEDGE_BEFORE("key", "request");
+
+enum { FD_LOG, FD_REQUESTS };
+WEDGE_BEFORE("log", "requests");
+
+/* A request: an index among its own words, and the words. */
+struct request {
+    int32_t index;
+    uint32_t words[3];
+};
+
+struct key {
+    uint32_t words[2];
+};
+
+/* ---- the signature of a word: HalfSipHash-2-4 of its four bytes, made so that signatures do not give the key away */
+
+struct mixer {
+    uint32_t a, b, c, d;
+};
+
+static uint32_t rotated(uint32_t word, int bits)
+{
+    return word << bits | word >> (32 - bits);
+}
+
+static void mix(struct mixer *m, int rounds)
+{
+    for (int i = 0; i < rounds; i++) {
+        m->a += m->b;
+        m->b = rotated(m->b, 5) ^ m->a;
+        m->a = rotated(m->a, 16);
+        m->c += m->d;
+        m->d = rotated(m->d, 8) ^ m->c;
+        m->a += m->d;
+        m->d = rotated(m->d, 7) ^ m->a;
+        m->c += m->b;
+        m->b = rotated(m->b, 13) ^ m->c;
+        m->c = rotated(m->c, 16);
+    }
+}
+
+static void take(struct mixer *m, uint32_t word)
+{
+    m->d ^= word;
+    mix(m, 2);
+    m->a ^= word;
+}
+
+static uint32_t signature(const struct key *key, uint32_t word)
+{
+    uint32_t k0 = key->words[0], k1 = key->words[1];
+    struct mixer m = {k0, k1, 0x6c796765 ^ k0, 0x74656462 ^ k1};
+
+    take(&m, word);
+    take(&m, sizeof word << 24); /* how many bytes were taken */
+    m.c ^= 0xff;
+    mix(&m, 4);
+    return m.b ^ m.d;
+}
+
+/* ---- the compartments */
+
+/* A run of the gate: whoever enters it chooses the word, and the maker of the gate chose the address of the key. */
+WEDGE_GATE(sign, word, key)
+{
+    return signature((const struct key *)(uintptr_t)key, word);
+}
+
+/* Appends the line of a request to the log: its number, and a text of at most 12 letters. */
+static void log_line(uint32_t number, const char *text)
+{
+    char line[16];
+    uint32_t length = 3;
+
+    line[0] = '0' + number % 10;
+    line[1] = ':';
+    line[2] = ' ';
+    while (*text)
+        line[length++] = *text++;
+    line[length++] = '\n';
+    wedge_append(FD_LOG, line, length);
+}
+
+/* What a child does: it has a word of the request signed, and logs the signature. The argument is the request's number,
+ * which the line begins with. */
+WEDGE_ENTRY(worker, number)
+{
+    const volatile struct request *request = wedge_declared(TAG_REQUEST);
+    uint32_t word = request->words[request->index];
+    struct wedge_joined run = wedge_enter(sign, word, WEDGE_LEND_NOTHING);
+    char text[9] = "";
+
+    if (run.code != WEDGE_OK || run.end != WEDGE_END_EXITED)
+        return 1;
+    for (int i = 0; i < 8; i++)
+        text[i] = "0123456789abcdef"[run.value >> (28 - 4 * i) & 15];
+    log_line(number, text);
+    return 0;
+}
+
+WEDGE_ENTRY(main, argument)
+{
+    volatile struct request *request = wedge_declared(TAG_REQUEST);
+    struct request asked;
+    uint32_t draft = wedge_draft().value;
+
+    /* The gate: Read on the key, and nothing else. */
+    wedge_grant_tag(draft, TAG_KEY, WEDGE_READ);
+    if (wedge_make_gate(draft, sign, (uintptr_t)wedge_declared(TAG_KEY), 500).code != WEDGE_OK)
+        return 1;
+
+    /* The sheet of workers: Read on the request, the log, and the gate. */
+    draft = wedge_draft().value;
+    wedge_grant_tag(draft, TAG_REQUEST, WEDGE_READ);
+    wedge_grant_fd(draft, FD_LOG, WEDGE_BIT_APPEND);
+    wedge_grant_gate(draft, sign);
+
+    for (uint32_t number = 1; wedge_read(FD_REQUESTS, &asked, sizeof asked).value == sizeof asked; number++) {
+        struct wedge_reply child;
+        struct wedge_joined ended;
+
+        *request = asked;
+        child = wedge_create(draft, worker, number, 1000);
+        if (child.code != WEDGE_OK)
+            return 1;
+        ended = wedge_join(child.value);
+        if (ended.end != WEDGE_END_EXITED)
+            log_line(number, ended.end == WEDGE_END_DENIED ? "denied" : "stopped");
+    }
+    return 0;
+}
