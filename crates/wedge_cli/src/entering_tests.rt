@@ -204,7 +204,7 @@ fn a_caller_lends_and_pays_what_it_has(rt: HostRuntime) -> Result<(), Fail> {
 
 /// What the call that enters a gate answers, in the order of its refusals, each code behind the others in base 8: a gate that is not
 /// held, with no draft lent; then, of a gate that is held, a draft that is not there; one with a user, one with a copy, and one
-/// with a gate; one that asks for more than the caller has; a gate that keeps its memory; and one of more fuel than is left.
+/// with a gate; one that asks for more than the caller has; and a recycled and a fresh gate of more fuel than is left.
 static ANSWERED: &str = ".proc main
 li s1, 0
 la a0, guard
@@ -255,7 +255,7 @@ call note
 li a0, 0
 la a1, keep
 li a2, 0
-li a3, 50
+li a3, 2000
 li a4, 1
 svc cgate_make
 la a0, keep
@@ -293,7 +293,7 @@ fn entering_is_refused_in_its_order(rt: HostRuntime) -> Result<(), Fail> {
         right: "Read",
         text: ANSWERED,
         schedule: "0\n",
-        report: "actor 0 main exited 3632243 pc 00010190 fuel 875\n\
+        report: "actor 0 main exited 3632219 pc 00010190 fuel 875\n\
             denied 0 pc 00010014 gate 000101a0\n\
             denied 0 pc 00010110 grant tag 0 ReadWrite\n\
             stream 0 out \"\"\n",

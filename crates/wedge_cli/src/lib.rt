@@ -20,6 +20,8 @@ mod lines;
 mod link_tests;
 mod linking;
 mod loading;
+#[cfg(test)]
+mod recycled_tests;
 mod refusal;
 #[cfg(test)]
 mod replay_tests;
