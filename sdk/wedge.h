@@ -299,8 +299,9 @@ static inline struct wedge_reply wedge_make_gate(uint32_t draft, void (*entry)(u
 }
 
 /* Makes a recycled gate: as wedge_make_gate does, but what a run leaves in its private memory, so in its variables, the
- * next run finds there, whoever enters the gate then. What one caller has sent may so come to another, if the gate's
- * code does not keep them apart. docs/MACHINE.md says when such a gate can be entered. */
+ * next run finds there, whoever enters the gate then and however the run before ended. What one caller has sent may so
+ * come to another, if the gate's code does not keep them apart. Registers, fuel and what is lent begin anew. The gate
+ * has one run at a time: while a run is in it, an actor that calls wedge_enter has no turn, and waits. */
 static inline struct wedge_reply wedge_make_recycled_gate(uint32_t draft, void (*entry)(uint32_t, uint32_t),
                                                           uint32_t own, uint32_t fuel)
 {
