@@ -5,7 +5,10 @@ use std::alloc::Global;
 use std::process::Abort;
 use std::sync::Arc;
 use std::test::Fail;
-use wedge_base::{ActorName, Bytes, FdBits, FdNo, GateId, GateKind, Grant, NoMemory, PathText, Right, Slot, TagNo, is_canonical};
+use wedge_base::{
+    ActorName, Bytes, FdBits, FdNo, GateId, GateKind, Grant, NoMemory, PathText, Right, Slot,
+    TagNo, is_canonical,
+};
 
 /// Tags, each with its right and its slot.
 fn tags(alloc: Global, entries: &[(u32, Right, u32)]) -> Result<NumberMap<Grant>, NoMemory> {

@@ -2,7 +2,10 @@ use super::*;
 use std::alloc::Global;
 use std::process::Abort;
 use std::test::Fail;
-use wedge_base::{ActorName, Bytes, Denial, FdBits, FdEntry, FdNo, GateId, Grant, Item, NoMemory, PathText, Right, Slot, StreamKind, TagEntry, TagNo, is_canonical};
+use wedge_base::{
+    ActorName, Bytes, Denial, FdBits, FdEntry, FdNo, GateId, Grant, Item, NoMemory, PathText,
+    Right, Slot, StreamKind, TagEntry, TagNo, is_canonical,
+};
 
 const READ: FdBits = FdBits {
     read: true,

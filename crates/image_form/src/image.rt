@@ -10,7 +10,9 @@ ghost use Rattle.image_form.specs.Address.{greatest_from};
 use crate::parts::{ImageParts, LentParts};
 use std::alloc::Global;
 use std::marker::Model;
-use wedge_base::{Bytes, FdEntry, FileEntry, Items, MemoryRange, NoMemory, Pristine, Procedure, TagEntry};
+use wedge_base::{
+    Bytes, FdEntry, FileEntry, Items, MemoryRange, NoMemory, Pristine, Procedure, TagEntry,
+};
 
 /// An image that meets every rule of its form.
 #[derive(Debug, Drop)]

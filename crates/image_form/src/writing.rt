@@ -14,7 +14,9 @@ use crate::image::Image;
 use crate::parts::LentParts;
 use crate::reading::{MAGIC, VERSION};
 use std::alloc::Global;
-use wedge_base::{FdBits, FdEntry, FileEntry, MemoryRange, NoMemory, Procedure, Right, StreamKind, TagEntry};
+use wedge_base::{
+    FdBits, FdEntry, FileEntry, MemoryRange, NoMemory, Procedure, Right, StreamKind, TagEntry,
+};
 
 #[tactic(auto, unfolding(crate::specs::Encoding::number))]
 fn put_number(out: &mut Vec<u8>, n: u32) -> Result<(), NoMemory>

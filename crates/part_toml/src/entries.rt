@@ -14,7 +14,9 @@ use stable_sort::{Sortable, sort};
 use std::alloc::Global;
 use std::cmp::Ordering;
 use toml::Table;
-use wedge_base::{Bytes, FdBits, FdEntry, FileEntry, Items, MemoryRange, NoMemory, StreamKind, TagEntry};
+use wedge_base::{
+    Bytes, FdBits, FdEntry, FileEntry, Items, MemoryRange, NoMemory, StreamKind, TagEntry,
+};
 
 /// A range of memory, and the name that the text may use for where it begins.
 #[derive(Debug, Drop)]

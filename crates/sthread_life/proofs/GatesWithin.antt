@@ -307,13 +307,13 @@ clean_behind : (actors : List ActorState) (b c : ActorState) → Begins actors b
 clean_behind actors b c s h = record {
   each = λ m n r y g p own q under. elim (found_or_last actors c m r p) [
     | inl run ↦ elim (found_or_last actors c n y q) [
-        | inl there ↦ h.each m n r y g run own there under
-        | inr is ↦ subst (IsClean m g) (sym is) (under_run m n r g run own (own_name n y q is) under)
-      ]
+      | inl there ↦ h.each m n r y g run own there under
+      | inr is ↦ subst (IsClean m g) (sym is) (under_run m n r g run own (own_name n y q is) under)
+    ]
     | inr is ↦ elim (found_or_last actors c n y q) [
-        | inl there ↦ absurd (s.alone n y there (ap (λ z. is_under z n) (own_name m r p is) ∙ under))
-        | inr also ↦ subst (IsClean m g) (sym also) (subst (λ z. IsClean z g c) (own_name m r p is) (clean_itself actors b c g s (ap (λ (z : ActorState). z.run_of) (sym is) ∙ own)))
-      ]
+      | inl there ↦ absurd (s.alone n y there (ap (λ z. is_under z n) (own_name m r p is) ∙ under))
+      | inr also ↦ subst (IsClean m g) (sym also) (subst (λ z. IsClean z g c) (own_name m r p is) (clean_itself actors b c g s (ap (λ (z : ActorState). z.run_of) (sym is) ∙ own)))
+    ]
   ];
   outside = λ m r g p own. elim (found_or_last actors c m r p) [
     | inl run ↦ h.outside m r g run own

@@ -277,13 +277,13 @@ begins_inside c d actors r g h x = record {
   ];
   alone = λ m n y z id p q i j. elim (found_or_last actors r m y p) [
     | inl first ↦ elim (found_or_last actors r n z q) [
-        | inl second ↦ h.alone m n y z id first second i j
-        | inr is ↦ absurd (not_yet m y id first i (subst (IsInside id) is j))
-      ]
+      | inl second ↦ h.alone m n y z id first second i j
+      | inr is ↦ absurd (not_yet m y id first i (subst (IsInside id) is j))
+    ]
     | inr is ↦ elim (found_or_last actors r n z q) [
-        | inl second ↦ absurd (not_yet n z id second j (subst (IsInside id) is i))
-        | inr also ↦ sym (found_name (actors ++ r ∷ []) m y p) ∙ (ap (λ (v : ActorState). v.name) is ∙ (ap (λ (v : ActorState). v.name) (sym also) ∙ found_name (actors ++ r ∷ []) n z q))
-      ]
+      | inl second ↦ absurd (not_yet n z id second j (subst (IsInside id) is i))
+      | inr also ↦ sym (found_name (actors ++ r ∷ []) m y p) ∙ (ap (λ (v : ActorState). v.name) is ∙ (ap (λ (v : ActorState). v.name) (sym also) ∙ found_name (actors ++ r ∷ []) n z q))
+    ]
   ];
   lived = λ id e. lives_so id (same_gate g.id id) refl (ap (λ (k : Kept). k.entered) (sym (x.after id)) ∙ e);
   kept = λ id m e. keeps_so id m (same_gate g.id id) (ap (λ (k : Kept). k.kept) (sym (x.after id)) ∙ e);

@@ -27,7 +27,10 @@ use rv_hart::Hart;
 use std::alloc::Global;
 use std::marker::Model;
 use std::sync::Arc;
-use wedge_base::{ActorName, Code, Denial, DenialAt, End, Items, NoMemory, PRIVATE_BASE, PRIVATE_SIZE, PathText, Slot, TagEntry, TagNo};
+use wedge_base::{
+    ActorName, Code, Denial, DenialAt, End, Items, NoMemory, PRIVATE_BASE, PRIVATE_SIZE, PathText,
+    Slot, TagEntry, TagNo,
+};
 use wedge_events::{Ask, Live, Want};
 
 /// The register of the stack pointer.

@@ -26,7 +26,10 @@ use grant_sheet::{Draft, Made, Sheet, first_excess, gate_at, sheet_of};
 use rv_hart::Hart;
 use std::mem;
 use std::sync::Arc;
-use wedge_base::{ActorName, Code, Denial, End, GateKind, Items, MOST_PARTS, NameFault, NoMemory, PRIVATE_BASE, PRIVATE_SIZE};
+use wedge_base::{
+    ActorName, Code, Denial, End, GateKind, Items, MOST_PARTS, NameFault, NoMemory, PRIVATE_BASE,
+    PRIVATE_SIZE,
+};
 use wedge_events::{GateAsk, SavedView, Want};
 
 /// The number that lends nothing to the run of a gate.

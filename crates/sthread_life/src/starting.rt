@@ -30,7 +30,10 @@ use rv_hart::Hart;
 use std::alloc::Global;
 use std::mem;
 use std::sync::Arc;
-use wedge_base::{ActorName, Code, Denial, End, GateKind, Items, MOST_PARTS, NameFault, NoMemory, PRIVATE_BASE, PRIVATE_SIZE, Slot};
+use wedge_base::{
+    ActorName, Code, Denial, End, GateKind, Items, MOST_PARTS, NameFault, NoMemory, PRIVATE_BASE,
+    PRIVATE_SIZE, Slot,
+};
 use wedge_events::{GateAsk, LivesAsk, LivesReply, SavedView, SlotWant, Want};
 
 impl Actor {

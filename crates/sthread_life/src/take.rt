@@ -17,7 +17,10 @@ use cow_pages::{Pages, PrivateView};
 use ready_text::Program;
 use rv_hart::Reply;
 use wedge_base::{Code, Denial, End, NoMemory, Right, Slot, TagNo, address_of};
-use wedge_events::{DirectoryAsk, DirectoryReply, Event, GateAsk, GateReply, LivesAsk, LivesReply, SlotAsk, SlotReply};
+use wedge_events::{
+    DirectoryAsk, DirectoryReply, Event, GateAsk, GateReply, LivesAsk, LivesReply, SlotAsk,
+    SlotReply,
+};
 
 impl Actor {
     /// What the event that it wanted makes of the actor; the child that it begins, with its private memory, where the event
@@ -116,8 +119,10 @@ impl Actor {
         ensures name { OnOk result (self.new.name ≡ self.old.name) }
     {
         match (ask, reply) {
-            (GateAsk::Enter { run, .. }, GateReply::Entered { memory: kept }) =>
-                self.enter(run, Some(kept)),
+            (GateAsk::Enter { run, .. }, GateReply::Entered { memory: kept }) => self.enter(
+                run,
+                Some(kept),
+            ),
             (GateAsk::Enter { .. }, GateReply::Left) => {
                 self.phase = Phase::Running;
                 Ok(None)

@@ -22,8 +22,8 @@ use image_form::{Image, write_image};
 use report_text::{report, write_schedule};
 use std::alloc::Global;
 use wedge_base::{Bytes, NoMemory};
-use wedge_events::Journal;
 use wedge_core::serial;
+use wedge_events::Journal;
 
 /// The texts of a command: all of them are made before the first is written.
 pub(crate) fn prepare<F: Files>(

@@ -227,5 +227,11 @@ fn a_gate_is_busy_while_a_run_is_in_it(rt: HostRuntime) -> Result<(), Fail> {
     refuses(&rt, rt.alloc(), serial, "0 0 0 0 0.2 0.1", "6: busy")?;
     refuses(&rt, rt.alloc(), serial, "0 0 0 0 0.1 0.2 0.1.1", "6: busy")?;
     refuses(&rt, rt.alloc(), serial, "0 0 0 0 0.1 0.1 0.2", "6: waits")?;
-    refuses(&rt, rt.alloc(), serial, "0 0 0 0 0.1 0.1.1 0.2 0.1 0.1", "9: ended")
+    refuses(
+        &rt,
+        rt.alloc(),
+        serial,
+        "0 0 0 0 0.1 0.1.1 0.2 0.1 0.1",
+        "9: ended",
+    )
 }

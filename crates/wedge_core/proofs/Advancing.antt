@@ -117,9 +117,9 @@ busy_ended_not w name busy ended = not_ended w.actors name busy.actor busy.named
 
 pub busy_waits_not : {A : Type 0} (w : WorldState) (name : List ℕ) → IsBusy w name → IsWaiting w name → A
 busy_waits_not w name busy waits = elim waits.awaits [
-    | inl joins ↦ let both : Some (want.Gate busy.gate (gate_ask.Enter busy.run busy.first)) ≡ Some (want.Join waits.number) = sym busy.wants ∙ (same_one ∙ joins) in absurd cc
-    | inr at ↦ let both : Some (want.Gate busy.gate (gate_ask.Enter busy.run busy.first)) ≡ None = sym busy.wants ∙ (same_one ∙ ap (wanted_at (at_rest w waits.actor)) at) in absurd cc
-  ]
+  | inl joins ↦ let both : Some (want.Gate busy.gate (gate_ask.Enter busy.run busy.first)) ≡ Some (want.Join waits.number) = sym busy.wants ∙ (same_one ∙ joins) in absurd cc
+  | inr at ↦ let both : Some (want.Gate busy.gate (gate_ask.Enter busy.run busy.first)) ≡ None = sym busy.wants ∙ (same_one ∙ ap (wanted_at (at_rest w waits.actor)) at) in absurd cc
+]
   where
     two : Some busy.actor ≡ Some waits.actor
     two = sym busy.named ∙ waits.named

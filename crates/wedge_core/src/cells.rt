@@ -21,7 +21,10 @@ use sthread_life::Lives;
 use tag_directory::Directory;
 use tag_segment::SlotState;
 use wedge_base::{Bytes, FdEntry, FdNo, GateId, MOST_FDS, NoMemory, SLOTS, Slot, TagEntry, TagNo};
-use wedge_events::{Ask, DirectoryAsk, DirectoryReply, Event, Object, SlotAsk, SlotReply, StreamAsk, StreamReply, Want};
+use wedge_events::{
+    Ask, DirectoryAsk, DirectoryReply, Event, Object, SlotAsk, SlotReply, StreamAsk, StreamReply,
+    Want,
+};
 
 /// The cells of a world: the directory of slots, 4,096 slots with the tag that lives in each, the directory of
 /// descriptors, 1,024 descriptors with the stream behind each, the count of live sthreads, and the recycled

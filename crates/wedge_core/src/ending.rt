@@ -18,7 +18,10 @@ use image_form::Image;
 use std::alloc::Global;
 use std::cmp::Ordering;
 use sthread_life::{Actor, Phase, StreamLabel};
-use wedge_base::{ActorLine, Bytes, End, FdNo, Items, NoMemory, Outcome, PathText, StreamKind, StreamLine, copy_denials};
+use wedge_base::{
+    ActorLine, Bytes, End, FdNo, Items, NoMemory, Outcome, PathText, StreamKind, StreamLine,
+    copy_denials,
+};
 
 /// The outcome of a world whose root has ended: a line for each actor, and one for each append stream.
 pub fn outcome(alloc: Global, world: &World<'_>) -> Result<Outcome, NoMemory>

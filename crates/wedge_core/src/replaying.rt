@@ -78,10 +78,7 @@ fn follow(
             at,
             why: Why::Waits,
         }),
-        Err(NoTurn::Busy) => Err(ReplayFault::BadSchedule {
-            at,
-            why: Why::Busy,
-        }),
+        Err(NoTurn::Busy) => Err(ReplayFault::BadSchedule { at, why: Why::Busy }),
     }
 }
 

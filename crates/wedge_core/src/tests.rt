@@ -6,7 +6,10 @@ use std::alloc::Global;
 use std::process::Abort;
 use std::test::Fail;
 use sthread_life::Actor;
-use wedge_base::{ActorName, Bytes, FdEntry, Items, MemoryRange, NoMemory, Outcome, Procedure, Right, Slot, TagEntry};
+use wedge_base::{
+    ActorName, Bytes, FdEntry, Items, MemoryRange, NoMemory, Outcome, Procedure, Right, Slot,
+    TagEntry,
+};
 use wedge_events::Journal;
 
 /// LUI t0, 0x40000; ADDI t0, t0, 0; ADDI t1, zero, 5; SW t1, 0(t0).
