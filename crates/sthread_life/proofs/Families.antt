@@ -43,7 +43,7 @@ use Rattle.sthread_life.specs.Calls.{a0, draft_at}
 use Rattle.sthread_life.specs.Cells.{Cells}
 use Rattle.sthread_life.specs.Children.{Children, is_number, fuel_given, is_child, without_child, child_name}
 use Rattle.sthread_life.specs.Ends.{is_end_event}
-use Rattle.sthread_life.specs.Families.{IsChild, IsStart, IsFirst, ActsAlone, made_in, made_under, made_by, labelled_under, labels_by, joined, KeepsFamily, IsRun, IsEnter, EndsAsIs, DoesNext}
+use Rattle.sthread_life.specs.Families.{IsChild, IsStart, IsFirst, IsToJoin, ActsAlone, made_in, made_under, made_by, labelled_under, labels_by, joined, KeepsFamily, IsRun, IsEnter, EndsAsIs, DoesNext}
 use Rattle.sthread_life.specs.Local.{end_reached, step}
 use Rattle.cow_pages.specs.Listed.{bytes_listed}
 use Rattle.sthread_life.specs.Copying.{Preparation}
@@ -309,7 +309,7 @@ child_begins i b p at complete ready =
       allowed = ready.allowed;
       sheet = sheet;
       within = subst (IsWithin b.sheet b.made) (sym sheet) (sheet_within b.sheet b.made ready.draft ready.allowed);
-      asked = subst (IsDrafted b.sheet b.made ready.draft) (sym sheet) (is_drafted b.sheet b.made ready.draft);
+      asked = subst (IsDrafted b.sheet b.made ready.draft) (sym sheet) (is_drafted b.sheet b.made ready.draft ready.allowed);
       name = refl;
       compartment = refl;
       own = refl;
@@ -339,9 +339,9 @@ lent_within : (b : ActorState) (lent : Option Draft) → excess_lent b lent ≡ 
 lent_within b None e = tt
 lent_within b (Some d) e = sheet_within b.sheet b.made d e
 
-lent_drafted : (b : ActorState) (lent : Option Draft) → IfSome lent (λ d. IfSome (loan b lent) (IsDrafted b.sheet b.made d))
-lent_drafted b None = tt
-lent_drafted b (Some d) = is_drafted b.sheet b.made d
+lent_drafted : (b : ActorState) (lent : Option Draft) → excess_lent b lent ≡ None → IfSome lent (λ d. IfSome (loan b lent) (IsDrafted b.sheet b.made d))
+lent_drafted b None e = tt
+lent_drafted b (Some d) e = is_drafted b.sheet b.made d e
 
 pub run_begins : (b : ActorState) (kept : Option PrivateMemory) (x : Entrance) → b.phase ≡ phase.Entering x → IsEnterable b x → IsRun b (run_by b (child_name b.name (next_start b)) kept x)
 run_begins b kept x at may = record {
@@ -353,7 +353,7 @@ run_begins b kept x at may = record {
   lendable = may.lendable;
   allowed = may.allowed;
   within = lent_within b may.lent may.allowed;
-  lends = lent_drafted b may.lent;
+  lends = lent_drafted b may.lent may.allowed;
   sheet = subst (IsRunSheet x.gate.sheet (sheet_lent b may.lent)) (sym may.sheet) (run_is x.gate.sheet (sheet_lent b may.lent));
   name = refl;
   compartment = refl;
@@ -435,15 +435,15 @@ joins_as i b (phase.OpeningFile o) k x fuel at = joined_at b (phase.OpeningFile 
 joins_as i b (phase.Ending y) k x fuel at = joined_at b (phase.Ending y) x k fuel at
 joins_as i b (phase.Ended y) k x fuel at = joined_at b (phase.Ended y) x k fuel at
 
-join_family : (w : WorldState) (b : ActorState) (k : ℕ) (e : Event) → IsJoin w b k e → IsFirst b.phase b.unjoined k → is_child b.unjoined k ≡ true → KeepsFamily (with_actor w b) b (Some e) (after w b e)
-join_family w b k e j first listed =
+join_family : (w : WorldState) (b : ActorState) (k : ℕ) (e : Event) → IsJoin w b k e → IsToJoin b b.phase k → is_child b.unjoined k ≡ true → KeepsFamily (with_actor w b) b (Some e) (after w b e)
+join_family w b k e j due listed =
     let x = takes w.image b (event.Join k j.how j.child.fuel) in
     let is : x ≡ joined b b.phase k j.how j.child.fuel = joins_as w.image b b.phase k j.how j.child.fuel refl in
     subst (λ y. KeepsFamily (with_actor w b) b (Some y) (after w b y)) (sym j.is)
     (record {
       listed = listed;
       child = join_child w b k e j;
-      first = first;
+      due = due;
       actors = sym (put_put w.actors b x (takes_name w.image b (event.Join k j.how j.child.fuel))) ∙ ap (put_actor (put_actor w.actors b)) is;
     })
 
@@ -461,7 +461,7 @@ first_child c cs = by_same (is_number c.0 c.0) (number_itself c.0)
 
 pub event_family : (w : WorldState) (b : ActorState) (e : Event) → Happens w b e → KeepsFamily (with_actor w b) b (Some e) (after w b e)
 event_family w b e (Requested r) = subst (λ y. KeepsFamily (with_actor w b) b (Some y) (after w b y)) (sym r.is) (want_family w b _ r.want r.own r.at)
-event_family w b e (Joined j) = join_family w b j.number e j.join (subst (λ p. IsFirst p b.unjoined j.number) (sym j.at) tt) j.listed
+event_family w b e (Joined j) = join_family w b j.number e j.join (subst (λ p. IsToJoin b p j.number) (sym j.at) (refl, j.named)) j.listed
 event_family w b e (Started s) = subst (λ y. KeepsFamily (with_actor w b) b (Some y) (after w b y)) (sym s.is) (start_family w b s.preparation s.at s.complete s.ready)
 event_family w b e (Snaps s) =
     subst (λ y. KeepsFamily (with_actor w b) b (Some y) (after w b y)) (sym s.is)
@@ -470,7 +470,7 @@ event_family w b e (GateSnaps s) =
     subst (λ y. KeepsFamily (with_actor w b) b (Some y) (after w b y)) (sym s.is)
     (alone w b (event.Slot s.grant.slot (slot_ask.Snap s.grant.tag) _) tt refl (next_at b _ _ s.at tt) (λ h. absurd cc) tt)
 event_family w b e (LastJoined j) =
-    join_family w b j.first.0 e j.join (subst (λ p. IsFirst p b.unjoined j.first.0) (sym j.at) (subst (λ cs. IsFirst (phase.Ending j.end_) cs j.first.0) (sym j.left) refl))
+    join_family w b j.first.0 e j.join (subst (λ p. IsToJoin b p j.first.0) (sym j.at) (subst (λ cs. IsFirst cs j.first.0) (sym j.left) refl))
     (subst (λ cs. is_child cs j.first.0 ≡ true) (sym j.left) (first_child j.first j.others))
 event_family w b e (Opens o) =
     subst (λ y. KeepsFamily (with_actor w b) b (Some y) (after w b y)) (sym o.is)

@@ -18,9 +18,9 @@ use Rattle.sthread_life.specs.Actors.{ActorState, root}
 use Rattle.sthread_life.specs.Calls.{a0}
 use Rattle.sthread_life.specs.Children.{child_name}
 use Rattle.sthread_life.specs.FamilyTrees.{Family, IsOfTree}
-use Rattle.sthread_life.specs.GatesWithin.{is_under, NoneHoldsItsOwn}
+use Rattle.sthread_life.specs.GatesWithin.{is_under, before, IsOlder, MayBeHeld}
 use Rattle.sthread_life.specs.KnownGates.{AreAmong, AreInOrder}
-use Rattle.sthread_life.specs.Laws.{NoneRunsWithin}
+use Rattle.sthread_life.specs.Laws.{NoneRunsWithin, GatesHeldAreOlder}
 use Rattle.sthread_life.specs.Lending.{sheet_lent}
 use Rattle.sthread_life.specs.Holding.{gate_for}
 use Rattle.sthread_life.specs.Local.{is_running, step, run_local, rest}
@@ -98,10 +98,6 @@ none_under actors f a there (suc bound) n y few found under = by_tree (f.tree n 
 
 -- ---- the gates of a list before one of them
 
-before : GateId → List Gate → List Gate
-before id [] = []
-before id (x ∷ xs) = if same_gate x.id id then [] else x ∷ before id xs
-
 -- that one is not among them
 before_lacks : (id : GateId) (gs : List Gate) → gate_named (before id gs) id ≡ None
 unfolding before
@@ -167,12 +163,6 @@ older_alone old (x ∷ xs) id g order e = by_id (same_gate x.id id) e (older_alo
     by_id false k others = subst (λ ys. AreAmong ys g.sheet.gates) (one_by_one old x (before id xs)) (others k)
 
 -- ---- what may be held at or under the run of a gate: a gate made before it, or one made at or under the run
-
-abbrev IsOlder : Gate → List Gate → GateId → Type 0
-IsOlder g gates id = is_some (gate_named (before g.id gates) id) ≡ true
-
-abbrev MayBeHeld : List ℕ → Gate → List Gate → GateId → Type 0
-MayBeHeld m g gates id = IsOlder g gates id ⊎ (is_under m id.maker ≡ true)
 
 record IsClean (m : List ℕ) (g : Gate) (a : ActorState) : Type 0 where
   known : gate_named a.gates g.id ≡ Some g
@@ -511,6 +501,12 @@ pub none_within : NoneRunsWithin
 none_within i turns new run m n r a g h entry p own q under held id =
     let clean = run_is_clean i turns new run in
     unheld m g a (clean.each m n r a g p own q under) (clean.outside m r g p own) h entry held id
+
+pub held_older : GatesHeldAreOlder
+held_older i turns new run m n r a g h entry p own q under held =
+    let clean = run_is_clean i turns new run in
+    let k = held_is a entry h held in
+    subst (MayBeHeld m g a.gates) (sym (named_id a.gates k.id h k.known)) (clean_held m g a (clean.each m n r a g p own q under) entry k.id k.there)
 
 -- ---- nor does one that has come to rest
 run_after : (w : WorldState) (m : List ℕ) (g : Gate) (n : ℕ) (a : ActorState) (t : Bool) → is_running a.phase ≡ t → is_under m a.name ≡ true → IsClean m g a → IsClean m g (run_local w.image n a)

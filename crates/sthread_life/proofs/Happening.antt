@@ -68,6 +68,7 @@ pub record AtJoin (w : WorldState) (b : ActorState) (e : Event) : Type 0 where
   pub asked : (c : Cells) → request_at w.image c b ≡ None
   pub later : (c : Cells) → refusal_after w.image c b ≡ None
   pub listed : is_child b.unjoined number ≡ true
+  pub named : number ≡ a0 b
   pub join : IsJoin w b number e
 
 -- the copy of a tag for a child that is prepared
@@ -243,7 +244,7 @@ module _ (w : WorldState) (b : ActorState) (e : Event) where
   within (want.Lives q) rd s at asked own later comes = requested (want.Lives q) rd s at asked own later comes
   within (want.Gate id q) rd s at asked own later comes = absurd own
   within (want.Start child) rd s at asked own later comes = absurd own
-  within (want.Join k) rd s at asked own later comes = Joined (record { number = k; at = at; asked = asked; later = later; listed = own; join = comes })
+  within (want.Join k) rd s at asked own later comes = Joined (record { number = k; at = at; asked = asked; later = later; listed = own.0; named = own.1; join = comes })
   within (want.Enter run) rd s at asked own later comes = absurd own
   within (want.Leave end) rd s at asked own later comes = absurd own
 

@@ -125,7 +125,7 @@ IsRequest N a q = ⊥
 
 -- what an instruction may come to: a request, or the join of a child
 abbrev pub IsWanted : (ℕ → Type 0) → ActorState → Want → Type 0
-IsWanted N a (want.Join k) = is_child a.unjoined k ≡ true
+IsWanted N a (want.Join k) = (is_child a.unjoined k ≡ true) × (k ≡ a0 a)
 IsWanted N a q = IsRequest N a q
 
 -- where an instruction leaves its actor, if it wants something
@@ -579,7 +579,7 @@ create_comes N i a (Some d) drafted = create_tests N a d (is_procedure i (a1 a))
 -- the call that joins one
 join_tests : (N : ℕ → Bool → ℕ → Type 0) (a : ActorState) (t : Bool) → is_child a.unjoined (a0 a) ≡ t
     → Comes N a (λ c. None) (λ c. None) None (if t then None else Some no_such) (if t then wants a (want.Join (a0 a)) else refuses a code.NoSuch)
-join_tests N a true e = record { name = refl; quiet = λ c h. refl; met = λ c r h. absurd cc; ends = refl; wants = (0, false, refl, λ c. refl, e, λ c. refl); codes = λ n h. absurd cc }
+join_tests N a true e = record { name = refl; quiet = λ c h. refl; met = λ c r h. absurd cc; ends = refl; wants = (0, false, refl, λ c. refl, (e, refl), λ c. refl); codes = λ n h. absurd cc }
 join_tests N a false e = comes_refused N a _ _ code.NoSuch (λ c. refl)
 
 -- ---- calls on tags
@@ -761,7 +761,7 @@ gate_of_draft a d m drafted g =
       entry = refl;
       sheet = refl;
       within = sheet_within a.sheet a.made d (subst (λ x. first_excess a.sheet a.made x ≡ None) same g.allowed);
-      asked = is_drafted a.sheet a.made d;
+      asked = is_drafted a.sheet a.made d (subst (λ x. first_excess a.sheet a.made x ≡ None) same g.allowed);
       user = ap (λ o. unwrap_or o a.sheet.user) (subst (λ x. x.user ≡ None) same g.user);
       root = ap (λ o. unwrap_or o a.sheet.root) (subst (λ x. x.root ≡ None) same g.root);
       argument = refl;

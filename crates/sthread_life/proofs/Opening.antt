@@ -38,4 +38,5 @@ cells_open i = record {
   numbers = refl;
   streams = λ fd. before_nothings (map (λ f. Some (declared_stream f)) i.fds) _ fd ∙ stream_at fd i.fds;
   lives = refl;
+  gates = λ id. refl;
 }

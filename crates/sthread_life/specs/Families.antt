@@ -160,17 +160,23 @@ abbrev pub joined : ActorState → Phase → ℕ → End → ℕ → ActorState
 joined a (phase.Ending x) k e fuel = record a { fuel = a.fuel + fuel; unjoined = without_child a.unjoined k }
 joined a p k e fuel = record a { hart = answered_twice a (joined_value e) (joined_number e); fuel = a.fuel + fuel; unjoined = without_child a.unjoined k; phase = phase.Running }
 
--- an actor whose end is decided joins the first of its children, which are in the order of their numbers
-abbrev pub IsFirst : Phase → Children → ℕ → Type 0
-IsFirst (phase.Ending x) [] k = ⊥
-IsFirst (phase.Ending x) (c ∷ cs) k = k ≡ c.0
-IsFirst p cs k = Unit {0}
+-- the first of children, which are in the order of their numbers
+abbrev pub IsFirst : Children → ℕ → Type 0
+IsFirst [] k = ⊥
+IsFirst (c ∷ cs) k = k ≡ c.0
+
+-- The child that an actor is to join: in a call the one that it names in a0, and once its end is decided the first of all. No other actor
+-- is to join one.
+abbrev pub IsToJoin : ActorState → Phase → ℕ → Type 0
+IsToJoin a (phase.Within (want.Join n)) k = (k ≡ n) × (k ≡ reg a.hart.regs 10)
+IsToJoin a (phase.Ending x) k = IsFirst a.unjoined k
+IsToJoin a p k = ⊥
 
 -- the child is one that the actor started and has not joined, and has ended so
 pub record IsJoined (old : WorldState) (a : ActorState) (k : ℕ) (e : End) (fuel : ℕ) (new : WorldState) : Type 0 where
   pub listed : is_child a.unjoined k ≡ true
   pub child : IsSomeAnd (actor_named old.actors (a.name ++ k ∷ [])) (λ c. (c.phase ≡ phase.Ended e) × (c.fuel ≡ fuel))
-  pub first : IsFirst a.phase a.unjoined k
+  pub due : IsToJoin a a.phase k
   pub actors : new.actors ≡ put_actor old.actors (joined a a.phase k e fuel)
 
 -- ---- anything else

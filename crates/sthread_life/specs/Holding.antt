@@ -1,6 +1,6 @@
 -- What it is to hold a gate, to lend a draft and to be given one, said beside the machine's own definitions: the laws read these, and the step does not.
 
-use Rattle.std.specs.Prelude.{◌≡◌, ℕ, ◌==◌, Bool, true, not, ◌&&◌, length, Option, Some, None, is_none, option_map, unwrap_or, option_and_then, if◌then◌else◌}
+use Rattle.std.specs.Prelude.{◌≡◌, ℕ, ◌==◌, Bool, true, not, ◌&&◌, length, Option, Some, None, is_none, option_map, unwrap_or, option_and_then, if◌then◌else◌, is_some}
 use Rattle.std.specs.List.{list_any}
 use Rattle.std.specs.Option.{option_or}
 use Rattle.wedge_base.specs.Maps.{at, is_among}
@@ -33,10 +33,11 @@ is_loan (Some d) =
     && is_none d.root
 
 -- what a sheet has that its giver made of a draft, grant by grant: each right and each bit that the draft asks for and no other, the gate that the
--- giver has at each entry that it asks for, and the user and the root directory that it asks for, or else the giver's
+-- giver has at each entry that it asks for, of which it has each, and the user and the root directory that it asks for, or else the giver's
 pub record IsDrafted (s : Sheet) (m : Made) (d : Draft) (child : Sheet) : Type 0 where
   pub tags : (tag : ℕ) → option_map (λ g. g.right) (at child.tags tag) ≡ at d.tags tag
   pub fds : (fd : ℕ) → at child.fds fd ≡ at d.fds fd
   pub gates : (entry : ℕ) → at child.gates entry ≡ (if is_among d.gates entry then option_or (at m.gates entry) (at s.gates entry) else None)
   pub user : child.user ≡ unwrap_or d.user s.user
+  pub held : (entry : ℕ) → is_among d.gates entry ≡ true → is_some (option_or (at m.gates entry) (at s.gates entry)) ≡ true
   pub root : child.root ≡ unwrap_or d.root s.root

@@ -8,7 +8,9 @@ use Rattle.wedge_events.specs.declared.events.Event.{Event}
 use Rattle.wedge_events.specs.declared.events.Turn.{Turn}
 use Rattle.wedge_events.specs.declared.events.Want.{Want}
 use Rattle.sthread_life.specs.Actors.{ActorState}
-use Rattle.sthread_life.specs.Cells.{opening_cells, slot_in, stream_in}
+use Rattle.wedge_base.specs.declared.grants.GateId.{GateId}
+use Rattle.wedge_events.specs.Gates.{gate_opening}
+use Rattle.sthread_life.specs.Cells.{opening_cells, slot_in, stream_in, kept_in}
 use Rattle.sthread_life.specs.Worlds.{WorldState, opening, actor_named, Runs}
 use Rattle.sthread_life.specs.Names.{AreDistinct}
 use Rattle.sthread_life.specs.Fuel.{fuel_of, most_turns, TakesItsUnits}
@@ -29,7 +31,7 @@ use Rattle.sthread_life.specs.CopiesGranted.{HasCopiesGranted}
 use Rattle.sthread_life.specs.KnownGates.{AreGatesKept}
 use Rattle.sthread_life.specs.Isolation.{IsAccess, TakesSameTurns}
 use Rattle.sthread_life.specs.RecycledGates.{AreRunsAlone}
-use Rattle.sthread_life.specs.GatesWithin.{NoneHoldsItsOwn}
+use Rattle.sthread_life.specs.GatesWithin.{NoneHoldsItsOwn, AreHeldOlder}
 use Rattle.sthread_life.specs.Remembering.{Remembers}
 use Rattle.wedge_events.specs.Directories.{slots_opening, fds_opening}
 
@@ -69,14 +71,15 @@ pub record IsWrittenByOwners (i : Image) (turns : List Turn) (new : WorldState) 
 abbrev pub RunsWriteTheirOwn : Type 0
 RunsWriteTheirOwn = (i : Image) (turns : List Turn) (new : WorldState) → Runs (opening i) turns new → IsWrittenByOwners i turns new
 
--- as a run begins, each cell is as the rule of its own kind has it; there are 4,096 slots and 1,024
--- descriptors
+-- as a run begins, each cell is as the rule of its own kind has it: there are 4,096 slots and 1,024
+-- descriptors, and each recycled gate is free, with nothing kept
 pub record CellsOpen (i : Image) : Type 0 where
   pub places : (opening_cells i).places ≡ slots_opening i
   pub slots : (slot : ℕ) → slot_in (opening_cells i) slot ≡ slot_opening i slot
   pub numbers : (opening_cells i).numbers ≡ fds_opening i
   pub streams : (fd : ℕ) → stream_in (opening_cells i) fd ≡ stream_opening i fd
   pub lives : (opening_cells i).lives ≡ lives_opening
+  pub gates : (id : GateId) → kept_in (opening_cells i) id ≡ gate_opening
 
 -- no two actors of a world have one name
 abbrev pub NamesAreDistinct : Type 0
@@ -117,6 +120,10 @@ RunsAreAlone = (i : Image) (turns : List Turn) (new : WorldState) → Runs (open
 -- in each world of a run no actor at or under a run of a gate holds that gate
 abbrev pub NoneRunsWithin : Type 0
 NoneRunsWithin = (i : Image) (turns : List Turn) (new : WorldState) → Runs (opening i) turns new → NoneHoldsItsOwn new.actors
+
+-- and each gate that it holds is older than that one, or was made at or under the run
+abbrev pub GatesHeldAreOlder : Type 0
+GatesHeldAreOlder = (i : Image) (turns : List Turn) (new : WorldState) → Runs (opening i) turns new → AreHeldOlder new.actors
 
 -- what an actor loads, stores, reads and appends goes by what it may see, and by nothing else
 abbrev pub AccessesAreIsolated : Type 0

@@ -1,7 +1,7 @@
 //! Laws of the definitions: each is the contract of a function that does nothing.
 
 ghost use Rattle.wedge_base.specs.Images.{Image};
-ghost use Rattle.sthread_life.specs.Laws.{CellsOpen, AccessesAreIsolated, MomentsAreLawful, NamesAreDistinct, RunsWriteTheirOwn, FuelIsKept, RootBounds, SlotsAreOccupied, CopiesAreGranted, GatesAreKept, NoneRunsWithin, RunsAreAlone, RunsEnd};
+ghost use Rattle.sthread_life.specs.Laws.{CellsOpen, AccessesAreIsolated, MomentsAreLawful, NamesAreDistinct, RunsWriteTheirOwn, FuelIsKept, RootBounds, SlotsAreOccupied, CopiesAreGranted, GatesAreKept, NoneRunsWithin, GatesHeldAreOlder, RunsAreAlone, RunsEnd};
 ghost use Rattle.sthread_life.specs.Walks.{RootsWalk};
 
 /// In every run, whatever the image and the order of the turns, each request that an instruction makes
@@ -102,5 +102,6 @@ pub fn runs_are_alone()
 /// In every world of a run, no actor that runs a gate, and none that such a run started or that these started, holds that gate: what it holds
 /// was made before the gate, or at or under the run. So no gate is entered from within.
 pub fn gates_are_not_held_within()
-    ensures { NoneRunsWithin }
+    ensures own { NoneRunsWithin }
+    ensures others { GatesHeldAreOlder }
 {}

@@ -1,6 +1,7 @@
 //! Partitions whose actors enter recycled gates: a run begins with the memory that the run before left, and with nothing else of it.
 
-use super::sthread_tests::{Row, refuses, replays, runs};
+use super::replay_tests::{Case, is_left};
+use super::sthread_tests::{Row, image_of, refuses, replays, runs};
 use super::*;
 use std::test::Fail;
 
@@ -49,6 +50,14 @@ fn a_run_goes_on_counting(rt: HostRuntime) -> Result<(), Fail> {
             stream 0 out \"\"\n",
     };
     runs(&rt, rt.alloc(), row)?;
+    let plain = Case {
+        words: &["run", "a"],
+        schedule: "",
+        status: 0,
+        out: row.report,
+        err: "",
+    };
+    is_left(&rt, rt.alloc(), image_of(&rt, rt.alloc(), row)?, plain, 0)?;
     refuses(&rt, rt.alloc(), row, "0 0", "2: waits")?;
     refuses(&rt, rt.alloc(), row, "0 0.1 0.1", "3: ended")?;
     refuses(&rt, rt.alloc(), row, "0 0.1 0 0", "4: waits")

@@ -191,7 +191,7 @@ entering_joins gate_kind.Recycled g run k is = cc
 
 waits_for : (i : Image) (b : ActorState) (p : Phase) (k : ℕ) → ReadsAs i b p → wanted_at b p ≡ Some (want.Join k) → is_child b.unjoined k ≡ true
 waits_for i b phase.Running k reads wants = absurd cc
-waits_for i b (phase.Within q) k reads wants = let is : q ≡ want.Join k = cc in subst (λ x. IsWanted (LoadsAt i b.hart reads.0 reads.1) b x) is reads.3
+waits_for i b (phase.Within q) k reads wants = let is : q ≡ want.Join k = cc in (subst (λ x. IsWanted (LoadsAt i b.hart reads.0 reads.1) b x) is reads.3).0
 waits_for i b (phase.Starting pre) k reads wants = absurd (starting_joins b pre.left k wants)
 waits_for i b (phase.MakingGate pre) k reads wants = absurd (making_joins pre.left k wants)
 waits_for i b (phase.Opening slot tag) k reads wants = absurd cc

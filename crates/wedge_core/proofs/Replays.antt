@@ -23,7 +23,7 @@ use Rattle.sthread_life.specs.Worlds.{WorldState, Taken, opening, actor_named, i
 use Rattle.sthread_life.proofs.FamilyRuns.{fuel_kept}
 use Rattle.sthread_life.proofs.BoundedGates.{root_bounds}
 use Rattle.sthread_life.proofs.GrantedCopies.{copies_granted, runs_alone}
-use Rattle.sthread_life.proofs.GatesWithin.{none_within}
+use Rattle.sthread_life.proofs.GatesWithin.{none_within, held_older}
 use Rattle.sthread_life.proofs.KnownGates.{gates_kept}
 use Rattle.sthread_life.proofs.OccupiedRuns.{slots_occupied}
 use Rattle.sthread_life.proofs.Mediating.{moments_lawful}
@@ -261,6 +261,7 @@ complete_of i turns last run whole goes = record {
   gates = gates_kept i turns last run;
   runs = runs_alone i turns last run;
   within = none_within i turns last run;
+  older = held_older i turns last run;
 }
 
 pub replays_are_complete : ReplaysAreComplete

@@ -15,7 +15,7 @@ use Rattle.wedge_events.specs.declared.events.Turn.{Turn}
 use Rattle.sthread_life.specs.Moments.{EachStep, EachMoment}
 use Rattle.sthread_life.specs.Bounds.{IsWithinRoot}
 use Rattle.sthread_life.specs.CopiesGranted.{HasCopiesGranted}
-use Rattle.sthread_life.specs.GatesWithin.{is_under, NoneHoldsItsOwn}
+use Rattle.sthread_life.specs.GatesWithin.{is_under, NoneHoldsItsOwn, AreHeldOlder}
 use Rattle.sthread_life.specs.KnownGates.{AreGatesKept}
 use Rattle.sthread_life.specs.RecycledGates.{AreRunsAlone}
 use Rattle.sthread_life.specs.Fuel.{fuel_of, TakesItsUnits}
@@ -32,7 +32,8 @@ RootGoesOn w turns = EachStep (λ old t new. is_whole old ≡ false) w turns
 -- slot was never used, or was released, or is held by one call, or one tag lives there; whatever an actor has on a declared tag
 -- or descriptor, or the sheet of a gate gives, the root began with; each private copy is at the slot of a grant of a copy; a gate
 -- is what its maker made, whoever knows it; each run has its gate's sheet with what was lent, a recycled gate has one run at a time, and
--- what it keeps has copies where its sheet grants them alone; and nobody at or under a run of a gate holds that gate.
+-- what it keeps has copies where its sheet grants them alone; and nobody at or under a run of a gate holds that
+-- gate, but older ones and those that were made at or under the run.
 pub record IsCompleteRun (i : Image) (turns : List Turn) (last : WorldState) : Type 0 where
   pub run : Runs (opening i) turns last
   pub whole : is_whole last ≡ true
@@ -47,6 +48,7 @@ pub record IsCompleteRun (i : Image) (turns : List Turn) (last : WorldState) : T
   pub gates : AreGatesKept last.actors
   pub runs : AreRunsAlone last.cells last.actors
   pub within : NoneHoldsItsOwn last.actors
+  pub older : AreHeldOlder last.actors
 
 -- entries tell a complete run of the image with this outcome
 pub record IsWholeRun (i : Image) (entries : List LogEntry) (outcome : Outcome) : Type 0 where
