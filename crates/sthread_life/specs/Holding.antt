@@ -33,7 +33,7 @@ is_loan (Some d) =
     && is_none d.root
 
 -- what a sheet has that its giver made of a draft, grant by grant: each right and each bit that the draft asks for and no other, the gate that the
--- giver has at each entry that it asks for, of which it has each, and the user and the root directory that it asks for, or else the giver's
+-- giver has at each entry that it asks for (it has one at each of them), and the user and the root directory that it asks for, or else the giver's
 pub record IsDrafted (s : Sheet) (m : Made) (d : Draft) (child : Sheet) : Type 0 where
   pub tags : (tag : ℕ) → option_map (λ g. g.right) (at child.tags tag) ≡ at d.tags tag
   pub fds : (fd : ℕ) → at child.fds fd ≡ at d.fds fd
