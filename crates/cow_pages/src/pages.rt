@@ -233,7 +233,8 @@ fn write_in_page(shared: &mut Arc<Page>, offset: usize, new: &[u8]) -> Result<()
     requires inside { offset + length new.now ≤ page }
     requires whole { length (arc_value shared.old) ≡ page }
     ensures whole { length (arc_value shared.new) ≡ page }
-    ensures ok { OnOk result (arc_value shared.new ≡ written (arc_value shared.old) offset new.now) }
+    ensures ok { OnOk result (arc_value shared.new
+        ≡ written (arc_value shared.old) offset new.now) }
     ensures err { OnErr result (arc_value shared.new ≡ arc_value shared.old) }
 {
     let own = Arc::make_mut(shared)?;

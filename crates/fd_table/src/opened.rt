@@ -149,7 +149,8 @@ impl Opened {
 
     /// Closes it.
     pub fn close(&mut self, bits: FdBits) -> Result<(), StreamFault>
-        ensures ok { OnOk result (streams.stream_reply (Some self.old) (ask.Close bits) ≡ reply.Closed) }
+        ensures ok { OnOk result (streams.stream_reply (Some self.old) (ask.Close bits)
+            ≡ reply.Closed) }
         ensures next { OnOk result (self.new ≡ streams.closed self.old) }
         ensures fault { IfErr result (λ e. reply_of e
             ≡ Some (streams.stream_reply (Some self.old) (ask.Close bits))) }

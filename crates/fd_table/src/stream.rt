@@ -100,11 +100,13 @@ impl Stream {
     /// the end. The rest of the buffer stays. `NoSuch` where it is not live, else `Denied` without the bit
     /// to read, else `Bad` where it is no source. It takes no memory.
     pub fn read(&mut self, bits: FdBits, buf: &mut [u8]) -> Result<usize, StreamFault>
-        ensures ok { IfOk result (λ n. streams.stream_reply self.old (ask.Read bits (length buf.old))
+        ensures ok { IfOk result
+            (λ n. streams.stream_reply self.old (ask.Read bits (length buf.old))
             ≡ reply.Given (take n buf.new)) }
         ensures count { IfOk result (λ n. n ≤ length buf.new) }
         ensures rest { IfOk result (λ n. drop n buf.new ≡ drop n buf.old) }
-        ensures next { OnOk result (self.new ≡ streams.stream_next self.old (ask.Read bits (length buf.old))) }
+        ensures next { OnOk result (self.new
+            ≡ streams.stream_next self.old (ask.Read bits (length buf.old))) }
         ensures fault { IfErr result (λ e. reply_of e
             ≡ Some (streams.stream_reply self.old (ask.Read bits (length buf.old)))) }
         ensures err { OnErr result (self.new ≡ self.old) }
@@ -190,8 +192,10 @@ impl Stream {
     /// Adds bytes at the end. `NoSuch` where it is not live, else `Denied` without the bit to append, else
     /// `Bad` where it is a source.
     pub fn append(&mut self, bits: FdBits, bytes: &[u8]) -> Result<(), StreamFault>
-        ensures ok { OnOk result (streams.stream_reply self.old (ask.Append bits bytes.now) ≡ reply.Appended) }
-        ensures next { OnOk result (self.new ≡ streams.stream_next self.old (ask.Append bits bytes.now)) }
+        ensures ok { OnOk result (streams.stream_reply self.old (ask.Append bits bytes.now)
+            ≡ reply.Appended) }
+        ensures next { OnOk result (self.new
+            ≡ streams.stream_next self.old (ask.Append bits bytes.now)) }
         ensures fault { IfErr result (λ e. e ≢ StreamFault.NoMemory
             → reply_of e ≡ Some (streams.stream_reply self.old (ask.Append bits bytes.now))) }
         ensures memory { result ≡ Err StreamFault.NoMemory
@@ -209,7 +213,8 @@ impl Stream {
     pub fn close(&mut self, bits: FdBits) -> Result<(), StreamFault>
         ensures ok { OnOk result (streams.stream_reply self.old (ask.Close bits) ≡ reply.Closed) }
         ensures next { OnOk result (self.new ≡ streams.stream_next self.old (ask.Close bits)) }
-        ensures fault { IfErr result (λ e. reply_of e ≡ Some (streams.stream_reply self.old (ask.Close bits))) }
+        ensures fault { IfErr result (λ e. reply_of e
+            ≡ Some (streams.stream_reply self.old (ask.Close bits))) }
         ensures err { OnErr result (self.new ≡ self.old) }
     {
         match &mut self.opened {

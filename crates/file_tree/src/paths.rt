@@ -79,7 +79,8 @@ fn parts_of(alloc: Global, root: &[u8]) -> Result<Vec<&[u8]>, NoMemory>
 
 /// The parts that a path adds to its root.
 fn walked(alloc: Global, path: &[u8]) -> Result<Vec<&[u8]>, NoMemory>
-    ensures { IfOk result (λ v. map (λ p. p.now) v.items ≡ paths.walked [] (paths.pieces path.now)) }
+    ensures { IfOk result (λ v. map (λ p. p.now) v.items
+        ≡ paths.walked [] (paths.pieces path.now)) }
 {
     let pieces = pieces_of(alloc, path)?;
     let mut kept: Vec<&[u8]> = Vec::new(alloc);

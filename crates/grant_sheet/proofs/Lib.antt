@@ -1,12 +1,21 @@
--- a binary search ends at the key, or where it would be inserted; what the map's entries are then
+-- What a binary search finds in a map, and what its entries are after a value is put there.
 pub mod Search
--- two maps joined have at each key the first's value, else the second's
+-- What two maps joined have at a key.
 pub mod Joined
--- the keys of a map with one value more; the keys of a sheet's maps rise
+-- The keys of the maps of sheets rise.
 pub mod Keys
--- the first part of a path is what is before its first slash
+-- The first part of a path is what is before its first slash, behind those that it begins with.
 pub mod FirstPart
--- what the first excess of a draft means
+-- The first excess of a draft is what a first excess means, and there is none exactly where the
+-- draft is within what its creator holds.
 pub mod FirstExcess
--- the sheet of a draft without excess is within what its creator holds
+-- The sheet of a draft without excess is within what its creator holds.
 pub mod SheetWithin
+-- The first excess of a draft is the first part of it that is missing, by look-ups in maps.
+pub mod Missing
+-- A draft with one grant more asks for exactly that at its place, and for all else as before;
+-- so with what an actor made.
+pub mod Editing
+-- The root of a run begins with the rights, the bits, the user and the root directory that are
+-- declared.
+pub mod RootSheets

@@ -68,7 +68,8 @@ impl MemFiles {
     /// from 1, are listed will fail.
     pub fn new(files: Vec<MemFile>, fails: Vec<u64>) -> MemFiles
         requires { IsTrue (names_differ files.items) }
-        ensures state { result ≡ record { files = files.items; fails = fails.items; calls = 0; faults = 0 } }
+        ensures state { result
+            ≡ record { files = files.items; fails = fails.items; calls = 0; faults = 0 } }
         ensures exposed { All (IsExposed files.items) files.items }
     {
         MemFiles {
@@ -92,7 +93,8 @@ impl Files for MemFiles {
             (λ exposed. at < length exposed → 0 < length buf.new → 0 < n)) }
         ensures counts { Counts result self.old.faults self.new.faults }
         ensures rises { (other : List ℕ) → self.old.faults ≤ self.new.faults }
-        ensures content { (other : List ℕ) → bytes_named self.new.files other ≡ bytes_named self.old.files other }
+        ensures content { (other : List ℕ)
+            → bytes_named self.new.files other ≡ bytes_named self.old.files other }
 
         // It fails where it is to fail and where there is no such file, and nowhere else.
         ensures failed { IsErr result

@@ -19,7 +19,8 @@ pub trait Sink {
     fn write(&mut self, piece: &[u8]) -> Result<usize, Failed>
         ensures within { IfOk result (λ n. n ≤ length piece.now) }
         ensures some { IfOk result (λ n. 0 < length piece.now → 0 < n) }
-        ensures written { IfOk result (λ n. written self.new ≡ grown_by (written self.old) (take n piece.now)) }
+        ensures written { IfOk result (λ n. written self.new
+            ≡ grown_by (written self.old) (take n piece.now)) }
         ensures failed { OnErr result (written self.new ≡ written self.old) }
         ensures counts { Counts result (faults self.old) (faults self.new) };
 }

@@ -1,4 +1,4 @@
--- Parts are judged by their encoding.
+-- Parts are checked by their encoding.
 use Rattle.std.proofs.Common.{◌≡◌, ℕ, ◌≤◌, false, leb, List, length, Ok, refl, sym, subst, ◌∙◌, arith}
 use Rattle.std.proofs.lemmas.Bool.Decides.{nat_tests}
 use Rattle.wedge_base.specs.Images.{Image}
@@ -18,8 +18,8 @@ too_long bytes long =
     rw no refl
 
 -- where the encoding of parts that fit is one of an image, they are that image
-pub judged : (p r : Image) (bytes : List ℕ) → PartsFit p → bytes ≡ encoding p → Encodes r bytes → IsImage p
-judged p r bytes fit e encodes = subst IsImage (sym (same_encoding p r fit encodes.valid (sym e ∙ encodes.encoded))) encodes.valid
+pub parts_obey : (p r : Image) (bytes : List ℕ) → PartsFit p → bytes ≡ encoding p → Encodes r bytes → IsImage p
+parts_obey p r bytes fit e encodes = subst IsImage (sym (same_encoding p r fit encodes.valid (sym e ∙ encodes.encoded))) encodes.valid
 
 pub no_fault : (p : Image) (e : ImageError) → Fails e (reading (encoding p)) → IsImage p → Fails {Y = Image} e (Ok p)
 no_fault p e h is = subst (Fails e) (is_read p is) h

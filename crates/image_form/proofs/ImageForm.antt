@@ -20,7 +20,7 @@ use Rattle.image_form.specs.declared.fault.ImageError.{ImageError}
 use Rattle.wedge_base.specs.Texts.{is_name}
 use Rattle.image_form.specs.Forms.{is_path, is_root, is_below, ascend}
 use Rattle.image_form.specs.Encoding.{most_bytes, magic, version, number, table, right_code, tag, kind_code, bits_code, fd, file, encoding}
-use Rattle.image_form.specs.Rules.{most_fuel, most_tags, most_fds, most_files, begins_at, may_hold, IsText, IsProcedure, AreProcedures, AreRanges, IsTag, AreTags, IsFd, AreFds, IsFile, AreFiles, IsImage, Encodes}
+use Rattle.image_form.specs.Rules.{most_fuel, most_tags, most_declared_fds, most_files, begins_at, may_hold, IsText, IsProcedure, AreProcedures, AreRanges, IsTag, AreTags, IsFd, AreFds, IsFile, AreFiles, IsImage, Encodes}
 use Rattle.image_form.specs.Reading.{◌>>=◌, Read, last_of, checked_at, table_at, right_of, right_at, is_page_count, tag_at, tags_at, kind_of, kind_at, bits_of, bits_at, fd_at, fds_at, file_at, files_at, header_at, is_base, image_at, reading, place, Gives}
 use Rattle.image_form.proofs.Form.{IsBytes, bind_ok, demand_ok, ok_is, IsForm, seq, ended, reworded}
 use Rattle.image_form.proofs.FieldForms.{number_form, checked_form, formed_form, key_form, content_form}
@@ -209,7 +209,7 @@ tags_form total =
 fds_form : (total : ℕ) → IsForm (fds_at total) (table fd) AreFds
 unfolding fds_at
 fds_form total =
-    reworded (table fd) AreFds (keyed_form (λ (f : FdEntry). f.name) (fd_at total) fd IsFd most_fds total (omega arith) (fd_form total))
+    reworded (table fd) AreFds (keyed_form (λ (f : FdEntry). f.name) (fd_at total) fd IsFd most_declared_fds total (omega arith) (fd_form total))
     (λ fs g. (refl, record { not_too_many = g.0; each = g.1.0; names_ascend = g.1.1 }))
     (λ fs r. (r.not_too_many, (r.each, r.names_ascend)))
 

@@ -7,9 +7,9 @@ concat-push : (parts : List (List ℕ)) (part : List ℕ) → concat (parts ++ p
 concat-push [] part = append-nil part
 concat-push (p ∷ parts) part = ap (λ x. p ++ x) (concat-push parts part) ∙ sym (append_assoc p (concat parts) part)
 
-pub first_put : (old new part : List ℕ) → new ≡ old ++ part → new ≡ old ++ concat (part ∷ [])
-first_put old new part h = h ∙ ap (λ x. old ++ x) (sym (append-nil part))
+-- these parts, one after another, are what was written
+pub record AreAppended (parts : List (List ℕ)) (out : List ℕ) : Type 0 where
+  pub is : out ≡ concat parts
 
-pub put_more : (old out new : List ℕ) (parts : List (List ℕ)) (part : List ℕ) → out ≡ old ++ concat parts → new ≡ out ++ part → new ≡ old ++ concat (parts ++ part ∷ [])
-put_more old out new parts part so_far h =
-    h ∙ ap (λ x. x ++ part) so_far ∙ append_assoc old (concat parts) part ∙ ap (λ x. old ++ x) (sym (concat-push parts part))
+pub put_more : {parts : List (List ℕ)} {out new : List ℕ} (part : List ℕ) → AreAppended parts out → new ≡ out ++ part → AreAppended (parts ++ part ∷ []) new
+put_more {parts} part so_far e = record { is = e ∙ ap (λ x. x ++ part) so_far.is ∙ sym (concat-push parts part) }

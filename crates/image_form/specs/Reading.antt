@@ -22,7 +22,7 @@ use Rattle.image_form.specs.declared.fault.ImageError.TheVariants as error
 use Rattle.image_form.specs.Encoding.{most_bytes, magic, version}
 use Rattle.wedge_base.specs.Texts.{is_name}
 use Rattle.image_form.specs.Forms.{is_path, is_root, is_below}
-use Rattle.image_form.specs.Rules.{most_fuel, low_end, high_end, most_procedures, most_ranges, most_range_bytes, most_tags, most_fds, most_files, is_among, addresses, begins_at, end_of, is_off_text, may_hold}
+use Rattle.image_form.specs.Rules.{most_fuel, low_end, high_end, most_procedures, most_ranges, most_range_bytes, most_tags, most_declared_fds, most_files, is_among, addresses, begins_at, end_of, is_off_text, may_hold}
 
 -- ---- what reading gives
 
@@ -209,7 +209,7 @@ fd_at total front bytes =
     Ok (record { name = name; kind = kind; bits = bits; content = content }, rest)
 
 unfoldable pub fds_at : ℕ → List ℕ → Read (List FdEntry)
-fds_at total bytes = table_at most_fds (fd_at total) total bytes
+fds_at total bytes = table_at most_declared_fds (fd_at total) total bytes
 
 unfoldable pub file_at : ℕ → List FileEntry → List ℕ → Read FileEntry
 file_at total front bytes =

@@ -38,8 +38,8 @@ most_range_bytes = 0x100000
 abbrev pub most_tags : ℕ
 most_tags = 256
 
-abbrev pub most_fds : ℕ
-most_fds = 64
+abbrev pub most_declared_fds : ℕ
+most_declared_fds = 64
 
 abbrev pub most_files : ℕ
 most_files = 1024
@@ -138,7 +138,7 @@ pub record IsFd (f : FdEntry) : Type 0 where
   pub length_fits : length f.content < 2 ^ 32
 
 pub record AreFds (fs : List FdEntry) : Type 0 where
-  pub not_too_many : length fs ≤ most_fds
+  pub not_too_many : length fs ≤ most_declared_fds
   pub each : AllByRecursion IsFd fs
   pub names_ascend : IsTrue (ascend (map (λ f. f.name) fs))
 

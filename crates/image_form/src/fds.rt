@@ -4,13 +4,14 @@ ghost use Rattle.std.specs.Prelude.{◌≡◌, []};
 ghost use Rattle.image_form.specs.Reading as reading;
 ghost use Rattle.image_form.specs.Reading.{Gives, last_of};
 
+use crate::entries::ReadEntry;
 use crate::fault::{ImageError, Why};
-use crate::fields::{kind, limited, name_after, number, refused, stream_content};
+use crate::fields::{kind, name_after, number, refused, stream_content};
 use std::alloc::Global;
 use wedge_base::{Bytes, FdBits, FdEntry};
 
 /// The most descriptors of an image.
-const MOST_FDS: u32 = 64;
+pub(crate) const MOST_FDS: u32 = 64;
 
 /// The name of the last descriptor, or no bytes.
 fn last_name(front: &[FdEntry]) -> &[u8]
@@ -38,61 +39,31 @@ fn bits(total: usize, bytes: &[u8]) -> Result<(FdBits, &[u8]), ImageError>
     Ok((bits, rest))
 }
 
-/// A descriptor, where those before it are known.
-#[tactic(auto, unfolding(crate::specs::Reading::fd_at))]
-fn fd<'a>(
-    alloc: Global,
-    front: &[FdEntry],
-    total: usize,
-    bytes: &'a [u8],
-) -> Result<(FdEntry, &'a [u8]), ImageError>
-    ensures { Gives (λ x. (x.0, x.1.now)) result (reading.fd_at total front.now bytes.now) }
-{
-    let (name, rest) = name_after(last_name(front), total, bytes)?;
-    let (kind, rest) = kind(total, rest)?;
-    let (bits, rest) = bits(total, rest)?;
-    let (content, rest) = stream_content(alloc, kind, total, rest)?;
-    let name = Bytes::from_slice(alloc, name)?;
-    Ok((
-        FdEntry {
-            name,
-            kind,
-            bits,
-            content,
-        },
-        rest,
-    ))
-}
+impl ReadEntry for FdEntry {
+    ghost use Rattle.image_form.specs.Reading.{fd_at};
 
-/// So many descriptors.
-fn fd_list(
-    alloc: Global,
-    count: u32,
-    total: usize,
-    bytes: &[u8],
-) -> Result<(Vec<FdEntry>, &[u8]), ImageError>
-    ensures { Gives (λ x. (x.0.items, x.1.now)) result
-        (reading.entries_at (reading.fd_at total) count [] bytes.now) }
-{
-    let mut fds = Vec::new(alloc);
-    let mut rest = bytes;
-    for _ in 0..count {
-        let (fd, after) = fd(alloc, &fds, total, rest)?;
-        fds.push(fd)?;
-        rest = after;
+    ghost entry_at = { fd_at };
+
+    #[tactic(auto, unfolding(crate::specs::Reading::fd_at))]
+    fn read<'a>(
+        alloc: Global,
+        front: &[FdEntry],
+        total: usize,
+        bytes: &'a [u8],
+    ) -> Result<(FdEntry, &'a [u8]), ImageError> {
+        let (name, rest) = name_after(last_name(front), total, bytes)?;
+        let (kind, rest) = kind(total, rest)?;
+        let (bits, rest) = bits(total, rest)?;
+        let (content, rest) = stream_content(alloc, kind, total, rest)?;
+        let name = Bytes::from_slice(alloc, name)?;
+        Ok((
+            FdEntry {
+                name,
+                kind,
+                bits,
+                content,
+            },
+            rest,
+        ))
     }
-    Ok((fds, rest))
-}
-
-/// The table of descriptors.
-#[tactic(auto, unfolding(crate::specs::Reading::table_at, crate::specs::Reading::fds_at))]
-pub(crate) fn fds(
-    alloc: Global,
-    total: usize,
-    bytes: &[u8],
-) -> Result<(Vec<FdEntry>, &[u8]), ImageError>
-    ensures { Gives (λ x. (x.0.items, x.1.now)) result (reading.fds_at total bytes.now) }
-{
-    let (count, rest) = limited(MOST_FDS, total, bytes)?;
-    fd_list(alloc, count, total, rest)
 }

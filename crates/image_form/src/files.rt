@@ -5,13 +5,14 @@ ghost use Rattle.image_form.specs.declared.fault.Why.TheVariants as why;
 ghost use Rattle.image_form.specs.Reading as reading;
 ghost use Rattle.image_form.specs.Reading.{Gives, last_of};
 
+use crate::entries::ReadEntry;
 use crate::fault::{ImageError, Why};
-use crate::fields::{kind, limited, number, path_after, refused, stream_content};
+use crate::fields::{kind, number, path_after, refused, stream_content};
 use std::alloc::Global;
 use wedge_base::{Bytes, FileEntry};
 
 /// The most files of an image.
-const MOST_FILES: u32 = 1024;
+pub(crate) const MOST_FILES: u32 = 1024;
 
 /// The path of the last file, or no bytes.
 fn last_path(front: &[FileEntry]) -> &[u8]
@@ -36,63 +37,33 @@ fn mode(total: usize, bytes: &[u8]) -> Result<(u32, &[u8]), ImageError>
     Ok((mode, rest))
 }
 
-/// A file, where those before it are known.
-#[tactic(auto, unfolding(crate::specs::Reading::file_at))]
-fn file<'a>(
-    alloc: Global,
-    front: &[FileEntry],
-    total: usize,
-    bytes: &'a [u8],
-) -> Result<(FileEntry, &'a [u8]), ImageError>
-    ensures { Gives (λ x. (x.0, x.1.now)) result (reading.file_at total front.now bytes.now) }
-{
-    let (path, rest) = path_after(last_path(front), total, bytes)?;
-    let (owner, rest) = number(total, rest)?;
-    let (mode, rest) = mode(total, rest)?;
-    let (kind, rest) = kind(total, rest)?;
-    let (content, rest) = stream_content(alloc, kind, total, rest)?;
-    let path = Bytes::from_slice(alloc, path)?;
-    Ok((
-        FileEntry {
-            path,
-            owner,
-            mode,
-            kind,
-            content,
-        },
-        rest,
-    ))
-}
+impl ReadEntry for FileEntry {
+    ghost use Rattle.image_form.specs.Reading.{file_at};
 
-/// So many files.
-fn file_list(
-    alloc: Global,
-    count: u32,
-    total: usize,
-    bytes: &[u8],
-) -> Result<(Vec<FileEntry>, &[u8]), ImageError>
-    ensures { Gives (λ x. (x.0.items, x.1.now)) result
-        (reading.entries_at (reading.file_at total) count [] bytes.now) }
-{
-    let mut files = Vec::new(alloc);
-    let mut rest = bytes;
-    for _ in 0..count {
-        let (file, after) = file(alloc, &files, total, rest)?;
-        files.push(file)?;
-        rest = after;
+    ghost entry_at = { file_at };
+
+    #[tactic(auto, unfolding(crate::specs::Reading::file_at))]
+    fn read<'a>(
+        alloc: Global,
+        front: &[FileEntry],
+        total: usize,
+        bytes: &'a [u8],
+    ) -> Result<(FileEntry, &'a [u8]), ImageError> {
+        let (path, rest) = path_after(last_path(front), total, bytes)?;
+        let (owner, rest) = number(total, rest)?;
+        let (mode, rest) = mode(total, rest)?;
+        let (kind, rest) = kind(total, rest)?;
+        let (content, rest) = stream_content(alloc, kind, total, rest)?;
+        let path = Bytes::from_slice(alloc, path)?;
+        Ok((
+            FileEntry {
+                path,
+                owner,
+                mode,
+                kind,
+                content,
+            },
+            rest,
+        ))
     }
-    Ok((files, rest))
-}
-
-/// The table of files.
-#[tactic(auto, unfolding(crate::specs::Reading::table_at, crate::specs::Reading::files_at))]
-pub(crate) fn files(
-    alloc: Global,
-    total: usize,
-    bytes: &[u8],
-) -> Result<(Vec<FileEntry>, &[u8]), ImageError>
-    ensures { Gives (λ x. (x.0.items, x.1.now)) result (reading.files_at total bytes.now) }
-{
-    let (count, rest) = limited(MOST_FILES, total, bytes)?;
-    file_list(alloc, count, total, rest)
 }

@@ -15,8 +15,9 @@ use crate::writing::encoding;
 use std::alloc::Global;
 
 /// Judges parts by the bytes that would be written of them.
-fn judge(alloc: Global, parts: &ImageParts) -> Result<(), ImageError>
-    ensures exact { Gives (λ _. image_of parts.now) result (reading (encoded.encoding (image_of parts.now))) }
+fn check_parts(alloc: Global, parts: &ImageParts) -> Result<(), ImageError>
+    ensures exact { Gives (λ _. image_of parts.now) result
+        (reading (encoded.encoding (image_of parts.now))) }
     ensures valid { OnOk result (IsImage (image_of parts.now)) }
 {
     if !is_small(parts.lend()) {
@@ -40,7 +41,7 @@ pub fn finish_image(alloc: Global, parts: ImageParts) -> Result<Image, ImageErro
     // Parts of an image are made that image, unless memory runs out.
     ensures only { IsImage (image_of parts) → Gives (λ i. i) result (Ok (image_of parts)) }
 {
-    match judge(alloc, &parts) {
+    match check_parts(alloc, &parts) {
         Ok(()) => Ok(Image::from_parts(parts)),
         Err(error) => Err(error),
     }

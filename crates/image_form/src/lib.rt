@@ -1,6 +1,7 @@
 //! An image: the type, and its binary form.
 #![tactic(auto)]
 
+mod entries;
 mod fault;
 mod fds;
 mod fields;
@@ -13,6 +14,7 @@ mod parts;
 mod procedures;
 mod ranges;
 mod reading;
+mod tables;
 mod tags;
 mod text;
 mod writing;

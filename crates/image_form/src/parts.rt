@@ -1,4 +1,4 @@
-//! The parts of an image, before they are judged.
+//! The parts of an image, before they are checked.
 
 use wedge_base::{Bytes, FdEntry, FileEntry, Items, MemoryRange, Procedure, TagEntry};
 

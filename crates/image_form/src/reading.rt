@@ -10,15 +10,16 @@ ghost use Rattle.image_form.specs.Reading as reading;
 ghost use Rattle.image_form.specs.Reading.{Gives};
 ghost use Rattle.image_form.specs.View.{image_of};
 
+use crate::entries::entry_table;
 use crate::fault::{Fault, ImageError, Why};
-use crate::fds::fds;
+use crate::fds::MOST_FDS;
 use crate::fields::{limited, number, refused, root};
-use crate::files::files;
+use crate::files::MOST_FILES;
 use crate::image::Image;
 use crate::parts::ImageParts;
 use crate::procedures::{TextSpan, entry, procedures};
 use crate::ranges::ranges;
-use crate::tags::tags;
+use crate::tags::MOST_TAGS;
 use crate::text::{base, words};
 use std::alloc::Global;
 use wedge_base::Items;
@@ -72,7 +73,7 @@ fn header(total: usize, bytes: &[u8]) -> Result<(u32, &[u8]), ImageError>
 }
 
 /// The parts of an image.
-#[tactic(auto, unfolding(crate::specs::Reading::image_at))]
+#[tactic(auto, unfolding(crate::specs::Reading::tags_at, crate::specs::Reading::fds_at, crate::specs::Reading::files_at, crate::specs::Reading::image_at))]
 fn parts(alloc: Global, total: usize, bytes: &[u8]) -> Result<(ImageParts, &[u8]), ImageError>
     ensures { Gives (λ x. (image_of x.0, x.1.now)) result (reading.image_at total bytes.now) }
 {
@@ -86,9 +87,9 @@ fn parts(alloc: Global, total: usize, bytes: &[u8]) -> Result<(ImageParts, &[u8]
     let (procedures, rest) = procedures(alloc, text, total, rest)?;
     let (entry, rest) = entry(&procedures, total, rest)?;
     let (ranges, rest) = ranges(alloc, text, total, rest)?;
-    let (tags, rest) = tags(alloc, total, rest)?;
-    let (fds, rest) = fds(alloc, total, rest)?;
-    let (files, rest) = files(alloc, total, rest)?;
+    let (tags, rest) = entry_table(alloc, MOST_TAGS, total, rest)?;
+    let (fds, rest) = entry_table(alloc, MOST_FDS, total, rest)?;
+    let (files, rest) = entry_table(alloc, MOST_FILES, total, rest)?;
     let (user, rest) = number(total, rest)?;
     let (root, rest) = root(alloc, total, rest)?;
     let parts = ImageParts {

@@ -1,12 +1,10 @@
 //! Tables with as many entries as there may be.
 
+use super::tests::{SMALL, fault_of};
 use super::*;
 use std::alloc::Global;
 use std::test::Fail;
 use wedge_base::NoMemory;
-
-/// What stands before the words of an image: fuel 100, base 0x10000.
-static HEAD: [u8; 16] = [0x57, 0x45, 0x44, 0x47, 1, 0, 0, 0, 100, 0, 0, 0, 0, 0, 1, 0];
 
 /// No data, no tags and no descriptors.
 static NO_TABLES: [u8; 12] = [0; 12];
@@ -26,10 +24,10 @@ fn push_text(bytes: &mut Vec<u8>, start: &[u8; 2], number: u16) -> Result<(), No
     Ok(())
 }
 
-/// An image of so many words and procedures, each of one word, with so many files. The last procedure
-/// has the address of the one whose place is given.
+/// An image of so many words and procedures, each of one word, with so many files. The numbers before
+/// the words are those of `SMALL`. The last procedure has the address of the one whose place is given.
 fn image(alloc: Global, procedures: u16, last: u16, files: u16) -> Result<Vec<u8>, NoMemory> {
-    let mut bytes = Vec::from_slice(alloc, &HEAD)?;
+    let mut bytes = Vec::from_slice(alloc, &SMALL[..16])?;
     push_number(&mut bytes, u32::from(procedures))?;
     for _ in 0..procedures {
         push_number(&mut bytes, 0x73)?;
@@ -49,14 +47,6 @@ fn image(alloc: Global, procedures: u16, last: u16, files: u16) -> Result<Vec<u8
     }
     bytes.extend_from_slice(&[0, 0, 0, 0, 1, 0, b'/'])?;
     Ok(bytes)
-}
-
-fn fault_of(alloc: Global, bytes: &[u8]) -> Result<Option<(usize, Why)>, NoMemory> {
-    match read_image(alloc, bytes) {
-        Ok(_) => Ok(None),
-        Err(ImageError::NoMemory) => Err(NoMemory),
-        Err(ImageError::Fault(fault)) => Ok(Some((fault.at, fault.why))),
-    }
 }
 
 #[test]

@@ -6,13 +6,14 @@ ghost use Rattle.image_form.specs.declared.fault.Why.TheVariants as why;
 ghost use Rattle.image_form.specs.Reading as reading;
 ghost use Rattle.image_form.specs.Reading.{Gives, last_of};
 
+use crate::entries::ReadEntry;
 use crate::fault::{ImageError, Why};
-use crate::fields::{limited, name_after, number, refused, take};
+use crate::fields::{name_after, number, refused, take};
 use std::alloc::Global;
 use wedge_base::{Bytes, MOST_PAGES, PAGE, Right, TagEntry};
 
 /// The most tags of an image.
-const MOST_TAGS: u32 = 256;
+pub(crate) const MOST_TAGS: u32 = 256;
 
 /// The name of the last tag, or no bytes.
 fn last_name(front: &[TagEntry]) -> &[u8]
@@ -73,61 +74,31 @@ fn tag_content(
     Ok((Bytes::from_slice(alloc, content)?, rest))
 }
 
-/// A tag, where those before it are known.
-#[tactic(auto, unfolding(crate::specs::Reading::tag_at))]
-fn tag<'a>(
-    alloc: Global,
-    front: &[TagEntry],
-    total: usize,
-    bytes: &'a [u8],
-) -> Result<(TagEntry, &'a [u8]), ImageError>
-    ensures { Gives (λ x. (x.0, x.1.now)) result (reading.tag_at total front.now bytes.now) }
-{
-    let (name, rest) = name_after(last_name(front), total, bytes)?;
-    let (pages, rest) = pages(total, rest)?;
-    let (right, rest) = right(total, rest)?;
-    let (content, rest) = tag_content(alloc, pages, total, rest)?;
-    let name = Bytes::from_slice(alloc, name)?;
-    Ok((
-        TagEntry {
-            name,
-            pages,
-            right,
-            content,
-        },
-        rest,
-    ))
-}
+impl ReadEntry for TagEntry {
+    ghost use Rattle.image_form.specs.Reading.{tag_at};
 
-/// So many tags.
-fn tag_list(
-    alloc: Global,
-    count: u32,
-    total: usize,
-    bytes: &[u8],
-) -> Result<(Vec<TagEntry>, &[u8]), ImageError>
-    ensures { Gives (λ x. (x.0.items, x.1.now)) result
-        (reading.entries_at (reading.tag_at total) count [] bytes.now) }
-{
-    let mut tags = Vec::new(alloc);
-    let mut rest = bytes;
-    for _ in 0..count {
-        let (tag, after) = tag(alloc, &tags, total, rest)?;
-        tags.push(tag)?;
-        rest = after;
+    ghost entry_at = { tag_at };
+
+    #[tactic(auto, unfolding(crate::specs::Reading::tag_at))]
+    fn read<'a>(
+        alloc: Global,
+        front: &[TagEntry],
+        total: usize,
+        bytes: &'a [u8],
+    ) -> Result<(TagEntry, &'a [u8]), ImageError> {
+        let (name, rest) = name_after(last_name(front), total, bytes)?;
+        let (pages, rest) = pages(total, rest)?;
+        let (right, rest) = right(total, rest)?;
+        let (content, rest) = tag_content(alloc, pages, total, rest)?;
+        let name = Bytes::from_slice(alloc, name)?;
+        Ok((
+            TagEntry {
+                name,
+                pages,
+                right,
+                content,
+            },
+            rest,
+        ))
     }
-    Ok((tags, rest))
-}
-
-/// The table of tags.
-#[tactic(auto, unfolding(crate::specs::Reading::table_at, crate::specs::Reading::tags_at))]
-pub(crate) fn tags(
-    alloc: Global,
-    total: usize,
-    bytes: &[u8],
-) -> Result<(Vec<TagEntry>, &[u8]), ImageError>
-    ensures { Gives (λ x. (x.0.items, x.1.now)) result (reading.tags_at total bytes.now) }
-{
-    let (count, rest) = limited(MOST_TAGS, total, bytes)?;
-    tag_list(alloc, count, total, rest)
 }

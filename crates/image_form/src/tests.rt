@@ -1,3 +1,4 @@
+use super::Why::{Limit, Magic, Order, Overlap, Range, Trailing, Truncated, Version};
 use super::*;
 use std::alloc::Global;
 use std::process::Abort;
@@ -26,491 +27,355 @@ static STARTS: [usize; 38] = [
 /// An image of two words with a procedure `main` and nothing else. Its word count is at 16, its table
 /// of procedures at 28 (the name at 32, the address at 38), its entry at 42, the four other tables at
 /// 46, 50, 54 and 58, its user at 62 and its root at 66.
-static SMALL: [u8; 69] = [
+pub(crate) static SMALL: [u8; 69] = [
     0x57, 0x45, 0x44, 0x47, 1, 0, 0, 0, 100, 0, 0, 0, 0, 0, 1, 0, 2, 0, 0, 0, 0x73, 0, 0, 0, 0x73,
     0, 0, 0, 1, 0, 0, 0, 4, 0, 0x6d, 0x61, 0x69, 0x6e, 0, 0, 1, 0, 0, 0, 1, 0, 0, 0, 0, 0, 0, 0, 0,
     0, 0, 0, 0, 0, 0, 0, 0, 0, 0, 0, 0, 0, 1, 0, 0x2f,
 ];
 
-/// `SMALL` with other bytes in place of those from one place to another, and its fault.
-struct Case {
+/// What stands in place of a field of `SMALL`, and the fault of such a file.
+type Case = (&'static [u8], Option<(usize, Why)>);
+
+/// The bytes of `SMALL` from one place to another, and what may stand there.
+struct Field {
     start: usize,
     end: usize,
-    bytes: &'static [u8],
-    fault: Option<(usize, Why)>,
+    cases: &'static [Case],
 }
 
-static HEAD_AND_TEXT: [Case; 11] = [
-    Case {
+static HEAD_AND_TEXT: [Field; 6] = [
+    Field {
         start: 0,
         end: 0,
-        bytes: &[],
-        fault: None,
+        cases: &[(&[], None)],
     },
-    Case {
+    Field {
         start: 3,
         end: 4,
-        bytes: &[0x48],
-        fault: Some((0, Why::Magic)),
+        cases: &[(&[0x48], Some((0, Magic)))],
     },
-    Case {
+    Field {
         start: 4,
         end: 5,
-        bytes: &[2],
-        fault: Some((4, Why::Version)),
+        cases: &[(&[2], Some((4, Version)))],
     },
-    Case {
+    Field {
         start: 8,
         end: 12,
-        bytes: &[0, 0, 0, 1],
-        fault: None,
+        cases: &[(&[0, 0, 0, 1], None), (&[1, 0, 0, 1], Some((8, Limit)))],
     },
-    Case {
-        start: 8,
-        end: 12,
-        bytes: &[1, 0, 0, 1],
-        fault: Some((8, Why::Limit)),
-    },
-    Case {
+    Field {
         start: 12,
         end: 16,
-        bytes: &[0xfc, 0xff, 0, 0],
-        fault: Some((12, Why::Range)),
+        cases: &[
+            (&[0xfc, 0xff, 0, 0], Some((12, Range))),
+            (&[2, 0, 1, 0], Some((12, Range))),
+            (&[0, 0, 0, 16], Some((12, Range))),
+        ],
     },
-    Case {
-        start: 12,
-        end: 16,
-        bytes: &[2, 0, 1, 0],
-        fault: Some((12, Why::Range)),
-    },
-    Case {
-        start: 12,
-        end: 16,
-        bytes: &[0, 0, 0, 16],
-        fault: Some((12, Why::Range)),
-    },
-    Case {
+    Field {
         start: 16,
         end: 20,
-        bytes: &[0, 0, 0, 0],
-        fault: Some((16, Why::Range)),
-    },
-    Case {
-        start: 16,
-        end: 20,
-        bytes: &[1, 0xc0, 0xff, 3],
-        fault: Some((16, Why::Range)),
-    },
-    Case {
-        start: 16,
-        end: 20,
-        bytes: &[0, 0xc0, 0xff, 3],
-        fault: Some((68, Why::Truncated)),
+        cases: &[
+            (&[0, 0, 0, 0], Some((16, Range))),
+            (&[1, 0xc0, 0xff, 3], Some((16, Range))),
+            (&[0, 0xc0, 0xff, 3], Some((68, Truncated))),
+        ],
     },
 ];
 
-static PROCEDURES: [Case; 13] = [
-    Case {
+static PROCEDURES: [Field; 6] = [
+    Field {
         start: 28,
         end: 32,
-        bytes: &[1, 16, 0, 0],
-        fault: Some((28, Why::Limit)),
+        cases: &[(&[1, 16, 0, 0], Some((28, Limit)))],
     },
-    Case {
+    Field {
         start: 28,
         end: 42,
-        bytes: &[0, 0, 0, 0],
-        fault: Some((28, Why::Range)),
+        cases: &[
+            (&[0, 0, 0, 0], Some((28, Range))),
+            (
+                &[2, 0, 0, 0, 1, 0, 0x62, 0, 0, 1, 0, 1, 0, 0x61, 4, 0, 1, 0],
+                Some((39, Order)),
+            ),
+            (
+                &[2, 0, 0, 0, 1, 0, 0x61, 0, 0, 1, 0, 1, 0, 0x61, 4, 0, 1, 0],
+                Some((39, Order)),
+            ),
+            (
+                &[2, 0, 0, 0, 1, 0, 0x61, 0, 0, 1, 0, 1, 0, 0x62, 0, 0, 1, 0],
+                Some((42, Overlap)),
+            ),
+            (
+                &[2, 0, 0, 0, 1, 0, 0x61, 4, 0, 1, 0, 1, 0, 0x62, 0, 0, 1, 0],
+                None,
+            ),
+        ],
     },
-    Case {
+    Field {
         start: 34,
         end: 35,
-        bytes: &[0x31],
-        fault: Some((32, Why::Range)),
+        cases: &[(&[0x31], Some((32, Range)))],
     },
-    Case {
+    Field {
         start: 32,
         end: 38,
-        bytes: &[0, 0],
-        fault: Some((32, Why::Range)),
+        cases: &[(&[0, 0], Some((32, Range)))],
     },
-    Case {
+    Field {
         start: 38,
         end: 42,
-        bytes: &[8, 0, 1, 0],
-        fault: Some((38, Why::Range)),
+        cases: &[
+            (&[8, 0, 1, 0], Some((38, Range))),
+            (&[2, 0, 1, 0], Some((38, Range))),
+            (&[0xfc, 0xff, 0, 0], Some((38, Range))),
+            (&[4, 0, 1, 0], Some((28, Range))),
+        ],
     },
-    Case {
-        start: 38,
-        end: 42,
-        bytes: &[2, 0, 1, 0],
-        fault: Some((38, Why::Range)),
-    },
-    Case {
-        start: 38,
-        end: 42,
-        bytes: &[0xfc, 0xff, 0, 0],
-        fault: Some((38, Why::Range)),
-    },
-    Case {
-        start: 38,
-        end: 42,
-        bytes: &[4, 0, 1, 0],
-        fault: Some((28, Why::Range)),
-    },
-    Case {
-        start: 28,
-        end: 42,
-        bytes: &[2, 0, 0, 0, 1, 0, 0x62, 0, 0, 1, 0, 1, 0, 0x61, 4, 0, 1, 0],
-        fault: Some((39, Why::Order)),
-    },
-    Case {
-        start: 28,
-        end: 42,
-        bytes: &[2, 0, 0, 0, 1, 0, 0x61, 0, 0, 1, 0, 1, 0, 0x61, 4, 0, 1, 0],
-        fault: Some((39, Why::Order)),
-    },
-    Case {
-        start: 28,
-        end: 42,
-        bytes: &[2, 0, 0, 0, 1, 0, 0x61, 0, 0, 1, 0, 1, 0, 0x62, 0, 0, 1, 0],
-        fault: Some((42, Why::Overlap)),
-    },
-    Case {
-        start: 28,
-        end: 42,
-        bytes: &[2, 0, 0, 0, 1, 0, 0x61, 4, 0, 1, 0, 1, 0, 0x62, 0, 0, 1, 0],
-        fault: None,
-    },
-    Case {
+    Field {
         start: 42,
         end: 46,
-        bytes: &[4, 0, 1, 0],
-        fault: Some((42, Why::Range)),
+        cases: &[(&[4, 0, 1, 0], Some((42, Range)))],
     },
 ];
 
-static DATA_RANGES: [Case; 10] = [
-    Case {
-        start: 46,
-        end: 50,
-        bytes: &[17, 0, 0, 0],
-        fault: Some((46, Why::Limit)),
-    },
-    Case {
-        start: 46,
-        end: 50,
-        bytes: &[1, 0, 0, 0, 0, 0x80, 0, 0, 4, 0, 0, 0, 1, 2, 3, 4],
-        fault: Some((50, Why::Range)),
-    },
-    Case {
-        start: 46,
-        end: 50,
-        bytes: &[1, 0, 0, 0, 0, 0, 2, 0, 0, 0, 0, 0],
-        fault: Some((54, Why::Range)),
-    },
-    Case {
-        start: 46,
-        end: 50,
-        bytes: &[1, 0, 0, 0, 0, 0, 2, 0, 6, 0, 0, 0, 1, 2, 3, 4, 5, 6],
-        fault: Some((54, Why::Range)),
-    },
-    Case {
-        start: 46,
-        end: 50,
-        bytes: &[1, 0, 0, 0, 0xfc, 0xff, 0xff, 15, 8, 0, 0, 0],
-        fault: Some((54, Why::Range)),
-    },
-    Case {
-        start: 46,
-        end: 50,
-        bytes: &[1, 0, 0, 0, 0, 0, 2, 0, 4, 0, 16, 0],
-        fault: Some((54, Why::Limit)),
-    },
-    Case {
-        start: 46,
-        end: 50,
-        bytes: &[1, 0, 0, 0, 4, 0, 1, 0, 4, 0, 0, 0, 1, 2, 3, 4],
-        fault: Some((50, Why::Overlap)),
-    },
-    Case {
-        start: 46,
-        end: 50,
-        bytes: &[1, 0, 0, 0, 0, 0, 2, 0, 0, 16, 0, 0],
-        fault: Some((58, Why::Truncated)),
-    },
-    Case {
-        start: 46,
-        end: 50,
-        bytes: &[
-            2, 0, 0, 0, 0, 0, 2, 0, 8, 0, 0, 0, 1, 2, 3, 4, 5, 6, 7, 8, 4, 0, 2, 0, 4, 0, 0, 0, 9,
-            9, 9, 9,
-        ],
-        fault: Some((66, Why::Overlap)),
-    },
-    Case {
-        start: 46,
-        end: 50,
-        bytes: &[
-            2, 0, 0, 0, 8, 0, 1, 0, 4, 0, 0, 0, 1, 2, 3, 4, 12, 0, 1, 0, 4, 0, 0, 0, 5, 6, 7, 8,
-        ],
-        fault: None,
-    },
-];
+static DATA_RANGES: Field = Field {
+    start: 46,
+    end: 50,
+    cases: &[
+        (&[17, 0, 0, 0], Some((46, Limit))),
+        (
+            &[1, 0, 0, 0, 0, 0x80, 0, 0, 4, 0, 0, 0, 1, 2, 3, 4],
+            Some((50, Range)),
+        ),
+        (&[1, 0, 0, 0, 0, 0, 2, 0, 0, 0, 0, 0], Some((54, Range))),
+        (
+            &[1, 0, 0, 0, 0, 0, 2, 0, 6, 0, 0, 0, 1, 2, 3, 4, 5, 6],
+            Some((54, Range)),
+        ),
+        (
+            &[1, 0, 0, 0, 0xfc, 0xff, 0xff, 15, 8, 0, 0, 0],
+            Some((54, Range)),
+        ),
+        (&[1, 0, 0, 0, 0, 0, 2, 0, 4, 0, 16, 0], Some((54, Limit))),
+        (
+            &[1, 0, 0, 0, 4, 0, 1, 0, 4, 0, 0, 0, 1, 2, 3, 4],
+            Some((50, Overlap)),
+        ),
+        (
+            &[1, 0, 0, 0, 0, 0, 2, 0, 0, 16, 0, 0],
+            Some((58, Truncated)),
+        ),
+        (
+            &[
+                2, 0, 0, 0, 0, 0, 2, 0, 8, 0, 0, 0, 1, 2, 3, 4, 5, 6, 7, 8, 4, 0, 2, 0, 4, 0, 0, 0,
+                9, 9, 9, 9,
+            ],
+            Some((66, Overlap)),
+        ),
+        (
+            &[
+                2, 0, 0, 0, 8, 0, 1, 0, 4, 0, 0, 0, 1, 2, 3, 4, 12, 0, 1, 0, 4, 0, 0, 0, 5, 6, 7, 8,
+            ],
+            None,
+        ),
+    ],
+};
 
-static TAGS: [Case; 8] = [
-    Case {
-        start: 50,
-        end: 54,
-        bytes: &[1, 1, 0, 0],
-        fault: Some((50, Why::Limit)),
-    },
-    Case {
-        start: 50,
-        end: 54,
-        bytes: &[1, 0, 0, 0, 0, 0, 1, 0, 0, 0, 0, 0, 0, 0, 0, 0, 0, 0],
-        fault: Some((54, Why::Range)),
-    },
-    Case {
-        start: 50,
-        end: 54,
-        bytes: &[1, 0, 0, 0, 1, 0, 0x61, 0, 0, 0, 0, 0, 0, 0, 0, 0, 0, 0, 0],
-        fault: Some((57, Why::Range)),
-    },
-    Case {
-        start: 50,
-        end: 54,
-        bytes: &[1, 0, 0, 0, 1, 0, 0x61, 17, 0, 0, 0, 0, 0, 0, 0, 0, 0, 0, 0],
-        fault: Some((57, Why::Range)),
-    },
-    Case {
-        start: 50,
-        end: 54,
-        bytes: &[1, 0, 0, 0, 1, 0, 0x61, 16, 0, 0, 0, 4, 0, 0, 0, 0, 0, 0, 0],
-        fault: Some((61, Why::Range)),
-    },
-    Case {
-        start: 50,
-        end: 54,
-        bytes: &[1, 0, 0, 0, 1, 0, 0x61, 1, 0, 0, 0, 3, 0, 0, 0, 1, 16, 0, 0],
-        fault: Some((65, Why::Range)),
-    },
-    Case {
-        start: 50,
-        end: 54,
-        bytes: &[1, 0, 0, 0, 1, 0, 0x61, 1, 0, 0, 0, 3, 0, 0, 0, 0, 16, 0, 0],
-        fault: Some((69, Why::Truncated)),
-    },
-    Case {
-        start: 50,
-        end: 54,
-        bytes: &[
-            2, 0, 0, 0, 1, 0, 0x62, 1, 0, 0, 0, 0, 0, 0, 0, 0, 0, 0, 0, 1, 0, 0x61, 1, 0, 0, 0, 0,
-            0, 0, 0, 0, 0, 0, 0,
-        ],
-        fault: Some((69, Why::Order)),
-    },
-];
+static TAGS: Field = Field {
+    start: 50,
+    end: 54,
+    cases: &[
+        (&[1, 1, 0, 0], Some((50, Limit))),
+        (
+            &[1, 0, 0, 0, 0, 0, 1, 0, 0, 0, 0, 0, 0, 0, 0, 0, 0, 0],
+            Some((54, Range)),
+        ),
+        (
+            &[1, 0, 0, 0, 1, 0, 0x61, 0, 0, 0, 0, 0, 0, 0, 0, 0, 0, 0, 0],
+            Some((57, Range)),
+        ),
+        (
+            &[1, 0, 0, 0, 1, 0, 0x61, 17, 0, 0, 0, 0, 0, 0, 0, 0, 0, 0, 0],
+            Some((57, Range)),
+        ),
+        (
+            &[1, 0, 0, 0, 1, 0, 0x61, 16, 0, 0, 0, 4, 0, 0, 0, 0, 0, 0, 0],
+            Some((61, Range)),
+        ),
+        (
+            &[1, 0, 0, 0, 1, 0, 0x61, 1, 0, 0, 0, 3, 0, 0, 0, 1, 16, 0, 0],
+            Some((65, Range)),
+        ),
+        (
+            &[1, 0, 0, 0, 1, 0, 0x61, 1, 0, 0, 0, 3, 0, 0, 0, 0, 16, 0, 0],
+            Some((69, Truncated)),
+        ),
+        (
+            &[
+                2, 0, 0, 0, 1, 0, 0x62, 1, 0, 0, 0, 0, 0, 0, 0, 0, 0, 0, 0, 1, 0, 0x61, 1, 0, 0, 0,
+                0, 0, 0, 0, 0, 0, 0, 0,
+            ],
+            Some((69, Order)),
+        ),
+    ],
+};
 
-static DESCRIPTORS: [Case; 7] = [
-    Case {
-        start: 54,
-        end: 58,
-        bytes: &[65, 0, 0, 0],
-        fault: Some((54, Why::Limit)),
-    },
-    Case {
-        start: 54,
-        end: 58,
-        bytes: &[1, 0, 0, 0, 1, 0, 0x20, 0, 0, 0, 0, 0, 0, 0, 0, 0, 0, 0, 0],
-        fault: Some((58, Why::Range)),
-    },
-    Case {
-        start: 54,
-        end: 58,
-        bytes: &[1, 0, 0, 0, 1, 0, 0x61, 2, 0, 0, 0, 0, 0, 0, 0, 0, 0, 0, 0],
-        fault: Some((61, Why::Range)),
-    },
-    Case {
-        start: 54,
-        end: 58,
-        bytes: &[1, 0, 0, 0, 1, 0, 0x61, 1, 0, 0, 0, 4, 0, 0, 0, 0, 0, 0, 0],
-        fault: Some((65, Why::Range)),
-    },
-    Case {
-        start: 54,
-        end: 58,
-        bytes: &[
-            1, 0, 0, 0, 1, 0, 0x61, 1, 0, 0, 0, 3, 0, 0, 0, 1, 0, 0, 0, 9,
-        ],
-        fault: Some((69, Why::Range)),
-    },
-    Case {
-        start: 54,
-        end: 58,
-        bytes: &[
-            1, 0, 0, 0, 1, 0, 0x61, 0, 0, 0, 0, 3, 0, 0, 0, 1, 0, 0, 0, 9,
-        ],
-        fault: None,
-    },
-    Case {
-        start: 54,
-        end: 58,
-        bytes: &[
-            2, 0, 0, 0, 1, 0, 0x61, 1, 0, 0, 0, 0, 0, 0, 0, 0, 0, 0, 0, 1, 0, 0x61, 1, 0, 0, 0, 0,
-            0, 0, 0, 0, 0, 0, 0,
-        ],
-        fault: Some((73, Why::Order)),
-    },
-];
+static DESCRIPTORS: Field = Field {
+    start: 54,
+    end: 58,
+    cases: &[
+        (&[65, 0, 0, 0], Some((54, Limit))),
+        (
+            &[1, 0, 0, 0, 1, 0, 0x20, 0, 0, 0, 0, 0, 0, 0, 0, 0, 0, 0, 0],
+            Some((58, Range)),
+        ),
+        (
+            &[1, 0, 0, 0, 1, 0, 0x61, 2, 0, 0, 0, 0, 0, 0, 0, 0, 0, 0, 0],
+            Some((61, Range)),
+        ),
+        (
+            &[1, 0, 0, 0, 1, 0, 0x61, 1, 0, 0, 0, 4, 0, 0, 0, 0, 0, 0, 0],
+            Some((65, Range)),
+        ),
+        (
+            &[
+                1, 0, 0, 0, 1, 0, 0x61, 1, 0, 0, 0, 3, 0, 0, 0, 1, 0, 0, 0, 9,
+            ],
+            Some((69, Range)),
+        ),
+        (
+            &[
+                1, 0, 0, 0, 1, 0, 0x61, 0, 0, 0, 0, 3, 0, 0, 0, 1, 0, 0, 0, 9,
+            ],
+            None,
+        ),
+        (
+            &[
+                2, 0, 0, 0, 1, 0, 0x61, 1, 0, 0, 0, 0, 0, 0, 0, 0, 0, 0, 0, 1, 0, 0x61, 1, 0, 0, 0,
+                0, 0, 0, 0, 0, 0, 0, 0,
+            ],
+            Some((73, Order)),
+        ),
+    ],
+};
 
-static FILES: [Case; 7] = [
-    Case {
-        start: 58,
-        end: 62,
-        bytes: &[1, 4, 0, 0],
-        fault: Some((58, Why::Limit)),
-    },
-    Case {
-        start: 58,
-        end: 62,
-        bytes: &[
-            1, 0, 0, 0, 3, 0, 0x2f, 0x61, 0x2f, 0, 0, 0, 0, 0, 0, 0, 0, 0, 0, 0, 0, 0, 0, 0, 0,
-        ],
-        fault: Some((62, Why::Range)),
-    },
-    Case {
-        start: 58,
-        end: 62,
-        bytes: &[
-            1, 0, 0, 0, 1, 0, 0x2f, 0, 0, 0, 0, 0, 0, 0, 0, 0, 0, 0, 0, 0, 0, 0, 0,
-        ],
-        fault: Some((62, Why::Range)),
-    },
-    Case {
-        start: 58,
-        end: 62,
-        bytes: &[
-            1, 0, 0, 0, 2, 0, 0x2f, 0x61, 9, 0, 0, 0, 16, 0, 0, 0, 0, 0, 0, 0, 0, 0, 0, 0,
-        ],
-        fault: Some((70, Why::Range)),
-    },
-    Case {
-        start: 58,
-        end: 62,
-        bytes: &[
-            1, 0, 0, 0, 2, 0, 0x2f, 0x61, 9, 0, 0, 0, 15, 0, 0, 0, 2, 0, 0, 0, 0, 0, 0, 0,
-        ],
-        fault: Some((74, Why::Range)),
-    },
-    Case {
-        start: 58,
-        end: 62,
-        bytes: &[
-            1, 0, 0, 0, 2, 0, 0x2f, 0x61, 9, 0, 0, 0, 15, 0, 0, 0, 1, 0, 0, 0, 1, 0, 0, 0, 7,
-        ],
-        fault: Some((78, Why::Range)),
-    },
-    Case {
-        start: 58,
-        end: 62,
-        bytes: &[
-            2, 0, 0, 0, 2, 0, 0x2f, 0x62, 9, 0, 0, 0, 15, 0, 0, 0, 0, 0, 0, 0, 0, 0, 0, 0, 2, 0,
-            0x2f, 0x61, 9, 0, 0, 0, 15, 0, 0, 0, 0, 0, 0, 0, 0, 0, 0, 0,
-        ],
-        fault: Some((82, Why::Order)),
-    },
-];
+static FILES: Field = Field {
+    start: 58,
+    end: 62,
+    cases: &[
+        (&[1, 4, 0, 0], Some((58, Limit))),
+        (
+            &[
+                1, 0, 0, 0, 3, 0, 0x2f, 0x61, 0x2f, 0, 0, 0, 0, 0, 0, 0, 0, 0, 0, 0, 0, 0, 0, 0, 0,
+            ],
+            Some((62, Range)),
+        ),
+        (
+            &[
+                1, 0, 0, 0, 1, 0, 0x2f, 0, 0, 0, 0, 0, 0, 0, 0, 0, 0, 0, 0, 0, 0, 0, 0,
+            ],
+            Some((62, Range)),
+        ),
+        (
+            &[
+                1, 0, 0, 0, 2, 0, 0x2f, 0x61, 9, 0, 0, 0, 16, 0, 0, 0, 0, 0, 0, 0, 0, 0, 0, 0,
+            ],
+            Some((70, Range)),
+        ),
+        (
+            &[
+                1, 0, 0, 0, 2, 0, 0x2f, 0x61, 9, 0, 0, 0, 15, 0, 0, 0, 2, 0, 0, 0, 0, 0, 0, 0,
+            ],
+            Some((74, Range)),
+        ),
+        (
+            &[
+                1, 0, 0, 0, 2, 0, 0x2f, 0x61, 9, 0, 0, 0, 15, 0, 0, 0, 1, 0, 0, 0, 1, 0, 0, 0, 7,
+            ],
+            Some((78, Range)),
+        ),
+        (
+            &[
+                2, 0, 0, 0, 2, 0, 0x2f, 0x62, 9, 0, 0, 0, 15, 0, 0, 0, 0, 0, 0, 0, 0, 0, 0, 0, 2,
+                0, 0x2f, 0x61, 9, 0, 0, 0, 15, 0, 0, 0, 0, 0, 0, 0, 0, 0, 0, 0,
+            ],
+            Some((82, Order)),
+        ),
+    ],
+};
 
-static ROOT_AND_END: [Case; 9] = [
-    Case {
+static ROOT_AND_END: [Field; 3] = [
+    Field {
         start: 62,
         end: 66,
-        bytes: &[0xff, 0xff, 0xff, 0xff],
-        fault: None,
+        cases: &[(&[0xff, 0xff, 0xff, 0xff], None)],
     },
-    Case {
+    Field {
         start: 66,
         end: 69,
-        bytes: &[0, 0],
-        fault: Some((66, Why::Range)),
+        cases: &[
+            (&[0, 0], Some((66, Range))),
+            (&[1, 0, 0x61], Some((66, Range))),
+            (&[2, 0, 0x2f, 0x2f], Some((66, Range))),
+            (&[2, 0, 0x2f, 0x2e], Some((66, Range))),
+            (&[3, 0, 0x2f, 0x2e, 0x2e], Some((66, Range))),
+            (&[2, 0, 0x2f, 0x7f], Some((66, Range))),
+            (&[4, 0, 0x2f, 0x61, 0x2f, 0x62], None),
+        ],
     },
-    Case {
-        start: 66,
-        end: 69,
-        bytes: &[1, 0, 0x61],
-        fault: Some((66, Why::Range)),
-    },
-    Case {
-        start: 66,
-        end: 69,
-        bytes: &[2, 0, 0x2f, 0x2f],
-        fault: Some((66, Why::Range)),
-    },
-    Case {
-        start: 66,
-        end: 69,
-        bytes: &[2, 0, 0x2f, 0x2e],
-        fault: Some((66, Why::Range)),
-    },
-    Case {
-        start: 66,
-        end: 69,
-        bytes: &[3, 0, 0x2f, 0x2e, 0x2e],
-        fault: Some((66, Why::Range)),
-    },
-    Case {
-        start: 66,
-        end: 69,
-        bytes: &[2, 0, 0x2f, 0x7f],
-        fault: Some((66, Why::Range)),
-    },
-    Case {
-        start: 66,
-        end: 69,
-        bytes: &[4, 0, 0x2f, 0x61, 0x2f, 0x62],
-        fault: None,
-    },
-    Case {
+    Field {
         start: 69,
         end: 69,
-        bytes: &[0],
-        fault: Some((69, Why::Trailing)),
+        cases: &[(&[0], Some((69, Trailing)))],
     },
 ];
 
-fn fault_of(alloc: Global, bytes: &[u8]) -> Result<Option<(usize, Why)>, NoMemory> {
-    match read_image(alloc, bytes) {
+/// The fault of what was refused.
+fn fault_in(answer: Result<Image, ImageError>) -> Result<Option<(usize, Why)>, NoMemory> {
+    match answer {
         Ok(_) => Ok(None),
         Err(ImageError::NoMemory) => Err(NoMemory),
         Err(ImageError::Fault(fault)) => Ok(Some((fault.at, fault.why))),
     }
 }
 
-/// The bytes of a case.
-fn edited(alloc: Global, case: &Case) -> Result<Vec<u8>, NoMemory> {
+pub(crate) fn fault_of(alloc: Global, bytes: &[u8]) -> Result<Option<(usize, Why)>, NoMemory> {
+    fault_in(read_image(alloc, bytes))
+}
+
+/// `SMALL` with other bytes in place of a field.
+fn edited(alloc: Global, field: &Field, bytes: &[u8]) -> Result<Vec<u8>, NoMemory> {
     let mut file = Vec::new(alloc);
-    for byte in SMALL.iter().take(case.start) {
+    for byte in SMALL.iter().take(field.start) {
         file.push(*byte)?;
     }
-    file.extend_from_slice(case.bytes)?;
-    for byte in SMALL.iter().skip(case.end) {
+    file.extend_from_slice(bytes)?;
+    for byte in SMALL.iter().skip(field.end) {
         file.push(*byte)?;
     }
     Ok(file)
 }
 
-fn check(rt: &impl Abort, alloc: Global, cases: &[Case]) -> Result<(), Fail> {
-    for case in cases {
-        let file = edited(alloc, case)?;
-        assert_eq!(rt; fault_of(alloc, &file)?, case.fault);
+fn check_field(rt: &impl Abort, alloc: Global, field: &Field) -> Result<(), Fail> {
+    for (bytes, fault) in field.cases {
+        let file = edited(alloc, field, bytes)?;
+        assert_eq!(rt; fault_of(alloc, &file)?, *fault);
+    }
+    Ok(())
+}
+
+fn check_fields(rt: &impl Abort, alloc: Global, fields: &[Field]) -> Result<(), Fail> {
+    for field in fields {
+        check_field(rt, alloc, field)?;
     }
     Ok(())
 }
 
 #[test]
 fn no_bytes(rt: HostRuntime) -> Result<(), Fail> {
-    assert_eq!(rt; fault_of(rt.alloc(), &[])?, Some((0, Why::Truncated)));
+    assert_eq!(rt; fault_of(rt.alloc(), &[])?, Some((0, Truncated)));
     Ok(())
 }
 
@@ -537,7 +402,7 @@ fn last_start(place: usize) -> usize {
 fn each_proper_prefix(rt: HostRuntime) -> Result<(), Fail> {
     for length in 0..139 {
         let fault = prefix_fault(rt.alloc(), length)?;
-        assert_eq!(rt; fault, Some((last_start(length), Why::Truncated)));
+        assert_eq!(rt; fault, Some((last_start(length), Truncated)));
     }
     Ok(())
 }
@@ -546,50 +411,50 @@ fn each_proper_prefix(rt: HostRuntime) -> Result<(), Fail> {
 fn one_byte_more(rt: HostRuntime) -> Result<(), Fail> {
     let mut file = IMAGE.to_vec(rt.alloc())?;
     file.push(0)?;
-    assert_eq!(rt; fault_of(rt.alloc(), &file)?, Some((139, Why::Trailing)));
+    assert_eq!(rt; fault_of(rt.alloc(), &file)?, Some((139, Trailing)));
     Ok(())
 }
 
 #[test]
 fn more_than_a_file_may_have(rt: HostRuntime) -> Result<(), Fail> {
     let file = vec![in rt.alloc(); 0u8; 16777217]?;
-    assert_eq!(rt; fault_of(rt.alloc(), &file)?, Some((16777216, Why::Limit)));
+    assert_eq!(rt; fault_of(rt.alloc(), &file)?, Some((16777216, Limit)));
     Ok(())
 }
 
 #[test]
 fn head_and_text(rt: HostRuntime) -> Result<(), Fail> {
-    check(&rt, rt.alloc(), &HEAD_AND_TEXT)
+    check_fields(&rt, rt.alloc(), &HEAD_AND_TEXT)
 }
 
 #[test]
 fn procedures(rt: HostRuntime) -> Result<(), Fail> {
-    check(&rt, rt.alloc(), &PROCEDURES)
+    check_fields(&rt, rt.alloc(), &PROCEDURES)
 }
 
 #[test]
 fn data_ranges(rt: HostRuntime) -> Result<(), Fail> {
-    check(&rt, rt.alloc(), &DATA_RANGES)
+    check_field(&rt, rt.alloc(), &DATA_RANGES)
 }
 
 #[test]
 fn tags(rt: HostRuntime) -> Result<(), Fail> {
-    check(&rt, rt.alloc(), &TAGS)
+    check_field(&rt, rt.alloc(), &TAGS)
 }
 
 #[test]
 fn descriptors(rt: HostRuntime) -> Result<(), Fail> {
-    check(&rt, rt.alloc(), &DESCRIPTORS)
+    check_field(&rt, rt.alloc(), &DESCRIPTORS)
 }
 
 #[test]
 fn files(rt: HostRuntime) -> Result<(), Fail> {
-    check(&rt, rt.alloc(), &FILES)
+    check_field(&rt, rt.alloc(), &FILES)
 }
 
 #[test]
 fn root_and_end(rt: HostRuntime) -> Result<(), Fail> {
-    check(&rt, rt.alloc(), &ROOT_AND_END)
+    check_fields(&rt, rt.alloc(), &ROOT_AND_END)
 }
 
 fn bytes(alloc: Global, text: &[u8]) -> Result<Bytes, NoMemory> {
@@ -627,11 +492,7 @@ fn parts(alloc: Global, name: Bytes, content: Bytes) -> Result<ImageParts, NoMem
 }
 
 fn finish_fault(alloc: Global, parts: ImageParts) -> Result<Option<(usize, Why)>, NoMemory> {
-    match finish_image(alloc, parts) {
-        Ok(_) => Ok(None),
-        Err(ImageError::NoMemory) => Err(NoMemory),
-        Err(ImageError::Fault(fault)) => Ok(Some((fault.at, fault.why))),
-    }
+    fault_in(finish_image(alloc, parts))
 }
 
 /// An image that is no refusal.
@@ -763,7 +624,7 @@ fn finished_parts(rt: HostRuntime) -> Result<(), Fail> {
 fn finished_with_no_name(rt: HostRuntime) -> Result<(), Fail> {
     let alloc = rt.alloc();
     let no_name = parts(alloc, bytes(alloc, b"a b")?, bytes(alloc, b"hi")?)?;
-    assert_eq!(rt; finish_fault(alloc, no_name)?, Some((28, Why::Range)));
+    assert_eq!(rt; finish_fault(alloc, no_name)?, Some((28, Range)));
     Ok(())
 }
 
@@ -772,7 +633,7 @@ fn finished_with_a_name_that_no_length_tells(rt: HostRuntime) -> Result<(), Fail
     let alloc = rt.alloc();
     let name = Items::new(vec![in alloc; 97u8; 70000]?);
     let long_name = parts(alloc, name, bytes(alloc, b"hi")?)?;
-    assert_eq!(rt; finish_fault(alloc, long_name)?, Some((28, Why::Range)));
+    assert_eq!(rt; finish_fault(alloc, long_name)?, Some((28, Range)));
     Ok(())
 }
 
@@ -781,9 +642,6 @@ fn finished_with_a_file_that_is_too_large(rt: HostRuntime) -> Result<(), Fail> {
     let alloc = rt.alloc();
     let content = Items::new(vec![in alloc; 97u8; 16777216]?);
     let large_file = parts(alloc, bytes(alloc, b"a b")?, content)?;
-    assert_eq!(rt;
-        finish_fault(alloc, large_file)?,
-        Some((16777216, Why::Limit))
-    );
+    assert_eq!(rt; finish_fault(alloc, large_file)?, Some((16777216, Limit)));
     Ok(())
 }

@@ -6,6 +6,7 @@ ghost use Rattle.image_form.specs.Reading as reading;
 ghost use Rattle.image_form.specs.Reading.{Gives};
 ghost use Rattle.image_form.specs.declared.fault.Why.TheVariants as why;
 
+use crate::entries::entry_list;
 use crate::fault::{ImageError, Why};
 use crate::fields::{number, refused};
 use std::alloc::Global;
@@ -29,27 +30,6 @@ pub(crate) fn base(total: usize, bytes: &[u8]) -> Result<(u32, &[u8]), ImageErro
     Ok((base, rest))
 }
 
-/// So many words.
-fn word_list(
-    alloc: Global,
-    count: u32,
-    total: usize,
-    bytes: &[u8],
-) -> Result<(Vec<u32>, &[u8]), ImageError>
-    ensures is { Gives (λ x. (x.0.items, x.1.now)) result
-        (reading.entries_at (λ _. reading.number_at total) count [] bytes.now) }
-    ensures long { IfOk result (λ x. length x.0.items ≡ count) }
-{
-    let mut words = Vec::new(alloc);
-    let mut rest = bytes;
-    for _ in 0..count {
-        let (word, after) = number(total, rest)?;
-        words.push(word)?;
-        rest = after;
-    }
-    Ok((words, rest))
-}
-
 /// The words after their count.
 #[tactic(auto, unfolding(crate::specs::Reading::checked_at, crate::specs::Reading::words_at))]
 pub(crate) fn words(
@@ -65,5 +45,5 @@ pub(crate) fn words(
     if count == 0 || u64::from(HIGH_END) < u64::from(base) + 4 * u64::from(count) {
         return Err(refused(total, bytes, Why::Range));
     }
-    word_list(alloc, count, total, rest)
+    entry_list(alloc, count, total, rest)
 }

@@ -49,7 +49,8 @@ pub(crate) trait Entry: Sortable {
 
 /// The entries that the tables of the array at a key name.
 fn entries_at<T: Entry + Drop>(alloc: Global, top: &Table, key: Key) -> Result<Vec<T>, NoMemory>
-    ensures { IfOk result (λ v. v.items ≡ map T.entry_of (values.tables_at key (table_view top.now))) }
+    ensures { IfOk result (λ v. v.items
+        ≡ map T.entry_of (values.tables_at key (table_view top.now))) }
 {
     let tables = tables_at(alloc, top, key)?;
     let mut entries = Vec::new(alloc);

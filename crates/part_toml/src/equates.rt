@@ -84,7 +84,8 @@ fn push_ranges(
     equates: &mut Vec<Equate>,
     ranges: &[NamedRange],
 ) -> Result<(), NoMemory>
-    ensures { OnOk result (equates.new.items ≡ equates.old.items ++ map parts.range_equate ranges.now) }
+    ensures { OnOk result (equates.new.items
+        ≡ equates.old.items ++ map parts.range_equate ranges.now) }
 {
     for named in ranges {
         push(

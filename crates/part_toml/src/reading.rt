@@ -70,7 +70,8 @@ fn image_parts(
     entry: u32,
 ) -> Result<ImageParts, NoMemory>
     requires { AreEntries entries (table_view top.now) }
-    ensures { IfOk result (λ p. image.image_of p ≡ partition.image_of (table_view top.now) text entry) }
+    ensures { IfOk result (λ p. image.image_of p
+        ≡ partition.image_of (table_view top.now) text entry) }
 {
     let mut procedures = text.procedures.into_vec();
     sort(&mut procedures)?;

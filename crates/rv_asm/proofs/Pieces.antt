@@ -6,7 +6,7 @@ use Rattle.std.proofs.lemmas.List.{append_assoc, length-append, drop_all}
 use Rattle.std.proofs.lemmas.List.Elements.{All-head, All-tail}
 use Rattle.std.proofs.lemmas.List.Splits.{slice_split_none, slice_split_at}
 use Rattle.rv_asm.specs.Lexing.{is_blank, is_comma, trim, trim_start, lines, content, first_word, following, operands}
-use Rattle.rv_asm.proofs.Plain.{is_said, is_whole, is_plain, plain_blank, plain_whole, whole_comma, whole_said, said_comment, said_end, none_pass, each_passes, all_append, IsTight, trim_tight, trim_space, start_tight, tight_between, tight_plain}
+use Rattle.rv_asm.proofs.Plain.{is_said, is_complete, is_plain, plain_blank, plain_whole, whole_comma, whole_said, said_comment, said_end, none_pass, each_passes, all_append, IsTight, trim_tight, trim_space, start_tight, tight_between, tight_plain}
 
 module _ (p : ℕ → Bool) where
   place : (xs : List ℕ) (y : ℕ) (ys : List ℕ) → All (λ x. p x ≡ false) xs → p y ≡ true → position_or_len p (xs ++ y ∷ ys) ≡ length xs
@@ -44,10 +44,10 @@ module _ (p : ℕ → Bool) where
 -- an operand: no comma, and no space or tab around it
 pub record IsOperand (w : List ℕ) : Type 0 where
   pub tight : IsTight w
-  pub each : list_all is_whole w ≡ true
+  pub each : list_all is_complete w ≡ true
 
 pub operand_plain : (w : List ℕ) → 0 < length w → list_all is_plain w ≡ true → IsOperand w
-operand_plain w l h = record { tight = tight_plain w l h; each = each_passes is_plain is_whole plain_whole w h }
+operand_plain w l h = record { tight = tight_plain w l h; each = each_passes is_plain is_complete plain_whole w h }
 
 -- what a line says: one line, no comment, and no space or tab around it
 pub record IsContent (t : List ℕ) : Type 0 where
@@ -55,7 +55,7 @@ pub record IsContent (t : List ℕ) : Type 0 where
   pub each : list_all is_said t ≡ true
 
 pub content_operand : (w : List ℕ) → IsOperand w → IsContent w
-content_operand w h = record { tight = h.tight; each = each_passes is_whole is_said whole_said w h.each }
+content_operand w h = record { tight = h.tight; each = each_passes is_complete is_said whole_said w h.each }
 
 -- a text and one after it, with a comma and a space
 unfoldable pub pair : List ℕ → List ℕ → List ℕ
@@ -114,8 +114,8 @@ unfolding pair
 pair_some [] b = omega arith
 pair_some (c ∷ cs) b = omega arith
 
-no_comma : (w : List ℕ) → list_all is_whole w ≡ true → All (λ c. is_comma c ≡ false) w
-no_comma w h = none_pass is_whole is_comma whole_comma w h
+no_comma : (w : List ℕ) → list_all is_complete w ≡ true → All (λ c. is_comma c ≡ false) w
+no_comma w h = none_pass is_complete is_comma whole_comma w h
 
 pieces_pair : (a b : List ℕ) → IsOperand a → slice_split is_comma (pair a b) ≡ a ∷ slice_split is_comma (32 ∷ b)
 unfolding pair

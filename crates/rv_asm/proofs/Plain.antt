@@ -12,27 +12,27 @@ abbrev pub is_said : ℕ → Bool
 is_said c = not (c == 35) && not (c == 10)
 
 -- and is no comma
-abbrev pub is_whole : ℕ → Bool
-is_whole c = not (is_comma c) && is_said c
+abbrev pub is_complete : ℕ → Bool
+is_complete c = not (is_comma c) && is_said c
 
 -- and is no space or tab
 abbrev pub is_plain : ℕ → Bool
-is_plain c = not (is_blank c) && is_whole c
+is_plain c = not (is_blank c) && is_complete c
 
 both : (a b : Bool) → (not a && b) ≡ true → (a ≡ false) × (b ≡ true)
 both true b h = absurd cc
 both false b h = (refl, h)
 
 pub plain_blank : (c : ℕ) → is_plain c ≡ true → is_blank c ≡ false
-plain_blank c h = (both (is_blank c) (is_whole c) h).0
+plain_blank c h = (both (is_blank c) (is_complete c) h).0
 
-pub plain_whole : (c : ℕ) → is_plain c ≡ true → is_whole c ≡ true
-plain_whole c h = (both (is_blank c) (is_whole c) h).1
+pub plain_whole : (c : ℕ) → is_plain c ≡ true → is_complete c ≡ true
+plain_whole c h = (both (is_blank c) (is_complete c) h).1
 
-pub whole_comma : (c : ℕ) → is_whole c ≡ true → is_comma c ≡ false
+pub whole_comma : (c : ℕ) → is_complete c ≡ true → is_comma c ≡ false
 whole_comma c h = (both (is_comma c) (is_said c) h).0
 
-pub whole_said : (c : ℕ) → is_whole c ≡ true → is_said c ≡ true
+pub whole_said : (c : ℕ) → is_complete c ≡ true → is_said c ≡ true
 whole_said c h = (both (is_comma c) (is_said c) h).1
 
 pub said_comment : (c : ℕ) → is_said c ≡ true → (c == 35) ≡ false

@@ -3,7 +3,7 @@ use Rattle.std.proofs.Common.{◌≡◌, ℕ, List, [], ◌∷◌, ◌++◌, Som
 use Rattle.std.specs.List.{All}
 use Rattle.rv_asm.specs.Numbers.{Number, number}
 use Rattle.rv_asm.specs.Operands.{register, is_opening, closed_register, based, register_number, register_base, two_registers_number, three_registers}
-use Rattle.rv_asm.proofs.Plain.{is_whole, all_append, tight_between}
+use Rattle.rv_asm.proofs.Plain.{is_complete, all_append, tight_between}
 use Rattle.rv_asm.proofs.Pieces.{IsOperand, pair, operands_two, operands_three, before_at, after_at}
 
 module _ (a b : List ℕ) (h : IsOperand a) (k : IsOperand b) (m : ℕ) (is : register a ≡ Some m) where
@@ -37,5 +37,5 @@ unfolding offset
 operand_offset n r h k =
     record {
       tight = tight_between n (40 ∷ r) (41 ∷ []) h.tight (record { first = refl; last = refl });
-      each = all_append is_whole n (40 ∷ (r ++ 41 ∷ [])) h.each (all_append is_whole r (41 ∷ []) k.each refl);
+      each = all_append is_complete n (40 ∷ (r ++ 41 ∷ [])) h.each (all_append is_complete r (41 ∷ []) k.each refl);
     }

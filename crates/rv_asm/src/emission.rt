@@ -111,7 +111,8 @@ fn load_number(rd: Register, z: i64) -> Code
 
 /// Whether a name was taken before a line.
 fn is_taken(equates: &Equates<'_>, labels: &Labels<'_>, line: usize, name: &[u8]) -> bool
-    ensures { result ≡ assembly.is_taken (equates_view equates.now) (labels_view labels.now) line name.now }
+    ensures { result
+        ≡ assembly.is_taken (equates_view equates.now) (labels_view labels.now) line name.now }
 {
     if equates.get(name).is_some() {
         return true;
@@ -138,7 +139,8 @@ fn label_line(taken: bool, sound: bool) -> Result<Code, Why>
 
 /// A word.
 fn word(equates: &Equates<'_>, number: Number<'_>) -> Result<Code, Why>
-    ensures { Gives code_view result (assembly.word (equates_view equates.now) (number_view number.entry)) }
+    ensures { Gives code_view result
+        (assembly.word (equates_view equates.now) (number_view number.entry)) }
 {
     let z = integer(equates, number)?;
     if !is_word(z) {
@@ -161,7 +163,8 @@ fn number_loaded(equates: &Equates<'_>, rd: Register, number: Number<'_>) -> Res
 
 /// A register gets the address of a label.
 fn address_loaded(labels: &Labels<'_>, rd: Register, name: &[u8]) -> Result<Code, Why>
-    ensures { Gives code_view result (assembly.address_loaded (labels_view labels.now) rd.number name.now) }
+    ensures { Gives code_view result
+        (assembly.address_loaded (labels_view labels.now) rd.number name.now) }
 {
     match labels.get(name) {
         Some(label) => {

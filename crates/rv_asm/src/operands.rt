@@ -51,7 +51,8 @@ pub(crate) fn one_number(text: &[u8]) -> Option<Number<'_>>
 /// A register and a number.
 #[tactic(auto, unfolding(crate::specs::Operands::register_number))]
 pub(crate) fn register_number(text: &[u8]) -> Option<(u8, Number<'_>)>
-    ensures is { option_map (λ x. (x.0, number_view x.1)) result ≡ operands.register_number text.now }
+    ensures is { option_map (λ x. (x.0, number_view x.1)) result
+        ≡ operands.register_number text.now }
     ensures fits { IfSome result (λ x. x.0 < 32) }
 {
     let (first, second) = two(text)?;
@@ -63,7 +64,8 @@ pub(crate) fn register_number(text: &[u8]) -> Option<(u8, Number<'_>)>
 /// A register, and a base register with an offset.
 #[tactic(auto, unfolding(crate::specs::Operands::register_base))]
 pub(crate) fn register_base(text: &[u8]) -> Option<(u8, Number<'_>, u8)>
-    ensures is { option_map (λ x. (x.0, number_view x.1, x.2)) result ≡ operands.register_base text.now }
+    ensures is { option_map (λ x. (x.0, number_view x.1, x.2)) result
+        ≡ operands.register_base text.now }
     ensures fits { IfSome result (λ x. x.0 < 32) }
     ensures base_fits { IfSome result (λ x. x.2 < 32) }
 {

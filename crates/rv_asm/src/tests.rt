@@ -227,168 +227,114 @@ fn children_wait_for_one_another(rt: HostRuntime) -> Result<(), Fail> {
     )
 }
 
+/// A server whose workers have what they read signed by a gate.
+static SIGNER: &str = ".proc main\n\
+    svc sc_new\n\
+    li a1, tag_key\n\
+    li a2, 2\n\
+    svc sc_mem_add\n\
+    la a1, sign\n\
+    li a2, 0\n\
+    li a3, 50\n\
+    li a4, 0\n\
+    svc cgate_make\n\
+    svc sc_new\n\
+    mv s0, a0\n\
+    li a1, tag_req\n\
+    li a2, 3\n\
+    svc sc_mem_add\n\
+    mv a0, s0\n\
+    li a1, fd_log\n\
+    li a2, 2\n\
+    svc sc_fd_add\n\
+    mv a0, s0\n\
+    la a1, sign\n\
+    svc sc_cgate_add\n\
+    again:\n\
+    li a0, fd_in\n\
+    addi a1, sp, -4\n\
+    li a2, 1\n\
+    svc fd_read\n\
+    beqz a0, done\n\
+    lbu t0, -4(sp)\n\
+    li t1, seg_req\n\
+    sb t0, 0(t1)\n\
+    mv a0, s0\n\
+    la a1, worker\n\
+    li a2, 0\n\
+    li a3, 200\n\
+    svc sthread_create\n\
+    svc sthread_join\n\
+    j again\n\
+    done:\n\
+    li a0, 0\n\
+    svc exit\n\
+    .proc worker\n\
+    li s0, seg_req\n\
+    lbu a1, 0(s0)\n\
+    la a0, sign\n\
+    li a2, -1\n\
+    svc cgate\n\
+    sb a0, 0(s0)\n\
+    call emit\n\
+    li a0, 0\n\
+    svc exit\n\
+    .proc emit\n\
+    sb a0, -1(sp)\n\
+    li a0, fd_log\n\
+    addi a1, sp, -1\n\
+    li a2, 1\n\
+    svc fd_append\n\
+    ret\n\
+    .proc sign\n\
+    li t0, seg_key\n\
+    lbu t0, 0(t0)\n\
+    add a0, a0, t0\n\
+    svc exit\n";
+
+/// What its names stand for.
+static SIGNER_NAMES: [(&str, u32); 6] = [
+    ("tag_key", 0x0),
+    ("tag_req", 0x1),
+    ("fd_in", 0x0),
+    ("fd_log", 0x1),
+    ("seg_key", 0x40000000),
+    ("seg_req", 0x40010000),
+];
+
+/// Its words.
+#[rattlefmt::skip]
+static SIGNER_WORDS: [u32; 79] = [
+    0x0070_0893, 0x0000_0073, 0x0000_0593, 0x0020_0613, 0x0080_0893, 0x0000_0073, 0x0001_05b7,
+    0x1245_8593, 0x0000_0613, 0x0320_0693, 0x0000_0713, 0x00d0_0893, 0x0000_0073, 0x0070_0893,
+    0x0000_0073, 0x0005_0413, 0x0010_0593, 0x0030_0613, 0x0080_0893, 0x0000_0073, 0x0004_0513,
+    0x0010_0593, 0x0020_0613, 0x0090_0893, 0x0000_0073, 0x0004_0513, 0x0001_05b7, 0x1245_8593,
+    0x00a0_0893, 0x0000_0073, 0x0000_0513, 0xffc1_0593, 0x0010_0613, 0x00f0_0893, 0x0000_0073,
+    0x0205_0e63, 0xffc1_4283, 0x4001_0337, 0x0003_0313, 0x0053_0023, 0x0004_0513, 0x0001_05b7,
+    0x0d45_8593, 0x0000_0613, 0x0c80_0693, 0x0010_0893, 0x0000_0073, 0x0020_0893, 0x0000_0073,
+    0xfb5f_f06f, 0x0000_0513, 0x0000_0893, 0x0000_0073, 0x4001_0437, 0x0004_0413, 0x0004_4583,
+    0x0001_0537, 0x1245_0513, 0xfff0_0613, 0x00e0_0893, 0x0000_0073, 0x00a4_0023, 0x0100_00ef,
+    0x0000_0513, 0x0000_0893, 0x0000_0073, 0xfea1_0fa3, 0x0010_0513, 0xfff1_0593, 0x0010_0613,
+    0x0100_0893, 0x0000_0073, 0x0000_8067, 0x4000_02b7, 0x0002_8293, 0x0002_c283, 0x0055_0533,
+    0x0000_0893, 0x0000_0073,
+];
+
+/// The addresses of its procedures.
+static SIGNER_PROCEDURES: [(&str, u32); 4] = [
+    ("main", 0x0001_0000),
+    ("worker", 0x0001_00d4),
+    ("emit", 0x0001_0108),
+    ("sign", 0x0001_0124),
+];
+
 #[test]
 fn a_signer_behind_a_gate(rt: HostRuntime) -> Result<(), Fail> {
     gives(
         &rt,
-        ".proc main\n\
-         svc sc_new\n\
-         li a1, tag_key\n\
-         li a2, 2\n\
-         svc sc_mem_add\n\
-         la a1, sign\n\
-         li a2, 0\n\
-         li a3, 50\n\
-         li a4, 0\n\
-         svc cgate_make\n\
-         svc sc_new\n\
-         mv s0, a0\n\
-         li a1, tag_req\n\
-         li a2, 3\n\
-         svc sc_mem_add\n\
-         mv a0, s0\n\
-         li a1, fd_log\n\
-         li a2, 2\n\
-         svc sc_fd_add\n\
-         mv a0, s0\n\
-         la a1, sign\n\
-         svc sc_cgate_add\n\
-         again:\n\
-         li a0, fd_in\n\
-         addi a1, sp, -4\n\
-         li a2, 1\n\
-         svc fd_read\n\
-         beqz a0, done\n\
-         lbu t0, -4(sp)\n\
-         li t1, seg_req\n\
-         sb t0, 0(t1)\n\
-         mv a0, s0\n\
-         la a1, worker\n\
-         li a2, 0\n\
-         li a3, 200\n\
-         svc sthread_create\n\
-         svc sthread_join\n\
-         j again\n\
-         done:\n\
-         li a0, 0\n\
-         svc exit\n\
-         .proc worker\n\
-         li s0, seg_req\n\
-         lbu a1, 0(s0)\n\
-         la a0, sign\n\
-         li a2, -1\n\
-         svc cgate\n\
-         sb a0, 0(s0)\n\
-         call emit\n\
-         li a0, 0\n\
-         svc exit\n\
-         .proc emit\n\
-         sb a0, -1(sp)\n\
-         li a0, fd_log\n\
-         addi a1, sp, -1\n\
-         li a2, 1\n\
-         svc fd_append\n\
-         ret\n\
-         .proc sign\n\
-         li t0, seg_key\n\
-         lbu t0, 0(t0)\n\
-         add a0, a0, t0\n\
-         svc exit\n",
-        &[
-            ("tag_key", 0x0),
-            ("tag_req", 0x1),
-            ("fd_in", 0x0),
-            ("fd_log", 0x1),
-            ("seg_key", 0x40000000),
-            ("seg_req", 0x40010000),
-        ],
-        &[
-            0x0070_0893,
-            0x0000_0073,
-            0x0000_0593,
-            0x0020_0613,
-            0x0080_0893,
-            0x0000_0073,
-            0x0001_05b7,
-            0x1245_8593,
-            0x0000_0613,
-            0x0320_0693,
-            0x0000_0713,
-            0x00d0_0893,
-            0x0000_0073,
-            0x0070_0893,
-            0x0000_0073,
-            0x0005_0413,
-            0x0010_0593,
-            0x0030_0613,
-            0x0080_0893,
-            0x0000_0073,
-            0x0004_0513,
-            0x0010_0593,
-            0x0020_0613,
-            0x0090_0893,
-            0x0000_0073,
-            0x0004_0513,
-            0x0001_05b7,
-            0x1245_8593,
-            0x00a0_0893,
-            0x0000_0073,
-            0x0000_0513,
-            0xffc1_0593,
-            0x0010_0613,
-            0x00f0_0893,
-            0x0000_0073,
-            0x0205_0e63,
-            0xffc1_4283,
-            0x4001_0337,
-            0x0003_0313,
-            0x0053_0023,
-            0x0004_0513,
-            0x0001_05b7,
-            0x0d45_8593,
-            0x0000_0613,
-            0x0c80_0693,
-            0x0010_0893,
-            0x0000_0073,
-            0x0020_0893,
-            0x0000_0073,
-            0xfb5f_f06f,
-            0x0000_0513,
-            0x0000_0893,
-            0x0000_0073,
-            0x4001_0437,
-            0x0004_0413,
-            0x0004_4583,
-            0x0001_0537,
-            0x1245_0513,
-            0xfff0_0613,
-            0x00e0_0893,
-            0x0000_0073,
-            0x00a4_0023,
-            0x0100_00ef,
-            0x0000_0513,
-            0x0000_0893,
-            0x0000_0073,
-            0xfea1_0fa3,
-            0x0010_0513,
-            0xfff1_0593,
-            0x0010_0613,
-            0x0100_0893,
-            0x0000_0073,
-            0x0000_8067,
-            0x4000_02b7,
-            0x0002_8293,
-            0x0002_c283,
-            0x0055_0533,
-            0x0000_0893,
-            0x0000_0073,
-        ],
-        &[
-            ("main", 0x0001_0000),
-            ("worker", 0x0001_00d4),
-            ("emit", 0x0001_0108),
-            ("sign", 0x0001_0124),
-        ],
+        SIGNER,
+        &SIGNER_NAMES,
+        &SIGNER_WORDS,
+        &SIGNER_PROCEDURES,
     )
 }
 

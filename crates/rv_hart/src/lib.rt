@@ -337,7 +337,8 @@ fn loaded_value(op: Op, value: u32) -> u32
 #[inline(always)]
 fn extended(number: u32, sign: u32) -> u32
     requires { sign < 2 ^ 31 }
-    ensures { result ≡ as_word (if nat_lt number sign then pos number else pos number -ℤ pos (2 * sign)) }
+    ensures { result
+        ≡ as_word (if nat_lt number sign then pos number else pos number -ℤ pos (2 * sign)) }
 {
     if number < sign {
         number

@@ -1,66 +1,22 @@
-pub mod WritingRanges
-pub mod WritingCopies
+-- Entries by number.
 pub mod ByNumber
+-- Children by number.
 pub mod FuelGiven
-pub mod SlotsHeld
-pub mod Resting
-pub mod Directing
-pub mod Between
-pub mod Named
-pub mod Buffers
+-- An ask of a stream fits wherever its descriptor is one.
 pub mod StreamFits
-pub mod StreamCalls
-pub mod FilesAscend
-pub mod MakingGates
-pub mod EnteringGates
-pub mod Meeting
-pub mod Happening
-pub mod Turns
-pub mod Settling
-pub mod Drafted
-pub mod Families
-pub mod Waits
-pub mod Walking
-pub mod Going
-pub mod Paying
-pub mod DraftEdits
-pub mod DraftsFit
+-- The elements behind those that are dropped.
 pub mod Dropping
+-- The slots in which the tags of an actor were opened are below 4,096.
+pub mod SlotsHeld
+-- An actor at rest.
+pub mod Resting
+-- The files of an image ascend by their paths, as who looks one up asks.
+pub mod FilesAscend
+-- A draft without room for a grant is put back as it was, and its actor is refused.
 pub mod PutBack
+-- The call that makes a gate, whose draft is there.
 pub mod GatesMade
-pub mod Preparing
-pub mod GrantedPreparing
-pub mod GrantedGates
-pub mod GateRuns
-pub mod GrantedRuns
-pub mod GrantedCopies
+-- The call that starts a child, whose draft is there and whose entry is a procedure.
 pub mod Creating
-pub mod Reading
-pub mod Keeping
-pub mod MakesDrafted
-pub mod GateMoments
-pub mod Checking
-pub mod TagMoments
-pub mod StreamMoments
-pub mod FileMoments
-pub mod Mediating
-pub mod OneCell
-pub mod CellChanging
-pub mod Writing
-pub mod Opening
-pub mod Trees
-pub mod Distinct
-pub mod FamilyKept
-pub mod FuelSums
-pub mod FamilyRuns
-pub mod Bounding
-pub mod SlotsKnown
-pub mod Occupying
-pub mod OccupiedRuns
-pub mod WorkLeft
-pub mod KnownGates
-pub mod RecycledRuns
-pub mod GatesWithin
-pub mod BoundedGates
-pub mod Isolation
+-- The root directory of an image is a canonical path.
 pub mod Canonical

@@ -41,12 +41,8 @@ use Rattle.wedge_base.specs.declared.rights.FdBits.{FdBits}
 use Rattle.wedge_base.specs.declared.rights.Right.{Right}
 use Rattle.sthread_life.specs.Children.{is_child}
 use Rattle.sthread_life.specs.Copying.{Preparation}
-use Rattle.sthread_life.specs.GateCalls.{NotMaking, KeepsGates}
+use Rattle.sthread_life.specs.Resting.{NotMaking}
 use Rattle.sthread_life.specs.declared.copy_grant.CopyGrant.{CopyGrant}
-use Rattle.sthread_life.specs.Refusals.{fuel_short, root_refusal}
-use Rattle.sthread_life.specs.Requests.{path_at}
-use Rattle.sthread_life.specs.Paying.{unrefused, call_cost, need_cost, instr_cost}
-use Rattle.sthread_life.proofs.Buffers.{path_is}
 use Rattle.sthread_life.specs.Calls.{serves, exit, is_procedure, create, create_with, create_checked, create_allowed, join, are_pages, tag_new, tag_delete, smalloc, free_at, sfree, fd_read, fd_append, fd_close, most_drafts, sc_new, right_asked, bits_asked, add_right, add_right_to, sc_mem_add, add_bits, add_bits_to, sc_fd_add, add_gate_to, sc_cgate_add, makes_or_waits, may_be_gate, make_checked, make_with, cgate_make, draft_call, a0, a1, a2, a3, a7, set_user, sc_user, path_in, set_root, sc_root, file_at, mode_asked, suits, open_file, open_path, file_open, enter_allowed, enter_checked, enter_lending, enter_held, cgate, lent_asked}
 use Rattle.sthread_life.specs.Local.{needed, executed, fuelled, fetched, step, is_running, has_ended, run_local, rest}
 use Rattle.sthread_life.specs.Lending.{may_lend, excess_lent}
@@ -67,15 +63,15 @@ IsCalm (phase.Ending e) = Unit {0}
 IsCalm (phase.Ended e) = Unit {0}
 
 -- what an actor made, and the gates that it knows: its gates apart where an instruction may make one
-record Things : Type 0 where
-  made : Made
-  gates : List Gate
+pub record Things : Type 0 where
+  pub made : Made
+  pub gates : List Gate
 
-abbrev things : Bool → ActorState → Things
+abbrev pub things : Bool → ActorState → Things
 things true a = record { made = but_gates a.made; gates = [] }
 things false a = record { made = a.made; gates = a.gates }
 
-abbrev Unmade : Bool → Phase → Type 0
+abbrev pub Unmade : Bool → Phase → Type 0
 Unmade true p = Unit {0}
 Unmade false p = NotMaking p
 
@@ -242,21 +238,26 @@ goes_user : (a : ActorState) (d : Option Draft) → Goes 0 false a (set_user a d
 goes_user a None = goes_refused a code.NoSuch
 goes_user a (Some d) = goes_drafted a _ 0
 
--- the call that sets a root directory costs a unit for each byte of the path
+-- the call that sets a root directory costs a unit for each byte of the path, where it is not refused
+abbrev pub root_price : ActorState → Option (List ℕ) → Option Draft → ℕ
+root_price a path None = 0
+root_price a None (Some d) = 0
+root_price a (Some path) (Some d) = if nat_lt a.fuel (a2 a) then 0 else a2 a
+
+pub not_below : (m n : ℕ) → nat_le n m ≡ not (nat_lt m n)
+not_below m n = grind (arith, nat_tests)
+
 goes_path : (a : ActorState) (ds : List Draft) (t : Bool) → nat_le (a2 a) a.fuel ≡ not t
-    → Goes (unrefused (if nat_le (a2 a) a.fuel then None else Some fuel_short) (a2 a)) false a (if t then refuses a code.FuelShort else answers (spends (record a { drafts = ds }) (a2 a)) 0)
-goes_path a ds true e = rw e (goes_refused a code.FuelShort)
+    → Goes (if t then 0 else a2 a) false a (if t then refuses a code.FuelShort else answers (spends (record a { drafts = ds }) (a2 a)) 0)
+goes_path a ds true e = goes_refused a code.FuelShort
 goes_path a ds false e =
     let enough : a2 a ≤ a.fuel = grind (arith, nat_tests, e) in
-    rw e (record { name = refl; compartment = refl; run_of = refl; sheet = refl; fuel = omega (arith, enough); made = refl; labels = refl; starts = refl; unjoined = refl; live = λ h. refl; calm = λ h. tt; unmade = λ h. tt })
+    record { name = refl; compartment = refl; run_of = refl; sheet = refl; fuel = omega (arith, enough); made = refl; labels = refl; starts = refl; unjoined = refl; live = λ h. refl; calm = λ h. tt; unmade = λ h. tt }
 
-goes_root : (a : ActorState) (path : Option (List ℕ)) (d : Option Draft) → Goes (unrefused (root_refusal a (a2 a) path d) (a2 a)) false a (set_root a path d)
+goes_root : (a : ActorState) (path : Option (List ℕ)) (d : Option Draft) → Goes (root_price a path d) false a (set_root a path d)
 goes_root a path None = goes_refused a code.NoSuch
 goes_root a None (Some d) = goes_refused a code.Bad
 goes_root a (Some path) (Some d) = goes_path a _ (nat_lt a.fuel (a2 a)) (not_below a.fuel (a2 a))
-  where
-    not_below : (m n : ℕ) → nat_le n m ≡ not (nat_lt m n)
-    not_below m n = grind (arith, nat_tests)
 
 -- where no gate is made, none need be
 weaker : (cost : ℕ) (t : Bool) (a b : ActorState) → Goes cost false a b → Goes cost t a b
@@ -315,19 +316,22 @@ goes_enter a None = goes_denied a _
 goes_enter a (Some g) = goes_lending a g (lent_asked a.drafts (a2 a))
 
 -- a call by its number, of which that one alone costs anything, and one alone makes a gate
+abbrev pub call_price : Image → ActorState → ℕ → ℕ
+call_price i a n = if n == 12 then root_price a (path_in i a (a1 a) (a2 a)) (slice_get a.drafts (a0 a)) else 0
+
 abbrev GoesCall : Image → ActorState → ℕ → ActorState → Type 0
-GoesCall i a n x = Goes (call_cost i a a.hart.regs n) (n == 13) a x
+GoesCall i a n x = Goes (call_price i a n) (n == 13) a x
 
 goes_at : (i : Image) (a x y : ActorState) (n k : ℕ) (t : Bool) → (n == k) ≡ t → (k == 12) ≡ false → Goes 0 (k == 13) a x → GoesCall i a n y → GoesCall i a n (if t then x else y)
 goes_at i a x y n k true e other h rest =
     let same : (k == 13) ≡ (n == 13) = ap (λ m. m == 13) (sym (eqb-true n k e)) in
-    let free : call_cost i a a.hart.regs n ≡ 0 = ap (call_cost i a a.hart.regs) (eqb-true n k e) ∙ ap (λ t. if t then unrefused (root_refusal a (a2 a) (path_at i a (a1 a) (a2 a)) (slice_get a.drafts (a0 a))) (a2 a) else 0) other in
+    let free : call_price i a n ≡ 0 = ap (call_price i a) (eqb-true n k e) ∙ ap (λ t. if t then root_price a (path_in i a (a1 a) (a2 a)) (slice_get a.drafts (a0 a)) else 0) other in
     subst (λ c. Goes c (n == 13) a x) (sym free) (subst (λ t. Goes 0 t a x) same h)
 goes_at i a x y n k false e other h rest = rest
 
 goes_last : (i : Image) (a : ActorState) (n : ℕ) (t : Bool) → (n == 12) ≡ t → GoesCall i a n (if t then sc_root i a else refuses a code.Bad)
 goes_last i a n true e =
-    rw e (weaker _ (n == 13) a (sc_root i a) (subst (λ path. Goes (unrefused (root_refusal a (a2 a) path (slice_get a.drafts (a0 a))) (a2 a)) false a (sc_root i a)) (sym (path_is i a (a1 a) (a2 a))) (goes_root a (path_in i a (a1 a) (a2 a)) (slice_get a.drafts (a0 a)))))
+    rw e (weaker _ (n == 13) a (sc_root i a) (goes_root a (path_in i a (a1 a) (a2 a)) (slice_get a.drafts (a0 a))))
 goes_last i a n false e = rw e (weaker 0 (n == 13) a (refuses a code.Bad) (goes_refused a code.Bad))
 
 goes_draft : (i : Image) (a : ActorState) (n : ℕ) → GoesCall i a n (draft_call i a n)
@@ -376,7 +380,16 @@ abbrev pub instr_makes : ActorState → Option Instr → Bool
 instr_makes a None = false
 instr_makes a (Some ins) = need_makes a (local ins a.hart).need
 
-pub goes_needed : (i : Image) (ins : Instr) (a : ActorState) (h : Hart) (n : Need) → Goes (need_cost i a n) (need_makes a n) a (needed i ins a h n)
+-- what an instruction costs beside its unit
+abbrev pub need_price : Image → ActorState → Need → ℕ
+need_price i a need.Call = call_price i a (a7 a)
+need_price i a n = 0
+
+abbrev pub instr_price : Image → ActorState → Option Instr → ℕ
+instr_price i a None = 0
+instr_price i a (Some ins) = need_price i a (local ins a.hart).need
+
+pub goes_needed : (i : Image) (ins : Instr) (a : ActorState) (h : Hart) (n : Need) → Goes (need_price i a n) (need_makes a n) a (needed i ins a h n)
 goes_needed i ins a h need.Done = record { name = refl; compartment = refl; run_of = refl; sheet = refl; fuel = costs_nothing a.fuel; made = refl; labels = refl; starts = refl; unjoined = refl; live = λ h. h; calm = λ h. h; unmade = λ h. h }
 goes_needed i ins a h (need.Load address width s) = goes_load i ins s a address width
 goes_needed i ins a h (need.Store address width value) = goes_store i a address width value
@@ -384,7 +397,7 @@ goes_needed i ins a h need.Call = goes_call i a (a7 a)
 goes_needed i ins a h need.Break = goes_end a end_.Break
 goes_needed i ins a h need.JumpMisaligned = goes_end a end_.JumpMisaligned
 
-pub goes_executed : (i : Image) (a : ActorState) (ins : Option Instr) → Goes (instr_cost i a ins) (instr_makes a ins) a (executed i a ins)
+pub goes_executed : (i : Image) (a : ActorState) (ins : Option Instr) → Goes (instr_price i a ins) (instr_makes a ins) a (executed i a ins)
 goes_executed i a None = goes_end a end_.BadInstruction
 goes_executed i a (Some ins) = let b = local ins a.hart in goes_needed i ins a b.hart b.need
 
@@ -392,16 +405,6 @@ goes_executed i a (Some ins) = let b = local ins a.hart in goes_needed i ins a b
 but_gates_same : (t : Bool) (a b : ActorState) → things t b ≡ things t a → but_gates b.made ≡ but_gates a.made
 but_gates_same true a b same = ap (λ (x : Things). x.made) same
 but_gates_same false a b same = ap (λ (x : Things). but_gates x.made) same
-
--- and its gates too, where none may be made
-pub goes_keeping : (cost : ℕ) (t : Bool) (a b : ActorState) → t ≡ false → NotMaking a.phase → Goes cost t a b → KeepsGates a b
-goes_keeping cost true a b e calm g = absurd cc
-goes_keeping cost false a b e calm g = record {
-  known = ap (λ (x : Things). x.gates) g.made;
-  held = ap (λ (x : Things). x.made.gates) g.made;
-  count = ap (λ (x : Things). x.made.count) g.made;
-  calm = g.unmade calm;
-}
 
 -- an end that is decided
 abbrev pub IsEnding : Phase → Type 0

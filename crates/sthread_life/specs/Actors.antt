@@ -1,4 +1,5 @@
--- Actors: their records, what the root begins as, and how an answer, a refusal or an end changes one.
+-- Actors: their records, what the root begins as, and how an answer, a refusal or an end changes
+-- one.
 use Rattle.std.specs.Prelude.{ℕ, ◌+◌, ◌-◌, Bool, List, [], ◌∷◌, ◌++◌, replicate, Option, Some, unwrap_or, None, option_and_then}
 use Rattle.cow_pages.specs.PrivateMemory.{PrivateMemory, opening_memory}
 use Rattle.wedge_base.specs.Names.{root_name}
@@ -22,9 +23,10 @@ use Rattle.sthread_life.specs.declared.phase.Phase.{Phase}
 use Rattle.sthread_life.specs.declared.phase.Phase.TheVariants as phase
 use Rattle.callgate.specs.Gates.{gate_named}
 
--- an actor: its sheet, what it made, the gates that it knows, the paths of the files that it opened, its drafts, its
--- registers and private memory, its fuel, its denials, how many actors it started and those of them that it has not joined,
--- and what it is at. That a gate is known is no right to enter it.
+-- an actor: its sheet, what it made, the gates that it knows, the paths of the files that it
+-- opened, its drafts, its registers and private memory, its fuel, its denials, how many actors it
+-- started and those of them that it has not joined, and what it is at. That a gate is known is no
+-- right to enter it.
 pub record ActorState : Type 0 where
   pub name : List ℕ
   pub compartment : ℕ
@@ -42,7 +44,8 @@ pub record ActorState : Type 0 where
   pub unjoined : Children
   pub phase : Phase
 
--- private memory as an actor begins: stack and heap, all zero, and the image's data as written in it
+-- private memory as an actor begins: stack and heap, all zero, and the image's data as written in
+-- it
 abbrev pub pristine : Image → PrivateMemory
 pristine i = opening_memory i.ranges
 

@@ -48,13 +48,14 @@ IsBetween (phase.OpeningFile o) = ⊥
 IsBetween (phase.Ending e) = Unit {0}
 IsBetween (phase.Ended e) = Unit {0}
 
--- What an actor started, the gates that it made, its fuel, and the fuel that it gave away and has not got back are together at
--- most the fuel of an image.
+-- What an actor started, the gates that it made, its fuel, and the fuel that it gave away and has
+-- not got back are together at most the fuel of an image.
 abbrev pub funds : ℕ → ℕ → ℕ → Children → ℕ
 funds starts gates fuel unjoined = starts + gates + fuel + all_given unjoined
 
--- An actor that is about to start a child: its name has room for one more part, there is a draft of that number, every
--- grant of which it may give, it has the fuel that the child is to have, and it has paid for one more start.
+-- An actor that is about to start a child: its name has room for one more part, there is a draft of
+-- that number, every grant of which it may give, it has the fuel that the child is to have, and it
+-- has paid for one more start.
 pub record IsReady (name : List ℕ) (sheet : Sheet) (made : Made) (drafts : List Draft) (hart : Hart) (fuel starts : ℕ) (unjoined : Children) : Type 0 where
   pub shallow : length name < most_parts
   pub drafted : reg hart.regs 10 < length drafts
@@ -65,8 +66,8 @@ pub record IsReady (name : List ℕ) (sheet : Sheet) (made : Made) (drafts : Lis
 abbrev pub MayStart : ActorState → Type 0
 MayStart a = IsReady a.name a.sheet a.made a.drafts a.hart a.fuel a.starts a.unjoined
 
--- An actor that is about to make a gate: there is a draft of that number, every grant of which it may give, and it has paid for
--- one more gate.
+-- An actor that is about to make a gate: there is a draft of that number, every grant of which it
+-- may give, and it has paid for one more gate.
 pub record IsGranting (sheet : Sheet) (made : Made) (drafts : List Draft) (hart : Hart) (fuel starts : ℕ) (unjoined : Children) : Type 0 where
   pub drafted : reg hart.regs 10 < length drafts
   pub allowed : first_excess sheet made (draft_at drafts (reg hart.regs 10)) ≡ None
@@ -75,15 +76,16 @@ pub record IsGranting (sheet : Sheet) (made : Made) (drafts : List Draft) (hart 
 abbrev pub MayMake : ActorState → Type 0
 MayMake a = IsGranting a.sheet a.made a.drafts a.hart a.fuel a.starts a.unjoined
 
--- the slots in which the tags of a sheet were opened are there; so it is for each gate that an actor knows
+-- the slots in which the tags of a sheet were opened are there; so it is for each gate that an
+-- actor knows
 abbrev pub IsPlaced : Sheet → Type 0
 IsPlaced sheet = AllByRecursion (λ e. e.1.slot < slots) sheet.tags
 
 abbrev pub AreGatesPlaced : List Gate → Type 0
 AreGatesPlaced gates = AllByRecursion (λ (g : Gate). IsPlaced g.sheet) gates
 
--- An actor that is about to enter a gate: its name has room for one more part, it has the gate's fuel, and it has paid for one more start; and
--- the slots of the run's sheet are there.
+-- An actor that is about to enter a gate: its name has room for one more part, it has the gate's
+-- fuel, and it has paid for one more start; and the slots of the run's sheet are there.
 pub record IsEntering (name : List ℕ) (made : Made) (fuel starts : ℕ) (unjoined : Children) (entrance : Entrance) : Type 0 where
   pub shallow : length name < most_parts
   pub enough : entrance.gate.fuel ≤ fuel
@@ -109,11 +111,11 @@ HoldsInSlots sheet made = IsPlaced sheet × AllByRecursion (λ e. e.1 < slots) m
 abbrev pub GivesBelow : ℕ → Directory → Type 0
 GivesBelow limit d = (d.places ≤ limit) × (d.unused ≤ limit) × AllByRecursion (λ p. p < limit) d.released
 
--- What an actor may want: the claim of a slot for a tag of so many pages, the opening of a tag there, its close and the
--- release of its slot; an aligned access inside the window of a slot, a block in a tag, one to be freed, and a copy of a
--- tag; a number for a descriptor, and the opening, a read, an append and a close of its stream; a life for a child and
--- the start of its next child where it is ready for that, the join of a child, and its end. Each further call is one
--- more case.
+-- What an actor may want: the claim of a slot for a tag of so many pages, the opening of a tag
+-- there, its close and the release of its slot; an aligned access inside the window of a slot, a
+-- block in a tag, one to be freed, and a copy of a tag; a number for a descriptor, and the opening,
+-- a read, an append and a close of its stream; a life for a child and the start of its next child
+-- where it is ready for that, the join of a child, and its end. Each further call is one more case.
 abbrev pub WantFitsWhere : Type 0 → Type 0 → (List ℕ → Type 0) → (ℕ → Type 0) → Want → Type 0
 WantFitsWhere P R S J (want.Slots directory_ask.Claim) = P
 WantFitsWhere P R S J (want.Slots (directory_ask.Release slot)) = slot < slots
@@ -139,7 +141,8 @@ WantFitsWhere P R S J q = ⊥
 abbrev pub RunsIn : Option Gate → GateId → Type 0
 RunsIn run_of id = IsSomeAnd run_of (λ g. (g.kind ≡ gate_kind.Recycled) × (g.id ≡ id))
 
--- To enter a gate is wanted by who is about to enter one, for its next run; and to leave it, by its run as it ends. Neither is within a call.
+-- To enter a gate is wanted by who is about to enter one, for its next run; and to leave it, by its
+-- run as it ends. Neither is within a call.
 abbrev pub IsAtGate : Phase → Type 0
 IsAtGate (phase.Entering entrance) = Unit {0}
 IsAtGate p = ⊥
@@ -178,9 +181,9 @@ abbrev pub GivesWithin : StreamAsk → List ℕ → Type 0
 GivesWithin (stream_ask.Read bits count) bytes = length bytes ≤ count
 GivesWithin q bytes = ⊥
 
--- An event is in bounds: its slot is there, a number for a descriptor is below 1,024, a block begins inside the slot's
--- window, a copy has as many pages as a tag may have, and a stream gives no more bytes than were asked for. This is a
--- property of the event alone.
+-- An event is in bounds: its slot is there, a number for a descriptor is below 1,024, a block
+-- begins inside the slot's window, a copy has as many pages as a tag may have, and a stream gives
+-- no more bytes than were asked for. This is a property of the event alone.
 abbrev pub IsInBounds : Event → Type 0
 IsInBounds (event.Slots q (directory_reply.Claimed slot tag)) = slot < slots
 IsInBounds (event.Fds q (directory_reply.Claimed fd number)) = fd < most_fds
@@ -190,8 +193,8 @@ IsInBounds (event.Slot slot q r) = slot < slots
 IsInBounds (event.Fd fd q (stream_reply.Given bytes)) = GivesWithin q bytes
 IsInBounds e = Unit {0}
 
--- An event fits an actor that takes it: a slot that is claimed is for pages that a tag may have, a start is by one that is
--- ready for it, and a join brings back at most what the child was given.
+-- An event fits an actor that takes it: a slot that is claimed is for pages that a tag may have, a
+-- start is by one that is ready for it, and a join brings back at most what the child was given.
 abbrev pub SuitsActor : ActorState → Event → Type 0
 SuitsActor a (event.Slots directory_ask.Claim r) = AsksPages a.hart
 SuitsActor a (event.Lives lives_ask.Claim r) = MayStart a

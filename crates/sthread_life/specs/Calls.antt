@@ -65,7 +65,8 @@ a7 a = reg a.hart.regs 17
 abbrev pub exit : ActorState → ActorState
 exit a = ends a (end_.Exited (a0 a))
 
--- ---- streams: a number that no descriptor has is refused at once, and anything else of a stream is decided at its event
+-- ---- streams: a number that no descriptor has is refused at once, and anything else of a stream
+-- is decided at its event
 
 -- fd_read: descriptor, pointer, length
 abbrev pub fd_read : ActorState → ActorState
@@ -91,7 +92,8 @@ fd_close a =
 
 -- ---- files
 
--- the path that a buffer holds, under the root directory of its actor; none where the buffer does not fit or holds no path
+-- the path that a buffer holds, under the root directory of its actor; none where the buffer does
+-- not fit or holds no path
 abbrev pub path_in : Image → ActorState → ℕ → ℕ → Option (List ℕ)
 path_in i a pointer n = if fits_read i a pointer n then resolve a.sheet.root (buffer i a pointer n) else None
 
@@ -111,7 +113,8 @@ abbrev pub suits : StreamKind → FdBits → Bool
 suits kind.Source b = b.read
 suits kind.Append b = b.append
 
--- a file as it is opened: a number is claimed for its descriptor first, and then its stream is opened
+-- a file as it is opened: a number is claimed for its descriptor first, and then its stream is
+-- opened
 abbrev pub opening_of : List ℕ → FileEntry → FdBits → FileOpening
 opening_of path f b = record { path = path; kind = f.kind; bytes = f.content; bits = b; number = None }
 
@@ -136,8 +139,8 @@ file_open i a = open_path i a (mode_asked (a2 a)) (path_in i a (a0 a) (a1 a))
 abbrev pub is_procedure : Image → ℕ → Bool
 is_procedure i address = begins_at i.procedures address
 
--- sthread_create: draft, entry, argument, fuel. Behind the denial come a name without room, too little fuel, and
--- the claim of a life.
+-- sthread_create: draft, entry, argument, fuel. Behind the denial come a name without room, too
+-- little fuel, and the claim of a life.
 abbrev pub create_allowed : ActorState → ActorState
 create_allowed a =
     if nat_le most_parts (length a.name) then refuses a code.Deep
@@ -314,11 +317,13 @@ new_gate a d m = record {
   memory = m;
 }
 
--- a gate is made: its maker knows it, and holds it at its entry, in place of one that it made there before
+-- a gate is made: its maker knows it, and holds it at its entry, in place of one that it made there
+-- before
 abbrev pub has_gate : ActorState → Gate → ActorState
 has_gate a g = answers (record a { made = made_gate a.made g.entry g.id; gates = a.gates ++ g ∷ [] }) 0
 
--- the gate is made once it has all its copies; until then the first that is left is to be made of its tag
+-- the gate is made once it has all its copies; until then the first that is left is to be made of
+-- its tag
 abbrev pub makes_or_waits : ActorState → Draft → Preparation → List CopyGrant → ActorState
 makes_or_waits a d p [] = has_gate a (new_gate a d p.memory)
 makes_or_waits a d p (g ∷ gs) = record a { phase = phase.MakingGate p }
@@ -353,7 +358,8 @@ lent_asked ds n = if n == no_draft then Some None else option_map (λ d. Some d)
 abbrev pub entrance_of : ActorState → Gate → Option Draft → Entrance
 entrance_of a g lent = record { gate = g; sheet = lent_to g.sheet (sheet_lent a lent) }
 
--- cgate: entry, argument, lent. Behind the denial come a name without room, and less fuel than the gate's.
+-- cgate: entry, argument, lent. Behind the denial come a name without room, and less fuel than the
+-- gate's.
 abbrev pub enter_allowed : ActorState → Gate → Option Draft → ActorState
 enter_allowed a g lent =
     if nat_le most_parts (length a.name) then refuses a code.Deep

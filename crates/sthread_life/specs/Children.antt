@@ -1,4 +1,5 @@
--- The children that an actor started and has not joined: the number of each, in order, with the fuel with which it began.
+-- The children that an actor started and has not joined: the number of each, in order, with the
+-- fuel with which it began.
 use Rattle.std.specs.Prelude.{ℕ, ◌+◌, Bool, not, List, [], ◌∷◌, ◌++◌, Option, Some, None, is_some}
 use Rattle.std.specs.BTreeMap.{insert_entry, is_at}
 use Rattle.std.specs.List.{filter}

@@ -17,8 +17,8 @@ is_copy_alone r = false
 
 -- ---- the root
 
--- copies of the declared tags on which the root has the right to a copy alone, with the bytes that the image declares; the tags are
--- numbered by their indices, from a number on
+-- copies of the declared tags on which the root has the right to a copy alone, with the bytes that
+-- the image declares; the tags are numbered by their indices, from a number on
 abbrev pub with_declared : Copies → ℕ → List TagEntry → Copies
 with_declared copies n [] = copies
 with_declared copies n (t ∷ ts) = with_declared (if is_copy_alone t.right then with_copy copies n (declared_segment n t).bytes else copies) (n + 1) ts
@@ -30,7 +30,8 @@ abbrev pub copy_grants : Map Grant → List CopyGrant
 copy_grants [] = []
 copy_grants (e ∷ es) = if is_copy e.1.right then record { tag = e.0; slot = e.1.slot } ∷ copy_grants es else copy_grants es
 
--- a child that is to be started: its private memory so far, and the grants of copies of which none is made yet
+-- a child that is to be started: its private memory so far, and the grants of copies of which none
+-- is made yet
 pub record Preparation : Type 0 where
   pub memory : PrivateMemory
   pub left : List CopyGrant
@@ -40,8 +41,8 @@ abbrev pub copied_from : Option (List ℕ) → ℕ → PrivateMemory → Private
 copied_from None slot m = m
 copied_from (Some bytes) slot m = record m { copies = with_copy m.copies slot bytes }
 
--- Where a starter has the right to a copy alone, the child's copy is made of its own one, if it has one; the first grant of which it
--- has more is to be made of the tag itself.
+-- Where a starter has the right to a copy alone, the child's copy is made of its own one, if it has
+-- one; the first grant of which it has more is to be made of the tag itself.
 abbrev pub prepared : Sheet → Made → Copies → PrivateMemory → List CopyGrant → Preparation
 prepared s made own m [] = record { memory = m; left = [] }
 prepared s made own m (g ∷ gs) =

@@ -1,44 +1,24 @@
+-- The children that an actor started and has not joined.
 pub mod Children
+-- The private copies with which actors begin.
 pub mod Copying
+-- A gate that an actor is about to enter.
 pub mod Entrances
+-- Actors.
 pub mod Actors
+-- What a caller lends to the run of a gate.
 pub mod Lending
+-- Loads, stores and buffers.
 pub mod Private
+-- A file that an actor is opening.
 pub mod Opening
+-- The service calls.
 pub mod Calls
+-- The local step.
 pub mod Local
+-- The actor's part of a shared event.
 pub mod Taking
-pub mod Cells
-pub mod Worlds
-pub mod Requests
-pub mod MadeGates
-pub mod Allowed
-pub mod Moments
-pub mod Ends
-pub mod Refusals
-pub mod Paying
-pub mod Families
-pub mod FileCalls
-pub mod TagCalls
-pub mod ChildCopies
-pub mod GateCalls
-pub mod CopiesGranted
-pub mod KnownGates
-pub mod RecycledGates
-pub mod GatesWithin
-pub mod Isolation
-pub mod Drafting
-pub mod Remembering
-pub mod Outcomes
+-- What holds of an actor between instructions, and of what it wants.
 pub mod Between
-pub mod Written
-pub mod CellHistories
-pub mod Walks
-pub mod Names
-pub mod Fuel
-pub mod FamilyTrees
-pub mod Bounds
-pub mod Occupancy
-pub mod Laws
+-- What an actor at rest wants, for which run it waits, or how it has ended.
 pub mod Resting
-pub mod Holding

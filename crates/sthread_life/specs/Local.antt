@@ -68,7 +68,7 @@ unfoldable pub run_local : Image → ℕ → ActorState → ActorState
 run_local i zero a = a
 run_local i (suc n) a = elim (is_running a.phase) [ true ↦ run_local i n (step i a) | false ↦ a ]
 
--- the actor at its next shared event, or ended: since each instruction takes a unit of fuel, one more
--- than it has is enough
+-- the actor at its next shared event, or ended: since each instruction takes a unit of fuel, one
+-- more than it has is enough
 unfoldable pub rest : Image → ActorState → ActorState
 rest i a = run_local i (a.fuel + 1) a

@@ -30,7 +30,8 @@ abbrev pub load_bytes : Instr → Bool → ActorState → ℕ → Option (List �
 load_bytes ins is_signed a width None = ends a end_.Unmapped
 load_bytes ins is_signed a width (Some bytes) = has_loaded ins is_signed a width (number_of bytes)
 
--- a load in a window is of the actor's private copy at that slot; where it has none, it is a shared event
+-- a load in a window is of the actor's private copy at that slot; where it has none, it is a shared
+-- event
 abbrev pub load_copy : Instr → Bool → ActorState → ℕ → Place → Option (List ℕ) → ActorState
 load_copy ins is_signed a width p None = wants a (want.Slot p.slot (slot_want.Load p.offset width))
 load_copy ins is_signed a width p (Some bytes) = load_bytes ins is_signed a width (read_copy p.offset width bytes)
@@ -55,7 +56,8 @@ loads i ins is_signed a address width =
 abbrev pub with_bytes : ActorState → ℕ → List ℕ → ActorState
 with_bytes a slot bytes = record a { memory = record a.memory { copies = with_copy a.memory.copies slot bytes } }
 
--- a store in a window is into the actor's private copy at that slot; where it has none, it is a shared event
+-- a store in a window is into the actor's private copy at that slot; where it has none, it is a
+-- shared event
 abbrev pub store_copy : ActorState → ℕ → ℕ → Place → Option (List ℕ) → ActorState
 store_copy a width value p None = wants a (want.Slot p.slot (slot_want.Store p.offset width value))
 store_copy a width value p (Some bytes) =
@@ -81,7 +83,8 @@ stores i a address width value =
 abbrev pub most_buffer : ℕ
 most_buffer = 256
 
--- whether a buffer that is read fits: it is empty, or lies wholly in one private range or in the text
+-- whether a buffer that is read fits: it is empty, or lies wholly in one private range or in the
+-- text
 abbrev pub fits_read : Image → ActorState → ℕ → ℕ → Bool
 fits_read i a pointer n = nat_le n most_buffer && ((n == 0) || is_some (range_at a.memory.ranges pointer n) || in_text i pointer n)
 

@@ -5,6 +5,8 @@ use Rattle.wedge_events.specs.declared.events.Want.{Want}
 use Rattle.sthread_life.specs.Actors.{ActorState}
 use Rattle.sthread_life.specs.Between.{WantFits}
 use Rattle.sthread_life.specs.declared.local.Next.{Next}
+use Rattle.sthread_life.specs.declared.phase.Phase.{Phase}
+use Rattle.sthread_life.specs.declared.phase.Phase.TheVariants as phase
 use Rattle.sthread_life.specs.declared.local.Next.TheVariants as next
 use Rattle.sthread_life.specs.Children.{is_child}
 
@@ -29,3 +31,8 @@ abbrev pub NextFits : ActorState → Next → Type 0
 NextFits a (next.Shared w) = WantFits a w
 NextFits a (next.Ended e) = Unit {0}
 NextFits a (next.Waiting run) = is_child a.unjoined run ≡ true
+
+-- no gate is being made
+abbrev pub NotMaking : Phase → Type 0
+NotMaking (phase.MakingGate p) = ⊥
+NotMaking p = Unit {0}

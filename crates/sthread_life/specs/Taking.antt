@@ -62,8 +62,8 @@ use Rattle.sthread_life.specs.Entrances.{Entrance}
 abbrev pub next_start : ActorState → ℕ
 next_start a = a.starts + 1
 
--- an actor whose end is decided joins its children, the least number first, and then ends: the run of a gate leaves the gate, and that of
--- a recycled one leaves its private memory there
+-- an actor whose end is decided joins its children, the least number first, and then ends: the run
+-- of a gate leaves the gate, and that of a recycled one leaves its private memory there
 abbrev pub leaving_want : GateKind → GateId → PrivateMemory → End → Want
 leaving_want gate_kind.Fresh id m e = want.Leave e
 leaving_want gate_kind.Recycled id m e = want.Gate id (gate_ask.Leave e m)
@@ -79,13 +79,14 @@ ending_by gate m (Some k) e = want.Join k
 abbrev pub ending_want : Option Gate → PrivateMemory → Children → End → Want
 ending_want gate m cs e = ending_by gate m (least_child cs) e
 
--- an actor that is about to enter a gate enters it in a run of the next name; into a recycled one it brings the memory with which the first
--- run begins
+-- an actor that is about to enter a gate enters it in a run of the next name; into a recycled one
+-- it brings the memory with which the first run begins
 abbrev pub entering_want : GateKind → Gate → List ℕ → Want
 entering_want gate_kind.Fresh g run = want.Enter run
 entering_want gate_kind.Recycled g run = want.Gate g.id (gate_ask.Enter run g.memory)
 
--- an actor that is about to start a child asks for a copy of the first tag of which one is to be made, and then for the start
+-- an actor that is about to start a child asks for a copy of the first tag of which one is to be
+-- made, and then for the start
 abbrev pub starting_want : ActorState → List CopyGrant → Want
 starting_want a [] = want.Start (child_name a.name (next_start a))
 starting_want a (g ∷ gs) = want.Slot g.slot (slot_want.Snap g.tag)
@@ -95,7 +96,8 @@ abbrev pub making_want : List CopyGrant → Option Want
 making_want [] = None
 making_want (g ∷ gs) = Some (want.Slot g.slot (slot_want.Snap g.tag))
 
--- an actor that opens a file asks for a number for its descriptor, and then opens the stream behind it
+-- an actor that opens a file asks for a number for its descriptor, and then opens the stream behind
+-- it
 abbrev pub opening_want : FileOpening → Option ℕ → Want
 opening_want o None = want.Fds directory_ask.Claim
 opening_want o (Some fd) = want.Fd fd (stream_ask.Open o.kind o.bytes)
@@ -143,15 +145,16 @@ abbrev pub denied_on : ActorState → SlotAsk → ℕ → Right → ActorState
 denied_on a (slot_ask.Sfree offset live) tag wants = denies a (denial.Tag tag wants)
 denied_on a q tag wants = ends (notes a (denial.Tag tag wants)) end_.Denied
 
--- a tag that it opened in a slot is among those that it made, and it has no private copy there; the call answers the tag's number
--- and its address
+-- a tag that it opened in a slot is among those that it made, and it has no private copy there; the
+-- call answers the tag's number and its address
 abbrev pub has_opened : ActorState → ℕ → SlotAsk → ActorState
 has_opened a slot (slot_ask.Open tag pages) =
     answers_more (record a { made = made_tag a.made tag slot; memory = record a.memory { copies = without_copy a.memory.copies slot } }) tag (address_of slot 0)
 has_opened a slot q = runs a
 
--- the copy of a tag is put into the memory of the child that is to be started, or with which runs of a gate are to begin, and the
--- next ones are made, up to the first that is to be made of a tag; one that lives no more gives none
+-- the copy of a tag is put into the memory of the child that is to be started, or with which runs
+-- of a gate are to begin, and the next ones are made, up to the first that is to be made of a tag;
+-- one that lives no more gives none
 abbrev pub copied_on : ActorState → Preparation → ℕ → Option (List ℕ) → Preparation
 copied_on a p slot bytes = prepared a.sheet a.made a.memory.copies (copied_from bytes slot p.memory) (behind_first p.left)
 
@@ -176,7 +179,8 @@ takes_slot i a slot q slot_reply.Bad = refuses a code.Bad
 takes_slot i a slot q (slot_reply.Snapped pages) = has_snapped a a.phase slot (Some (bytes_listed pages))
 takes_slot i a slot q slot_reply.Gone = has_snapped a a.phase slot None
 
--- a slot that is claimed is for the tag to be opened there, and one that is released ends the call that closed its tag
+-- a slot that is claimed is for the tag to be opened there, and one that is released ends the call
+-- that closed its tag
 abbrev pub takes_place : ActorState → DirectoryAsk → DirectoryReply → ActorState
 takes_place a (directory_ask.Release slot) r = answers a 0
 takes_place a directory_ask.Claim (directory_reply.Claimed slot tag) = record a { phase = phase.Opening slot tag }
@@ -194,15 +198,17 @@ takes_number a directory_ask.Claim (directory_reply.Claimed fd number) = has_num
 takes_number a directory_ask.Claim directory_reply.Full = refuses a code.Full
 takes_number a directory_ask.Claim directory_reply.Released = runs a
 
--- The stream of a file is opened: its actor has the bits that it asked for on the descriptor, has opened it under that path, pays a
--- unit of fuel for each byte of the path's text, and is answered the number.
+-- The stream of a file is opened: its actor has the bits that it asked for on the descriptor, has
+-- opened it under that path, pays a unit of fuel for each byte of the path's text, and is answered
+-- the number.
 abbrev pub has_opened_file : ActorState → Phase → ℕ → ActorState
 has_opened_file a (phase.OpeningFile o) fd =
     let labels = a.labels ++ record { number = fd; path = o.path } ∷ [] in
     answers (spends (record a { made = made_fd a.made fd o.bits; labels = labels }) (a1 a)) fd
 has_opened_file a p fd = runs a
 
--- a read writes the bytes that it was given into the buffer of its call, takes a unit of fuel for each, and answers how many they are
+-- a read writes the bytes that it was given into the buffer of its call, takes a unit of fuel for
+-- each, and answers how many they are
 abbrev pub has_read : ActorState → List ℕ → ActorState
 has_read a bytes =
     let memory = record a.memory { ranges = write_at a.memory.ranges (a1 a) bytes } in
@@ -222,19 +228,21 @@ takes_stream a fd stream_reply.Opened = has_opened_file a a.phase fd
 abbrev pub copies_asked : ActorState → List CopyGrant
 copies_asked a = copy_grants (granted a.sheet a.made (draft_at a.drafts (a0 a))).tags
 
--- a life that is claimed is for the child to be started, whose private memory is made first; and an actor that has ended keeps none
+-- a life that is claimed is for the child to be started, whose private memory is made first; and an
+-- actor that has ended keeps none
 abbrev pub takes_lives : Image → ActorState → LivesAsk → LivesReply → ActorState
 takes_lives i a (lives_ask.Release e) r = record a { memory = no_memory; phase = phase.Ended e }
 takes_lives i a lives_ask.Claim lives_reply.Claimed = record a { phase = phase.Starting (prepared a.sheet a.made a.memory.copies (pristine i) (copies_asked a)) }
 takes_lives i a lives_ask.Claim lives_reply.Full = refuses a code.Full
 takes_lives i a lives_ask.Claim lives_reply.Released = runs a
 
--- a child has started: there is one start more, and one child more to be joined, to which the fuel went
+-- a child has started: there is one start more, and one child more to be joined, to which the fuel
+-- went
 abbrev pub has_started : ActorState → ActorState
 has_started a = answers (record a { starts = next_start a; unjoined = with_child a.unjoined (next_start a) (a3 a); fuel = a.fuel - a3 a }) (next_start a)
 
--- A gate is entered: there is one start more, and the run, to which the gate's fuel goes, is to be joined like a child. Its caller waits
--- for it.
+-- A gate is entered: there is one start more, and the run, to which the gate's fuel goes, is to be
+-- joined like a child. Its caller waits for it.
 abbrev pub has_entered : ActorState → Phase → ActorState
 has_entered a (phase.Entering entrance) = record a {
   starts = next_start a;
@@ -261,7 +269,8 @@ end_number end_.Unmapped = 7
 end_number end_.Break = 8
 end_number end_.FuelOut = 9
 
--- a child that ended so is joined: its fuel comes back, and a call is answered; one whose own end is decided goes on with it
+-- a child that ended so is joined: its fuel comes back, and a call is answered; one whose own end
+-- is decided goes on with it
 abbrev pub answered_end : ActorState → Phase → End → ActorState
 answered_end a (phase.Ending own) e = a
 answered_end a p e = answers_more a (end_value e) (end_number e)
@@ -295,8 +304,8 @@ abbrev pub memory_made : Image → Phase → PrivateMemory
 memory_made i (phase.Starting p) = p.memory
 memory_made i p = pristine i
 
--- a child as it begins: at its entry, with its argument, the sheet of the draft, the fuel that it was given, and the private
--- memory that was made for it
+-- a child as it begins: at its entry, with its argument, the sheet of the draft, the fuel that it
+-- was given, and the private memory that was made for it
 abbrev pub child_of : Image → ActorState → List ℕ → ActorState
 child_of i a name = record {
   name = name;
@@ -316,8 +325,8 @@ child_of i a name = record {
   phase = phase.Running;
 }
 
--- The run of a gate as it begins: at the gate's entry, with the argument of its caller and the trusted one, and with the gate's fuel. Its
--- private memory is the gate's, or what was kept for it.
+-- The run of a gate as it begins: at the gate's entry, with the argument of its caller and the
+-- trusted one, and with the gate's fuel. Its private memory is the gate's, or what was kept for it.
 abbrev pub run_by : ActorState → List ℕ → Option PrivateMemory → Entrance → ActorState
 run_by a name kept entrance = record {
   name = name;

@@ -119,7 +119,8 @@ impl Actor {
     /// The root but for its private memory.
     #[tactic(auto, unfolding(crate::specs::Actors::root))]
     fn root_record(alloc: Global, image: &Image) -> Result<Actor, NoMemory>
-        ensures is { IfOk result (λ a. whole a (actors.root_memory image.now) ≡ actors.root image.now) }
+        ensures is { IfOk result (λ a. whole a (actors.root_memory image.now)
+            ≡ actors.root image.now) }
         ensures going { IfOk result (λ a. a.stopped ≡ false) }
     {
         let mut hart = Hart::new(image.entry());

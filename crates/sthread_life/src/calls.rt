@@ -35,7 +35,8 @@ impl Actor {
         memory: &PrivateView,
     ) -> Result<(), NoMemory>
         requires running { self.old.phase ≡ phase.Running }
-        requires paid { funds self.old.starts self.old.made.count self.old.fuel self.old.unjoined < most_fuel }
+        requires paid { funds self.old.starts self.old.made.count self.old.fuel self.old.unjoined
+            < most_fuel }
         ensures { OnOk result (whole self.new memory.now
             ≡ calls.serves program.now (whole self.old memory.now)
             (calls.a7 (whole self.old memory.now))) }

@@ -24,7 +24,8 @@ pub(crate) fn copy_grants(
     draft: &Draft,
 ) -> Result<Vec<CopyGrant>, NoMemory>
     requires { HoldsInSlots sheet.now made.now }
-    ensures is { IfOk result (λ v. v.items ≡ copying.copy_grants (granted sheet.now made.now draft.now).tags) }
+    ensures is { IfOk result (λ v. v.items
+        ≡ copying.copy_grants (granted sheet.now made.now draft.now).tags) }
     ensures placed { IfOk result (λ v. AreInSlots v.items) }
 {
     let mut grants = Vec::new(alloc);

@@ -48,7 +48,8 @@ impl Actor {
 
     /// The call that makes a draft without grants.
     fn sc_new(&mut self) -> Result<(), NoMemory>
-        ensures { OnOk result ((m : PrivateMemory) → whole self.new m ≡ calls.sc_new (whole self.old m)) }
+        ensures { OnOk result ((m : PrivateMemory)
+            → whole self.new m ≡ calls.sc_new (whole self.old m)) }
     {
         let number = self.drafts.len();
         if number >= MOST_DRAFTS {

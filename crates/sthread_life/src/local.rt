@@ -51,7 +51,8 @@ impl Actor {
         ensures ended { IfOk result (λ n. end_in n ≡ end_reached self.new.phase) }
         ensures waits { IfOk result (λ n. run_in n ≡ run_awaited self.new.phase) }
         ensures name { OnOk result (self.new.name ≡ self.old.name) }
-        ensures live { OnOk result (local.has_ended self.new.phase ≡ local.has_ended self.old.phase) }
+        ensures live { OnOk result (local.has_ended self.new.phase
+            ≡ local.has_ended self.old.phase) }
         ensures fits { IfOk result (NextFits (whole self.new no_memory)) }
         ensures going { OnOk result ((self.old.stopped ≡ false) × (self.new.stopped ≡ false)) }
         ensures stops { OnErr result (self.new.stopped ≡ true) }
@@ -79,7 +80,8 @@ impl Actor {
         ensures ended { IfOk result (λ n. end_in n ≡ end_reached self.new.phase) }
         ensures waits { IfOk result (λ n. run_in n ≡ run_awaited self.new.phase) }
         ensures name { OnOk result (self.new.name ≡ self.old.name) }
-        ensures live { OnOk result (local.has_ended self.new.phase ≡ local.has_ended self.old.phase) }
+        ensures live { OnOk result (local.has_ended self.new.phase
+            ≡ local.has_ended self.old.phase) }
         ensures fits { IfOk result (NextFits (whole self.new no_memory)) }
         ensures stays { local.has_ended self.old.phase ≡ true
             → OnOk result (whole self.new memory.new ≡ whole self.old memory.old) }
@@ -167,7 +169,8 @@ impl Actor {
     ) -> Result<(), NoMemory>
         requires registers { HasRegisters instr.now }
         requires running { self.old.phase ≡ phase.Running }
-        requires paid { funds self.old.starts self.old.made.count self.old.fuel self.old.unjoined < most_fuel }
+        requires paid { funds self.old.starts self.old.made.count self.old.fuel self.old.unjoined
+            < most_fuel }
         ensures { OnOk result (whole self.new memory.new
             ≡ local.proceeds program.now instr.now (whole self.old memory.old)
             (hart.local instr.now self.old.hart)) }

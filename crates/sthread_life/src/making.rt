@@ -33,7 +33,8 @@ impl Actor {
         memory: &PrivateView,
     ) -> Result<(), NoMemory>
         requires running { self.old.phase ≡ phase.Running }
-        requires paid { funds self.old.starts self.old.made.count self.old.fuel self.old.unjoined < most_fuel }
+        requires paid { funds self.old.starts self.old.made.count self.old.fuel self.old.unjoined
+            < most_fuel }
         ensures { OnOk result (whole self.new memory.now
             ≡ calls.cgate_make program.now (whole self.old memory.now)) }
     {
@@ -58,7 +59,8 @@ impl Actor {
         excess: Option<Denial>,
     ) -> Result<(), NoMemory>
         requires running { self.old.phase ≡ phase.Running }
-        requires paid { funds self.old.starts self.old.made.count self.old.fuel self.old.unjoined < most_fuel }
+        requires paid { funds self.old.starts self.old.made.count self.old.fuel self.old.unjoined
+            < most_fuel }
         requires drafted { calls.a0 (whole self.old no_memory) < length self.old.drafts }
         requires excess { excess ≡ sheets.first_excess self.old.sheet self.old.made
             (calls.draft_at self.old.drafts (calls.a0 (whole self.old no_memory))) }
@@ -79,7 +81,8 @@ impl Actor {
     /// Whether the call at hand may make a gate of a draft: it names a procedure and one of the two kinds, and the draft has
     /// no user and no root directory.
     fn may_be_gate(&self, image: &Image, draft: &Draft) -> bool
-        ensures { (m : PrivateMemory) → result ≡ calls.may_be_gate image.now (whole self.now m) draft.now }
+        ensures { (m : PrivateMemory)
+            → result ≡ calls.may_be_gate image.now (whole self.now m) draft.now }
     {
         image.proc_at(self.hart.reg(A1)).is_some()
             && self.hart.reg(A4) <= 1
@@ -123,7 +126,8 @@ impl Actor {
     fn keep_gate(&mut self, gate: Gate) -> Result<(), NoMemory>
         requires running { self.old.phase ≡ phase.Running }
         requires placed { IsPlaced gate.sheet }
-        requires paid { funds self.old.starts self.old.made.count self.old.fuel self.old.unjoined < most_fuel }
+        requires paid { funds self.old.starts self.old.made.count self.old.fuel self.old.unjoined
+            < most_fuel }
         ensures takes { OnOk result ((m : PrivateMemory) → whole self.new m
             ≡ calls.has_gate (whole self.old m) gate) }
         ensures name { OnOk result (self.new.name ≡ self.old.name) }
@@ -161,7 +165,8 @@ impl Actor {
 /// Adds a gate to those that an actor knows.
 fn add_gate(alloc: Global, gates: &mut Vec<Arc<Gate>>, gate: Gate) -> Result<(), NoMemory>
     requires { IsPlaced gate.sheet }
-    ensures is { OnOk result (map arc_value gates.new.items ≡ map arc_value gates.old.items ++ gate ∷ []) }
+    ensures is { OnOk result (map arc_value gates.new.items
+        ≡ map arc_value gates.old.items ++ gate ∷ []) }
     ensures placed { AreGatesPlaced (map arc_value gates.old.items)
         → AreGatesPlaced (map arc_value gates.new.items) }
 {

@@ -39,7 +39,8 @@ use wedge_events::{GateAsk, LivesAsk, LivesReply, SavedView, SlotWant, Want};
 impl Actor {
     /// The call that starts a child, up to the claim of a life for it.
     pub(crate) fn create(&mut self, image: &Image) -> Result<(), NoMemory>
-        requires { funds self.old.starts self.old.made.count self.old.fuel self.old.unjoined < most_fuel }
+        requires { funds self.old.starts self.old.made.count self.old.fuel self.old.unjoined
+            < most_fuel }
         ensures { OnOk result ((m : PrivateMemory) → whole self.new m
             ≡ calls.create image.now (whole self.old m)) }
     {
@@ -58,7 +59,8 @@ impl Actor {
 
     /// The call that starts a child, with the first part of the draft that it may not give.
     fn create_checked(&mut self, excess: Option<Denial>) -> Result<(), NoMemory>
-        requires paid { funds self.old.starts self.old.made.count self.old.fuel self.old.unjoined < most_fuel }
+        requires paid { funds self.old.starts self.old.made.count self.old.fuel self.old.unjoined
+            < most_fuel }
         requires drafted { calls.a0 (whole self.old no_memory) < length self.old.drafts }
         requires excess { excess ≡ sheets.first_excess self.old.sheet self.old.made
             (calls.draft_at self.old.drafts (calls.a0 (whole self.old no_memory))) }
@@ -77,7 +79,8 @@ impl Actor {
 
     /// The call that starts a child, where it may give every grant of the draft.
     fn create_allowed(&mut self)
-        requires room { funds self.old.starts self.old.made.count self.old.fuel self.old.unjoined < most_fuel }
+        requires room { funds self.old.starts self.old.made.count self.old.fuel self.old.unjoined
+            < most_fuel }
         requires drafted { calls.a0 (whole self.old no_memory) < length self.old.drafts }
         requires allowed { sheets.first_excess self.old.sheet self.old.made
             (calls.draft_at self.old.drafts (calls.a0 (whole self.old no_memory))) ≡ None }

@@ -48,7 +48,8 @@ impl Children {
     pub fn add(&mut self, number: u32, fuel: u32) -> Result<(), NoMemory>
         ensures ok { OnOk result (self.new ≡ children.with_child self.old number fuel) }
         ensures child { OnOk result (children.is_child self.new number ≡ true) }
-        ensures given { OnOk result (children.all_given self.new ≤ children.all_given self.old + fuel) }
+        ensures given { OnOk result (children.all_given self.new
+            ≤ children.all_given self.old + fuel) }
         ensures err { OnErr result (self.new ≡ self.old) }
     {
         self.fuel.insert(number, fuel)?;

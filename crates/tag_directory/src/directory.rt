@@ -72,7 +72,8 @@ impl Directory {
     pub fn claim(&mut self) -> Result<Claimed, ClaimFault>
         ensures ok { IfOk result (λ c. reply.Claimed c.place c.number
             ≡ directories.claim_reply self.old (directories.claim self.old)) }
-        ensures next { OnOk result (self.new ≡ directories.claim_next self.old (directories.claim self.old)) }
+        ensures next { OnOk result (self.new
+            ≡ directories.claim_next self.old (directories.claim self.old)) }
         ensures before { IfOk result (λ c. directories.is_claimed self.old c.place ≡ false) }
         ensures after { IfOk result (λ c. directories.is_claimed self.new c.place ≡ true) }
         ensures full { (result ≡ Err ClaimFault.Full) ↔ (directories.claim self.old ≡ None) }
@@ -104,7 +105,8 @@ impl Directory {
 
     /// Claims the place released last, if one is released.
     fn use_again(&mut self) -> Option<u32>
-        ensures some { IfSome result (λ p. self.old ≡ record self.new { released = p ∷ self.new.released }) }
+        ensures some { IfSome result (λ p. self.old
+            ≡ record self.new { released = p ∷ self.new.released }) }
         ensures before { IfSome result (λ p. directories.is_claimed self.old p ≡ false) }
         ensures after { IfSome result (λ p. directories.is_claimed self.new p ≡ true) }
         ensures none { IfNone result (self.old.released ≡ []) }

@@ -40,7 +40,8 @@ pub fn accesses_want_rights()
 /// free, and a tag that has no such place is full. The tag's blocks are in order and apart, as those of
 /// every slot.
 pub fn blocks_are_placed_first_fit()
-    ensures placed { (g : slots.Segment) (tag size offset : ℕ) → AreBlocks 0 (length g.bytes) g.blocks → 1 ≤ size
+    ensures placed { (g : slots.Segment) (tag size offset : ℕ)
+        → AreBlocks 0 (length g.bytes) g.blocks → 1 ≤ size
         → slots.live_reply g (ask.Smalloc tag size) ≡ reply.Placed offset → IsFirstFit g.blocks (length g.bytes) (rounded size) offset }
     ensures full { (g : slots.Segment) (tag size offset : ℕ)
         → slots.live_reply g (ask.Smalloc tag size) ≡ reply.Full → AreFree g.blocks (length g.bytes) offset (rounded size) → ⊥ }

@@ -166,7 +166,8 @@ impl Segment {
     /// Frees the block that begins at an offset, as the asker's right allows it.
     pub fn sfree(&mut self, offset: u32, live: Option<Live>) -> SlotReply
         ensures is { result ≡ slots.live_reply self.old (SlotAsk.Sfree offset live) }
-        ensures after { Some self.new ≡ slots.slot_next (Some self.old) (SlotAsk.Sfree offset live) }
+        ensures after { Some self.new
+            ≡ slots.slot_next (Some self.old) (SlotAsk.Sfree offset live) }
     {
         let held = right_in(live);
         if !at_least(held, Right::ReadWrite) {

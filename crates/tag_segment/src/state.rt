@@ -261,7 +261,8 @@ impl SlotState {
     fn smalloc(&mut self, tag: TagNo, size: u32) -> Result<SlotReply, NoMemory>
         requires { 1 ≤ size }
         ensures is { IfOk result (λ r. r ≡ slots.slot_reply self.old (SlotAsk.Smalloc tag size)) }
-        ensures after { OnOk result (self.new ≡ slots.slot_next self.old (SlotAsk.Smalloc tag size)) }
+        ensures after { OnOk result (self.new
+            ≡ slots.slot_next self.old (SlotAsk.Smalloc tag size)) }
         ensures err { OnErr result (self.new ≡ self.old) }
     {
         match &mut self.segment {

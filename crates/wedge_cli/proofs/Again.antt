@@ -8,9 +8,9 @@ use Rattle.wedge_base.specs.declared.outcome.Outcome.{Outcome}
 use Rattle.image_form.specs.Rules.{Encodes}
 use Rattle.report_text.specs.Reports.{report_of}
 use Rattle.report_text.specs.Schedules.{actors_of, names_in}
-use Rattle.sthread_life.specs.Worlds.{opening}
+use Rattle.run_laws.specs.Worlds.{opening}
 use Rattle.wedge_core.specs.Replay.{replayed, names_of}
-use Rattle.wedge_core.specs.Serial.{IsWholeRun}
+use Rattle.wedge_core.specs.Serial.{IsJournaledRun}
 use Rattle.wedge_core.proofs.Replays.{journals_replay}
 use Rattle.wedge_cli.specs.declared.loading.FileKind.TheVariants as kind
 use Rattle.wedge_cli.specs.Loading.{image_of, most_of}
@@ -22,7 +22,7 @@ actors_are : (entries : List LogEntry) → actors_of entries ≡ names_of (turns
 actors_are [] = refl
 actors_are (e ∷ es) = ap (λ names. e.actor ∷ names) (actors_are es)
 
-pub schedule_replays : (i : Image) (bytes schedule : List ℕ) (entries : List LogEntry) (outcome : Outcome) → Encodes i bytes → image_of bytes ≡ Ok i → IsWholeRun i entries outcome
+pub schedule_replays : (i : Image) (bytes schedule : List ℕ) (entries : List LogEntry) (outcome : Outcome) → Encodes i bytes → image_of bytes ≡ Ok i → IsJournaledRun i entries outcome
     → names_in schedule ≡ Ok (actors_of entries) → length schedule ≤ most_of kind.Schedule → replay_text bytes schedule ≡ Ok (report_of outcome)
 schedule_replays i bytes schedule entries outcome encoded accepted whole read short =
     let within : length bytes ≤ most_of kind.Image = omega (arith, ap length encoded.encoded, encoded.valid.small) in

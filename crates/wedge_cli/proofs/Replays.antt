@@ -8,7 +8,7 @@ use Rattle.image_form.specs.declared.fault.Fault.{Fault}
 use Rattle.elf_in.specs.declared.fault.Fault.{Fault as ElfFault}
 use Rattle.image_form.specs.Reading.{reading}
 use Rattle.report_text.specs.Schedules.{names_in}
-use Rattle.sthread_life.specs.Worlds.{WorldState, opening}
+use Rattle.run_laws.specs.Worlds.{WorldState, opening}
 use Rattle.wedge_core.specs.declared.error.Why.{Why}
 use Rattle.wedge_core.specs.Replay.{replayed}
 use Rattle.wedge_cli.specs.declared.loading.FileKind.TheVariants as kind

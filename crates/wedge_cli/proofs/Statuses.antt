@@ -24,14 +24,14 @@ use Rattle.cb_analyze.specs.Texts.{sheets_text}
 use Rattle.wedge_cli.specs.Ended.{AreTaken, IsReported, IsPairAnswer, IsTraceAnswer, IsWritten, IsSaid, IsRunDone, IsScheduleDone, IsLinkDone, IsCutShort, IsAnswerEnd}
 use Rattle.wedge_cli.specs.declared.words.Query.{Query}
 use Rattle.wedge_cli.specs.Traces.{derive_text, analyze_text, query_lines, answer_to, unless_fault, IsUnknownIn, IsTraceRefused, IsQueryRefused}
-use Rattle.wedge_cli.specs.Causes.{IsReplayRefused, IsRefused, IsUnfit, IsRejected, IsTraceRejected, IsElfRejected, IsUnknown, IsUnreadable, SaysRefusal, IsRefusal, IsDone, IsUsage, IsAnswer}
+use Rattle.wedge_cli.specs.Causes.{IsReplayRefused, IsRefused, IsUnfit, IsRejected, IsTraceRejected, IsElfRejected, IsUnknown, IsUnreadable, SaysRefusal, IsRefusal, IsCommandDone, IsUsage, IsCommandAnswer}
 use Rattle.wedge_cli.proofs.Written.{Rise, written_status, said_status, took_out, took_err, took_both}
 use Rattle.wedge_cli.proofs.Again.{schedule_replays}
 use Rattle.wedge_cli.proofs.Links.{unfit_link, unread_link, rejected_elf, no_other_link, link_refusal}
 
 -- what was done with a command: it was refused, or its texts were written
 abbrev IsEither : Asked → Ended → Outside → Outside → Type 0
-IsEither a ended before after = IsRefusal a ended before after ⊎ IsDone a ended before after
+IsEither a ended before after = IsRefusal a ended before after ⊎ IsCommandDone a ended before after
 
 -- the status of a refusal, of out of memory for its line, or of a fault
 abbrev IsRefusalStatus : Refusal → ℕ → Device → Device → Type 0
@@ -44,8 +44,20 @@ refusal_status why ended e f (inr said) =
     elim (said_status 6 (line (refusal_text refusal.NoMemory)) ended e f said) [ inl is ↦ inr (inl is) | inr fault ↦ inr (inr fault) ]
 
 -- what is done has status 0, or 5 where a count of faults rose
-done_status : (a : Asked) (ended : Ended) (before after : Outside) → IsDone a ended before after → (ended.status ≡ 0) ⊎ ((ended.status ≡ 5) × Rise before.sinks after.sinks)
+done_status : (a : Asked) (ended : Ended) (before after : Outside) → IsCommandDone a ended before after → (ended.status ≡ 0) ⊎ ((ended.status ≡ 5) × Rise before.sinks after.sinks)
 done_status a ended before after d = written_status 0 d.kept d.texts ended before.sinks after.sinks d.written
+
+-- a status other than 0, 5 and 6 is that of a refusal, which has its cause
+by_refusal : {P : Type 0} {n : ℕ} (a : Asked) (ended : Ended) (before after : Outside) → (0 ≡ n → ⊥) → (5 ≡ n → ⊥) → (6 ≡ n → ⊥) → IsEither a ended before after → ended.status ≡ n
+    → ((r : Refusal) → IsRefused a before.files before.reads after.reads r → status_of r ≡ n → P) → P
+by_refusal a ended before after zero five six (inl r) is each =
+    elim (refusal_status r.why ended before.sinks.err after.sinks.err r.err) [
+      | inl status ↦ each r.why r.cause (sym status ∙ is)
+      | inr (inl status) ↦ absurd (six (sym status ∙ is))
+      | inr (inr fault) ↦ absurd (five (sym fault.0 ∙ is))
+    ]
+by_refusal a ended before after zero five six (inr d) is each =
+    elim (done_status a ended before after d) [ inl status ↦ absurd (zero (sym status ∙ is)) | inr fault ↦ absurd (five (sym fault.0 ∙ is)) ]
 
 -- whether a status is another one
 abbrev Not : ℕ → ℕ → Type 0
@@ -122,14 +134,8 @@ unfit (Derive trace) files before after r h e = unfit_trace trace (files trace) 
 unfit (Analyze trace query name) files before after r h e = unfit_query query name trace (files trace) (before trace) (after trace) r h e
 
 pub image_only : (a : Asked) (ended : Ended) (before after : Outside) → IsEither a ended before after → ended.status ≡ 3 → IsUnfit a before.files
-image_only a ended before after (inl r) is =
-    elim (refusal_status r.why ended before.sinks.err after.sinks.err r.err) [
-      | inl status ↦ unfit a before.files before.reads after.reads r.why r.cause (sym status ∙ is)
-      | inr (inl status) ↦ absurd (omega (arith, status, is))
-      | inr (inr fault) ↦ absurd (omega (arith, fault.0, is))
-    ]
-image_only a ended before after (inr d) is =
-    elim (done_status a ended before after d) [ inl status ↦ absurd (omega (arith, status, is)) | inr fault ↦ absurd (omega (arith, fault.0, is)) ]
+image_only a ended before after either is =
+    by_refusal a ended before after (λ e. omega (arith, e)) (λ e. omega (arith, e)) (λ e. omega (arith, e)) either is (unfit a before.files before.reads after.reads)
 
 -- ---- 4
 
@@ -188,14 +194,8 @@ unread (Derive trace) files before after r h e = unread_trace trace (files trace
 unread (Analyze trace query name) files before after r h e = unread_query query name trace (files trace) (before trace) (after trace) r h e
 
 pub read_only : (a : Asked) (ended : Ended) (before after : Outside) → IsEither a ended before after → ended.status ≡ 4 → IsUnreadable a before.reads after.reads
-read_only a ended before after (inl r) is =
-    elim (refusal_status r.why ended before.sinks.err after.sinks.err r.err) [
-      | inl status ↦ unread a before.files before.reads after.reads r.why r.cause (sym status ∙ is)
-      | inr (inl status) ↦ absurd (omega (arith, status, is))
-      | inr (inr fault) ↦ absurd (omega (arith, fault.0, is))
-    ]
-read_only a ended before after (inr d) is =
-    elim (done_status a ended before after d) [ inl status ↦ absurd (omega (arith, status, is)) | inr fault ↦ absurd (omega (arith, fault.0, is)) ]
+read_only a ended before after either is =
+    by_refusal a ended before after (λ e. omega (arith, e)) (λ e. omega (arith, e)) (λ e. omega (arith, e)) either is (unread a before.files before.reads after.reads)
 
 -- ---- 8
 
@@ -253,14 +253,8 @@ rejected (Derive trace) files before after r h e = rejected_trace trace (files t
 rejected (Analyze trace query name) files before after r h e = rejected_query query name trace (files trace) (before trace) (after trace) r h e
 
 pub rejected_only : (a : Asked) (ended : Ended) (before after : Outside) → IsEither a ended before after → ended.status ≡ 8 → IsRejected a before.files
-rejected_only a ended before after (inl r) is =
-    elim (refusal_status r.why ended before.sinks.err after.sinks.err r.err) [
-      | inl status ↦ rejected a before.files before.reads after.reads r.why r.cause (sym status ∙ is)
-      | inr (inl status) ↦ absurd (omega (arith, status, is))
-      | inr (inr fault) ↦ absurd (omega (arith, fault.0, is))
-    ]
-rejected_only a ended before after (inr d) is =
-    elim (done_status a ended before after d) [ inl status ↦ absurd (omega (arith, status, is)) | inr fault ↦ absurd (omega (arith, fault.0, is)) ]
+rejected_only a ended before after either is =
+    by_refusal a ended before after (λ e. omega (arith, e)) (λ e. omega (arith, e)) (λ e. omega (arith, e)) either is (rejected a before.files before.reads after.reads)
 
 -- ---- 9
 
@@ -319,14 +313,8 @@ unknown (Derive trace) files before after r h e = known_trace trace (files trace
 unknown (Analyze trace query name) files before after r h e = unknown_query query name trace (files trace) (before trace) (after trace) r h e
 
 pub name_only : (a : Asked) (ended : Ended) (before after : Outside) → IsEither a ended before after → ended.status ≡ 9 → IsUnknown a before.files
-name_only a ended before after (inl r) is =
-    elim (refusal_status r.why ended before.sinks.err after.sinks.err r.err) [
-      | inl status ↦ unknown a before.files before.reads after.reads r.why r.cause (sym status ∙ is)
-      | inr (inl status) ↦ absurd (omega (arith, status, is))
-      | inr (inr fault) ↦ absurd (omega (arith, fault.0, is))
-    ]
-name_only a ended before after (inr d) is =
-    elim (done_status a ended before after d) [ inl status ↦ absurd (omega (arith, status, is)) | inr fault ↦ absurd (omega (arith, fault.0, is)) ]
+name_only a ended before after either is =
+    by_refusal a ended before after (λ e. omega (arith, e)) (λ e. omega (arith, e)) (λ e. omega (arith, e)) either is (unknown a before.files before.reads after.reads)
 
 -- ---- 10
 
@@ -385,14 +373,8 @@ elf_rejected (Derive trace) files before after r h e = not_elf_trace trace (file
 elf_rejected (Analyze trace query name) files before after r h e = not_elf_query query name trace (files trace) (before trace) (after trace) r h e
 
 pub elf_only : (a : Asked) (ended : Ended) (before after : Outside) → IsEither a ended before after → ended.status ≡ 10 → IsElfRejected a before.files
-elf_only a ended before after (inl r) is =
-    elim (refusal_status r.why ended before.sinks.err after.sinks.err r.err) [
-      | inl status ↦ elf_rejected a before.files before.reads after.reads r.why r.cause (sym status ∙ is)
-      | inr (inl status) ↦ absurd (omega (arith, status, is))
-      | inr (inr fault) ↦ absurd (omega (arith, fault.0, is))
-    ]
-elf_only a ended before after (inr d) is =
-    elim (done_status a ended before after d) [ inl status ↦ absurd (omega (arith, status, is)) | inr fault ↦ absurd (omega (arith, fault.0, is)) ]
+elf_only a ended before after either is =
+    by_refusal a ended before after (λ e. omega (arith, e)) (λ e. omega (arith, e)) (λ e. omega (arith, e)) either is (elf_rejected a before.files before.reads after.reads)
 
 -- ---- 2
 
@@ -410,11 +392,11 @@ none_unless : (asked : Option Asked) → ((a : Asked) → asked ≡ Some a → �
 none_unless None h = refl
 none_unless (Some a) h = absurd (h a refl)
 
-pub usage_only : (asked : Option Asked) (ended : Ended) (before after : Outside) → IsAnswer asked ended before after → ended.status ≡ 2 → asked ≡ None
+pub usage_only : (asked : Option Asked) (ended : Ended) (before after : Outside) → IsCommandAnswer asked ended before after → ended.status ≡ 2 → asked ≡ None
 usage_only asked ended before after w is = none_unless asked (λ a h. not_2 a ended before after (w.command a h) is)
 
 -- arguments that are no command
-pub usage_answer : (asked : Option Asked) (ended : Ended) (before after : Outside) → asked ≡ None → IsUsage ended before after → IsAnswer asked ended before after
+pub usage_answer : (asked : Option Asked) (ended : Ended) (before after : Outside) → asked ≡ None → IsUsage ended before after → IsCommandAnswer asked ended before after
 usage_answer asked ended before after none said = record { usage = λ same. said; command = λ a some. absurd cc }
 
 -- ---- 5
@@ -429,7 +411,7 @@ rises_by a ended before after (inl r) is =
 rises_by a ended before after (inr d) is =
     elim (done_status a ended before after d) [ inl status ↦ absurd (omega (arith, status, is)) | inr fault ↦ fault.1 ]
 
-pub write_only : (asked : Option Asked) (ended : Ended) (before after : Outside) → IsAnswer asked ended before after → ended.status ≡ 5 → Rise before.sinks after.sinks
+pub write_only : (asked : Option Asked) (ended : Ended) (before after : Outside) → IsCommandAnswer asked ended before after → ended.status ≡ 5 → Rise before.sinks after.sinks
 write_only None ended before after w is =
     elim (said_status 2 usage_line ended before.sinks.err after.sinks.err (w.usage refl).err) [
       | inl status ↦ absurd (omega (arith, status, is))
@@ -456,7 +438,7 @@ reported i (Some journal) texts bytes s u encoded r taken =
       err = took.1;
     }
 
-done_0 : (image bytes : List ℕ) (ended : Ended) (before after : Outside) → IsDone (Run image Plain) ended before after
+done_0 : (image bytes : List ℕ) (ended : Ended) (before after : Outside) → IsCommandDone (Run image Plain) ended before after
     → before.files image ≡ Some bytes → ended.status ≡ 0 → IsRunDone bytes ended.journal before.sinks after.sinks
 done_0 image bytes ended before after d exposed is =
     elim d.written.cases [
@@ -603,7 +585,7 @@ link_answered elf part bytes text ended before after (inl r) elf_is part_is =
 link_answered elf part bytes text ended before after (inr d) elf_is part_is =
     pair_done link_text (before.files elf) (before.files part) bytes text d.kept d.texts ended before.sinks after.sinks d.made.answer elf_is part_is d.written
 
-linked_0 : (elf part bytes : List ℕ) (ended : Ended) (before after : Outside) → IsDone (Link elf part) ended before after
+linked_0 : (elf part bytes : List ℕ) (ended : Ended) (before after : Outside) → IsCommandDone (Link elf part) ended before after
     → before.files elf ≡ Some bytes → ended.status ≡ 0 → IsLinkDone bytes before.sinks after.sinks
 linked_0 elf part bytes ended before after d elf_is is =
     let made = d.made.answer in

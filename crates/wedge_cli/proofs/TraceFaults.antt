@@ -15,7 +15,7 @@ none_of : (b : Bool) (f : TraceFault) (m : Option TraceFault) → (let fault : O
 none_of true f m e = absurd cc
 none_of false f m e = e
 
--- a trace that is accepted has no line at fault
+-- a trace that is accepted has no invalid line
 pub no_first_fault : (bytes : List ℕ) → trace_fault bytes ≡ None → first_fault bytes ≡ None
 unfolding trace_fault
 no_first_fault bytes e = none_of (nat_lt most_trace (length bytes)) long_trace (first_fault bytes) e

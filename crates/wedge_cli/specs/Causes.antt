@@ -18,7 +18,7 @@ use Rattle.elf_in.specs.Reading.{reading as elf_reading}
 use Rattle.wedge_cli.specs.Linking.{link_text, IsUnjoined}
 use Rattle.wedge_cli.specs.Traces.{trace_fault, IsUnknownIn, IsTraceRefused, IsQueryRefused}
 use Rattle.wedge_cli.specs.Words.{Asked, Run, Show, Build, Link, Replay, Derive, Analyze}
-use Rattle.wedge_cli.specs.Ended.{IsMade, IsWritten, IsSaid}
+use Rattle.wedge_cli.specs.Ended.{IsAnswered, IsWritten, IsSaid}
 
 -- a read of one of the two files failed; where it is the second, the first is not too long
 abbrev pub IsReplayFault : List ℕ → List ℕ → (List ℕ → Option (List ℕ)) → (List ℕ → ℕ) → (List ℕ → ℕ) → List ℕ → Type 0
@@ -144,10 +144,10 @@ pub record IsRefusal (a : Asked) (ended : Ended) (before after : Outside) : Type
   pub err : SaysRefusal why ended before.sinks.err after.sinks.err
 
 -- a command is done: its texts are written
-pub record IsDone (a : Asked) (ended : Ended) (before after : Outside) : Type 0 where
+pub record IsCommandDone (a : Asked) (ended : Ended) (before after : Outside) : Type 0 where
   pub kept : Option Journal
   pub texts : List Text
-  pub made : IsMade a before.files kept texts
+  pub made : IsAnswered a before.files kept texts
   pub written : IsWritten 0 kept texts ended before.sinks after.sinks
 
 -- the arguments are no command: out is left alone, and err takes the line of that
@@ -156,6 +156,6 @@ pub record IsUsage (ended : Ended) (before after : Outside) : Type 0 where
   pub err : IsSaid 2 usage_line ended before.sinks.err after.sinks.err
 
 -- of what the arguments ask, with what lies outside before and after
-pub record IsAnswer (asked : Option Asked) (ended : Ended) (before after : Outside) : Type 0 where
+pub record IsCommandAnswer (asked : Option Asked) (ended : Ended) (before after : Outside) : Type 0 where
   pub usage : asked ≡ None → IsUsage ended before after
-  pub command : (a : Asked) → asked ≡ Some a → IsRefusal a ended before after ⊎ IsDone a ended before after
+  pub command : (a : Asked) → asked ≡ Some a → IsRefusal a ended before after ⊎ IsCommandDone a ended before after

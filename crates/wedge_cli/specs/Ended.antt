@@ -6,7 +6,7 @@ use Rattle.part_toml.specs.Partition.{partition}
 use Rattle.wedge_events.specs.declared.events.Journal.{Journal}
 use Rattle.wedge_base.specs.declared.outcome.Outcome.{Outcome}
 use Rattle.host_io.specs.Exposed.{WhereExposed}
-use Rattle.wedge_core.specs.Serial.{IsWholeRun, IsNumbered}
+use Rattle.wedge_core.specs.Serial.{IsJournaledRun, IsNumbered}
 use Rattle.report_text.specs.Reports.{report_of}
 use Rattle.report_text.specs.Schedules.{actors_of, schedule_of, names_in}
 use Rattle.wedge_events.specs.declared.events.LogEntry.{LogEntry}
@@ -46,17 +46,18 @@ run_texts Plain journal outcome = on_out (report_of outcome)
 run_texts Schedule journal outcome = on_both (schedule_of (actors_of journal.entries)) (report_of outcome)
 
 -- a schedule that is written is read as the names of the journal's actors
-abbrev pub IsReadAgain : RunFlag → List LogEntry → Type 0
-IsReadAgain Plain entries = Unit {0}
-IsReadAgain Schedule entries = names_in (schedule_of (actors_of entries)) ≡ Ok (actors_of entries)
+abbrev pub IsScheduleReadAgain : RunFlag → List LogEntry → Type 0
+IsScheduleReadAgain Plain entries = Unit {0}
+IsScheduleReadAgain Schedule entries = names_in (schedule_of (actors_of entries)) ≡ Ok (actors_of entries)
 
--- The journal is that of a complete run of the image, each moment of it lawful, and the texts are of that run.
+-- The journal is that of a complete run of the image, each moment of it lawful, and the texts are
+-- of that run.
 pub record IsReportOf (i : Image) (flag : RunFlag) (journal : Journal) (texts : List Text) : Type 0 where
   pub outcome : Outcome
-  pub run : IsWholeRun i journal.entries outcome
+  pub run : IsJournaledRun i journal.entries outcome
   pub stamps : IsNumbered journal.entries
   pub are : texts ≡ run_texts flag journal outcome
-  pub again : IsReadAgain flag journal.entries
+  pub again : IsScheduleReadAgain flag journal.entries
 
 -- and it is kept
 abbrev pub IsReported : Image → RunFlag → Option Journal → List Text → Type 0
@@ -64,7 +65,7 @@ IsReported i flag None texts = ⊥
 IsReported i flag (Some journal) texts = IsReportOf i flag journal texts
 
 -- an image's file is run, listed, or built of a partition's
-pub record IsRun (flag : RunFlag) (content : Option (List ℕ)) (kept : Option Journal) (texts : List Text) : Type 0 where
+pub record RunsImage (flag : RunFlag) (content : Option (List ℕ)) (kept : Option Journal) (texts : List Text) : Type 0 where
   pub image : Image
   pub encoded : WhereExposed content (λ bytes. Encodes image bytes)
   pub accepted : WhereExposed content (λ bytes. image_of bytes ≡ Ok image)
@@ -86,7 +87,8 @@ pub record IsBuilt (content : Option (List ℕ)) (kept : Option Journal) (texts 
   pub encoded : Encodes image bytes
   pub are : texts ≡ on_out bytes
 
--- two files are answered: what was read of each is its bytes, where they are exposed, and the text is what is meant by both
+-- two files are answered: what was read of each is its bytes, where they are exposed, and the text
+-- is what is meant by both
 pub record IsPairAnswer (meaning : List ℕ → List ℕ → Result (List ℕ) Refusal) (one other : Option (List ℕ)) (kept : Option Journal) (texts : List Text) : Type 0 where
   pub first : List ℕ
   pub second : List ℕ
@@ -102,7 +104,8 @@ pub record IsLinked (elf part : Option (List ℕ)) (kept : Option Journal) (text
   pub answer : IsPairAnswer link_text elf part kept texts
   pub image : IsLinkedImage answer.first answer.text
 
--- a trace's file is answered: what was read of it is its bytes, where they are exposed, and the text is what is meant by them
+-- a trace's file is answered: what was read of it is its bytes, where they are exposed, and the
+-- text is what is meant by them
 pub record IsTraceAnswer (meaning : List ℕ → Result (List ℕ) Refusal) (trace : Option (List ℕ)) (kept : Option Journal) (texts : List Text) : Type 0 where
   pub bytes : List ℕ
   pub bytes_are : WhereExposed trace (λ exposed. bytes ≡ exposed)
@@ -112,14 +115,14 @@ pub record IsTraceAnswer (meaning : List ℕ → Result (List ℕ) Refusal) (tra
   pub are : texts ≡ on_out text
 
 -- the journal that a command keeps, and the texts that it writes
-abbrev pub IsMade : Asked → (List ℕ → Option (List ℕ)) → Option Journal → List Text → Type 0
-IsMade (Run image flag) files kept texts = IsRun flag (files image) kept texts
-IsMade (Show image) files kept texts = IsShown (files image) kept texts
-IsMade (Build part) files kept texts = IsBuilt (files part) kept texts
-IsMade (Link elf part) files kept texts = IsLinked (files elf) (files part) kept texts
-IsMade (Replay image schedule) files kept texts = IsPairAnswer replay_text (files image) (files schedule) kept texts
-IsMade (Derive trace) files kept texts = IsTraceAnswer derive_text (files trace) kept texts
-IsMade (Analyze trace query name) files kept texts = IsTraceAnswer (analyze_text query name) (files trace) kept texts
+abbrev pub IsAnswered : Asked → (List ℕ → Option (List ℕ)) → Option Journal → List Text → Type 0
+IsAnswered (Run image flag) files kept texts = RunsImage flag (files image) kept texts
+IsAnswered (Show image) files kept texts = IsShown (files image) kept texts
+IsAnswered (Build part) files kept texts = IsBuilt (files part) kept texts
+IsAnswered (Link elf part) files kept texts = IsLinked (files elf) (files part) kept texts
+IsAnswered (Replay image schedule) files kept texts = IsPairAnswer replay_text (files image) (files schedule) kept texts
+IsAnswered (Derive trace) files kept texts = IsTraceAnswer derive_text (files trace) kept texts
+IsAnswered (Analyze trace query name) files kept texts = IsTraceAnswer (analyze_text query name) (files trace) kept texts
 
 -- ---- how texts are written
 
@@ -159,8 +162,8 @@ OneFails (t ∷ ts) before after = FailsText t before after ⊎ Then (TakesText 
 abbrev pub TellsFault : Sinks → Sinks → Type 0
 TellsFault before after = Tried write_fault_line before.err after.err × (after.out ≡ before.out)
 
--- Texts are written, and the program ends with this status and this journal; where one fails, err is given the line
--- of that, and the status is 5.
+-- Texts are written, and the program ends with this status and this journal; where one fails, err
+-- is given the line of that, and the status is 5.
 pub record IsWritten (status : ℕ) (kept : Option Journal) (texts : List Text) (ended : Ended) (before after : Sinks) : Type 0 where
   pub journal : ended.journal ≡ kept
   pub cases : (AreTaken texts before after × (ended.status ≡ status))
@@ -173,28 +176,29 @@ IsSaid status text ended before after =
 
 -- ---- a run, and an answer
 
--- `run IMAGE` was done: the file's bytes encode an image, the journal is that of a complete run of it, out has
--- grown by the report of its outcome, and err is as it was
+-- `run IMAGE` was done: the file's bytes encode an image, the journal is that of a complete run of
+-- it, out has grown by the report of its outcome, and err is as it was
 pub record IsRunDone (bytes : List ℕ) (kept : Option Journal) (before after : Sinks) : Type 0 where
   pub image : Image
   pub encoded : Encodes image bytes
   pub journal : Journal
   pub kept_is : kept ≡ Some journal
   pub outcome : Outcome
-  pub run : IsWholeRun image journal.entries outcome
+  pub run : IsJournaledRun image journal.entries outcome
   pub stamps : IsNumbered journal.entries
   pub out : Takes (report_of outcome) before.out after.out
   pub err : after.err ≡ before.err
 
--- `run IMAGE --schedule` was done: besides, out has grown by the schedule of the run, and err by the report; and that
--- schedule, if it is no longer than the file of one may be, replayed over the same image gives the same report
+-- `run IMAGE --schedule` was done: besides, out has grown by the schedule of the run, and err by
+-- the report; and that schedule, if it is no longer than the file of one may be, replayed over the
+-- same image gives the same report
 pub record IsScheduleDone (bytes : List ℕ) (kept : Option Journal) (before after : Sinks) : Type 0 where
   pub image : Image
   pub encoded : Encodes image bytes
   pub journal : Journal
   pub kept_is : kept ≡ Some journal
   pub outcome : Outcome
-  pub run : IsWholeRun image journal.entries outcome
+  pub run : IsJournaledRun image journal.entries outcome
   pub stamps : IsNumbered journal.entries
   pub schedule : List ℕ
   pub schedule_is : schedule ≡ schedule_of (actors_of journal.entries)
@@ -206,14 +210,15 @@ pub record IsScheduleDone (bytes : List ℕ) (kept : Option Journal) (before aft
 abbrev pub IsCutShort : ℕ → Type 0
 IsCutShort status = (status ≡ 4) ⊎ (status ≡ 5) ⊎ (status ≡ 6)
 
--- a command ended as the answer of its files' bytes says: out has grown by the text, or err by the line of the refusal
+-- a command ended as the answer of its files' bytes says: out has grown by the text, or err by the
+-- line of the refusal
 abbrev pub IsAnswerEnd : Result (List ℕ) Refusal → ℕ → Sinks → Sinks → Type 0
 IsAnswerEnd (Ok text) status before after = (status ≡ 0) × Takes text before.out after.out × (after.err ≡ before.err)
 IsAnswerEnd (Err why) status before after =
     (status ≡ status_of why) × Takes (line (refusal_text why)) before.err after.err × (after.out ≡ before.out)
 
--- `link ELF PART` was done: out has grown by the encoding of an image with the text, the data and the procedures of the
--- ELF file, and err is as it was
+-- `link ELF PART` was done: out has grown by the encoding of an image with the text, the data and
+-- the procedures of the ELF file, and err is as it was
 pub record IsLinkDone (elf : List ℕ) (before after : Sinks) : Type 0 where
   pub bytes : List ℕ
   pub image : IsLinkedImage elf bytes

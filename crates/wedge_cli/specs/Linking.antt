@@ -1,4 +1,5 @@
--- The bytes of the image that an ELF file and a partition are joined to, as a function of the bytes of both.
+-- The bytes of the image that an ELF file and a partition are joined to, as a function of the bytes
+-- of both.
 use Rattle.std.specs.Prelude.{◌≡◌, ℕ, List, length, Result, Ok, Err, nat_lt, if◌then◌else◌}
 use Rattle.std.specs.Str.{is_utf8}
 use Rattle.wedge_base.specs.Images.{Image}

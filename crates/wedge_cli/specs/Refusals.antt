@@ -34,7 +34,8 @@ abbrev pub elf_refusal_of : ElfError → Refusal
 elf_refusal_of elf.NoMemory = refusal.NoMemory
 elf_refusal_of (elf.Fault fault) = refusal.Elf fault
 
--- the refusal of a partition that a program is joined to: what is wrong with the image of both is the image's fault
+-- the refusal of a partition that a program is joined to: what is wrong with the image of both is
+-- the image's fault
 abbrev pub joining_refusal_of : PartFault → Refusal
 joining_refusal_of (fault.Image at why) = refusal.Image (record { at = at; why = why })
 joining_refusal_of other = part_refusal_of other

@@ -3,8 +3,8 @@ use Rattle.std.specs.Prelude.{◌≡◌, ℕ, List, length, Result, Ok, Err, nat
 use Rattle.wedge_base.specs.Images.{Image}
 use Rattle.report_text.specs.Reports.{report_of}
 use Rattle.report_text.specs.Schedules.{names_in}
-use Rattle.sthread_life.specs.Worlds.{WorldState, opening}
-use Rattle.sthread_life.specs.Outcomes.{outcome_of}
+use Rattle.run_laws.specs.Worlds.{WorldState, opening}
+use Rattle.run_laws.specs.Outcomes.{outcome_of}
 use Rattle.wedge_core.specs.declared.error.Why.{Why}
 use Rattle.wedge_core.specs.Replay.{replayed}
 use Rattle.wedge_cli.specs.declared.loading.FileKind.TheVariants as kind

@@ -1,138 +1,77 @@
 //! Partitions that are built, and the images run.
 
-use super::tests::{Left, Run, leaves, strings};
+use super::compartments::NOTE;
+use super::harness::{CASE, Case, PART, Part, image_of, leaves_turns, partition};
 use super::*;
-use host_io::{MemFile, MemFiles, MemSink, NoPace};
 use std::alloc::Global;
 use std::process::Abort;
 use std::sync::Wait;
 use std::test::Fail;
 use std::thread::Threads;
 
-/// The user and the root directory of a partition that may do all.
-static OWNER: &str = "user = 0\nroot = \"/\"\n";
-
-/// What stands before the text of a partition; and what stands after the right that the root has on a tag `box` of one page: a
-/// stream `out` to which it may append.
-static HEAD: &str = "entry = \"main\"\ntext = \"\"\"\n";
-
-static TAIL: &str = "\"\n[[fd]]\nname = \"out\"\nkind = \"append\"\nbits = \"append\"\n";
-
-/// A partition with a line for its fuel, a text, and the root's right on the tag.
-pub(crate) fn partition(
-    alloc: Global,
-    fuel: &str,
-    text: &str,
-    right: &str,
-) -> Result<Vec<u8>, Fail> {
-    let mut keys = String::from_str(alloc, fuel)?;
-    keys.push_str(OWNER)?;
-    partition_as(alloc, keys.as_str(), text, right)
+/// A text of a root with no right on the tag, and what its run prints after so many turns.
+struct Built {
+    fuel: u32,
+    text: [&'static str; 2],
+    report: &'static str,
+    turns: usize,
 }
 
-/// The same, with the lines for its user and its root directory behind the one for its fuel.
-pub(crate) fn partition_as(
-    alloc: Global,
-    keys: &str,
-    text: &str,
-    right: &str,
-) -> Result<Vec<u8>, Fail> {
-    let mut bytes = Vec::from_slice(alloc, keys.as_bytes())?;
-    for piece in [
-        HEAD,
-        text,
-        "\"\"\"\n[[tag]]\nname = \"box\"\npages = 1\nright = \"",
-        right,
-        TAIL,
-    ] {
-        bytes.extend_from_slice(piece.as_bytes())?;
-    }
-    Ok(bytes)
-}
-
-/// What `build` writes of a partition, with the status 0.
-pub(crate) fn built<R: Threads + Wait + Abort + Sync>(
+/// The text is built and run.
+fn reports<R: Threads + Wait + Abort + Sync>(
     rt: &R,
     alloc: Global,
-    bytes: Vec<u8>,
-) -> Result<Vec<u8>, Fail> {
-    let words = strings(alloc, &["build", "a"])?;
-    let file = MemFile {
-        name: String::from_str(alloc, "a")?,
-        bytes,
+    built: &Built,
+) -> Result<(), Fail> {
+    let part = Part {
+        fuel: built.fuel,
+        text: &built.text,
+        ..PART
     };
-    let files = vec![in alloc; file]?;
-    assert!(rt; MemFiles::names_differ(files.as_slice()));
-    let mut files = MemFiles::new(files, Vec::new(alloc));
-    let mut out = MemSink::new(alloc, 1000, Vec::new(alloc))?;
-    let mut err = MemSink::new(alloc, 100, Vec::new(alloc))?;
-    let ended = wedge(
-        rt,
-        alloc,
-        words.as_slice(),
-        &mut files,
-        &mut out,
-        &mut err,
-        &NoPace,
-    );
-    assert_eq!(rt; ended.status, 0);
-    assert_eq!(rt; err.bytes(), b"".as_slice());
-    assert!(rt; ended.journal.is_none());
-    Ok(Vec::from_slice(alloc, out.bytes())?)
+    let image = image_of(rt, alloc, part)?;
+    let case = Case {
+        words: &["run", "a"],
+        a: image.as_slice(),
+        out: built.report,
+        ..CASE
+    };
+    leaves_turns(rt, alloc, case, Some(built.turns))
 }
+
+#[rattlefmt::skip]
+static LOADS: [Built; 3] = [
+    Built {
+        fuel: 1000,
+        text: [".proc main\nli t0, seg_box\n", "lw t1, 2(t0)\n"],
+        report: "actor 0 main misaligned pc 00010008 fuel 997\nstream 0 out \"\"\n",
+        turns: 1,
+    },
+    Built {
+        fuel: 1000,
+        text: [".proc main\nli t0, 0x40001000\n", "lw t1, 0(t0)\n"],
+        report: "actor 0 main unmapped pc 00010008 fuel 997\nstream 0 out \"\"\n",
+        turns: 2,
+    },
+    Built {
+        fuel: 1000,
+        text: [".proc main\nli t0, 0x40000ffc\n", "lw t1, 0(t0)\n"],
+        report: "actor 0 main denied pc 00010008 fuel 997\n\
+            denied 0 pc 00010008 tag 0 wants Read\n\
+            stream 0 out \"\"\n",
+        turns: 2,
+    },
+];
 
 #[test]
 fn what_is_built_is_run(rt: HostRuntime) -> Result<(), Fail> {
-    let alloc = rt.alloc();
-    for (text, report, turns) in [
-        (
-            ".proc main\nli t0, seg_box\nlw t1, 2(t0)\n",
-            "actor 0 main misaligned pc 00010008 fuel 997\nstream 0 out \"\"\n",
-            1usize,
-        ),
-        (
-            ".proc main\nli t0, 0x40001000\nlw t1, 0(t0)\n",
-            "actor 0 main unmapped pc 00010008 fuel 997\nstream 0 out \"\"\n",
-            2,
-        ),
-        (
-            ".proc main\nli t0, 0x40000ffc\nlw t1, 0(t0)\n",
-            "actor 0 main denied pc 00010008 fuel 997\ndenied 0 pc 00010008 tag 0 wants Read\nstream 0 out \"\"\n",
-            2,
-        ),
-    ] {
-        reports(&rt, alloc, "fuel = 1000\n", text, report, turns)?;
+    for built in &LOADS {
+        reports(&rt, rt.alloc(), built)?;
     }
     Ok(())
 }
 
-/// A text that is built and run leaves this report, and so many turns.
-fn reports<R: Threads + Wait + Abort + Sync>(
-    rt: &R,
-    alloc: Global,
-    fuel: &str,
-    text: &str,
-    report: &str,
-    turns: usize,
-) -> Result<(), Fail> {
-    let bytes = built(rt, alloc, partition(alloc, fuel, text, "none")?)?;
-    let run = Run {
-        bytes,
-        read_fails: 0,
-        out_room: 1000,
-        write_fails: 0,
-    };
-    let left = Left {
-        status: 0,
-        out: report,
-        err: "",
-        turns: Some(turns),
-    };
-    leaves(rt, alloc, &["run", "a"], run, left)
-}
-
 /// 65 drafts are asked for, the last in vain: its code is in the second byte of the value.
-static DRAFTS: &str = ".proc main
+const DRAFTS: &str = ".proc main
 li s0, 65
 again:
 svc sc_new
@@ -144,7 +83,7 @@ svc exit
 ";
 
 /// Rights are put into a draft: the codes are the octal digits of the value.
-static RIGHTS: &str = ".proc main
+const RIGHTS: &str = ".proc main
 li s1, 0
 svc sc_new
 li a0, 1
@@ -171,13 +110,10 @@ mv a0, s1
 svc exit
 try:
 svc sc_mem_add
-slli s1, s1, 3
-add s1, s1, a1
-ret
 ";
 
 /// The same of bits on descriptors.
-static BITS: &str = ".proc main
+const BITS: &str = ".proc main
 li s1, 0
 svc sc_new
 li a0, 1
@@ -208,13 +144,10 @@ mv a0, s1
 svc exit
 try:
 svc sc_fd_add
-slli s1, s1, 3
-add s1, s1, a1
-ret
 ";
 
 /// 1,024 tags fill a draft: one more is refused, and one that is there is not.
-static FULL: &str = ".proc main
+const FULL: &str = ".proc main
 svc sc_new
 li s0, 0
 li s1, 1024
@@ -239,146 +172,145 @@ add a0, s2, a1
 svc exit
 ";
 
+#[rattlefmt::skip]
+static CODES: [Built; 4] = [
+    Built {
+        fuel: 1000,
+        text: [DRAFTS, ""],
+        report: "actor 0 main exited 512 pc 00010020 fuel 735\nstream 0 out \"\"\n",
+        turns: 1,
+    },
+    Built {
+        fuel: 1000,
+        text: [RIGHTS, NOTE],
+        report: "actor 0 main exited 20864 pc 00010064 fuel 949\nstream 0 out \"\"\n",
+        turns: 1,
+    },
+    Built {
+        fuel: 1000,
+        text: [BITS, NOTE],
+        report: "actor 0 main exited 191488 pc 00010074 fuel 940\nstream 0 out \"\"\n",
+        turns: 1,
+    },
+    Built {
+        fuel: 20000,
+        text: [FULL, ""],
+        report: "actor 0 main exited 16 pc 00010064 fuel 12813\nstream 0 out \"\"\n",
+        turns: 1,
+    },
+];
+
 #[test]
 fn calls_on_drafts_answer_their_codes(rt: HostRuntime) -> Result<(), Fail> {
-    let alloc = rt.alloc();
-    for (fuel, text, report) in [
-        (
-            "fuel = 1000\n",
-            DRAFTS,
-            "actor 0 main exited 512 pc 00010020 fuel 735\nstream 0 out \"\"\n",
-        ),
-        (
-            "fuel = 1000\n",
-            RIGHTS,
-            "actor 0 main exited 20864 pc 00010064 fuel 949\nstream 0 out \"\"\n",
-        ),
-        (
-            "fuel = 1000\n",
-            BITS,
-            "actor 0 main exited 191488 pc 00010074 fuel 940\nstream 0 out \"\"\n",
-        ),
-        (
-            "fuel = 20000\n",
-            FULL,
-            "actor 0 main exited 16 pc 00010064 fuel 12813\nstream 0 out \"\"\n",
-        ),
-    ] {
-        reports(&rt, alloc, fuel, text, report, 1)?;
+    for built in &CODES {
+        reports(&rt, rt.alloc(), built)?;
     }
     Ok(())
 }
 
-/// A partition is refused with this status and this line.
-fn refused<R: Threads + Wait + Abort + Sync>(
+/// `build` rejects the file `a` with this line.
+fn is_rejected<R: Threads + Wait + Abort + Sync>(
     rt: &R,
     alloc: Global,
-    bytes: Vec<u8>,
-    read_fails: u64,
-    status: u8,
+    a: &[u8],
     err: &str,
 ) -> Result<(), Fail> {
-    let run = Run {
-        bytes,
-        read_fails,
-        out_room: 1000,
-        write_fails: 0,
-    };
-    let left = Left {
-        status,
-        out: "",
+    let case = Case {
+        words: &["build", "a"],
+        a,
+        status: 3,
         err,
-        turns: None,
+        ..CASE
     };
-    leaves(rt, alloc, &["build", "a"], run, left)
+    leaves_turns(rt, alloc, case, None)
 }
+
+/// A file that is no partition, and the line that says why.
+struct Rejected {
+    file: &'static [u8],
+    err: &'static str,
+}
+
+#[rattlefmt::skip]
+static REJECTED: [Rejected; 8] = [
+    Rejected { file: b"fuel = ", err: "wedge: partition refused: toml\n" },
+    Rejected { file: b"\xff", err: "wedge: partition refused: toml\n" },
+    Rejected { file: b"", err: "wedge: partition refused: key entry\n" },
+    Rejected {
+        file: b"colour = 1\nentry = \"\"\nfuel = 1\nroot = \"\"\ntext = \"\"\nuser = 0",
+        err: "wedge: partition refused: key colour\n",
+    },
+    Rejected {
+        file: b"entry = 1\nfuel = 1\nroot = 0\ntext = \"\"\nuser = 0",
+        err: "wedge: partition refused: kind entry\n",
+    },
+    Rejected {
+        file: b"entry = \"\"\nfuel = 1\nroot = \"\"\ntext = \"\"\nuser = 0\n\
+            [[tag]]\nname = \"a\"\npages = 1\nright = \"read\"",
+        err: "wedge: partition refused: kind tag.right\n",
+    },
+    Rejected {
+        file: b"entry = \"\"\nfuel = 1\nroot = \"\"\ntext = \".proc main\\nret\"\nuser = 0",
+        err: "wedge: partition refused: line 0 label\n",
+    },
+    Rejected {
+        file: b"entry = \"main\"\nfuel = 1\nroot = \"\"\ntext = \".proc main\\nret\"\nuser = 0",
+        err: "wedge: partition refused: image at 62: range\n",
+    },
+];
 
 #[test]
 fn what_is_no_partition_says_why(rt: HostRuntime) -> Result<(), Fail> {
     let alloc = rt.alloc();
-    for (bytes, err) in [
-        (b"fuel = ".as_slice(), "wedge: partition refused: toml\n"),
-        (b"\xff", "wedge: partition refused: toml\n"),
-        (b"", "wedge: partition refused: key entry\n"),
-        (
-            b"colour = 1\nentry = \"\"\nfuel = 1\nroot = \"\"\ntext = \"\"\nuser = 0",
-            "wedge: partition refused: key colour\n",
-        ),
-        (
-            b"entry = 1\nfuel = 1\nroot = 0\ntext = \"\"\nuser = 0",
-            "wedge: partition refused: kind entry\n",
-        ),
-        (
-            b"entry = \"\"\nfuel = 1\nroot = \"\"\ntext = \"\"\nuser = 0\n[[tag]]\nname = \"a\"\npages = 1\nright = \"read\"",
-            "wedge: partition refused: kind tag.right\n",
-        ),
-        (
-            b"entry = \"\"\nfuel = 1\nroot = \"\"\ntext = \".proc main\\nret\"\nuser = 0",
-            "wedge: partition refused: line 0 label\n",
-        ),
-        (
-            b"entry = \"main\"\nfuel = 1\nroot = \"\"\ntext = \".proc main\\nret\"\nuser = 0",
-            "wedge: partition refused: image at 62: range\n",
-        ),
-    ] {
-        let bytes = Vec::from_slice(alloc, bytes)?;
-        refused(&rt, alloc, bytes, 0, 3, err)?;
+    for rejected in &REJECTED {
+        is_rejected(&rt, alloc, rejected.file, rejected.err)?;
     }
-    let line = partition(
-        alloc,
-        "fuel = 100\n",
-        ".proc main\naddd a0, a0, a0\n",
-        "none",
-    )?;
-    refused(
-        &rt,
-        alloc,
-        line,
-        0,
-        3,
-        "wedge: partition refused: line 2 mnemonic\n",
-    )
+    let part = Part {
+        fuel: 100,
+        text: &[".proc main\naddd a0, a0, a0\n"],
+        ..PART
+    };
+    let line = partition(alloc, part)?;
+    let err = "wedge: partition refused: line 2 mnemonic\n";
+    is_rejected(&rt, alloc, line.as_bytes(), err)
 }
 
 #[test]
 fn a_partition_has_a_limit(rt: HostRuntime) -> Result<(), Fail> {
     let alloc = rt.alloc();
     let longest = vec![in alloc; b'\n'; 4_194_304]?;
-    refused(
-        &rt,
-        alloc,
-        longest,
-        0,
-        3,
-        "wedge: partition refused: key entry\n",
-    )?;
+    let key = "wedge: partition refused: key entry\n";
+    is_rejected(&rt, alloc, longest.as_slice(), key)?;
     let longer = vec![in alloc; b'\n'; 4_194_305]?;
-    refused(
-        &rt,
-        alloc,
-        longer,
-        0,
-        3,
-        "wedge: partition refused: limit\n",
-    )
+    let limit = "wedge: partition refused: limit\n";
+    is_rejected(&rt, alloc, longer.as_slice(), limit)
 }
 
 #[test]
 fn a_partition_that_is_not_read_or_not_written(rt: HostRuntime) -> Result<(), Fail> {
     let alloc = rt.alloc();
-    let bytes = partition(alloc, "fuel = 100\n", ".proc main\nret\n", "none")?;
-    refused(&rt, alloc, bytes.clone()?, 1, 4, "wedge: read fault: a\n")?;
-    let run = Run {
-        bytes,
+    let part = Part {
+        fuel: 100,
+        text: &[".proc main\nret\n"],
+        ..PART
+    };
+    let file = partition(alloc, part)?;
+    let unread = Case {
+        words: &["build", "a"],
+        a: file.as_bytes(),
+        read_fails: 1,
+        status: 4,
+        err: "wedge: read fault: a\n",
+        ..CASE
+    };
+    leaves_turns(&rt, alloc, unread, None)?;
+    let unwritten = Case {
         read_fails: 0,
         out_room: 10,
-        write_fails: 0,
-    };
-    let left = Left {
         status: 5,
         out: "WEDG\u{1}\0\0\0d\0",
         err: "wedge: write fault\n",
-        turns: None,
+        ..unread
     };
-    leaves(&rt, alloc, &["build", "a"], run, left)
+    leaves_turns(&rt, alloc, unwritten, None)
 }

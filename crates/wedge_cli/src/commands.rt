@@ -4,7 +4,7 @@ ghost use Rattle.std.specs.Prelude.{◌≡◌, ◌≤◌, ℕ, List, Some, None,
 ghost use Rattle.wedge_cli.specs.Words as asking;
 ghost use Rattle.wedge_cli.specs.Loading.{IsRefusedBy, image_of, built_of};
 ghost use Rattle.wedge_cli.specs.Causes.{IsLinkRefused, IsReplayRefused, IsRefused};
-ghost use Rattle.wedge_cli.specs.Ended.{on_out, on_both, IsReported, IsRun, IsShown, IsBuilt, IsLinked, IsPairAnswer, IsTraceAnswer, IsMade};
+ghost use Rattle.wedge_cli.specs.Ended.{on_out, on_both, IsReported, RunsImage, IsShown, IsBuilt, IsLinked, IsPairAnswer, IsTraceAnswer, IsAnswered};
 ghost use Rattle.wedge_cli.specs.Replaying as replays;
 ghost use Rattle.wedge_cli.specs.Traces.{derive_text, analyze_text, IsTraceRefused, IsQueryRefused};
 
@@ -31,8 +31,8 @@ pub(crate) fn prepare<F: Files>(
     command: Command<'_>,
     files: &mut F,
 ) -> Result<Ready, Refusal>
-    ensures made { IfOk result (λ r. IsMade (asking.asked_by command.entry) (F.content files.old)
-        r.journal r.texts.items) }
+    ensures made { IfOk result (λ r. IsAnswered (asking.asked_by command.entry)
+        (F.content files.old) r.journal r.texts.items) }
     ensures refused { IfErr result (IsRefused (asking.asked_by command.entry) (F.content files.old)
         (F.faults files.old) (F.faults files.new)) }
     ensures content { (other : List ℕ) → F.content files.new other ≡ F.content files.old other }
@@ -51,7 +51,8 @@ pub(crate) fn prepare<F: Files>(
 
 /// Runs an image.
 fn run<F: Files>(alloc: Global, files: &mut F, name: &str, flag: RunFlag) -> Result<Ready, Refusal>
-    ensures made { IfOk result (λ r. IsRun flag (F.content files.old name.now) r.journal r.texts.items) }
+    ensures made { IfOk result
+        (λ r. RunsImage flag (F.content files.old name.now) r.journal r.texts.items) }
     ensures refused { IfErr result (IsRefusedBy image_of name.now (F.content files.old name.now)
         (F.faults files.old name.now) (F.faults files.new name.now)) }
     ensures content { (other : List ℕ) → F.content files.new other ≡ F.content files.old other }
@@ -79,7 +80,8 @@ fn run_image(alloc: Global, image: &Image, flag: RunFlag) -> Result<Ready, NoMem
 
 /// Lists the text of an image.
 fn show<F: Files>(alloc: Global, files: &mut F, name: &str) -> Result<Ready, Refusal>
-    ensures made { IfOk result (λ r. IsShown (F.content files.old name.now) r.journal r.texts.items) }
+    ensures made { IfOk result
+        (λ r. IsShown (F.content files.old name.now) r.journal r.texts.items) }
     ensures refused { IfErr result (IsRefusedBy image_of name.now (F.content files.old name.now)
         (F.faults files.old name.now) (F.faults files.new name.now)) }
     ensures content { (other : List ℕ) → F.content files.new other ≡ F.content files.old other }
@@ -93,7 +95,8 @@ fn show<F: Files>(alloc: Global, files: &mut F, name: &str) -> Result<Ready, Ref
 
 /// Makes the bytes of the image of a partition.
 fn build<F: Files>(alloc: Global, files: &mut F, name: &str) -> Result<Ready, Refusal>
-    ensures made { IfOk result (λ r. IsBuilt (F.content files.old name.now) r.journal r.texts.items) }
+    ensures made { IfOk result
+        (λ r. IsBuilt (F.content files.old name.now) r.journal r.texts.items) }
     ensures refused { IfErr result (IsRefusedBy built_of name.now (F.content files.old name.now)
         (F.faults files.old name.now) (F.faults files.new name.now)) }
     ensures content { (other : List ℕ) → F.content files.new other ≡ F.content files.old other }
@@ -132,7 +135,8 @@ fn replay<F: Files>(
     image: &str,
     schedule: &str,
 ) -> Result<Ready, Refusal>
-    ensures made { IfOk result (λ r. IsPairAnswer replays.replay_text (F.content files.old image.now)
+    ensures made { IfOk result
+        (λ r. IsPairAnswer replays.replay_text (F.content files.old image.now)
         (F.content files.old schedule.now) r.journal r.texts.items) }
     ensures refused { IfErr result (IsReplayRefused image.now schedule.now (F.content files.old)
         (F.faults files.old) (F.faults files.new)) }
@@ -172,7 +176,8 @@ fn analyze<F: Files>(
     ensures made { IfOk result (λ r. IsTraceAnswer (analyze_text query name.now)
         (F.content files.old trace.now) r.journal r.texts.items) }
     ensures refused { IfErr result (IsQueryRefused query name.now trace.now
-        (F.content files.old trace.now) (F.faults files.old trace.now) (F.faults files.new trace.now)) }
+        (F.content files.old trace.now) (F.faults files.old trace.now)
+        (F.faults files.new trace.now)) }
     ensures content { (other : List ℕ) → F.content files.new other ≡ F.content files.old other }
     ensures rises { (other : List ℕ) → F.faults files.old other ≤ F.faults files.new other }
 {

@@ -1,25 +1,19 @@
 //! Partitions with data, and with private copies of tags: each actor has its own.
 
-use super::interleaving_tests::longer;
-use super::sthread_tests::{Row, image_of, replays, runs};
+use super::compartments::{DRAFT_COPY, DRAFT_WRITE, EXIT_WITH_BOX, START_KID};
+use super::harness::{PART, Part, Run, image_of, replays, runs};
+use super::interleaving_tests::{Counted, longer};
 use super::*;
 use std::test::Fail;
 
-/// The right on the tag `box`, and what else its table says, or what tables stand behind it.
-static DATA: &str = "ReadWrite\"\n[[data]]\nname = \"cfg\"\nbase = 131072\nhex = \"2a000000";
-
-static THREE: &str = "ReadWrite\"\nhex = \"03000000";
-
-static COPY_OF_THREE: &str = "Cow\"\nhex = \"03000000";
+/// Data with one word, 42.
+const DATA: &str = "[[data]]\nname = \"cfg\"\nbase = 131072\nhex = \"2a000000\"\n";
 
 /// The root starts a child under an empty sheet, which reads the data and its stack, and then the tag.
-static DATA_READ: &str = ".proc main
-svc sc_new
-la a1, kid
-li a2, 0
-li a3, 100
-svc sthread_create
-svc sthread_join
+const DATA_READ: &[&str] = &[
+    ".proc main\nsvc sc_new\n",
+    START_KID,
+    "svc sthread_join
 svc exit
 .proc kid
 li t0, data_cfg
@@ -29,31 +23,32 @@ lw a0, -4(sp)
 li t1, seg_box
 lw a0, 0(t1)
 svc exit
-";
+",
+];
 
 #[test]
 fn a_child_without_grants_reads_data(rt: HostRuntime) -> Result<(), Fail> {
-    let row = Row {
-        fuel: "fuel = 1000\n",
-        right: DATA,
-        text: DATA_READ,
+    let run = Run {
+        part: Part {
+            right: "ReadWrite",
+            tables: DATA,
+            text: DATA_READ,
+            ..PART
+        },
         schedule: "0\n0\n0.1\n0.1\n0\n0\n",
         report: "actor 0 main exited 0 pc 0001002c fuel 980\n\
             actor 0.1 kid denied pc 0001004c fuel 92\n\
             denied 0.1 pc 0001004c tag 0 wants Read\n\
             stream 0 out \"\"\n",
     };
-    runs(&rt, rt.alloc(), row)
+    runs(&rt, rt.alloc(), run)
 }
 
 /// A child writes 7 where the data have 42; then the root reads there.
-static DATA_WRITTEN: &str = ".proc main
-svc sc_new
-la a1, kid
-li a2, 0
-li a3, 100
-svc sthread_create
-svc sthread_join
+const DATA_WRITTEN: &[&str] = &[
+    ".proc main\nsvc sc_new\n",
+    START_KID,
+    "svc sthread_join
 li t0, data_cfg
 lw a0, 0(t0)
 svc exit
@@ -63,80 +58,86 @@ li t1, 7
 sw t1, 0(t0)
 lw a0, 0(t0)
 svc exit
-";
+",
+];
 
 /// The root writes 7 where the data have 42; then a child reads there.
-static DATA_WRITTEN_BEFORE: &str = ".proc main
+const DATA_WRITTEN_BEFORE: &[&str] = &[
+    ".proc main
 li t0, data_cfg
 li t1, 7
 sw t1, 0(t0)
 svc sc_new
-la a1, kid
-li a2, 0
-li a3, 100
-svc sthread_create
-svc sthread_join
+",
+    START_KID,
+    "svc sthread_join
 svc exit
 .proc kid
 li t0, data_cfg
 lw a0, 0(t0)
 svc exit
-";
+",
+];
 
 #[test]
 fn each_actor_writes_data_of_its_own(rt: HostRuntime) -> Result<(), Fail> {
-    let row = Row {
-        fuel: "fuel = 1000\n",
-        right: DATA,
-        text: DATA_WRITTEN,
+    let run = Run {
+        part: Part {
+            right: "ReadWrite",
+            tables: DATA,
+            text: DATA_WRITTEN,
+            ..PART
+        },
         schedule: "0\n0\n0.1\n0\n0\n",
         report: "actor 0 main exited 42 pc 00010038 fuel 978\n\
             actor 0.1 kid exited 7 pc 00010054 fuel 93\n\
             stream 0 out \"\"\n",
     };
-    runs(&rt, rt.alloc(), row)?;
-    let before = Row {
-        text: DATA_WRITTEN_BEFORE,
+    runs(&rt, rt.alloc(), run)?;
+    let before = Run {
+        part: Part {
+            text: DATA_WRITTEN_BEFORE,
+            ..run.part
+        },
         report: "actor 0 main exited 42 pc 0001003c fuel 979\n\
             actor 0.1 kid exited 42 pc 00010050 fuel 95\n\
             stream 0 out \"\"\n",
-        ..row
+        ..run
     };
     runs(&rt, rt.alloc(), before)
 }
 
 /// A buffer in the data.
-static DATA_APPENDED: &str = ".proc main
+const DATA_APPENDED: &[&str] = &[
+    ".proc main
 li a0, fd_out
 li a1, data_cfg
 li a2, 2
 svc fd_append
 svc exit
-";
+",
+];
 
 #[test]
 fn a_buffer_lies_in_data(rt: HostRuntime) -> Result<(), Fail> {
-    let row = Row {
-        fuel: "fuel = 1000\n",
-        right: "none\"\n[[data]]\nname = \"cfg\"\nbase = 131072\ntext = \"okay",
-        text: DATA_APPENDED,
+    let run = Run {
+        part: Part {
+            tables: "[[data]]\nname = \"cfg\"\nbase = 131072\ntext = \"okay\"\n",
+            text: DATA_APPENDED,
+            ..PART
+        },
         schedule: "0\n0\n",
         report: "actor 0 main exited 2 pc 0001001c fuel 990\nstream 0 out \"ok\"\n",
     };
-    runs(&rt, rt.alloc(), row)
+    runs(&rt, rt.alloc(), run)
 }
 
 /// A child has a copy of the tag, in which the root stores 9 after the start; it reads the copy, and writes 5 into it.
-static COPIED: &str = ".proc main
-svc sc_new
-li a1, tag_box
-li a2, 1
-svc sc_mem_add
-la a1, kid
-li a2, 0
-li a3, 100
-svc sthread_create
-mv s0, a0
+const COPIED: &[&str] = &[
+    ".proc main\n",
+    DRAFT_COPY,
+    START_KID,
+    "mv s0, a0
 li t0, seg_box
 li t1, 9
 sw t1, 0(t0)
@@ -152,14 +153,18 @@ lw a0, 0(t0)
 slli s0, s0, 4
 add a0, a0, s0
 svc exit
-";
+",
+];
 
 /// The run in which the child has its one turn before the root stores.
-fn copied() -> Row<'static> {
-    Row {
-        fuel: "fuel = 1000\n",
-        right: THREE,
-        text: COPIED,
+fn copied() -> Run<'static> {
+    Run {
+        part: Part {
+            right: "ReadWrite",
+            hex: "03000000",
+            text: COPIED,
+            ..PART
+        },
         schedule: "0\n0\n0\n0.1\n0\n0\n0\n",
         report: "actor 0 main exited 53 pc 00010054 fuel 968\n\
             actor 0.1 kid exited 53 pc 0001007c fuel 90\n\
@@ -172,26 +177,34 @@ fn a_copy_is_of_the_tag_at_the_start(rt: HostRuntime) -> Result<(), Fail> {
     runs(&rt, rt.alloc(), copied())
 }
 
+/// The claim of a life, the copy, the start, the root's store and the child's end in either order, the join and the root's end.
+#[rattlefmt::skip]
+static COPIED_ORDERS: [Counted; 7] = [
+    Counted { length: 1, open: 1, complete: 0 },
+    Counted { length: 2, open: 1, complete: 0 },
+    Counted { length: 3, open: 1, complete: 0 },
+    Counted { length: 4, open: 2, complete: 0 },
+    Counted { length: 5, open: 2, complete: 0 },
+    Counted { length: 6, open: 2, complete: 0 },
+    Counted { length: 7, open: 0, complete: 2 },
+];
+
 #[test]
 fn a_copy_is_the_same_in_every_interleaving(rt: HostRuntime) -> Result<(), Fail> {
     let alloc = rt.alloc();
-    let image = image_of(&rt, alloc, copied())?;
+    let image = image_of(&rt, alloc, copied().part)?;
     let mut open = Vec::new(alloc);
     open.push(String::new(alloc))?;
-    // The claim of a life, the copy, the start, the root's store and the child's end in either order, the join and the root's end.
-    for (last, going, complete) in [
-        (1usize, 1usize, 0usize),
-        (2, 1, 0),
-        (3, 1, 0),
-        (4, 2, 0),
-        (5, 2, 0),
-        (6, 2, 0),
-        (7, 0, 2),
-    ] {
-        let names = ["0", "0.1"];
-        let schedules = longer(&rt, alloc, image.as_slice(), &names, open.as_slice(), last)?;
-        assert_eq!(rt; schedules.open.len(), going);
-        assert_eq!(rt; schedules.complete.len(), complete);
+    let names = ["0", "0.1"];
+    for counted in &COPIED_ORDERS {
+        let schedules = longer(
+            &rt,
+            alloc,
+            image.as_slice(),
+            &names,
+            open.as_slice(),
+            counted,
+        )?;
         for complete in &schedules.complete {
             assert_eq!(rt; complete.report.as_slice(), copied().report.as_bytes());
         }
@@ -201,121 +214,126 @@ fn a_copy_is_the_same_in_every_interleaving(rt: HostRuntime) -> Result<(), Fail>
 }
 
 /// The root, which may read the tag, asks for a child that may write it, and then for one with a copy of it.
-static REFUSED: &str = ".proc main
-svc sc_new
-li a1, tag_box
-li a2, 3
-svc sc_mem_add
-la a1, kid
-li a2, 0
-li a3, 100
-svc sthread_create
-mv s1, a1
+const REFUSED: &[&str] = &[
+    ".proc main\n",
+    DRAFT_WRITE,
+    START_KID,
+    "mv s1, a1
 li a0, 0
 li a1, tag_box
 li a2, 1
 svc sc_mem_add
-la a1, kid
-li a2, 0
-li a3, 100
-svc sthread_create
-svc sthread_join
+",
+    START_KID,
+    "svc sthread_join
 mv a0, s1
 svc exit
 .proc kid
 li a0, 0
 svc exit
-";
+",
+];
 
 #[test]
 fn a_copy_may_be_given_by_who_may_read(rt: HostRuntime) -> Result<(), Fail> {
-    let row = Row {
-        fuel: "fuel = 1000\n",
-        right: "Read",
-        text: REFUSED,
+    let run = Run {
+        part: Part {
+            right: "Read",
+            text: REFUSED,
+            ..PART
+        },
         schedule: "0\n0\n0\n0.1\n0\n0\n",
         report: "actor 0 main exited 1 pc 00010070 fuel 968\n\
             denied 0 pc 0001002c grant tag 0 ReadWrite\n\
             actor 0.1 kid exited 0 pc 0001007c fuel 97\n\
             stream 0 out \"\"\n",
     };
-    runs(&rt, rt.alloc(), row)
+    runs(&rt, rt.alloc(), run)
 }
 
 /// The root has a copy alone: it stores 9 in it, and the child that it starts has a copy of that.
-static OWN_COPY: &str = ".proc main
+const OWN_COPY: &[&str] = &[
+    ".proc main
 li t0, seg_box
 lw s0, 0(t0)
 li t1, 9
 sw t1, 0(t0)
-svc sc_new
-li a1, tag_box
-li a2, 1
-svc sc_mem_add
-la a1, kid
-li a2, 0
-li a3, 100
-svc sthread_create
-li t0, seg_box
+",
+    DRAFT_COPY,
+    START_KID,
+    "li t0, seg_box
 sw s0, 0(t0)
 svc sthread_join
 add a0, a0, s0
 svc exit
 .proc kid
-li t0, seg_box
-lw a0, 0(t0)
-svc exit
-";
+",
+    EXIT_WITH_BOX,
+];
 
 #[test]
 fn a_copy_of_ones_own_copy_is_no_event(rt: HostRuntime) -> Result<(), Fail> {
-    let row = Row {
-        fuel: "fuel = 1000\n",
-        right: COPY_OF_THREE,
-        text: OWN_COPY,
+    let run = Run {
+        part: Part {
+            right: "Cow",
+            hex: "03000000",
+            text: OWN_COPY,
+            ..PART
+        },
         schedule: "0\n0\n0.1\n0\n0\n",
         report: "actor 0 main exited 12 pc 00010060 fuel 970\n\
             actor 0.1 kid exited 9 pc 00010074 fuel 95\n\
             stream 0 out \"\"\n",
     };
-    runs(&rt, rt.alloc(), row)
+    runs(&rt, rt.alloc(), run)
 }
 
 /// A load past the page of a copy.
-static PAST_THE_COPY: &str = ".proc main
+const PAST_THE_COPY: &[&str] = &[
+    ".proc main
 li t0, seg_box
 lw a0, 2047(t0)
 svc exit
-";
+",
+];
 
-static OUTSIDE_THE_COPY: &str = ".proc main
+const OUTSIDE_THE_COPY: &[&str] = &[
+    ".proc main
 li t0, 0x40000ffc
 lw a0, 0(t0)
 lw a0, 4(t0)
 svc exit
-";
+",
+];
 
 #[test]
 fn a_copy_ends_with_its_pages(rt: HostRuntime) -> Result<(), Fail> {
-    let row = Row {
-        fuel: "fuel = 1000\n",
-        right: COPY_OF_THREE,
-        text: PAST_THE_COPY,
+    let run = Run {
+        part: Part {
+            right: "Cow",
+            hex: "03000000",
+            text: PAST_THE_COPY,
+            ..PART
+        },
         schedule: "0\n",
         report: "actor 0 main misaligned pc 00010008 fuel 997\nstream 0 out \"\"\n",
     };
-    runs(&rt, rt.alloc(), row)?;
-    let outside = Row {
-        text: OUTSIDE_THE_COPY,
+    runs(&rt, rt.alloc(), run)?;
+    let outside = Run {
+        part: Part {
+            text: OUTSIDE_THE_COPY,
+            ..run.part
+        },
         report: "actor 0 main unmapped pc 0001000c fuel 996\nstream 0 out \"\"\n",
-        ..row
+        ..run
     };
     runs(&rt, rt.alloc(), outside)
 }
 
 /// The root makes a tag, starts a child with a copy of it, and deletes it. The child reads its copy, makes a tag in the same slot,
 /// and reads that.
-static COPY_DROPPED: &str = ".proc main
+const COPY_DROPPED: &[&str] = &[
+    ".proc main
 li a0, 1
 svc tag_new
 mv s0, a0
@@ -347,24 +365,27 @@ add a0, a0, s0
 sub t0, a2, s1
 add a0, a0, t0
 svc exit
-";
+",
+];
 
 #[test]
 fn a_copy_stays_until_its_slot_is_opened(rt: HostRuntime) -> Result<(), Fail> {
-    let row = Row {
-        fuel: "fuel = 1000\n",
-        right: "none",
-        text: COPY_DROPPED,
+    let run = Run {
+        part: Part {
+            text: COPY_DROPPED,
+            ..PART
+        },
         schedule: "0\n0\n0\n0\n0\n0\n0\n0\n0.1\n0.1\n0.1\n0.1\n0\n0\n",
         report: "actor 0 main exited 112 pc 0001006c fuel 960\n\
             actor 0.1 kid exited 112 pc 0001009c fuel 88\n\
             stream 0 out \"\"\n",
     };
-    replays(&rt, rt.alloc(), row)
+    replays(&rt, rt.alloc(), run)
 }
 
 /// The root gives a copy of a tag that it has deleted: there is none.
-static COPY_OF_NONE: &str = ".proc main
+const COPY_OF_NONE: &[&str] = &[
+    ".proc main
 li a0, 1
 svc tag_new
 mv s0, a0
@@ -385,18 +406,20 @@ svc exit
 .proc kid
 lw a0, 0(a0)
 svc exit
-";
+",
+];
 
 #[test]
 fn a_deleted_tag_gives_no_copy(rt: HostRuntime) -> Result<(), Fail> {
-    let row = Row {
-        fuel: "fuel = 1000\n",
-        right: "none",
-        text: COPY_OF_NONE,
+    let run = Run {
+        part: Part {
+            text: COPY_OF_NONE,
+            ..PART
+        },
         schedule: "0\n0\n0\n0\n0\n0\n0\n0.1\n0.1\n0\n0\n",
         report: "actor 0 main exited 0 pc 00010060 fuel 974\n\
             actor 0.1 kid unmapped pc 00010064 fuel 99\n\
             stream 0 out \"\"\n",
     };
-    runs(&rt, rt.alloc(), row)
+    runs(&rt, rt.alloc(), run)
 }

@@ -1,24 +1,24 @@
 //! Partitions whose actors put gates into drafts, make them, and give them on.
 
-use super::sthread_tests::{Row, runs};
+use super::compartments::{AT_GUARD, DRAFT_COPY, MAKE_FRESH, NOTE};
+use super::harness::{PART, Part, Run, runs};
 use super::*;
 use std::test::Fail;
 
 /// The root may not start a child with a gate that it does not hold; once it has made one at the entry it may. The child has
 /// the gate, gives it to a child of its own, and may give no other.
-static GIVEN: &str = ".proc main
+const GIVEN: &[&str] = &[
+    ".proc main
 svc sc_new
 la a1, guard
 svc sc_cgate_add
 call start
 mv s1, a1
 svc sc_new
-la a1, guard
-li a2, 0
-li a3, 50
-li a4, 0
-svc cgate_make
-slli s1, s1, 3
+",
+    AT_GUARD,
+    MAKE_FRESH,
+    "slli s1, s1, 3
 add s1, s1, a1
 call start
 li a0, 1
@@ -59,14 +59,16 @@ svc exit
 .proc leaf
 li a0, 0
 svc exit
-";
+",
+];
 
 #[test]
 fn a_gate_is_given_by_who_holds_it(rt: HostRuntime) -> Result<(), Fail> {
-    let row = Row {
-        fuel: "fuel = 1000\n",
-        right: "none",
-        text: GIVEN,
+    let run = Run {
+        part: Part {
+            text: GIVEN,
+            ..PART
+        },
         schedule: "0\n0\n0.1\n0.1\n0.1.1\n0.1\n0.1\n0\n0\n",
         report: "actor 0 main exited 513 pc 00010068 fuel 919\n\
             denied 0 pc 00010084 grant gate 000100fc\n\
@@ -75,13 +77,14 @@ fn a_gate_is_given_by_who_holds_it(rt: HostRuntime) -> Result<(), Fail> {
             actor 0.1.1 leaf exited 0 pc 0001010c fuel 17\n\
             stream 0 out \"\"\n",
     };
-    runs(&rt, rt.alloc(), row)
+    runs(&rt, rt.alloc(), run)
 }
 
 /// What the calls on gates answer, in the order of their refusals, each code behind the others in base 8: an entry put into a
 /// draft that is not there, and one that is no procedure; then twice the same; a gate of a draft that is not there, at an
 /// entry that is no procedure, of no kind, of a draft that names a gate which is not held, and of one with a user.
-static CODES: &str = ".proc main
+const CODES: &[&str] = &[
+    ".proc main
 li s1, 0
 li a0, 0
 la a1, guard
@@ -128,77 +131,82 @@ call note
 mv a0, s1
 svc exit
 note:
-slli s1, s1, 3
-add s1, s1, a1
-ret
-.proc guard
+",
+    NOTE,
+    ".proc guard
 svc exit
 nop
-";
+",
+];
 
 #[test]
 fn calls_on_gates_are_refused_in_their_order(rt: HostRuntime) -> Result<(), Fail> {
-    let row = Row {
-        fuel: "fuel = 1000\n",
-        right: "none",
-        text: CODES,
+    let run = Run {
+        part: Part {
+            text: CODES,
+            ..PART
+        },
         schedule: "0\n",
         report: "actor 0 main exited 96492942 pc 00010104 fuel 907\n\
             denied 0 pc 000100c8 grant gate 00010114\n\
             stream 0 out \"\"\n",
     };
-    runs(&rt, rt.alloc(), row)
+    runs(&rt, rt.alloc(), run)
 }
 
 /// A gate of a draft with a copy of the tag is made, which the root may give or not.
-static COPYING: &str = ".proc main
-svc sc_new
-li a1, tag_box
-li a2, 1
-svc sc_mem_add
-li a0, 0
-la a1, guard
-li a2, 0
-li a3, 50
-li a4, 0
-svc cgate_make
-mv a0, a1
+const COPYING: &[&str] = &[
+    ".proc main\n",
+    DRAFT_COPY,
+    "li a0, 0\n",
+    AT_GUARD,
+    MAKE_FRESH,
+    "mv a0, a1
 svc exit
 .proc guard
 svc exit
-";
+",
+];
 
 /// The copy is made of the tag, by an event; of the root's own copy, without one; and by who has no right to it, not at all.
 #[test]
 fn the_copies_of_a_gate_are_made_with_it(rt: HostRuntime) -> Result<(), Fail> {
-    let row = Row {
-        fuel: "fuel = 1000\n",
-        right: "Read",
-        text: COPYING,
+    let run = Run {
+        part: Part {
+            right: "Read",
+            text: COPYING,
+            ..PART
+        },
         schedule: "0\n0\n",
         report: "actor 0 main exited 0 pc 00010040 fuel 983\nstream 0 out \"\"\n",
     };
-    runs(&rt, rt.alloc(), row)?;
-    let schedule = "0\n";
-    let own = Row {
-        right: "Cow",
-        schedule,
-        ..row
+    runs(&rt, rt.alloc(), run)?;
+    let own = Run {
+        part: Part {
+            right: "Cow",
+            ..run.part
+        },
+        schedule: "0\n",
+        ..run
     };
     runs(&rt, rt.alloc(), own)?;
-    let denied = Row {
-        right: "none",
-        schedule,
+    let denied = Run {
+        part: Part {
+            right: "none",
+            ..run.part
+        },
+        schedule: "0\n",
         report: "actor 0 main exited 1 pc 00010040 fuel 983\n\
             denied 0 pc 00010034 grant tag 0 Cow\n\
             stream 0 out \"\"\n",
-        ..row
+        ..run
     };
     runs(&rt, rt.alloc(), denied)
 }
 
 /// A draft with 1,024 tags, and a gate for which it has no room.
-static FULL: &str = ".proc main
+const FULL: &[&str] = &[
+    ".proc main
 svc sc_new
 li s0, 0
 more:
@@ -214,16 +222,19 @@ la a1, main
 svc sc_cgate_add
 mv a0, a1
 svc exit
-";
+",
+];
 
 #[test]
 fn a_draft_has_1024_grants_gates_among_them(rt: HostRuntime) -> Result<(), Fail> {
-    let row = Row {
-        fuel: "fuel = 10000\n",
-        right: "none",
-        text: FULL,
+    let run = Run {
+        part: Part {
+            fuel: 10000,
+            text: FULL,
+            ..PART
+        },
         schedule: "0\n",
         report: "actor 0 main exited 2 pc 00010048 fuel 1797\nstream 0 out \"\"\n",
     };
-    runs(&rt, rt.alloc(), row)
+    runs(&rt, rt.alloc(), run)
 }

@@ -18,7 +18,8 @@ pub(crate) struct Headings<'a> {
 impl<'a> Headings<'a> {
     /// The names of an image's procedures.
     pub fn new(alloc: Global, image: &'a Image) -> Result<Headings<'a>, NoMemory>
-        ensures { IfOk result (λ h. (address : ℕ) → heading_at h address ≡ procedure_name image.now address) }
+        ensures { IfOk result (λ h. (address : ℕ)
+            → heading_at h address ≡ procedure_name image.now address) }
     {
         // From the last to the first: at an address that two have the first would hold, as for a search.
         let procedures = image.procedures();

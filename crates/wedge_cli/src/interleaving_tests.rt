@@ -1,8 +1,9 @@
 //! Every order of turns, up to some length, of two children that wait for each other.
 
+use super::harness::image_of;
 use super::refusal::{Refusal, ScheduleRefusal};
 use super::replaying::replay_text;
-use super::sthread_tests::{HANDSHAKE, Row, image_of};
+use super::sthread_tests::handshake;
 use super::*;
 use std::alloc::Global;
 use std::process::Abort;
@@ -63,15 +64,22 @@ fn replayed(
     replay_text(alloc, image, schedule)
 }
 
-/// Every schedule of one turn more, by one of these actors, of those that go on; the others are refused at their last line, of
-/// this number.
+/// How many schedules of a length go on, and how many are complete.
+pub(crate) struct Counted {
+    pub length: usize,
+    pub open: usize,
+    pub complete: usize,
+}
+
+/// Every schedule of one turn more, by one of these actors, of those that go on: as many as were counted of that length. The
+/// others are refused at their last line.
 pub(crate) fn longer(
     rt: &impl Abort,
     alloc: Global,
     image: &[u8],
     names: &[&str],
     open: &[String],
-    last: usize,
+    counted: &Counted,
 ) -> Result<Schedules, Fail> {
     let mut schedules = Schedules {
         open: Vec::new(alloc),
@@ -84,10 +92,10 @@ pub(crate) fn longer(
                 Ok(report) => schedules.complete.push(Complete { schedule, report })?,
                 Err(Refusal::Schedule(ScheduleRefusal::Replay { at, why })) => {
                     if why == Why::Short {
-                        assert_eq!(rt; at, last.saturating_add(1));
+                        assert_eq!(rt; at, counted.length.saturating_add(1));
                         schedules.open.push(schedule)?;
                     } else {
-                        assert_eq!(rt; at, last);
+                        assert_eq!(rt; at, counted.length);
                         assert!(rt; why != Why::Extra);
                     }
                 }
@@ -95,50 +103,52 @@ pub(crate) fn longer(
             }
         }
     }
+    assert_eq!(rt; schedules.open.len(), counted.open);
+    assert_eq!(rt; schedules.complete.len(), counted.complete);
     Ok(schedules)
 }
+
+/// Counted by a model of the three programs apart from the machine.
+#[rattlefmt::skip]
+static ORDERS: [Counted; 16] = [
+    Counted { length: 1, open: 1, complete: 0 },
+    Counted { length: 2, open: 1, complete: 0 },
+    Counted { length: 3, open: 2, complete: 0 },
+    Counted { length: 4, open: 4, complete: 0 },
+    Counted { length: 5, open: 8, complete: 0 },
+    Counted { length: 6, open: 16, complete: 0 },
+    Counted { length: 7, open: 32, complete: 0 },
+    Counted { length: 8, open: 64, complete: 0 },
+    Counted { length: 9, open: 124, complete: 0 },
+    Counted { length: 10, open: 225, complete: 0 },
+    Counted { length: 11, open: 371, complete: 0 },
+    Counted { length: 12, open: 572, complete: 0 },
+    Counted { length: 13, open: 798, complete: 40 },
+    Counted { length: 14, open: 1069, complete: 70 },
+    Counted { length: 15, open: 1385, complete: 110 },
+    Counted { length: 16, open: 1746, complete: 160 },
+];
 
 #[test]
 fn every_order_of_a_handshake(rt: HostRuntime) -> Result<(), Fail> {
     let alloc = rt.alloc();
-    let row = Row {
-        fuel: "fuel = 3000000\n",
-        right: "ReadWrite",
-        text: HANDSHAKE,
-        schedule: "",
-        report: "",
-    };
-    let image = image_of(&rt, alloc, row)?;
+    let image = image_of(&rt, alloc, handshake())?;
     let names = ["0", "0.1", "0.2"];
     let mut open = Vec::new(alloc);
     open.push(String::new(alloc))?;
-    // The number of turns, and how many schedules go on and how many are complete: counted by a model of the three programs apart
-    // from the machine.
-    for (last, going, complete) in [
-        (1usize, 1usize, 0usize),
-        (2, 1, 0),
-        (3, 2, 0),
-        (4, 4, 0),
-        (5, 8, 0),
-        (6, 16, 0),
-        (7, 32, 0),
-        (8, 64, 0),
-        (9, 124, 0),
-        (10, 225, 0),
-        (11, 371, 0),
-        (12, 572, 0),
-        (13, 798, 40),
-        (14, 1069, 70),
-        (15, 1385, 110),
-        (16, 1746, 160),
-    ] {
-        let schedules = longer(&rt, alloc, image.as_slice(), &names, open.as_slice(), last)?;
+    for counted in &ORDERS {
+        let schedules = longer(
+            &rt,
+            alloc,
+            image.as_slice(),
+            &names,
+            open.as_slice(),
+            counted,
+        )?;
         for complete in &schedules.complete {
             let wanted = report_of(alloc, complete.schedule.as_str())?;
             assert_eq!(rt; complete.report.as_slice(), wanted.as_bytes());
         }
-        assert_eq!(rt; schedules.open.len(), going);
-        assert_eq!(rt; schedules.complete.len(), complete);
         open = schedules.open;
     }
     Ok(())

@@ -5,13 +5,19 @@
 mod build_tests;
 mod commands;
 #[cfg(test)]
+mod compartments;
+#[cfg(test)]
 mod copy_tests;
+#[cfg(test)]
+mod core_tests;
 #[cfg(test)]
 mod entering_tests;
 #[cfg(test)]
 mod file_tests;
 #[cfg(test)]
 mod gate_tests;
+#[cfg(test)]
+mod harness;
 mod headings;
 #[cfg(test)]
 mod interleaving_tests;

@@ -78,7 +78,8 @@ fn elf_line(alloc: Global, fault: elf_in::Fault) -> Result<Vec<u8>, AllocError>
 
 /// The line of a partition that is refused.
 fn partition_line(alloc: Global, fault: &PartRefusal) -> Result<Vec<u8>, AllocError>
-    ensures { IfOk result (λ v. v.items ≡ lines.line (codes "partition refused: " ++ lines.part_text fault.now)) }
+    ensures { IfOk result (λ v. v.items
+        ≡ lines.line (codes "partition refused: " ++ lines.part_text fault.now)) }
 {
     let mut line = Vec::from_slice(alloc, b"wedge: partition refused: ")?;
     add_part(alloc, &mut line, fault)?;
@@ -172,7 +173,8 @@ fn add_place(
     between: &[u8],
     word: &str,
 ) -> Result<(), AllocError>
-    ensures { OnOk result (line.new.items ≡ line.old.items ++ decimal at ++ between.now ++ word.now) }
+    ensures { OnOk result (line.new.items
+        ≡ line.old.items ++ decimal at ++ between.now ++ word.now) }
 {
     let place = at.to_string(alloc)?;
     line.extend_from_slice(place.as_bytes())?;

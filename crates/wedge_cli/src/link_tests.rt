@@ -1,9 +1,7 @@
 //! ELF files that are linked with partitions, and the images run.
 
-use super::replay_tests::{Case, is_left};
-use super::tests::{Left, Run, leaves, strings};
+use super::harness::{CASE, Case, Refused, is_no_command, leaves, leaves_turns, written};
 use super::*;
-use host_io::{MemFile, MemFiles, MemSink, NoPace};
 use std::alloc::Global;
 use std::process::Abort;
 use std::sync::Wait;
@@ -20,7 +18,7 @@ static ELF: [u8; 128] = [
 ];
 
 /// A partition with a tag `box` of one page and a stream `out`.
-static PART: &str = "fuel = 100\nuser = 0\nroot = \"/\"
+const FUELLED: &str = "fuel = 100\nuser = 0\nroot = \"/\"
 [[tag]]\nname = \"box\"\npages = 1\nright = \"ReadWrite\"
 [[fd]]\nname = \"out\"\nkind = \"append\"\nbits = \"append\"\n";
 
@@ -35,243 +33,205 @@ static IMAGE: [u8; 145] = [
     0, 0x6f, 0x75, 0x74, 1, 0, 0, 0, 2, 0, 0, 0, 0, 0, 0, 0, 0, 0, 0, 0, 0, 0, 0, 0, 1, 0, 0x2f,
 ];
 
-/// What `link` writes of an ELF file and a partition, with the status 0.
-fn linked<R: Threads + Wait + Abort + Sync>(
-    rt: &R,
-    alloc: Global,
-    elf: &[u8],
-    part: &str,
-) -> Result<Vec<u8>, Fail> {
-    let words = strings(alloc, &["link", "a", "s"])?;
-    let a = MemFile {
-        name: String::from_str(alloc, "a")?,
-        bytes: Vec::from_slice(alloc, elf)?,
-    };
-    let s = MemFile {
-        name: String::from_str(alloc, "s")?,
-        bytes: Vec::from_slice(alloc, part.as_bytes())?,
-    };
-    let files = vec![in alloc; a, s]?;
-    assert!(rt; MemFiles::names_differ(files.as_slice()));
-    let mut files = MemFiles::new(files, Vec::new(alloc));
-    let mut out = MemSink::new(alloc, 1000, Vec::new(alloc))?;
-    let mut err = MemSink::new(alloc, 100, Vec::new(alloc))?;
-    let ended = wedge(
-        rt,
-        alloc,
-        words.as_slice(),
-        &mut files,
-        &mut out,
-        &mut err,
-        &NoPace,
-    );
-    assert_eq!(rt; ended.status, 0);
-    assert_eq!(rt; err.bytes(), b"".as_slice());
-    assert!(rt; ended.journal.is_none());
-    Ok(Vec::from_slice(alloc, out.bytes())?)
-}
-
 #[test]
 fn what_is_linked_is_run(rt: HostRuntime) -> Result<(), Fail> {
-    let alloc = rt.alloc();
-    let bytes = linked(&rt, alloc, &ELF, PART)?;
-    assert_eq!(rt; bytes.as_slice(), IMAGE.as_slice());
-    let run = Run {
-        bytes,
-        read_fails: 0,
-        out_room: 1000,
-        write_fails: 0,
+    let link = Case {
+        words: &["link", "a", "s"],
+        a: &ELF,
+        s: FUELLED.as_bytes(),
+        ..CASE
     };
-    let left = Left {
-        status: 0,
+    let image = written(&rt, rt.alloc(), link)?;
+    assert_eq!(rt; image.as_slice(), IMAGE.as_slice());
+    let case = Case {
+        words: &["run", "a"],
+        a: image.as_slice(),
         out: "actor 0 text.start exited 0 pc 00010028 fuel 87\nstream 0 out \"ok\"\n",
-        err: "",
-        turns: Some(2),
+        ..CASE
     };
-    leaves(&rt, alloc, &["run", "a"], run, left)
+    leaves_turns(&rt, rt.alloc(), case, Some(2))
 }
 
-/// Links the ELF file with some bytes changed, and compares what is left.
-fn changed<R: Threads + Wait + Abort + Sync>(
+/// The ELF file with these bytes in place of those at their offsets, and the line that rejects what is linked.
+#[derive(Clone, Copy)]
+struct Changed {
+    bytes: &'static [(usize, u8)],
+    err: &'static str,
+}
+
+/// The ELF file without a change.
+const UNCHANGED: &[(usize, u8)] = &[];
+
+/// Links the changed ELF file with a partition, and compares what is left.
+fn is_rejected<R: Threads + Wait + Abort + Sync>(
     rt: &R,
     alloc: Global,
-    changes: &[(usize, u8)],
+    changed: &Changed,
     part: &str,
     status: u8,
-    err: &str,
 ) -> Result<(), Fail> {
     let mut elf = Vec::from_slice(alloc, &ELF)?;
-    for (at, byte) in changes {
+    for (at, byte) in changed.bytes {
         if let Some(old) = elf.get_mut(*at) {
             *old = *byte;
         }
     }
     let case = Case {
         words: &["link", "a", "s"],
-        schedule: part,
+        a: elf.as_slice(),
+        s: part.as_bytes(),
         status,
-        out: "",
-        err,
+        err: changed.err,
+        ..CASE
     };
-    is_left(rt, alloc, elf, case, 0)
+    leaves(rt, alloc, case)
 }
+
+#[rattlefmt::skip]
+static NO_ELF_FILES: [Changed; 7] = [
+    Changed { bytes: &[(0, 0)], err: "wedge: elf refused at 0: magic\n" },
+    Changed { bytes: &[(5, 2)], err: "wedge: elf refused at 5: class\n" },
+    Changed { bytes: &[(18, 62)], err: "wedge: elf refused at 18: kind\n" },
+    Changed { bytes: &[(36, 1)], err: "wedge: elf refused at 36: kind\n" },
+    Changed { bytes: &[(56, 85)], err: "wedge: elf refused at 52: truncated\n" },
+    Changed { bytes: &[(72, 43)], err: "wedge: elf refused at 52: layout\n" },
+    // A section header over the last 40 bytes: a symbol table of five bytes.
+    Changed {
+        bytes: &[
+            (32, 88), (48, 1), (92, 2), (93, 0), (94, 0), (95, 0),
+            (104, 0), (105, 0), (106, 0), (108, 5), (109, 0), (111, 0),
+        ],
+        err: "wedge: elf refused at 88: symbols\n",
+    },
+];
 
 #[test]
 fn an_elf_file_is_rejected_with_its_offset(rt: HostRuntime) -> Result<(), Fail> {
-    let alloc = rt.alloc();
-    let cases: [(&[(usize, u8)], &str); 7] = [
-        (&[(0, 0)], "wedge: elf refused at 0: magic\n"),
-        (&[(5, 2)], "wedge: elf refused at 5: class\n"),
-        (&[(18, 62)], "wedge: elf refused at 18: kind\n"),
-        (&[(36, 1)], "wedge: elf refused at 36: kind\n"),
-        (&[(56, 85)], "wedge: elf refused at 52: truncated\n"),
-        (&[(72, 43)], "wedge: elf refused at 52: layout\n"),
-        // A section header over the last 40 bytes: a symbol table of five bytes.
-        (
-            &[
-                (32, 88),
-                (48, 1),
-                (92, 2),
-                (93, 0),
-                (94, 0),
-                (95, 0),
-                (104, 0),
-                (105, 0),
-                (106, 0),
-                (108, 5),
-                (109, 0),
-                (111, 0),
-            ],
-            "wedge: elf refused at 88: symbols\n",
-        ),
-    ];
-    for (changes, err) in cases {
+    for changed in &NO_ELF_FILES {
         // It comes before the partition's faults.
-        changed(&rt, alloc, changes, PART, 10, err)?;
-        changed(&rt, alloc, changes, "=", 10, err)?;
+        is_rejected(&rt, rt.alloc(), changed, FUELLED, 10)?;
+        is_rejected(&rt, rt.alloc(), changed, "=", 10)?;
     }
-    let cut = Vec::from_slice(alloc, &ELF[..127])?;
-    let case = Case {
+    let cut = Case {
         words: &["link", "a", "s"],
-        schedule: PART,
+        a: &ELF[..127],
+        s: FUELLED.as_bytes(),
         status: 10,
-        out: "",
         err: "wedge: elf refused at 52: truncated\n",
+        ..CASE
     };
-    is_left(&rt, alloc, cut, case, 0)
+    leaves(&rt, rt.alloc(), cut)
 }
+
+#[rattlefmt::skip]
+static NO_IMAGES: [Changed; 3] = [
+    // The text is below the least address of one.
+    Changed {
+        bytes: &[(61, 0x80), (62, 0), (25, 0x80), (26, 0)],
+        err: "wedge: image refused at 12: range\n",
+    },
+    // It goes on to the last address but 65,536, and is not made.
+    Changed { bytes: &[(74, 0xfe), (75, 0xff)], err: "wedge: image refused at 16777216: limit\n" },
+    // It has 16 MiB, and the image more.
+    Changed { bytes: &[(72, 0), (75, 1)], err: "wedge: image refused at 16777216: limit\n" },
+];
 
 #[test]
 fn a_joined_image_is_rejected(rt: HostRuntime) -> Result<(), Fail> {
-    let alloc = rt.alloc();
-    let cases: [(&[(usize, u8)], &str); 3] = [
-        // The text is below the least address of one.
-        (
-            &[(61, 0x80), (62, 0), (25, 0x80), (26, 0)],
-            "wedge: image refused at 12: range\n",
-        ),
-        // It goes on to the last address but 65,536, and is not made.
-        (
-            &[(74, 0xfe), (75, 0xff)],
-            "wedge: image refused at 16777216: limit\n",
-        ),
-        // It has 16 MiB, and the image more.
-        (
-            &[(72, 0), (75, 1)],
-            "wedge: image refused at 16777216: limit\n",
-        ),
-    ];
-    for (changes, err) in cases {
-        changed(&rt, alloc, changes, PART, 3, err)?;
+    for changed in &NO_IMAGES {
+        is_rejected(&rt, rt.alloc(), changed, FUELLED, 3)?;
     }
     Ok(())
 }
+
+/// Keys of a partition, with or without its owner before them, and the line that rejects it.
+struct Rejected {
+    owner: &'static str,
+    keys: &'static str,
+    err: &'static str,
+}
+
+/// The user and the root directory of a partition.
+const OWNER: &str = "user = 0\nroot = \"/\"\n";
+
+#[rattlefmt::skip]
+static REJECTED: [Rejected; 9] = [
+    Rejected { owner: "", keys: "=", err: "wedge: partition refused: toml\n" },
+    Rejected { owner: OWNER, keys: "", err: "wedge: partition refused: key fuel\n" },
+    Rejected {
+        owner: OWNER,
+        keys: "fuel = 1\nbase = 65536\ntext = \"\"\n",
+        err: "wedge: partition refused: key base\n",
+    },
+    Rejected { owner: OWNER, keys: "fuel = 1\nentry = \"main\"\n", err: "wedge: partition refused: key entry\n" },
+    Rejected { owner: OWNER, keys: "fuel = 1\ntext = \"\"\n", err: "wedge: partition refused: key text\n" },
+    Rejected {
+        owner: OWNER,
+        keys: "fuel = 1\ntext = \"\"\nhex = \"\"\n",
+        err: "wedge: partition refused: key hex\n",
+    },
+    Rejected {
+        owner: OWNER,
+        keys: "fuel = 1\n[[data]]\nname = \"d\"\nbase = 131072\ntext = \"\"\n",
+        err: "wedge: partition refused: key data\n",
+    },
+    Rejected { owner: OWNER, keys: "fuel = \"\"\n", err: "wedge: partition refused: kind fuel\n" },
+    Rejected { owner: OWNER, keys: "fuel = 16777217\n", err: "wedge: image refused at 8: limit\n" },
+];
 
 #[test]
 fn a_partition_is_rejected(rt: HostRuntime) -> Result<(), Fail> {
     let alloc = rt.alloc();
-    let owner = "user = 0\nroot = \"/\"\n";
-    let cases = [
-        ("=", "", "wedge: partition refused: toml\n"),
-        (owner, "", "wedge: partition refused: key fuel\n"),
-        (
-            owner,
-            "fuel = 1\nbase = 65536\ntext = \"\"\n",
-            "wedge: partition refused: key base\n",
-        ),
-        (
-            owner,
-            "fuel = 1\nentry = \"main\"\n",
-            "wedge: partition refused: key entry\n",
-        ),
-        (
-            owner,
-            "fuel = 1\ntext = \"\"\n",
-            "wedge: partition refused: key text\n",
-        ),
-        (
-            owner,
-            "fuel = 1\ntext = \"\"\nhex = \"\"\n",
-            "wedge: partition refused: key hex\n",
-        ),
-        (
-            owner,
-            "fuel = 1\n[[data]]\nname = \"d\"\nbase = 131072\ntext = \"\"\n",
-            "wedge: partition refused: key data\n",
-        ),
-        (
-            owner,
-            "fuel = \"\"\n",
-            "wedge: partition refused: kind fuel\n",
-        ),
-        (
-            owner,
-            "fuel = 16777217\n",
-            "wedge: image refused at 8: limit\n",
-        ),
-    ];
-    for (one, other, err) in cases {
-        let mut part = String::from_str(alloc, one)?;
-        part.push_str(other)?;
-        changed(&rt, alloc, &[], part.as_str(), 3, err)?;
+    for rejected in &REJECTED {
+        let mut part = String::from_str(alloc, rejected.owner)?;
+        part.push_str(rejected.keys)?;
+        let changed = Changed {
+            bytes: UNCHANGED,
+            err: rejected.err,
+        };
+        is_rejected(&rt, alloc, &changed, part.as_str(), 3)?;
     }
     Ok(())
 }
 
+#[rattlefmt::skip]
+static REFUSED: [Refused; 4] = [
+    Refused { words: &["link", "b", "c"], status: 4, err: "wedge: read fault: b\n" },
+    Refused { words: &["link", "a", "c"], status: 4, err: "wedge: read fault: c\n" },
+    Refused { words: &["link", "s", "c"], status: 4, err: "wedge: read fault: c\n" },
+    Refused { words: &["link", "s", "s"], status: 10, err: "wedge: elf refused at 1: truncated\n" },
+];
+
 #[test]
 fn both_files_are_read_first(rt: HostRuntime) -> Result<(), Fail> {
     let alloc = rt.alloc();
-    let cases: [(&[&str], u8, &str); 6] = [
-        (&["link", "b", "c"], 4, "wedge: read fault: b\n"),
-        (&["link", "a", "c"], 4, "wedge: read fault: c\n"),
-        (&["link", "s", "c"], 4, "wedge: read fault: c\n"),
-        (
-            &["link", "s", "s"],
-            10,
-            "wedge: elf refused at 1: truncated\n",
-        ),
-        (&["link", "a"], 2, "wedge: usage\n"),
-        (&["link", "a", "-s"], 2, "wedge: usage\n"),
-    ];
-    for (words, status, err) in cases {
+    for refused in &REFUSED {
         let case = Case {
-            words,
-            schedule: "=",
-            status,
-            out: "",
-            err,
+            words: refused.words,
+            a: &ELF,
+            s: b"=",
+            status: refused.status,
+            err: refused.err,
+            ..CASE
         };
-        is_left(&rt, alloc, Vec::from_slice(alloc, &ELF)?, case, 0)?;
+        leaves(&rt, alloc, case)?;
     }
-    Ok(())
+    is_no_command(&rt, alloc, &["link", "a"])?;
+    is_no_command(&rt, alloc, &["link", "a", "-s"])
 }
 
 #[test]
 fn an_elf_file_comes_before_a_partition_that_is_too_long(rt: HostRuntime) -> Result<(), Fail> {
     let alloc = rt.alloc();
     let long = "#".repeat(alloc, 4_194_305)?;
-    let limit = "wedge: partition refused: limit\n";
-    changed(&rt, alloc, &[], long.as_str(), 3, limit)?;
-    let kind = "wedge: elf refused at 18: kind\n";
-    changed(&rt, alloc, &[(18, 62)], long.as_str(), 10, kind)
+    let limit = Changed {
+        bytes: UNCHANGED,
+        err: "wedge: partition refused: limit\n",
+    };
+    is_rejected(&rt, alloc, &limit, long.as_str(), 3)?;
+    let kind = Changed {
+        bytes: &[(18, 62)],
+        err: "wedge: elf refused at 18: kind\n",
+    };
+    is_rejected(&rt, alloc, &kind, long.as_str(), 10)
 }

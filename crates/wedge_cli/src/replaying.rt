@@ -2,7 +2,7 @@
 
 ghost use Rattle.std.specs.Prelude.{◌≡◌, ◌≤◌, length, IfOk, IfErr, Ok};
 ghost use Rattle.report_text.specs.Schedules.{names_in};
-ghost use Rattle.sthread_life.specs.Worlds.{opening};
+ghost use Rattle.run_laws.specs.Worlds.{opening};
 ghost use Rattle.wedge_core.specs.Replay.{replayed};
 ghost use Rattle.wedge_cli.specs.Loading.{most_of};
 ghost use Rattle.wedge_cli.specs.Replaying as replays;
@@ -43,8 +43,10 @@ fn schedule_of(alloc: Global, bytes: &[u8]) -> Result<Vec<ActorName>, Refusal>
 
 /// The report of the state to which the turns of these actors lead.
 fn report_of(alloc: Global, image: &Image, names: &[ActorName]) -> Result<Vec<u8>, Refusal>
-    ensures text { IfOk result (λ v. replay_report (replayed (opening image.now) 1 names.now) ≡ Ok v.items) }
-    ensures rejected { IfErr result (IsRefusalIn (replay_report (replayed (opening image.now) 1 names.now))) }
+    ensures text { IfOk result (λ v. replay_report (replayed (opening image.now) 1 names.now)
+        ≡ Ok v.items) }
+    ensures rejected { IfErr result
+        (IsRefusalIn (replay_report (replayed (opening image.now) 1 names.now))) }
 {
     match replay(alloc, image, names) {
         Ok(world) => {

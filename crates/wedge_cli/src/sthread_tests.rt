@@ -1,7 +1,7 @@
 //! Partitions whose actors start and join children: the report of a run, its schedule, and where another schedule is refused.
 
-use super::build_tests::{built, partition};
-use super::replay_tests::{Case, is_left};
+use super::compartments::{AND_DEEPER, DEEPER, DRAFT_WRITE, NOTE, START_KID};
+use super::harness::{PART, Part, Run, lines, refuses, replays, runs};
 use super::*;
 use std::alloc::Global;
 use std::process::Abort;
@@ -9,114 +9,22 @@ use std::sync::Wait;
 use std::test::Fail;
 use std::thread::Threads;
 
-/// A partition: the line of its fuel, the root's right on the tag `box`, and the text. A schedule of it and the report.
-#[derive(Clone, Copy)]
-pub(crate) struct Row<'a> {
-    pub fuel: &'a str,
-    pub right: &'a str,
-    pub text: &'a str,
-    pub schedule: &'a str,
-    pub report: &'a str,
-}
-
-/// The bytes of the image of a row.
-pub(crate) fn image_of<R: Threads + Wait + Abort + Sync>(
-    rt: &R,
-    alloc: Global,
-    row: Row<'_>,
-) -> Result<Vec<u8>, Fail> {
-    built(rt, alloc, partition(alloc, row.fuel, row.text, row.right)?)
-}
-
-/// The lines of names that have spaces between them.
-fn lines(alloc: Global, names: &str) -> Result<String, Fail> {
-    let mut text = String::new(alloc);
-    for name in names.as_bytes().split(|byte| *byte == b' ') {
-        text.push_str(str::from_utf8(name)?)?;
-        text.push_str("\n")?;
-    }
-    Ok(text)
-}
-
-/// A replay of the row's schedule gives its report.
-pub(crate) fn replays<R: Threads + Wait + Abort + Sync>(
-    rt: &R,
-    alloc: Global,
-    row: Row<'_>,
-) -> Result<(), Fail> {
-    let case = Case {
-        words: &["replay", "a", "s"],
-        schedule: row.schedule,
-        status: 0,
-        out: row.report,
-        err: "",
-    };
-    is_left(rt, alloc, image_of(rt, alloc, row)?, case, 0)
-}
-
-/// A run takes its turns in the order of the row's schedule, and gives its report, as a replay of the schedule does.
-pub(crate) fn runs<R: Threads + Wait + Abort + Sync>(
-    rt: &R,
-    alloc: Global,
-    row: Row<'_>,
-) -> Result<(), Fail> {
-    let case = Case {
-        words: &["run", "a", "--schedule"],
-        schedule: "",
-        status: 0,
-        out: row.schedule,
-        err: row.report,
-    };
-    is_left(rt, alloc, image_of(rt, alloc, row)?, case, 0)?;
-    replays(rt, alloc, row)
-}
-
-/// A schedule of the row's image is refused at a line.
-pub(crate) fn refuses<R: Threads + Wait + Abort + Sync>(
-    rt: &R,
-    alloc: Global,
-    row: Row<'_>,
-    names: &str,
-    place: &str,
-) -> Result<(), Fail> {
-    let schedule = lines(alloc, names)?;
-    let err = format!(in alloc; "wedge: schedule refused at {place}\n")?;
-    let case = Case {
-        words: &["replay", "a", "s"],
-        schedule: schedule.as_str(),
-        status: 8,
-        out: "",
-        err: err.as_str(),
-    };
-    is_left(rt, alloc, image_of(rt, alloc, row)?, case, 0)
-}
-
 /// Each actor starts a child, until a name would have more than 32 parts.
-static DEEP: &str = ".proc main
+const DEEP: &[&str] = &[
+    ".proc main
 li s0, 2000
 j go
-.proc kid
-mv s0, a0
-go:
-addi s0, s0, -50
-svc sc_new
-la a1, kid
-mv a2, s0
-mv a3, s0
-svc sthread_create
-bnez a1, out
-svc sthread_join
-svc exit
-out:
-mv a0, a1
-svc exit
-";
+",
+    DEEPER,
+    AND_DEEPER,
+    "mv a0, a1\nsvc exit\n",
+];
 
 /// A partition whose actors each start a child, down to a name of 32 parts: its text, the line of its root, where the others end and where
 /// the last does, and how many instructions each of the others has and how many the last.
 #[derive(Clone, Copy)]
 pub(crate) struct Deep<'a> {
-    pub text: &'a str,
+    pub text: &'a [&'a str],
     pub root: &'a str,
     pub pc: &'a str,
     pub last_pc: &'a str,
@@ -151,14 +59,16 @@ pub(crate) fn deepens<R: Threads + Wait + Abort + Sync>(
     }
     report.push_str("stream 0 out \"\"\n")?;
     let schedule = format!(in alloc; "{down}{up}0\n0\n")?;
-    let row = Row {
-        fuel: "fuel = 3000\n",
-        right: "none",
-        text: deep.text,
+    let run = Run {
+        part: Part {
+            fuel: 3000,
+            text: deep.text,
+            ..PART
+        },
         schedule: schedule.as_str(),
         report: report.as_str(),
     };
-    runs(rt, alloc, row)
+    runs(rt, alloc, run)
 }
 
 #[test]
@@ -176,12 +86,10 @@ fn names_have_at_most_32_parts(rt: HostRuntime) -> Result<(), Fail> {
 }
 
 /// Two children each set a word of the tag and wait until the other has set its own.
-pub(crate) static HANDSHAKE: &str = ".proc main
-svc sc_new
-li a1, tag_box
-li a2, 3
-svc sc_mem_add
-la a1, kid
+const HANDSHAKE: &[&str] = &[
+    ".proc main\n",
+    DRAFT_WRITE,
+    "la a1, kid
 li a2, 0
 li a3, 1000000
 svc sthread_create
@@ -208,93 +116,111 @@ lw t4, 0(t3)
 beqz t4, wait
 li a0, 0
 svc exit
-";
+",
+];
+
+/// The partition of the two children.
+pub(crate) fn handshake() -> Part<'static> {
+    Part {
+        fuel: 3_000_000,
+        right: "ReadWrite",
+        text: HANDSHAKE,
+        ..PART
+    }
+}
+
+/// A schedule, with spaces between its names, and the line at which it is refused.
+struct Rejected {
+    names: &'static str,
+    place: &'static str,
+}
+
+#[rattlefmt::skip]
+static REJECTED: [Rejected; 10] = [
+    Rejected { names: "0 0 0 0 0.1 0.2 0.1 0.2 0.1 0.2 0 0", place: "13: short" },
+    Rejected { names: "0 0 0 0 0.1 0.2 0.1 0.2 0.1 0.2 0 0 0 0", place: "14: extra" },
+    Rejected { names: "0.1 0 0 0 0.1 0.2 0.1 0.2 0.1 0.2 0 0 0", place: "1: unknown" },
+    Rejected { names: "0 0.1", place: "2: unknown" },
+    Rejected { names: "0 0 0.2", place: "3: unknown" },
+    Rejected { names: "0 0 0 0 0", place: "5: waits" },
+    Rejected { names: "0 0 0 0 0.1 0.2 0.2 0.2 0", place: "9: waits" },
+    Rejected { names: "0 0 0 0 0.1 0.2 0.1 0.1 0.1", place: "9: ended" },
+    Rejected { names: "0 0 0 0 0.1 0.2 0.1 0.2 0.1 0.2 0.2", place: "11: ended" },
+    Rejected { names: "0 0 0 0 0.1 0.2 0.1 0.1 0 0", place: "10: waits" },
+];
 
 #[test]
 fn a_schedule_that_differs_is_refused_at_its_line(rt: HostRuntime) -> Result<(), Fail> {
     let alloc = rt.alloc();
     let schedule = lines(alloc, "0 0 0 0 0.1 0.2 0.1 0.2 0.1 0.2 0 0 0")?;
-    let row = Row {
-        fuel: "fuel = 3000000\n",
-        right: "ReadWrite",
-        text: HANDSHAKE,
+    let run = Run {
+        part: handshake(),
         schedule: schedule.as_str(),
         report: "actor 0 main exited 0 pc 00010074 fuel 2999946\n\
             actor 0.1 kid exited 0 pc 000100a4 fuel 999988\n\
             actor 0.2 kid exited 0 pc 000100a4 fuel 999988\n\
             stream 0 out \"\"\n",
     };
-    replays(&rt, alloc, row)?;
-    for (names, place) in [
-        ("0 0 0 0 0.1 0.2 0.1 0.2 0.1 0.2 0 0", "13: short"),
-        ("0 0 0 0 0.1 0.2 0.1 0.2 0.1 0.2 0 0 0 0", "14: extra"),
-        ("0.1 0 0 0 0.1 0.2 0.1 0.2 0.1 0.2 0 0 0", "1: unknown"),
-        ("0 0.1", "2: unknown"),
-        ("0 0 0.2", "3: unknown"),
-        ("0 0 0 0 0", "5: waits"),
-        ("0 0 0 0 0.1 0.2 0.2 0.2 0", "9: waits"),
-        ("0 0 0 0 0.1 0.2 0.1 0.1 0.1", "9: ended"),
-        ("0 0 0 0 0.1 0.2 0.1 0.2 0.1 0.2 0.2", "11: ended"),
-        ("0 0 0 0 0.1 0.2 0.1 0.1 0 0", "10: waits"),
-    ] {
-        refuses(&rt, alloc, row, names, place)?;
+    replays(&rt, alloc, run)?;
+    for rejected in &REJECTED {
+        refuses(&rt, alloc, run.part, rejected.names, rejected.place)?;
     }
     Ok(())
 }
 
 /// The root may not give a right that it does not have; then it gives the one that it has.
-static EXCESS: &str = ".proc main
-svc sc_new
-li a1, tag_box
-li a2, 3
-svc sc_mem_add
-la a1, kid
-li a2, 0
-li a3, 100
-svc sthread_create
-mv a0, a1
+const EXCESS: &[&str] = &[
+    ".proc main\n",
+    DRAFT_WRITE,
+    START_KID,
+    "mv a0, a1
 svc exit
 .proc kid
 li a0, 0
 svc exit
-";
+",
+];
 
 #[test]
 fn a_draft_that_exceeds_is_denied(rt: HostRuntime) -> Result<(), Fail> {
     let alloc = rt.alloc();
-    let row = Row {
-        fuel: "fuel = 1000\n",
-        right: "Read",
-        text: EXCESS,
+    let run = Run {
+        part: Part {
+            right: "Read",
+            text: EXCESS,
+            ..PART
+        },
         schedule: "0\n",
         report: "actor 0 main exited 1 pc 00010038 fuel 985\n\
             denied 0 pc 0001002c grant tag 0 ReadWrite\n\
             stream 0 out \"\"\n",
     };
-    runs(&rt, alloc, row)?;
-    let allowed = Row {
-        right: "ReadWrite",
+    runs(&rt, alloc, run)?;
+    let allowed = Run {
+        part: Part {
+            right: "ReadWrite",
+            ..run.part
+        },
         schedule: "0\n0\n0.1\n0\n0\n",
         report: "actor 0 main exited 0 pc 00010038 fuel 982\n\
             actor 0.1 kid exited 0 pc 00010044 fuel 97\n\
             stream 0 out \"\"\n",
-        ..row
+        ..run
     };
     runs(&rt, alloc, allowed)
 }
 
 /// Starts and joins that are refused: the codes are the octal digits of the value.
-static CODES: &str = ".proc main
+const CODES: &[&str] = &[
+    ".proc main
 li s1, 0
 li a0, 0
 li a1, 3
 li a3, 5
 call start
-svc sc_new
-li a1, tag_box
-li a2, 3
-svc sc_mem_add
-li a0, 0
+",
+    DRAFT_WRITE,
+    "li a0, 0
 li a1, 3
 li a3, -1
 call start
@@ -327,31 +253,31 @@ j note
 join:
 svc sthread_join
 note:
-slli s1, s1, 3
-add s1, s1, a1
-ret
-.proc kid
-svc exit
-";
+",
+    NOTE,
+    ".proc kid\nsvc exit\n",
+];
 
 #[test]
 fn starts_and_joins_answer_their_codes(rt: HostRuntime) -> Result<(), Fail> {
     let alloc = rt.alloc();
-    let row = Row {
-        fuel: "fuel = 1000\n",
-        right: "none",
-        text: CODES,
+    let run = Run {
+        part: Part {
+            text: CODES,
+            ..PART
+        },
         schedule: "0\n0\n0.1\n0\n0\n",
         report: "actor 0 main exited 96832325 pc 000100a8 fuel 907\n\
             denied 0 pc 000100b0 grant tag 0 ReadWrite\n\
             actor 0.1 kid fuel-out pc 000100cc fuel 0\n\
             stream 0 out \"\"\n",
     };
-    runs(&rt, alloc, row)
+    runs(&rt, alloc, run)
 }
 
 /// The root ends without a join of its two children.
-static LEFT: &str = ".proc main
+const LEFT: &[&str] = &[
+    ".proc main
 svc sc_new
 la a1, kid
 li a2, 7
@@ -364,37 +290,36 @@ li a0, 5
 svc exit
 .proc kid
 svc exit
-";
+",
+];
 
 #[test]
 fn an_actor_joins_its_children_before_its_end(rt: HostRuntime) -> Result<(), Fail> {
     let alloc = rt.alloc();
-    let row = Row {
-        fuel: "fuel = 1000\n",
-        right: "none",
-        text: LEFT,
+    let run = Run {
+        part: Part { text: LEFT, ..PART },
         schedule: "0\n0\n0.1\n0\n0\n0.2\n0\n0\n0\n",
         report: "actor 0 main exited 5 pc 0001003c fuel 980\n\
             actor 0.1 kid exited 7 pc 00010044 fuel 98\n\
             actor 0.2 kid exited 7 pc 00010044 fuel 98\n\
             stream 0 out \"\"\n",
     };
-    runs(&rt, alloc, row)?;
+    runs(&rt, alloc, run)?;
     let order = lines(alloc, "0 0 0 0 0.2 0.1 0 0 0")?;
     replays(
         &rt,
         alloc,
-        Row {
+        Run {
             schedule: order.as_str(),
-            ..row
+            ..run
         },
     )?;
-    refuses(&rt, alloc, row, "0 0 0 0 0.2 0", "6: waits")?;
-    refuses(&rt, alloc, row, "0 0 0 0 0.1 0 0", "7: waits")
+    refuses(&rt, alloc, run.part, "0 0 0 0 0.2 0", "6: waits")?;
+    refuses(&rt, alloc, run.part, "0 0 0 0 0.1 0 0", "7: waits")
 }
 
 /// The root joins a child and exits with its value, and with the number of its end in the second byte.
-static JOINED: &str = ".proc main
+const JOINED: &str = ".proc main
 svc sc_new
 la a1, kid
 li a2, 7
@@ -407,94 +332,111 @@ svc exit
 .proc kid
 ";
 
+/// The text of a child, what the root exits with and the fuel that it has left, the child's lines of the report, and its turns.
+struct Joined {
+    kid: &'static str,
+    value: u32,
+    fuel: u32,
+    report: &'static str,
+    turns: &'static str,
+}
+
+#[rattlefmt::skip]
+static ENDS: [Joined; 10] = [
+    Joined { kid: "svc exit\n", value: 7, fuel: 984, report: "exited 7 pc 0001003c fuel 48", turns: "0.1\n" },
+    Joined {
+        kid: "li t0, seg_box\nlw t0, 0(t0)\n",
+        value: 256,
+        fuel: 983,
+        report: "denied pc 00010040 fuel 47\ndenied 0.1 pc 00010040 tag 0 wants Read",
+        turns: "0.1\n0.1\n",
+    },
+    Joined {
+        kid: "li t0, seg_box\nlw t0, 2(t0)\n",
+        value: 512,
+        fuel: 983,
+        report: "misaligned pc 00010040 fuel 47",
+        turns: "0.1\n",
+    },
+    Joined {
+        kid: "la t0, kid\njalr zero, 2(t0)\n",
+        value: 768,
+        fuel: 983,
+        report: "jump-misaligned pc 00010040 fuel 47",
+        turns: "0.1\n",
+    },
+    Joined {
+        kid: ".word 0\n",
+        value: 1024,
+        fuel: 985,
+        report: "bad-instruction pc 00010038 fuel 49",
+        turns: "0.1\n",
+    },
+    Joined {
+        kid: "j out\nout:\n",
+        value: 1280,
+        fuel: 985,
+        report: "fetch-fault pc 0001003c fuel 49",
+        turns: "0.1\n",
+    },
+    Joined {
+        kid: "la t0, kid\nsw t0, 0(t0)\n",
+        value: 1536,
+        fuel: 983,
+        report: "text-store pc 00010040 fuel 47",
+        turns: "0.1\n",
+    },
+    Joined {
+        kid: "li t0, 0x50000000\nlw t0, 0(t0)\n",
+        value: 1792,
+        fuel: 983,
+        report: "unmapped pc 00010040 fuel 47",
+        turns: "0.1\n",
+    },
+    Joined { kid: "ebreak\n", value: 2048, fuel: 985, report: "break pc 00010038 fuel 49", turns: "0.1\n" },
+    Joined {
+        kid: "again:\nj again\n",
+        value: 2304,
+        fuel: 936,
+        report: "fuel-out pc 00010038 fuel 0",
+        turns: "0.1\n",
+    },
+];
+
+/// The run of a root that joins such a child.
+fn joins<R: Threads + Wait + Abort + Sync>(
+    rt: &R,
+    alloc: Global,
+    joined: &Joined,
+) -> Result<(), Fail> {
+    let schedule = format!(in alloc; "0\n0\n{}0\n0\n", joined.turns)?;
+    let report = format!(in alloc;
+        "actor 0 main exited {} pc 00010034 fuel {}\nactor 0.1 kid {}\nstream 0 out \"\"\n",
+        joined.value, joined.fuel, joined.report
+    )?;
+    let run = Run {
+        part: Part {
+            right: "ReadWrite",
+            text: &[JOINED, joined.kid],
+            ..PART
+        },
+        schedule: schedule.as_str(),
+        report: report.as_str(),
+    };
+    runs(rt, alloc, run)
+}
+
 #[test]
 fn a_join_answers_how_the_child_ended(rt: HostRuntime) -> Result<(), Fail> {
-    let alloc = rt.alloc();
-    for (body, value, root_fuel, kid, turns) in [
-        (
-            "svc exit\n",
-            7,
-            984,
-            "exited 7 pc 0001003c fuel 48",
-            "0.1\n",
-        ),
-        (
-            "li t0, seg_box\nlw t0, 0(t0)\n",
-            256,
-            983,
-            "denied pc 00010040 fuel 47\ndenied 0.1 pc 00010040 tag 0 wants Read",
-            "0.1\n0.1\n",
-        ),
-        (
-            "li t0, seg_box\nlw t0, 2(t0)\n",
-            512,
-            983,
-            "misaligned pc 00010040 fuel 47",
-            "0.1\n",
-        ),
-        (
-            "la t0, kid\njalr zero, 2(t0)\n",
-            768,
-            983,
-            "jump-misaligned pc 00010040 fuel 47",
-            "0.1\n",
-        ),
-        (
-            ".word 0\n",
-            1024,
-            985,
-            "bad-instruction pc 00010038 fuel 49",
-            "0.1\n",
-        ),
-        (
-            "j out\nout:\n",
-            1280,
-            985,
-            "fetch-fault pc 0001003c fuel 49",
-            "0.1\n",
-        ),
-        (
-            "la t0, kid\nsw t0, 0(t0)\n",
-            1536,
-            983,
-            "text-store pc 00010040 fuel 47",
-            "0.1\n",
-        ),
-        (
-            "li t0, 0x50000000\nlw t0, 0(t0)\n",
-            1792,
-            983,
-            "unmapped pc 00010040 fuel 47",
-            "0.1\n",
-        ),
-        ("ebreak\n", 2048, 985, "break pc 00010038 fuel 49", "0.1\n"),
-        (
-            "again:\nj again\n",
-            2304,
-            936,
-            "fuel-out pc 00010038 fuel 0",
-            "0.1\n",
-        ),
-    ] {
-        let text = format!(in alloc; "{JOINED}{body}")?;
-        let schedule = format!(in alloc; "0\n0\n{turns}0\n0\n")?;
-        let report = format!(in alloc;
-            "actor 0 main exited {value} pc 00010034 fuel {root_fuel}\nactor 0.1 kid {kid}\nstream 0 out \"\"\n"
-        )?;
-        let row = Row {
-            fuel: "fuel = 1000\n",
-            right: "ReadWrite",
-            text: text.as_str(),
-            schedule: schedule.as_str(),
-            report: report.as_str(),
-        };
-        runs(&rt, alloc, row)?;
+    for joined in &ENDS {
+        joins(&rt, rt.alloc(), joined)?;
     }
     Ok(())
 }
 
 /// What a child has of its starter: the argument, and nothing of its registers or its stack.
-static FRESH: &str = ".proc main
+const FRESH: &[&str] = &[
+    ".proc main
 li s0, 1
 li t6, 2
 li ra, 4
@@ -518,25 +460,28 @@ or a0, a0, a3
 or a0, a0, a7
 sw t0, -4(sp)
 svc exit
-";
+",
+];
 
 #[test]
 fn a_child_begins_afresh(rt: HostRuntime) -> Result<(), Fail> {
     let alloc = rt.alloc();
-    let row = Row {
-        fuel: "fuel = 1000\n",
-        right: "none",
-        text: FRESH,
+    let run = Run {
+        part: Part {
+            text: FRESH,
+            ..PART
+        },
         schedule: "0\n0\n0.1\n0\n0\n",
         report: "actor 0 main exited 64 pc 0001003c fuel 972\n\
             actor 0.1 kid exited 64 pc 0001006c fuel 38\n\
             stream 0 out \"\"\n",
     };
-    runs(&rt, alloc, row)
+    runs(&rt, alloc, run)
 }
 
 /// The root asks for 256 children, the last in vain; then it joins the first, and is answered the number of one more.
-static MANY: &str = ".proc main
+const MANY: &[&str] = &[
+    ".proc main
 svc sc_new
 li s0, 256
 li s1, 0
@@ -559,7 +504,8 @@ svc sthread_create
 ret
 .proc kid
 svc exit
-";
+",
+];
 
 #[test]
 fn at_most_256_actors_live(rt: HostRuntime) -> Result<(), Fail> {
@@ -580,18 +526,21 @@ fn at_most_256_actors_live(rt: HostRuntime) -> Result<(), Fail> {
     let report = format!(in alloc;
         "actor 0 main exited 4098 pc 0001003c fuel 16653\n{kids}stream 0 out \"\"\n"
     )?;
-    let row = Row {
-        fuel: "fuel = 20000\n",
-        right: "none",
-        text: MANY,
+    let run = Run {
+        part: Part {
+            fuel: 20000,
+            text: MANY,
+            ..PART
+        },
         schedule: schedule.as_str(),
         report: report.as_str(),
     };
-    replays(&rt, alloc, row)
+    replays(&rt, alloc, run)
 }
 
 /// 20,000 children one after another.
-static ONE_BY_ONE: &str = ".proc main
+const ONE_BY_ONE: &[&str] = &[
+    ".proc main
 svc sc_new
 li s0, 20000
 again:
@@ -606,7 +555,8 @@ li a0, 0
 svc exit
 .proc kid
 svc exit
-";
+",
+];
 
 #[test]
 fn children_one_after_another(rt: HostRuntime) -> Result<(), Fail> {
@@ -621,12 +571,14 @@ fn children_one_after_another(rt: HostRuntime) -> Result<(), Fail> {
     }
     schedule.push_str("0\n")?;
     report.push_str("stream 0 out \"\"\n")?;
-    let row = Row {
-        fuel: "fuel = 1000000\n",
-        right: "none",
-        text: ONE_BY_ONE,
+    let run = Run {
+        part: Part {
+            fuel: 1000000,
+            text: ONE_BY_ONE,
+            ..PART
+        },
         schedule: schedule.as_str(),
         report: report.as_str(),
     };
-    runs(&rt, alloc, row)
+    runs(&rt, alloc, run)
 }

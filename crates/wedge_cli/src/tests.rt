@@ -1,7 +1,7 @@
 //! Runs of images that were worked out by hand: the status, and the bytes on each stream.
 
+use super::harness::{CASE, Case, is_no_command, leaves_turns};
 use super::*;
-use host_io::{MemFile, MemFiles, MemSink, NoPace};
 use std::alloc::{AllocError, Global};
 use std::process::Abort;
 use std::sync::Wait;
@@ -9,10 +9,22 @@ use std::test::Fail;
 use std::thread::Threads;
 
 /// Appends `ok` to descriptor 0 and exits with 0.
-static OK: [u32; 11] = [
+const OK: [u32; 11] = [
     0x000072b7, 0xb6f28293, 0xfe512e23, 0x00000513, 0xffc10593, 0x00200613, 0x01000893, 0x00000073,
     0x00000513, 0x00000893, 0x00000073,
 ];
+
+/// Stores 5 in the first word of the tag.
+const STORE: [u32; 4] = [0x400002b7, 0x00028293, 0x00500313, 0x0062a023];
+
+/// Loads a word from the tag's third byte.
+const LOAD_BYTE_2: [u32; 3] = [0x400002b7, 0x00028293, 0x0022a303];
+
+/// Loads a word past the tag's page.
+const LOAD_PAST: [u32; 3] = [0x400012b7, 0x00028293, 0x0002a303];
+
+/// Loads the last word of the tag's page.
+const LOAD_LAST: [u32; 3] = [0x400012b7, 0xffc28293, 0x0002a303];
 
 /// What follows the words: the procedure `main`, the entry, no data, the tag `box` of one page with its
 /// right at 35, the descriptor `out` with its bits at 56, no file, the user at 68 and the root `/`.
@@ -22,328 +34,258 @@ static TABLES: [u8; 75] = [
     0, 0, 2, 0, 0, 0, 0, 0, 0, 0, 0, 0, 0, 0, 0, 0, 0, 0, 1, 0, 0x2f,
 ];
 
-/// The bytes of an image: its fuel, its words at 0x10000, and its tables with this right and these bits.
-fn image_of(
-    alloc: Global,
+/// What differs in an image: its fuel, its words at 0x10000, the root's right on the tag and its bits on the descriptor.
+#[derive(Clone, Copy)]
+struct Differing<'a> {
     fuel: u32,
-    words: &[u32],
+    words: &'a [u32],
     right: u8,
     bits: u8,
-) -> Result<Vec<u8>, AllocError> {
+}
+
+/// The image that appends `ok`.
+const APPENDS: Differing<'static> = Differing {
+    fuel: 100,
+    words: &OK,
+    right: 3,
+    bits: 2,
+};
+
+/// The bytes of an image.
+fn image_of(alloc: Global, differing: Differing<'_>) -> Result<Vec<u8>, AllocError> {
+    let words = differing.words;
     let mut bytes = Vec::new(alloc);
     bytes.extend_from_slice(b"WEDG")?;
     let count = u32::try_from(words.len()).unwrap_or(0);
-    for word in [1, fuel, 0x10000, count] {
+    for word in [1, differing.fuel, 0x10000, count] {
         bytes.extend_from_slice(&word.to_le_bytes())?;
     }
     for word in words {
         bytes.extend_from_slice(&word.to_le_bytes())?;
     }
     let mut tables = TABLES;
-    tables[35] = right;
-    tables[56] = bits;
+    tables[35] = differing.right;
+    tables[56] = differing.bits;
     bytes.extend_from_slice(&tables)?;
     Ok(bytes)
 }
 
-/// The image of which the other tests are.
+/// The bytes of the image that appends `ok`.
 pub(crate) fn image(alloc: Global) -> Result<Vec<u8>, AllocError> {
-    image_of(alloc, 100, &OK, 3, 2)
+    image_of(alloc, APPENDS)
 }
 
-/// A run of the program: the bytes of its file `a`, the reads and writes that fail, and how
-/// many bytes `out` takes.
-#[derive(Drop)]
-pub(crate) struct Run {
-    pub bytes: Vec<u8>,
-    pub read_fails: u64,
-    pub out_room: usize,
-    pub write_fails: u64,
+/// An image whose run prints a report, after so many turns.
+struct Reported {
+    image: Differing<'static>,
+    report: &'static str,
+    turns: usize,
 }
 
-/// What a run has to leave.
-#[derive(Clone, Copy)]
-pub(crate) struct Left<'a> {
-    pub status: u8,
-    pub out: &'a str,
-    pub err: &'a str,
-    pub turns: Option<usize>,
-}
+#[rattlefmt::skip]
+static REPORTED: [Reported; 8] = [
+    Reported {
+        image: APPENDS,
+        report: "actor 0 main exited 0 pc 00010028 fuel 87\nstream 0 out \"ok\"\n",
+        turns: 2,
+    },
+    Reported {
+        image: Differing { bits: 0, ..APPENDS },
+        report: "actor 0 main exited 0 pc 00010028 fuel 89\n\
+            denied 0 pc 0001001c fd 0 wants append\n\
+            stream 0 out \"\"\n",
+        turns: 2,
+    },
+    Reported {
+        image: Differing { words: &STORE, right: 2, ..APPENDS },
+        report: "actor 0 main denied pc 0001000c fuel 96\n\
+            denied 0 pc 0001000c tag 0 wants ReadWrite\n\
+            stream 0 out \"\"\n",
+        turns: 2,
+    },
+    Reported {
+        image: Differing { words: &STORE, ..APPENDS },
+        report: "actor 0 main fetch-fault pc 00010010 fuel 96\nstream 0 out \"\"\n",
+        turns: 2,
+    },
+    Reported {
+        image: Differing { fuel: 1000, words: &LOAD_BYTE_2, right: 0, bits: 2 },
+        report: "actor 0 main misaligned pc 00010008 fuel 997\nstream 0 out \"\"\n",
+        turns: 1,
+    },
+    Reported {
+        image: Differing { fuel: 1000, words: &LOAD_PAST, right: 0, bits: 2 },
+        report: "actor 0 main unmapped pc 00010008 fuel 997\nstream 0 out \"\"\n",
+        turns: 2,
+    },
+    Reported {
+        image: Differing { fuel: 1000, words: &LOAD_LAST, right: 0, bits: 2 },
+        report: "actor 0 main denied pc 00010008 fuel 997\n\
+            denied 0 pc 00010008 tag 0 wants Read\n\
+            stream 0 out \"\"\n",
+        turns: 2,
+    },
+    Reported {
+        image: Differing { fuel: 2, ..APPENDS },
+        report: "actor 0 main fuel-out pc 00010008 fuel 0\nstream 0 out \"\"\n",
+        turns: 1,
+    },
+];
 
-/// The words as the program takes them.
-pub(crate) fn strings(alloc: Global, words: &[&str]) -> Result<Vec<String>, AllocError> {
-    let mut strings = Vec::new(alloc);
-    for word in words {
-        strings.push(String::from_str(alloc, word)?)?;
-    }
-    Ok(strings)
-}
-
-/// Runs the program and compares what it leaves.
-pub(crate) fn leaves<R: Threads + Wait + Abort + Sync>(
-    rt: &R,
-    alloc: Global,
-    words: &[&str],
-    run: Run,
-    left: Left<'_>,
-) -> Result<(), Fail> {
-    let words = strings(alloc, words)?;
-    let file = MemFile {
-        name: String::from_str(alloc, "a")?,
-        bytes: run.bytes,
-    };
-    let files = vec![in alloc; file]?;
-    assert!(rt; MemFiles::names_differ(files.as_slice()));
-    let mut files = MemFiles::new(files, vec![in alloc; run.read_fails]?);
-    let mut out = MemSink::new(alloc, run.out_room, Vec::new(alloc))?;
-    let mut err = MemSink::new(alloc, 100, vec![in alloc; run.write_fails]?)?;
-    let ended = wedge(
-        rt,
-        alloc,
-        words.as_slice(),
-        &mut files,
-        &mut out,
-        &mut err,
-        &NoPace,
-    );
-    assert_eq!(rt; ended.status, left.status);
-    assert_eq!(rt; out.bytes(), left.out.as_bytes());
-    assert_eq!(rt; err.bytes(), left.err.as_bytes());
-    assert_eq!(rt;
-        ended
-            .journal
-            .map(|journal| journal.entries.as_slice().len()),
-        left.turns
-    );
-    Ok(())
-}
-
-/// An image of these words with this right and these bits runs to this report.
+/// The run of an image prints its report.
 fn reports<R: Threads + Wait + Abort + Sync>(
     rt: &R,
     alloc: Global,
-    image: (u32, &[u32], u8, u8),
-    report: &str,
-    turns: usize,
+    reported: &Reported,
 ) -> Result<(), Fail> {
-    let (fuel, words, right, bits) = image;
-    let run = Run {
-        bytes: image_of(alloc, fuel, words, right, bits)?,
-        read_fails: 0,
-        out_room: 1000,
-        write_fails: 0,
+    let image = image_of(alloc, reported.image)?;
+    let case = Case {
+        words: &["run", "a"],
+        a: image.as_slice(),
+        out: reported.report,
+        ..CASE
     };
-    leaves(
-        rt,
-        alloc,
-        &["run", "a"],
-        run,
-        Left {
-            status: 0,
-            out: report,
-            err: "",
-            turns: Some(turns),
-        },
-    )
+    leaves_turns(rt, alloc, case, Some(reported.turns))
 }
 
 #[test]
 fn a_run_prints_its_report(rt: HostRuntime) -> Result<(), Fail> {
-    let store = [0x400002b7, 0x00028293, 0x00500313, 0x0062a023];
-    let load_byte_2 = [0x400002b7, 0x00028293, 0x0022a303];
-    let load_past = [0x400012b7, 0x00028293, 0x0002a303];
-    let load_last = [0x400012b7, 0xffc28293, 0x0002a303];
-    let cases: [((u32, &[u32], u8, u8), &str, usize); 8] = [
-        (
-            (100, &OK, 3, 2),
-            "actor 0 main exited 0 pc 00010028 fuel 87\nstream 0 out \"ok\"\n",
-            2,
-        ),
-        (
-            (100, &OK, 3, 0),
-            "actor 0 main exited 0 pc 00010028 fuel 89\ndenied 0 pc 0001001c fd 0 wants append\nstream 0 out \"\"\n",
-            2,
-        ),
-        (
-            (100, &store, 2, 2),
-            "actor 0 main denied pc 0001000c fuel 96\ndenied 0 pc 0001000c tag 0 wants ReadWrite\nstream 0 out \"\"\n",
-            2,
-        ),
-        (
-            (100, &store, 3, 2),
-            "actor 0 main fetch-fault pc 00010010 fuel 96\nstream 0 out \"\"\n",
-            2,
-        ),
-        (
-            (1000, &load_byte_2, 0, 2),
-            "actor 0 main misaligned pc 00010008 fuel 997\nstream 0 out \"\"\n",
-            1,
-        ),
-        (
-            (1000, &load_past, 0, 2),
-            "actor 0 main unmapped pc 00010008 fuel 997\nstream 0 out \"\"\n",
-            2,
-        ),
-        (
-            (1000, &load_last, 0, 2),
-            "actor 0 main denied pc 00010008 fuel 997\ndenied 0 pc 00010008 tag 0 wants Read\nstream 0 out \"\"\n",
-            2,
-        ),
-        (
-            (2, &OK, 3, 2),
-            "actor 0 main fuel-out pc 00010008 fuel 0\nstream 0 out \"\"\n",
-            1,
-        ),
-    ];
-    for (image, report, turns) in cases {
-        reports(&rt, rt.alloc(), image, report, turns)?;
+    for reported in &REPORTED {
+        reports(&rt, rt.alloc(), reported)?;
     }
     Ok(())
 }
 
+/// An image and the listing of its text.
+struct Listed {
+    image: Differing<'static>,
+    listing: &'static str,
+}
+
+#[rattlefmt::skip]
+static LISTED: [Listed; 2] = [
+    Listed {
+        image: Differing { words: &[0x000072b7, 0xfe512e23, 0xffffffff, 0x00000073], ..APPENDS },
+        listing: "main:\n\
+            00010000 000072b7 lui t0, 0x7\n\
+            00010004 fe512e23 sw t0, -4(sp)\n\
+            00010008 ffffffff .word 0xffffffff\n\
+            0001000c 00000073 ecall\n",
+    },
+    Listed {
+        image: Differing { words: &[0xffffffff], right: 1, ..APPENDS },
+        listing: "main:\n00010000 ffffffff .word 0xffffffff\n",
+    },
+];
+
 #[test]
 fn a_listing_names_procedures_and_words(rt: HostRuntime) -> Result<(), Fail> {
-    let alloc = rt.alloc();
-    let words = [0x000072b7, 0xfe512e23, 0xffffffff, 0x00000073];
-    let cases: [(&[u32], u8, &str); 2] = [
-        (
-            &words,
-            3,
-            "main:\n00010000 000072b7 lui t0, 0x7\n00010004 fe512e23 sw t0, -4(sp)\n00010008 ffffffff .word 0xffffffff\n0001000c 00000073 ecall\n",
-        ),
-        (
-            &[0xffffffff],
-            1,
-            "main:\n00010000 ffffffff .word 0xffffffff\n",
-        ),
-    ];
-    for (words, right, listing) in cases {
-        let run = Run {
-            bytes: image_of(alloc, 100, words, right, 2)?,
-            read_fails: 0,
-            out_room: 1000,
-            write_fails: 0,
+    for listed in &LISTED {
+        let image = image_of(rt.alloc(), listed.image)?;
+        let case = Case {
+            words: &["show", "a"],
+            a: image.as_slice(),
+            out: listed.listing,
+            ..CASE
         };
-        leaves(
-            &rt,
-            alloc,
-            &["show", "a"],
-            run,
-            Left {
-                status: 0,
-                out: listing,
-                err: "",
-                turns: None,
-            },
-        )?;
+        leaves_turns(&rt, rt.alloc(), case, None)?;
     }
     Ok(())
+}
+
+/// Arguments over the first bytes of the image, or over the image and a zero, and what answers them.
+#[derive(Clone, Copy)]
+struct Rejected {
+    words: &'static [&'static str],
+    length: usize,
+    read_fails: u64,
+    status: u8,
+    err: &'static str,
+}
+
+/// A run of the whole image, before it is changed.
+const WHOLE: Rejected = Rejected {
+    words: &["run", "a"],
+    length: 139,
+    read_fails: 0,
+    status: 3,
+    err: "",
+};
+
+#[rattlefmt::skip]
+static REJECTED: [Rejected; 6] = [
+    Rejected { length: 138, err: "wedge: image refused at 138: truncated\n", ..WHOLE },
+    Rejected { length: 0, err: "wedge: image refused at 0: truncated\n", ..WHOLE },
+    Rejected { length: 140, err: "wedge: image refused at 139: trailing\n", ..WHOLE },
+    Rejected { read_fails: 1, status: 4, err: "wedge: read fault: a\n", ..WHOLE },
+    Rejected { words: &["run", "b"], status: 4, err: "wedge: read fault: b\n", ..WHOLE },
+    Rejected {
+        words: &["show", "a"],
+        length: 138,
+        err: "wedge: image refused at 138: truncated\n",
+        ..WHOLE
+    },
+];
+
+/// Arguments that are no command.
+static NO_COMMANDS: [&[&str]; 7] = [
+    &["run", "--x"],
+    &["run", ""],
+    &["run"],
+    &["run", "a", "b"],
+    &["runs", "a"],
+    &["-", "a"],
+    &[],
+];
+
+/// What is rejected is answered by its line alone.
+fn is_rejected<R: Threads + Wait + Abort + Sync>(
+    rt: &R,
+    alloc: Global,
+    rejected: &Rejected,
+) -> Result<(), Fail> {
+    let mut bytes = image(alloc)?;
+    bytes.resize(rejected.length, 0)?;
+    let case = Case {
+        words: rejected.words,
+        a: bytes.as_slice(),
+        read_fails: rejected.read_fails,
+        status: rejected.status,
+        err: rejected.err,
+        ..CASE
+    };
+    leaves_turns(rt, alloc, case, None)
 }
 
 #[test]
 fn what_is_no_run_says_why(rt: HostRuntime) -> Result<(), Fail> {
-    let alloc = rt.alloc();
-    let cases: [(&[&str], usize, u64, u8, &str); 13] = [
-        (
-            &["run", "a"],
-            138,
-            0,
-            3,
-            "wedge: image refused at 138: truncated\n",
-        ),
-        (
-            &["run", "a"],
-            0,
-            0,
-            3,
-            "wedge: image refused at 0: truncated\n",
-        ),
-        (
-            &["run", "a"],
-            140,
-            0,
-            3,
-            "wedge: image refused at 139: trailing\n",
-        ),
-        (&["run", "a"], 139, 1, 4, "wedge: read fault: a\n"),
-        (&["run", "b"], 139, 0, 4, "wedge: read fault: b\n"),
-        (
-            &["show", "a"],
-            138,
-            0,
-            3,
-            "wedge: image refused at 138: truncated\n",
-        ),
-        (&["run", "--x"], 139, 0, 2, "wedge: usage\n"),
-        (&["run", ""], 139, 0, 2, "wedge: usage\n"),
-        (&["run"], 139, 0, 2, "wedge: usage\n"),
-        (&["run", "a", "b"], 139, 0, 2, "wedge: usage\n"),
-        (&["runs", "a"], 139, 0, 2, "wedge: usage\n"),
-        (&["-", "a"], 139, 0, 2, "wedge: usage\n"),
-        (&[], 139, 0, 2, "wedge: usage\n"),
-    ];
-    for (words, length, read_fails, status, err) in cases {
-        let mut bytes = image_of(alloc, 100, &OK, 3, 2)?;
-        bytes.resize(length, 0)?;
-        let run = Run {
-            bytes,
-            read_fails,
-            out_room: 1000,
-            write_fails: 0,
-        };
-        leaves(
-            &rt,
-            alloc,
-            words,
-            run,
-            Left {
-                status,
-                out: "",
-                err,
-                turns: None,
-            },
-        )?;
+    for rejected in &REJECTED {
+        is_rejected(&rt, rt.alloc(), rejected)?;
+    }
+    for words in NO_COMMANDS {
+        is_no_command(&rt, rt.alloc(), words)?;
     }
     Ok(())
 }
 
 #[test]
 fn a_failed_write_has_its_line(rt: HostRuntime) -> Result<(), Fail> {
-    let alloc = rt.alloc();
-    let report = Run {
-        bytes: image_of(alloc, 100, &OK, 3, 2)?,
-        read_fails: 0,
+    let image = image(rt.alloc())?;
+    let report = Case {
+        words: &["run", "a"],
+        a: image.as_slice(),
         out_room: 10,
-        write_fails: 0,
+        status: 5,
+        out: "actor 0 ma",
+        err: "wedge: write fault\n",
+        ..CASE
     };
-    leaves(
-        &rt,
-        alloc,
-        &["run", "a"],
-        report,
-        Left {
-            status: 5,
-            out: "actor 0 ma",
-            err: "wedge: write fault\n",
-            turns: Some(2),
-        },
-    )?;
-    let usage = Run {
-        bytes: Vec::new(alloc),
-        read_fails: 0,
-        out_room: 10,
-        write_fails: 1,
+    leaves_turns(&rt, rt.alloc(), report, Some(2))?;
+    let usage = Case {
+        err_fails: 1,
+        status: 5,
+        err: "wedge: write fault\n",
+        ..CASE
     };
-    leaves(
-        &rt,
-        alloc,
-        &[],
-        usage,
-        Left {
-            status: 5,
-            out: "",
-            err: "wedge: write fault\n",
-            turns: None,
-        },
-    )
+    leaves_turns(&rt, rt.alloc(), usage, None)
 }

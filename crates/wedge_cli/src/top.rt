@@ -9,7 +9,7 @@ ghost use Rattle.wedge_cli.specs.Ended.{IsSaid, IsRunDone, IsScheduleDone, IsLin
 ghost use Rattle.wedge_cli.specs.Linking.{link_text};
 ghost use Rattle.wedge_cli.specs.Replaying.{replay_text};
 ghost use Rattle.wedge_cli.specs.Traces.{derive_text, analyze_text};
-ghost use Rattle.wedge_cli.specs.Causes.{IsUnfit, IsRejected, IsElfRejected, IsUnknown, IsUnreadable, SaysRefusal, IsAnswer};
+ghost use Rattle.wedge_cli.specs.Causes.{IsUnfit, IsRejected, IsElfRejected, IsUnknown, IsUnreadable, SaysRefusal, IsCommandAnswer};
 
 use crate::commands::prepare;
 use crate::lines::{no_memory_line, refusal_line, usage_line};
@@ -110,7 +110,7 @@ pub fn wedge<R: Threads + Wait + Sync, F: Files, O: Sink, E: Sink, P: Pace + Syn
         (sinks (O.written out.new) (O.faults out.new) (E.written err.new) (E.faults err.new)) }
 
     // Of all commands and statuses.
-    ensures answer { IsAnswer (command_of (texts words.now)) result
+    ensures answer { IsCommandAnswer (command_of (texts words.now)) result
         (outside (F.content files.old) (F.faults files.old)
         (sinks (O.written out.old) (O.faults out.old) (E.written err.old) (E.faults err.old)))
         (outside (F.content files.new) (F.faults files.new)
@@ -140,7 +140,8 @@ pub fn wedge<R: Threads + Wait + Sync, F: Files, O: Sink, E: Sink, P: Pace + Syn
 /// on `err`; 5 where that failed.
 pub fn out_of_memory<E: Sink>(err: &mut E) -> Ended
     ensures { IsSaid 6 (lines.line (codes "out of memory")) result
-        (device (E.written err.old) (E.faults err.old)) (device (E.written err.new) (E.faults err.new)) }
+        (device (E.written err.old) (E.faults err.old))
+        (device (E.written err.new) (E.faults err.new)) }
 {
     say(err, NO_MEMORY, no_memory_line())
 }
@@ -153,7 +154,7 @@ fn does<F: Files, O: Sink, E: Sink>(
     out: &mut O,
     err: &mut E,
 ) -> Ended
-    ensures answer { IsAnswer (command_of (texts words.now)) result
+    ensures answer { IsCommandAnswer (command_of (texts words.now)) result
         (outside (F.content files.old) (F.faults files.old)
         (sinks (O.written out.old) (O.faults out.old) (E.written err.old) (E.faults err.old)))
         (outside (F.content files.new) (F.faults files.new)
@@ -173,7 +174,8 @@ fn does<F: Files, O: Sink, E: Sink>(
 /// Says why a command is not done.
 fn refuse<E: Sink>(alloc: Global, err: &mut E, refusal: &Refusal) -> Ended
     ensures { SaysRefusal refusal.now result
-        (device (E.written err.old) (E.faults err.old)) (device (E.written err.new) (E.faults err.new)) }
+        (device (E.written err.old) (E.faults err.old))
+        (device (E.written err.new) (E.faults err.new)) }
 {
     match refusal_line(alloc, refusal) {
         Ok(line) => say(err, status_of(refusal), line.as_slice()),

@@ -72,7 +72,8 @@ pub(crate) fn query_text(
 ) -> Result<Vec<u8>, QueryFault>
     requires { trace_fault bytes.now ≡ None }
     ensures { MatchResult result
-        (λ text. option_map answer_text (query_lines query name.now (records_of bytes.now)) ≡ Some text.items)
+        (λ text. option_map answer_text (query_lines query name.now (records_of bytes.now))
+        ≡ Some text.items)
         (λ e. Fails e (query_lines query name.now (records_of bytes.now))) }
 {
     let lines = lines_of(alloc, bytes, query, name)?;

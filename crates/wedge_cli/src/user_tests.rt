@@ -1,68 +1,18 @@
 //! Partitions whose actors have users and root directories.
 
-use super::build_tests::{built, partition_as};
-use super::replay_tests::{Case, is_left};
+use super::compartments::NOTE;
+use super::harness::{PART, Part, Run, runs};
 use super::*;
-use std::alloc::Global;
-use std::process::Abort;
-use std::sync::Wait;
 use std::test::Fail;
-use std::thread::Threads;
 
-/// No right on the tag `box`, and data with a path.
-static PATH: &str = "none\"\n[[data]]\nname = \"path\"\nbase = 131072\ntext = \"/box/a/../b";
-
-/// A partition with these keys, this text, and these tables behind the right on the tag, whose root takes its turns in the order of a schedule and gives a report.
-#[derive(Clone, Copy)]
-pub(crate) struct Owned<'a> {
-    pub keys: &'a str,
-    pub tables: &'a str,
-    pub text: &'a str,
-    pub schedule: &'a str,
-    pub report: &'a str,
-}
-
-/// A run of the partition's image gives the schedule and the report, and so does a replay.
-pub(crate) fn runs<R: Threads + Wait + Abort + Sync>(
-    rt: &R,
-    alloc: Global,
-    owned: Owned<'_>,
-) -> Result<(), Fail> {
-    let case = Case {
-        words: &["run", "a", "--schedule"],
-        schedule: "",
-        status: 0,
-        out: owned.schedule,
-        err: owned.report,
-    };
-    is_left(rt, alloc, image(rt, alloc, owned)?, case, 0)?;
-    let again = Case {
-        words: &["replay", "a", "s"],
-        schedule: owned.schedule,
-        status: 0,
-        out: owned.report,
-        err: "",
-    };
-    is_left(rt, alloc, image(rt, alloc, owned)?, again, 0)
-}
-
-/// The bytes of the partition's image.
-fn image<R: Threads + Wait + Abort + Sync>(
-    rt: &R,
-    alloc: Global,
-    owned: Owned<'_>,
-) -> Result<Vec<u8>, Fail> {
-    built(
-        rt,
-        alloc,
-        partition_as(alloc, owned.keys, owned.text, owned.tables)?,
-    )
-}
+/// Data with a path.
+const PATH: &str = "[[data]]\nname = \"path\"\nbase = 131072\ntext = \"/box/a/../b\"\n";
 
 /// User 0 starts a child as user 7 under `/box/b`. The child may become no other user and give no directory that is not its own:
 /// it asks for user 0, for `/box/b/box`, for itself as it is (`/..` is the directory above no other), and for user 0 under
 /// `/box/b/box`.
-static GIVEN_UP: &str = ".proc main
+const GIVEN_UP: &[&str] = &[
+    ".proc main
 svc sc_new
 li a1, 7
 svc sc_user
@@ -117,20 +67,22 @@ la a1, leaf
 li a2, 0
 li a3, 10
 svc sthread_create
-slli s1, s1, 3
-add s1, s1, a1
-ret
-.proc leaf
+",
+    NOTE,
+    ".proc leaf
 li a0, 0
 svc exit
-";
+",
+];
 
 #[test]
 fn a_child_keeps_its_user_and_its_directory(rt: HostRuntime) -> Result<(), Fail> {
-    let owned = Owned {
-        keys: "fuel = 1000\nuser = 0\nroot = \"/\"\n",
-        tables: PATH,
-        text: GIVEN_UP,
+    let run = Run {
+        part: Part {
+            tables: PATH,
+            text: GIVEN_UP,
+            ..PART
+        },
         schedule: "0\n0\n0.1\n0.1\n0.1.1\n0.1\n0.1\n0\n0\n",
         report: "actor 0 main exited 577 pc 00010058 fuel 869\n\
             actor 0.1 kid exited 577 pc 00010114 fuel 303\n\
@@ -140,11 +92,12 @@ fn a_child_keeps_its_user_and_its_directory(rt: HostRuntime) -> Result<(), Fail>
             actor 0.1.1 leaf exited 0 pc 00010144 fuel 7\n\
             stream 0 out \"\"\n",
     };
-    runs(&rt, rt.alloc(), owned)
+    runs(&rt, rt.alloc(), run)
 }
 
 /// The root is user 7: it may not start a child as user 0, and may start one as itself.
-static NOBODY: &str = ".proc main
+const NOBODY: &[&str] = &[
+    ".proc main
 svc sc_new
 li a1, 0
 svc sc_user
@@ -168,27 +121,33 @@ svc exit
 .proc leaf
 li a0, 0
 svc exit
-";
+",
+];
 
 #[test]
 fn the_root_is_any_user(rt: HostRuntime) -> Result<(), Fail> {
-    let owned = Owned {
-        keys: "fuel = 1000\nuser = 7\nroot = \"/box\"\n",
-        tables: PATH,
-        text: NOBODY,
+    let run = Run {
+        part: Part {
+            user: 7,
+            root: "/box",
+            tables: PATH,
+            text: NOBODY,
+            ..PART
+        },
         schedule: "0\n0\n0.1\n0\n0\n",
         report: "actor 0 main exited 8 pc 0001006c fuel 969\n\
             denied 0 pc 0001002c user\n\
             actor 0.1 leaf exited 0 pc 00010078 fuel 7\n\
             stream 0 out \"\"\n",
     };
-    runs(&rt, rt.alloc(), owned)
+    runs(&rt, rt.alloc(), run)
 }
 
 /// A user and a path for a draft that is not there, a user for one that is, one for the next; an empty path, one without a slash
 /// in front, one of 257 bytes, a buffer where there is no memory, and a path. The code of each call is the next octal digit of the
 /// value.
-static CODES: &str = ".proc main
+const CODES: &[&str] = &[
+    ".proc main
 li s1, 0
 li a0, 0
 li a1, 7
@@ -229,50 +188,54 @@ mv a0, s1
 svc exit
 user:
 svc sc_user
-slli s1, s1, 3
-add s1, s1, a1
-ret
-root:
-svc sc_root
-slli s1, s1, 3
-add s1, s1, a1
-ret
-";
+",
+    NOTE,
+    "root:\nsvc sc_root\n",
+    NOTE,
+];
 
 /// A path of eleven bytes, of which each takes a unit of fuel.
-static ELEVEN: &str = ".proc main
+const ELEVEN: &[&str] = &[
+    ".proc main
 svc sc_new
 li a1, data_path
 li a2, 11
 svc sc_root
 mv a0, a1
 svc exit
-";
+",
+];
 
 #[test]
 fn calls_on_users_and_directories_answer_their_codes(rt: HostRuntime) -> Result<(), Fail> {
-    let owned = Owned {
-        keys: "fuel = 1000\nuser = 0\nroot = \"/\"\n",
-        tables: PATH,
-        text: CODES,
+    let run = Run {
+        part: Part {
+            tables: PATH,
+            text: CODES,
+            ..PART
+        },
         schedule: "0\n",
         report: "actor 0 main exited 94563760 pc 000100b0 fuel 906\nstream 0 out \"\"\n",
     };
-    runs(&rt, rt.alloc(), owned)?;
-    let short = Owned {
-        keys: "fuel = 17\nuser = 0\nroot = \"/\"\n",
-        tables: PATH,
-        text: ELEVEN,
+    runs(&rt, rt.alloc(), run)?;
+    let short = Run {
+        part: Part {
+            fuel: 17,
+            text: ELEVEN,
+            ..run.part
+        },
         report: "actor 0 main exited 3 pc 00010024 fuel 7\nstream 0 out \"\"\n",
-        ..owned
+        ..run
     };
     runs(&rt, rt.alloc(), short)?;
-    let enough = Owned {
-        keys: "fuel = 18\nuser = 0\nroot = \"/\"\n",
-        tables: PATH,
-        text: ELEVEN,
+    let enough = Run {
+        part: Part {
+            fuel: 18,
+            text: ELEVEN,
+            ..run.part
+        },
         report: "actor 0 main fuel-out pc 0001001c fuel 0\nstream 0 out \"\"\n",
-        ..owned
+        ..run
     };
     runs(&rt, rt.alloc(), enough)
 }

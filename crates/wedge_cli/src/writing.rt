@@ -91,7 +91,8 @@ pub(crate) fn finish<O: Sink, E: Sink>(out: &mut O, err: &mut E, ready: Ready) -
 /// Writes a line on the error stream, and ends with a status; with 5 where the write failed.
 pub(crate) fn say<E: Sink>(err: &mut E, status: u8, line: &[u8]) -> Ended
     ensures { IsSaid status line.now result
-        (device (E.written err.old) (E.faults err.old)) (device (E.written err.new) (E.faults err.new)) }
+        (device (E.written err.old) (E.faults err.old))
+        (device (E.written err.new) (E.faults err.new)) }
 {
     match write_whole(err, line) {
         Ok(()) => Ended {
@@ -111,7 +112,8 @@ pub(crate) fn say<E: Sink>(err: &mut E, status: u8, line: &[u8]) -> Ended
 /// Gives the error stream the line of a write that failed, once. A failure there is dropped.
 fn tell_write_fault<E: Sink>(err: &mut E)
     ensures { Tried lines.write_fault_line
-        (device (E.written err.old) (E.faults err.old)) (device (E.written err.new) (E.faults err.new)) }
+        (device (E.written err.old) (E.faults err.old))
+        (device (E.written err.new) (E.faults err.new)) }
 {
     let _ = write_whole(err, write_fault_line());
 }

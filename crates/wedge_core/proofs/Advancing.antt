@@ -9,15 +9,15 @@ use Rattle.wedge_events.specs.declared.events.Want.TheVariants as want
 use Rattle.wedge_events.specs.declared.events.LogEntry.{LogEntry}
 use Rattle.wedge_events.specs.declared.events.Turn.{Turn}
 use Rattle.sthread_life.specs.Actors.{ActorState}
-use Rattle.sthread_life.specs.Cells.{Cells}
-use Rattle.sthread_life.specs.Worlds.{WorldState, opening, actor_named, at_rest, Runs, settled}
-use Rattle.sthread_life.specs.FamilyTrees.{Family}
+use Rattle.run_laws.specs.Cells.{Cells}
+use Rattle.run_laws.specs.Worlds.{WorldState, opening, actor_named, at_rest, Runs, settled}
+use Rattle.run_laws.specs.FamilyTrees.{Family}
 use Rattle.sthread_life.specs.Local.{has_ended}
 use Rattle.sthread_life.specs.Taking.{wanted, wanted_at}
-use Rattle.sthread_life.proofs.FamilyRuns.{turn_family}
-use Rattle.sthread_life.proofs.GrantedCopies.{runs_alone}
-use Rattle.sthread_life.proofs.Settling.{AllReady, all_alike, run_ready}
-use Rattle.wedge_core.specs.Progress.{Progress, IsRun, IsTurn, HasEnded, IsWaiting, IsBusy, AreRecorded, GoesOnBy, state_of, rested, rested_in}
+use Rattle.run_laws.proofs.FamilyRuns.{turn_family}
+use Rattle.run_laws.proofs.GrantedCopies.{runs_alone}
+use Rattle.run_laws.proofs.Settling.{AllReady, all_alike, run_ready}
+use Rattle.wedge_core.specs.Progress.{Progress, IsRunSoFar, IsTurn, HasEnded, IsWaiting, IsBusy, AreRecorded, TookTurnOf, state_of, rested, rested_in}
 use Rattle.wedge_core.specs.declared.turns.Went.{Went}
 use Rattle.wedge_core.specs.declared.turns.Went.TheVariants as went
 use Rattle.wedge_core.specs.Serial.{IsNumbered}
@@ -30,11 +30,11 @@ use Rattle.wedge_core.proofs.Turning.{run_goes_on, rested_settled, not_ended}
 -- what the type of a world keeps
 pub record IsKept (i : Image) (cells : Cells) (actors : List ActorState) (entries : List LogEntry) (stopped : Bool) : Type 0 where
   pub numbered : IsNumbered entries
-  pub run : IsRun (record { state = state_of i cells actors; turns = turns_of entries; stopped = stopped })
+  pub run : IsRunSoFar (record { state = state_of i cells actors; turns = turns_of entries; stopped = stopped })
   pub family : stopped ≡ false → Family actors
 
 -- the actors of a world that has not stopped rest as those of a run do
-pub run_is_ready : (p : Progress) → IsRun p → p.stopped ≡ false → AllReady p.state
+pub run_is_ready : (p : Progress) → IsRunSoFar p → p.stopped ≡ false → AllReady p.state
 run_is_ready p r going = all_alike p.state r.last (r.current going) (run_ready p.state.image p.turns r.last r.run)
 
 pub kept_taken : (i : Image) (cells new_cells : Cells) (actors new : List ActorState) (entries new_entries : List LogEntry) (name : List ℕ) (stopped : Bool)
@@ -49,7 +49,7 @@ kept_taken i cells new_cells actors new entries new_entries name stopped k going
 -- where it goes on
 pub goes_on_by : (i : Image) (cells new_cells : Cells) (actors new : List ActorState) (entries new_entries : List LogEntry) (name : List ℕ) (stopped : Bool)
     → WasTaken i cells actors entries name new_cells new new_entries
-    → GoesOnBy (record { state = state_of i cells actors; turns = turns_of entries; stopped = stopped }) name (record { state = state_of i new_cells new; turns = turns_of new_entries; stopped = stopped })
+    → TookTurnOf (record { state = state_of i cells actors; turns = turns_of entries; stopped = stopped }) name (record { state = state_of i new_cells new; turns = turns_of new_entries; stopped = stopped })
 goes_on_by i cells new_cells actors new entries new_entries name stopped t = record {
   event = t.event;
   turn = t.turn;
@@ -95,7 +95,7 @@ kept_by went.Busy i cells new_cells actors new entries new_entries name stopped 
     kept_rested i cells new_cells actors new entries new_entries name stopped h.busy.actor h.busy.named (busy_lives (state_of i cells actors) name h.busy) k h.rests (same (λ is. cc))
 
 -- an actor that is in a recycled gate is so in the run that led here
-pub run_recorded : (p : Progress) → IsRun p → p.stopped ≡ false → AreRecorded p.state.cells p.state.actors
+pub run_recorded : (p : Progress) → IsRunSoFar p → p.stopped ≡ false → AreRecorded p.state.cells p.state.actors
 run_recorded p r going = recorded_alike p.state r.last (r.current going) (λ name a named id h. (runs_alone p.state.image p.turns r.last r.run).entered name a id named h)
 
 -- ---- who has ended, or waits, or finds the gate busy, takes no turn
@@ -165,7 +165,7 @@ last_is (y ∷ z ∷ zs) (suc n) x [] t len at is = absurd cc
 last_is (y ∷ z ∷ zs) (suc n) x (b ∷ bs) t len at is = last_is (z ∷ zs) n x bs t (omega (arith, len)) at (let tails : turns_of (z ∷ zs) ≡ bs ++ t ∷ [] = cc in tails)
 
 pub stopped_run : (i j : Image) (cells : Cells) (actors : List ActorState) (turns back : List Turn) (last : WorldState) → j ≡ i → back ≡ turns → Runs (opening i) turns last
-    → IsRun (record { state = state_of j cells actors; turns = back; stopped = true })
+    → IsRunSoFar (record { state = state_of j cells actors; turns = back; stopped = true })
 stopped_run i j cells actors turns back last image same run = record {
   last = last;
   run = subst (λ k. Runs (opening k) back last) (sym image) (subst (λ ts. Runs (opening i) ts last) (sym same) run);

@@ -8,18 +8,18 @@ use Rattle.wedge_base.specs.declared.rights.End.{End}
 use Rattle.sthread_life.specs.declared.phase.Phase.{Phase}
 use Rattle.sthread_life.specs.declared.phase.Phase.TheVariants as phase
 use Rattle.sthread_life.specs.Actors.{ActorState}
-use Rattle.sthread_life.specs.Cells.{Cells, kept_in}
-use Rattle.sthread_life.specs.FamilyTrees.{Family}
+use Rattle.run_laws.specs.Cells.{Cells, kept_in}
+use Rattle.run_laws.specs.FamilyTrees.{Family}
 use Rattle.sthread_life.specs.Local.{rest, is_running, has_ended, end_reached, run_awaited}
-use Rattle.sthread_life.specs.RecycledGates.{IsInside}
-use Rattle.sthread_life.specs.Worlds.{WorldState, actor_named, put_actor, is_ended, ended_with, ready, resumed, at_rest, settled}
-use Rattle.sthread_life.proofs.FamilyKept.{family_alone}
-use Rattle.sthread_life.proofs.FamilyRuns.{kept_at_rest, rest_units, resumed_family}
-use Rattle.sthread_life.proofs.Named.{put_put, found_name}
+use Rattle.run_laws.specs.RecycledGates.{IsInside}
+use Rattle.run_laws.specs.Worlds.{WorldState, actor_named, put_actor, is_ended, ended_with, ready, resumed, at_rest, settled}
+use Rattle.run_laws.proofs.FamilyKept.{family_alone}
+use Rattle.run_laws.proofs.FamilyRuns.{kept_at_rest, rest_units, resumed_family}
+use Rattle.run_laws.proofs.Named.{put_put, found_name}
 use Rattle.sthread_life.proofs.Resting.{rest-name, rest-ended, rest-stays, rest-uncalm, ended-stays, rests}
-use Rattle.sthread_life.proofs.Settling.{none_ended, at_rest-ended, settled_named}
-use Rattle.sthread_life.proofs.Turns.{ready_named, ready_ended, ready_is, waits_or}
-use Rattle.sthread_life.proofs.Waits.{IsAwake, waits_none}
+use Rattle.run_laws.proofs.Settling.{none_ended, at_rest-ended, settled_named}
+use Rattle.run_laws.proofs.Turns.{ready_named, ready_ended, ready_is, waits_or}
+use Rattle.run_laws.proofs.Waits.{IsAwake, waits_none}
 use Rattle.wedge_core.specs.Progress.{IsRecorded, AreRecorded}
 
 pub unjoined_at_rest : (i : Image) (a : ActorState) → (rest i a).unjoined ≡ a.unjoined

@@ -4,7 +4,7 @@ use Rattle.std.specs.Prelude.{Option, None, slice_get, slice_set}
 use Rattle.std.proofs.lemmas.List.{append-nil}
 use Rattle.wedge_events.specs.Slots.{declared_slots}
 use Rattle.wedge_base.specs.declared.image.TagEntry.{TagEntry}
-use Rattle.sthread_life.specs.Cells.{held, nothings}
+use Rattle.run_laws.specs.Cells.{held, nothings}
 
 pub past_end : {X : Type 0} (xs : List (Option X)) (n : ℕ) → length xs ≤ n → held (slice_get xs n) ≡ None
 past_end [] n le = refl

@@ -21,22 +21,22 @@ use Rattle.sthread_life.specs.declared.phase.Phase.{Phase}
 use Rattle.sthread_life.specs.declared.phase.Phase.TheVariants as phase
 use Rattle.sthread_life.specs.Actors.{ActorState}
 use Rattle.sthread_life.specs.Between.{IsAtGate, RunsIn, TakesFit}
-use Rattle.sthread_life.specs.Cells.{Cells, cells_after, event_of, kept_in}
+use Rattle.run_laws.specs.Cells.{Cells, cells_after, event_of, kept_in}
 use Rattle.sthread_life.specs.Children.{fuel_given, is_child, child_name}
-use Rattle.sthread_life.specs.FamilyTrees.{worth, Family}
+use Rattle.run_laws.specs.FamilyTrees.{worth, Family}
 use Rattle.sthread_life.specs.Local.{rest, has_ended, end_reached}
 use Rattle.sthread_life.specs.Taking.{wanted, wanted_at, takes, begun, child_of, run_by, run_at}
-use Rattle.sthread_life.specs.Worlds.{WorldState, actor_named, put_actor, with_begun, event_at, join_event, is_ended, ended_with, ready}
-use Rattle.sthread_life.proofs.Between.{takes_name}
-use Rattle.sthread_life.proofs.FamilyKept.{brings_back, next_is_new}
-use Rattle.sthread_life.proofs.Named.{found_name}
+use Rattle.run_laws.specs.Worlds.{WorldState, actor_named, put_actor, with_begun, event_at, join_event, is_ended, ended_with, ready}
+use Rattle.run_laws.proofs.Between.{takes_name}
+use Rattle.run_laws.proofs.FamilyKept.{brings_back, next_is_new}
+use Rattle.run_laws.proofs.Named.{found_name}
 use Rattle.sthread_life.proofs.Resting.{rest-name}
-use Rattle.sthread_life.proofs.Settling.{put_ends}
-use Rattle.sthread_life.proofs.Turns.{ready_else}
-use Rattle.sthread_life.proofs.Waits.{IsAwake}
-use Rattle.wedge_core.specs.Progress.{IsFound, IsRecorded, IsTurn, state_of, rested, rested_in}
+use Rattle.run_laws.proofs.Settling.{put_ends}
+use Rattle.run_laws.proofs.Turns.{ready_else}
+use Rattle.run_laws.proofs.Waits.{IsAwake}
+use Rattle.wedge_core.specs.Progress.{IsFirstNamed, IsRecorded, IsTurn, state_of, rested, rested_in}
 use Rattle.wedge_core.specs.Serial.{Notes}
-use Rattle.wedge_core.specs.Turning.{IsOfCell, IsMade, IsLeft, WantsOfFamily, IsBeginning, IsGoingAlone, IsJoining, HasTaken, HasDone, IsDoneAt, FindsBusy, WasTaken, HasWaited, HasMetBusy}
+use Rattle.wedge_core.specs.Turning.{IsOfCell, IsEventDone, IsLeft, WantsOfFamily, IsBeginning, IsGoingAlone, IsJoining, HasTaken, HasDone, IsDoneAt, FindsBusy, WasTaken, HasWaited, HasMetBusy}
 use Rattle.wedge_core.proofs.AtRest.{family_rests, rest_end, recorded_at_rest}
 use Rattle.wedge_core.proofs.Turning.{found_set, cell_turn, family_turn, ended_alike}
 
@@ -273,7 +273,7 @@ joining i cells actors place name child w = record {
 }
 
 -- an actor that has come to rest in its place
-pub wants_of_family : (i : Image) (cells : Cells) (actors : List ActorState) (place : ℕ) (name : List ℕ) (a : ActorState) (q : Want) (new : ActorState) → IsFound actors name place a → has_ended a.phase ≡ false → IsAwake a.phase → Family actors
+pub wants_of_family : (i : Image) (cells : Cells) (actors : List ActorState) (place : ℕ) (name : List ℕ) (a : ActorState) (q : Want) (new : ActorState) → IsFirstNamed actors name place a → has_ended a.phase ≡ false → IsAwake a.phase → Family actors
     → IsRecorded cells a → IsLeft i a q new → WantsOfFamily i cells (slice_set actors place new) place name q
 wants_of_family i cells actors place name a q new found lives awake family recorded left =
     let b = rest i a in
@@ -296,7 +296,7 @@ wants_of_family i cells actors place name a q new found lives awake family recor
     })
 
 -- an actor that has come to rest in its place, and takes no turn
-module _ (i : Image) (cells new_cells : Cells) (actors new : List ActorState) (place : ℕ) (name : List ℕ) (a : ActorState) (q : Want) (b : ActorState) (found : IsFound actors name place a) (awake : IsAwake a.phase) (left : IsLeft i a q b) where
+module _ (i : Image) (cells new_cells : Cells) (actors new : List ActorState) (place : ℕ) (name : List ℕ) (a : ActorState) (q : Want) (b : ActorState) (found : IsFirstNamed actors name place a) (awake : IsAwake a.phase) (left : IsLeft i a q b) where
   at_rest_so : rest i (ready actors a) ≡ rest i a
   at_rest_so = ap (rest i) (ready_else actors a awake)
 
@@ -360,7 +360,7 @@ if_some None x e h = absurd cc
 if_some (Some y) x e h = h
 
 pub family_taken : (i : Image) (cells mid_cells new_cells : Cells) (actors new : List ActorState) (place : ℕ) (name : List ℕ) (a : ActorState) (q : Want) (b : ActorState) (entries mid_entries new_entries : List LogEntry)
-    → IsFound actors name place a → IsAwake a.phase → IsLeft i a q b → IsDoneAt i mid_cells (slice_set actors place b) place q mid_entries name new_cells new new_entries → mid_cells ≡ cells → mid_entries ≡ entries
+    → IsFirstNamed actors name place a → IsAwake a.phase → IsLeft i a q b → IsDoneAt i mid_cells (slice_set actors place b) place q mid_entries name new_cells new new_entries → mid_cells ≡ cells → mid_entries ≡ entries
     → WasTaken i cells actors entries name new_cells new new_entries
 family_taken i cells mid_cells new_cells actors new place name a q b entries mid_entries new_entries found awake left done same_cells same =
     let at : IsDoneAt i cells (slice_set actors place (rest i a)) place q entries name new_cells new new_entries =
@@ -374,7 +374,7 @@ family_taken i cells mid_cells new_cells actors new place name a q b entries mid
     }
 
 pub cell_taken : (i : Image) (cells new_cells : Cells) (actors : List ActorState) (place : ℕ) (name : List ℕ) (a new : ActorState) (q : Want) (entries new_entries : List LogEntry)
-    → IsFound actors name place a → IsAwake a.phase → wanted (rest i a) ≡ Some q → IsOfCell q → IsMade i cells (rest i a) q entries name new_cells new new_entries
+    → IsFirstNamed actors name place a → IsAwake a.phase → wanted (rest i a) ≡ Some q → IsOfCell q → IsEventDone i cells (rest i a) q entries name new_cells new new_entries
     → WasTaken i cells actors entries name new_cells (slice_set actors place new) new_entries
 cell_taken i cells new_cells actors place name a new q entries new_entries found awake wants of_cell m = record {
   event = m.event;

@@ -18,9 +18,9 @@ use Rattle.wedge_events.specs.declared.cells.DirectoryAsk.TheVariants as directo
 use Rattle.wedge_events.specs.declared.cells.LivesAsk.TheVariants as lives_ask
 use Rattle.wedge_events.specs.Directories.{directory_reply}
 use Rattle.sthread_life.specs.Between.{WantFits, IsInBounds, SuitsActor, TakesFit}
-use Rattle.sthread_life.specs.Cells.{Cells, AskFits, live_at, slot_in, stream_in, event_of}
+use Rattle.run_laws.specs.Cells.{Cells, AskFits, live_at, slot_in, stream_in, event_of}
 use Rattle.sthread_life.specs.Taking.{asks, pair, begun}
-use Rattle.sthread_life.specs.Worlds.{WorldState, event_at}
+use Rattle.run_laws.specs.Worlds.{WorldState, event_at}
 use Rattle.wedge_core.specs.Turning.{IsOfCell, event_asked}
 
 -- the pair of an actor names what lives there

@@ -7,17 +7,17 @@ use Rattle.wedge_events.specs.declared.events.LogEntry.{LogEntry}
 use Rattle.sthread_life.specs.declared.phase.Phase.{Phase}
 use Rattle.sthread_life.specs.declared.phase.Phase.TheVariants as phase
 use Rattle.sthread_life.specs.Actors.{ActorState}
-use Rattle.sthread_life.specs.Cells.{Cells}
+use Rattle.run_laws.specs.Cells.{Cells}
 use Rattle.sthread_life.specs.Children.{fuel_given, without_child, child_name}
-use Rattle.sthread_life.specs.FamilyTrees.{WaitsForOwn, Family}
+use Rattle.run_laws.specs.FamilyTrees.{WaitsForOwn, Family}
 use Rattle.sthread_life.specs.Local.{has_ended, run_awaited}
 use Rattle.sthread_life.specs.Taking.{has_joined, answered_end}
-use Rattle.sthread_life.specs.Worlds.{actor_named, put_actor, ended_with, resumes, ready_at, ready}
-use Rattle.sthread_life.proofs.FamilyRuns.{resumed_family}
-use Rattle.sthread_life.proofs.Named.{found_name}
-use Rattle.sthread_life.proofs.Turns.{ready_name, ready_ended, ready_else}
-use Rattle.sthread_life.proofs.Waits.{IsAwake}
-use Rattle.wedge_core.specs.Progress.{IsFound, IsRecorded, state_of}
+use Rattle.run_laws.specs.Worlds.{actor_named, put_actor, ended_with, resumes, ready_at, ready}
+use Rattle.run_laws.proofs.FamilyRuns.{resumed_family}
+use Rattle.run_laws.proofs.Named.{found_name}
+use Rattle.run_laws.proofs.Turns.{ready_name, ready_ended, ready_else}
+use Rattle.run_laws.proofs.Waits.{IsAwake}
+use Rattle.wedge_core.specs.Progress.{IsFirstNamed, IsRecorded, state_of}
 use Rattle.wedge_core.specs.Turning.{HasGoneOn, IsAwakeAt, WasTaken, HasWaited, HasMetBusy}
 use Rattle.wedge_core.proofs.AtRest.{awake_of, recorded_ready}
 use Rattle.wedge_core.proofs.FamilyTurns.{given_back}
@@ -46,7 +46,7 @@ pub ended_there : (actors : List ActorState) (place : ℕ) (a : ActorState) (t :
 ended_there actors place a t there h = subst (λ x. IfSome x (λ y. t ≡ has_ended y.phase)) there h
 
 -- one that waits for no run stays as it is
-pub stays_awake : (actors : List ActorState) (place : ℕ) (name : List ℕ) (a : ActorState) → IsFound actors name place a → run_awaited a.phase ≡ None → HasGoneOn actors place name actors
+pub stays_awake : (actors : List ActorState) (place : ℕ) (name : List ℕ) (a : ActorState) → IsFirstNamed actors name place a → run_awaited a.phase ≡ None → HasGoneOn actors place name actors
 stays_awake actors place name a found none =
     let calm : ready actors a ≡ a = ready_else actors a (awake_of a.phase none) in
     record {
@@ -57,7 +57,7 @@ stays_awake actors place name a found none =
     }
 
 -- one that waits for a run that has ended goes on from it
-pub gone_back : (actors : List ActorState) (place : ℕ) (name : List ℕ) (a : ActorState) (k : ℕ) (e : End) (fuel : ℕ) (new : ActorState) → IsFound actors name place a → a.phase ≡ phase.Waiting k
+pub gone_back : (actors : List ActorState) (place : ℕ) (name : List ℕ) (a : ActorState) (k : ℕ) (e : End) (fuel : ℕ) (new : ActorState) → IsFirstNamed actors name place a → a.phase ≡ phase.Waiting k
     → ended_with (actor_named actors (child_name name k)) ≡ Some (e, fuel) → new ≡ has_joined a k e fuel → HasGoneOn actors place name (slice_set actors place new)
 gone_back actors place name a k e fuel new found at ends is =
     let own : a.name ≡ name = found_name actors name a found.named in
@@ -70,7 +70,7 @@ gone_back actors place name a k e fuel new found at ends is =
     }
 
 -- the run brings back at most what it was given
-pub back_given : (actors : List ActorState) (place : ℕ) (name : List ℕ) (a : ActorState) (k : ℕ) (e : End) (fuel : ℕ) → IsFound actors name place a → Family actors → a.phase ≡ phase.Waiting k
+pub back_given : (actors : List ActorState) (place : ℕ) (name : List ℕ) (a : ActorState) (k : ℕ) (e : End) (fuel : ℕ) → IsFirstNamed actors name place a → Family actors → a.phase ≡ phase.Waiting k
     → ended_with (actor_named actors (child_name name k)) ≡ Some (e, fuel) → IsSomeAnd (fuel_given a.unjoined k) (λ g. fuel ≤ g)
 back_given actors place name a k e fuel found family at ends =
     let own : a.name ≡ name = found_name actors name a found.named in
@@ -80,7 +80,7 @@ back_given actors place name a k e fuel found family at ends =
 
 -- the actor that is read at its index, awake
 pub record ReadsAwake (cells : Cells) (items : List ActorState) (name : List ℕ) (place : ℕ) (a : ActorState) : Type 0 where
-  pub found : IsFound items name place a
+  pub found : IsFirstNamed items name place a
   pub lives : has_ended a.phase ≡ false
   pub awake : IsAwake a.phase
   pub family : Family items

@@ -9,13 +9,13 @@ use Rattle.std.proofs.lemmas.Bool.{cases_Bool, cond-true, cond-false}
 use Rattle.std.proofs.Common.{⊎_elim}
 use Rattle.wedge_base.specs.Names.{same}
 use Rattle.sthread_life.specs.Actors.{ActorState}
-use Rattle.sthread_life.specs.Worlds.{actor_named}
-use Rattle.wedge_core.specs.Progress.{IsFound, IsPlaceOf}
+use Rattle.run_laws.specs.Worlds.{actor_named}
+use Rattle.wedge_core.specs.Progress.{IsFirstNamed, IsPlaceOf}
 use Rattle.wedge_core.specs.Places.{place_in, IsIndexOf}
 
 -- ---- the place of a name
 
-found_first : (y : ActorState) (ys : List ActorState) (name : List ℕ) → same y.name name ≡ true → IsFound (y ∷ ys) name 0 y
+found_first : (y : ActorState) (ys : List ActorState) (name : List ℕ) → same y.name name ≡ true → IsFirstNamed (y ∷ ys) name 0 y
 found_first y ys name e = record {
   inside = omega arith;
   there = refl;
@@ -23,7 +23,7 @@ found_first y ys name e = record {
   put = λ new named. rw (subst (λ n. same y.name n ≡ true) (sym named) e) refl;
 }
 
-found_later : (y : ActorState) (ys : List ActorState) (name : List ℕ) (n : ℕ) (a : ActorState) → same y.name name ≡ false → IsFound ys name n a → IsFound (y ∷ ys) name (suc n) a
+found_later : (y : ActorState) (ys : List ActorState) (name : List ℕ) (n : ℕ) (a : ActorState) → same y.name name ≡ false → IsFirstNamed ys name n a → IsFirstNamed (y ∷ ys) name (suc n) a
 found_later y ys name n a e f = record {
   inside = let h = f.inside in omega (arith, h);
   there = f.there;

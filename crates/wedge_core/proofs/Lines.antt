@@ -10,8 +10,9 @@ use Rattle.wedge_base.specs.declared.outcome.ActorLine.{ActorLine}
 use Rattle.sthread_life.specs.declared.phase.Phase.{Phase}
 use Rattle.sthread_life.specs.declared.phase.Phase.TheVariants as phase
 use Rattle.sthread_life.specs.Actors.{ActorState}
-use Rattle.sthread_life.specs.Outcomes.{line_of, with_line, with_actor, lines_of}
-use Rattle.wedge_core.proofs.Sorted.{put, sorted, sorted_last, is_sorted}
+use Rattle.run_laws.specs.Outcomes.{line_of, with_line, with_actor, lines_of}
+use Rattle.stable_sort.specs.Sorting.{put, sorted_onto, sorted}
+use Rattle.stable_sort.proofs.Sorted.{is_sorted}
 
 -- whether a line stands before another
 abbrev pub line_before : ActorLine → ActorLine → Bool
@@ -24,6 +25,14 @@ line_order = ranks_by nat_list_cmp_total (λ l. l.name)
 abbrev pub from_last : Image → List ActorState → List ActorLine
 from_last i [] = []
 from_last i (a ∷ as_) = from_last i as_ ++ with_actor i a a.phase []
+
+-- one more item behind the others is put among them, sorted
+sorted_onto_last : {X : Type 0} (before : X → X → Bool) (done xs : List X) (x : X) → sorted_onto before done (xs ++ x ∷ []) ≡ put before x (sorted_onto before done xs)
+sorted_onto_last before done [] x = refl
+sorted_onto_last before done (y ∷ ys) x = sorted_onto_last before (put before y done) ys x
+
+sorted_last : {X : Type 0} (before : X → X → Bool) (xs : List X) (x : X) → sorted before (xs ++ x ∷ []) ≡ put before x (sorted before xs)
+sorted_last before xs x = sorted_onto_last before [] xs x
 
 line_put : (l : ActorLine) (ms : List ActorLine) → with_line l ms ≡ put line_before l ms
 line_put l [] = refl

@@ -19,26 +19,26 @@ use Rattle.sthread_life.specs.Actors.{ActorState, root}
 use Rattle.sthread_life.specs.Calls.{a0}
 use Rattle.sthread_life.specs.Children.{Children, is_number, fuel_given, is_child, without_child, child_name}
 use Rattle.sthread_life.specs.Entrances.{Entrance}
-use Rattle.sthread_life.specs.FamilyTrees.{Holds, AllBehind, WaitsForOwn, Family}
-use Rattle.sthread_life.specs.GatesWithin.{is_under}
-use Rattle.sthread_life.specs.Holding.{gate_for}
+use Rattle.run_laws.specs.FamilyTrees.{Holds, AllBehind, WaitsForOwn, Family}
+use Rattle.run_laws.specs.GatesWithin.{is_under}
+use Rattle.run_laws.specs.Holding.{gate_for}
 use Rattle.sthread_life.specs.Local.{has_ended}
 use Rattle.sthread_life.specs.Opening.{FileOpening}
-use Rattle.sthread_life.specs.Names.{IsNew, AreDistinct}
+use Rattle.run_laws.specs.Names.{IsNew, AreDistinct}
 use Rattle.sthread_life.specs.Taking.{next_start, making_want, starting_want, opening_want, entering_want, leaving_want, wanted, wanted_at, last_want, ending_want}
-use Rattle.sthread_life.specs.Worlds.{WorldState, opening, actor_named, put_actor, ready, at_rest, Runs, is_ended}
-use Rattle.sthread_life.proofs.EnteringGates.{IsEnterable}
-use Rattle.sthread_life.proofs.FamilyKept.{found_apart}
-use Rattle.sthread_life.proofs.FamilyRuns.{run_family}
+use Rattle.run_laws.specs.Worlds.{WorldState, opening, actor_named, put_actor, ready, at_rest, Runs, is_ended}
+use Rattle.run_laws.proofs.EnteringGates.{IsEnterable}
+use Rattle.run_laws.proofs.FamilyKept.{found_apart}
+use Rattle.run_laws.proofs.FamilyRuns.{run_family}
 use Rattle.sthread_life.proofs.FuelGiven.{number_is, number_self, given_elsewhere, given_gone}
-use Rattle.sthread_life.proofs.GatesWithin.{under_itself, none_at_rest}
-use Rattle.sthread_life.proofs.GrantedCopies.{runs_alone}
-use Rattle.sthread_life.proofs.Meeting.{IsWanted, ReadsAs, LoadsAt}
-use Rattle.sthread_life.proofs.Named.{same_self, same_equal}
+use Rattle.run_laws.proofs.GatesWithin.{under_itself, none_at_rest}
+use Rattle.run_laws.proofs.GrantedCopies.{runs_alone}
+use Rattle.run_laws.proofs.Meeting.{IsWanted, ReadsAs, LoadsAt}
+use Rattle.run_laws.proofs.Named.{same_self, same_equal}
 use Rattle.sthread_life.proofs.Resting.{rest-uncalm}
-use Rattle.sthread_life.proofs.Settling.{AllReady, named_ready, run_ready}
-use Rattle.sthread_life.proofs.Trees.{apart_too}
-use Rattle.sthread_life.proofs.Turns.{Readies, Stays, Back, readies}
+use Rattle.run_laws.proofs.Settling.{AllReady, named_ready, run_ready}
+use Rattle.run_laws.proofs.Trees.{apart_too}
+use Rattle.run_laws.proofs.Turns.{Readies, Stays, Back, readies}
 use Rattle.wedge_core.specs.Progress.{Progress, Awaits, IsWaiting, IsBusy, opened}
 use Rattle.wedge_core.specs.Serial.{newest, live_names, AreUnder, AreNested, IsSerial}
 use Rattle.wedge_core.specs.declared.serially.Live.{Live}
@@ -91,7 +91,7 @@ live_where before behind a lives others = live_append before (a ∷ behind) ∙ 
 pub ended_where : (before behind : List ActorState) (a : ActorState) → has_ended a.phase ≡ true → live_names behind ≡ [] → live_names (before ++ a ∷ behind) ≡ live_names before
 ended_where before behind a ended others = live_append before (a ∷ behind) ∙ (ap (λ ns. live_names before ++ ns) (one_ended a behind ended ∙ others) ∙ append-nil (live_names before))
 
-none_newest : (as_ : List ActorState) → live_names as_ ≡ [] → newest as_ ≡ None
+pub none_newest : (as_ : List ActorState) → live_names as_ ≡ [] → newest as_ ≡ None
 none_newest [] none = refl
 none_newest (a ∷ as_) none = by_end (has_ended a.phase) refl (none_newest as_)
   where

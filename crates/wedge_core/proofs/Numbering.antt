@@ -5,13 +5,13 @@ use Rattle.wedge_events.specs.declared.events.Turn.{Turn}
 use Rattle.wedge_events.specs.declared.events.LogEntry.{LogEntry}
 use Rattle.wedge_base.specs.declared.outcome.Outcome.{Outcome}
 use Rattle.wedge_base.specs.Images.{Image}
-use Rattle.sthread_life.specs.Worlds.{WorldState, opening, is_whole, Runs}
-use Rattle.sthread_life.specs.Outcomes.{outcome_of}
+use Rattle.run_laws.specs.Worlds.{WorldState, opening, is_complete, Runs}
+use Rattle.run_laws.specs.Outcomes.{outcome_of}
 use Rattle.wedge_events.specs.declared.events.Event.{Event}
 use Rattle.std.proofs.lemmas.List.{map-append, length-map}
-use Rattle.sthread_life.proofs.Settling.{whole_alike, outcome_alike}
+use Rattle.run_laws.proofs.Settling.{whole_alike, outcome_alike}
 use Rattle.wedge_core.specs.Progress.{LeadsTo}
-use Rattle.wedge_core.specs.Serial.{RootGoesOn, IsWholeRun, IsNumbered, Notes}
+use Rattle.wedge_core.specs.Serial.{RootGoesOn, IsJournaledRun, IsNumbered, Notes}
 use Rattle.wedge_core.proofs.Replays.{complete_of}
 
 abbrev pub entry : ℕ → Turn → LogEntry
@@ -44,13 +44,13 @@ notes_numbered old new name e noted numbered_old =
     ∙ sym (numbered-push 1 (turns_of old) t) ∙ ap (numbered 1) (sym (notes_turns old new name e noted))
 
 -- entries whose turns lead to a state in which the root has ended are those of a complete run
-pub whole_run_of : (i : Image) (w : WorldState) (entries : List LogEntry) (outcome : Outcome) → w.image ≡ i → LeadsTo (turns_of entries) w → is_whole w ≡ true
-    → RootGoesOn (opening i) (turns_of entries) → outcome ≡ outcome_of w → IsWholeRun i entries outcome
-whole_run_of i w entries outcome image leads whole goes_on ends =
+pub journaled_run : (i : Image) (w : WorldState) (entries : List LogEntry) (outcome : Outcome) → w.image ≡ i → LeadsTo (turns_of entries) w → is_complete w ≡ true
+    → RootGoesOn (opening i) (turns_of entries) → outcome ≡ outcome_of w → IsJournaledRun i entries outcome
+journaled_run i w entries outcome image leads whole goes_on ends =
     let run : Runs (opening i) (turns_of entries) leads.last = subst (λ (j : Image). Runs (opening j) (turns_of entries) leads.last) image leads.run in
     let ended = sym (whole_alike w leads.last leads.alike) ∙ whole in
     record {
       last = leads.last;
-      complete = complete_of i (turns_of entries) leads.last run ended goes_on;
+      run = complete_of i (turns_of entries) leads.last run ended goes_on;
       ends = ends ∙ outcome_alike w leads.last leads.alike;
     }

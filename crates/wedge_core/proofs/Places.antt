@@ -5,7 +5,7 @@ use Rattle.std.proofs.Math.ListN.{set}
 use Rattle.wedge_events.specs.Gates.{Kept, gate_opening}
 use Rattle.wedge_base.specs.Identities.{same_gate}
 use Rattle.wedge_base.specs.declared.grants.GateId.{GateId}
-use Rattle.sthread_life.specs.Cells.{GateCell, kept_among, put_kept}
+use Rattle.run_laws.specs.Cells.{GateCell, kept_among, put_kept}
 
 pub get_at : {X : Type 0} (xs : List X) (n : ℕ) (x : X) → n < length xs → x ≡ get_or xs n x → slice_get xs n ≡ Some x
 get_at [] n x lt is = absurd (omega (arith, lt))

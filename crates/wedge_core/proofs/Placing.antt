@@ -28,7 +28,7 @@ use Rattle.wedge_events.specs.declared.events.Event.TheVariants as event
 use Rattle.wedge_base.specs.declared.rights.Right.TheVariants as right
 use Rattle.wedge_base.specs.Pages.{page_of, pages_before, pages_of}
 use Rattle.sthread_life.specs.Between.{GivesBelow, IsInBounds}
-use Rattle.sthread_life.proofs.Directing.{claimed_inside}
+use Rattle.run_laws.proofs.Directing.{claimed_inside}
 
 -- ---- the directories
 

@@ -12,27 +12,31 @@ use Rattle.wedge_events.specs.declared.events.Event.TheVariants as event
 use Rattle.wedge_events.specs.declared.events.Turn.{Turn}
 use Rattle.wedge_base.specs.declared.rights.End.{End}
 use Rattle.sthread_life.specs.Actors.{ActorState}
-use Rattle.sthread_life.specs.Cells.{event_of}
+use Rattle.run_laws.specs.Cells.{event_of}
 use Rattle.sthread_life.specs.Local.{has_ended}
-use Rattle.sthread_life.specs.Moments.{EachStep}
+use Rattle.run_laws.specs.Moments.{EachTurn}
 use Rattle.sthread_life.specs.Children.{child_name}
 use Rattle.sthread_life.specs.Taking.{wanted, wanted_at}
 use Rattle.sthread_life.specs.declared.phase.Phase.{Phase}
 use Rattle.sthread_life.specs.declared.phase.Phase.TheVariants as phase
-use Rattle.sthread_life.specs.Worlds.{WorldState, Taken, opening, actor_named, is_ended, join_event, event_at, happened, wanting, turn_with, turn_of, resumed, at_rest, Runs, is_whole}
-use Rattle.sthread_life.proofs.FamilyRuns.{fuel_kept}
-use Rattle.sthread_life.proofs.BoundedGates.{root_bounds}
-use Rattle.sthread_life.proofs.GrantedCopies.{copies_granted, runs_alone}
-use Rattle.sthread_life.proofs.GatesWithin.{none_within, held_older}
-use Rattle.sthread_life.proofs.KnownGates.{gates_kept}
-use Rattle.sthread_life.proofs.OccupiedRuns.{slots_occupied}
-use Rattle.sthread_life.proofs.Mediating.{moments_lawful}
-use Rattle.sthread_life.proofs.Writing.{runs_write_their_own}
-use Rattle.sthread_life.proofs.Named.{found_name}
-use Rattle.sthread_life.proofs.Settling.{at_rest-name, at_rest-ended, at_rest-stays, resumed_event}
+use Rattle.run_laws.specs.Worlds.{WorldState, Taken, opening, actor_named, is_ended, join_event, event_at, happened, wanting, turn_with, turn_of, resumed, at_rest, Runs, is_complete}
+use Rattle.run_laws.proofs.FamilyRuns.{names_distinct, fuel_kept}
+use Rattle.run_laws.proofs.WorkLeft.{runs_end}
+use Rattle.run_laws.proofs.BoundedGates.{root_bounds}
+use Rattle.run_laws.proofs.AllEnd.{ended_have_joined, all_have_ended}
+use Rattle.run_laws.proofs.GrantedCopies.{copies_granted, runs_alone}
+use Rattle.run_laws.proofs.GatesWithin.{none_within, held_older}
+use Rattle.run_laws.proofs.KnownGates.{gates_kept}
+use Rattle.run_laws.proofs.OccupiedRuns.{slots_occupied}
+use Rattle.run_laws.proofs.Mediating.{moments_lawful}
+use Rattle.run_laws.proofs.Writing.{runs_write_their_own}
+use Rattle.run_laws.proofs.Readers.{runs_read_their_own}
+use Rattle.run_laws.proofs.LiveSthreads.{lives_are_counted}
+use Rattle.run_laws.proofs.Named.{found_name}
+use Rattle.run_laws.proofs.Settling.{at_rest-name, at_rest-ended, at_rest-stays, resumed_event}
 use Rattle.wedge_core.specs.declared.error.Why.TheVariants as why
 use Rattle.wedge_core.specs.Progress.{Progress, IsTurn, HasEnded, Awaits, IsWaiting, IsBusy}
-use Rattle.wedge_core.specs.Serial.{IsCompleteRun, RootGoesOn}
+use Rattle.wedge_core.specs.Serial.{IsSoundState, IsCompleteRun, RootGoesOn}
 use Rattle.wedge_core.specs.Replay.{why_held, why_of, why_none, replayed, names_of, Follows, CompleteRunsReplay, ReplaysAreComplete, JournalsReplay}
 use Rattle.wedge_core.proofs.AtRest.{none_with}
 use Rattle.wedge_core.proofs.Runs.{Runs-push}
@@ -40,28 +44,28 @@ use Rattle.wedge_core.proofs.Runs.{Runs-push}
 -- ---- one name
 
 -- what comes of a name, by its turn, before the end of the root
-by_taken : (w : WorldState) (at : ℕ) (name : List ℕ) (names : List (List ℕ)) (o : Option Taken) → is_whole w ≡ false → turn_of w name ≡ o
+by_taken : (w : WorldState) (at : ℕ) (name : List ℕ) (names : List (List ℕ)) (o : Option Taken) → is_complete w ≡ false → turn_of w name ≡ o
     → replayed w at (name ∷ names) ≡ elim o [ None ↦ Err (at, why_none w name) | Some t ↦ replayed t.world (at + 1) names ]
 by_taken w at name names o going turn =
     ap (λ b. if b then Err (at, why.Extra) else elim (turn_of w name) [ None ↦ Err (at, why_none w name) | Some t ↦ replayed t.world (at + 1) names ]) going
     ∙ ap (λ (x : Option Taken). elim x [ None ↦ Err (at, why_none w name) | Some t ↦ replayed t.world (at + 1) names ]) turn
 
-pub replayed_on : (w : WorldState) (at : ℕ) (name : List ℕ) (names : List (List ℕ)) (e : Event) (new : WorldState) → is_whole w ≡ false → IsTurn w name e new
+pub replayed_on : (w : WorldState) (at : ℕ) (name : List ℕ) (names : List (List ℕ)) (e : Event) (new : WorldState) → is_complete w ≡ false → IsTurn w name e new
     → replayed w at (name ∷ names) ≡ replayed new (at + 1) names
 replayed_on w at name names e new going turn = by_taken w at name names (Some (record { event = e; world = new })) going turn
 
-pub replayed_none : (w : WorldState) (at : ℕ) (name : List ℕ) (names : List (List ℕ)) → is_whole w ≡ false → turn_of w name ≡ None
+pub replayed_none : (w : WorldState) (at : ℕ) (name : List ℕ) (names : List (List ℕ)) → is_complete w ≡ false → turn_of w name ≡ None
     → replayed w at (name ∷ names) ≡ Err (at, why_none w name)
 replayed_none w at name names going turn = by_taken w at name names None going turn
 
-pub replayed_extra : (w : WorldState) (at : ℕ) (name : List ℕ) (names : List (List ℕ)) → is_whole w ≡ true → replayed w at (name ∷ names) ≡ Err (at, why.Extra)
+pub replayed_extra : (w : WorldState) (at : ℕ) (name : List ℕ) (names : List (List ℕ)) → is_complete w ≡ true → replayed w at (name ∷ names) ≡ Err (at, why.Extra)
 replayed_extra w at name names whole =
     ap (λ b. if b then Err (at, why.Extra) else elim (turn_of w name) [ None ↦ Err (at, why_none w name) | Some t ↦ replayed t.world (at + 1) names ]) whole
 
-pub replayed_whole : (w : WorldState) (at : ℕ) → is_whole w ≡ true → replayed w at [] ≡ Ok w
-replayed_whole w at whole = ap (λ b. if b then Ok w else Err (at, why.Short)) whole
+pub replayed_complete : (w : WorldState) (at : ℕ) → is_complete w ≡ true → replayed w at [] ≡ Ok w
+replayed_complete w at whole = ap (λ b. if b then Ok w else Err (at, why.Short)) whole
 
-pub replayed_short : (w : WorldState) (at : ℕ) → is_whole w ≡ false → replayed w at [] ≡ Err (at, why.Short)
+pub replayed_short : (w : WorldState) (at : ℕ) → is_complete w ≡ false → replayed w at [] ≡ Err (at, why.Short)
 replayed_short w at going = ap (λ b. if b then Ok w else Err (at, why.Short)) going
 
 -- no actor of the name
@@ -69,7 +73,7 @@ unknown_turn : (w : WorldState) (name : List ℕ) → actor_named w.actors name 
 unfolding turn_of
 unknown_turn w name none = ap (turn_with w) none
 
-pub replayed_unknown : (w : WorldState) (at : ℕ) (name : List ℕ) (names : List (List ℕ)) → is_whole w ≡ false → actor_named w.actors name ≡ None
+pub replayed_unknown : (w : WorldState) (at : ℕ) (name : List ℕ) (names : List (List ℕ)) → is_complete w ≡ false → actor_named w.actors name ≡ None
     → replayed w at (name ∷ names) ≡ Err (at, why.Unknown)
 replayed_unknown w at name names going none = replayed_none w at name names going (unknown_turn w name none) ∙ ap (λ o. Err (at, why_of w o)) none
 
@@ -99,7 +103,7 @@ pub has_ended_turn : (w : WorldState) (name : List ℕ) → HasEnded w.actors na
 unfolding turn_of
 has_ended_turn w name h = ended_turn w (actor_named w.actors name) h
 
-pub replayed_ended : (w : WorldState) (at : ℕ) (name : List ℕ) (names : List (List ℕ)) → is_whole w ≡ false → HasEnded w.actors name
+pub replayed_ended : (w : WorldState) (at : ℕ) (name : List ℕ) (names : List (List ℕ)) → is_complete w ≡ false → HasEnded w.actors name
     → replayed w at (name ∷ names) ≡ Err (at, why.Ended)
 replayed_ended w at name names going h = replayed_none w at name names going (has_ended_turn w name h) ∙ ap (λ y. Err (at, y)) (ended_why w (actor_named w.actors name) h)
 
@@ -138,7 +142,7 @@ waiting_lives w name s = by_end (has_ended s.actor.phase) refl s.awaits
         absurd cc
     by_end true e (inr at) = absurd (true≢false (sym e ∙ (sym (at_rest-ended w s.actor) ∙ ap has_ended at)))
 
-pub replayed_waits : (w : WorldState) (at : ℕ) (name : List ℕ) (names : List (List ℕ)) → is_whole w ≡ false → IsWaiting w name
+pub replayed_waits : (w : WorldState) (at : ℕ) (name : List ℕ) (names : List (List ℕ)) → is_complete w ≡ false → IsWaiting w name
     → replayed w at (name ∷ names) ≡ Err (at, why.Waits)
 replayed_waits w at name names going s =
     replayed_none w at name names going (waiting_turn w name s)
@@ -168,7 +172,7 @@ busy_lives w name s = by_end (has_ended s.actor.phase) refl
         let f : Some (want.Gate s.gate (gate_ask.Enter s.run s.first)) ≡ None = sym s.wants ∙ none in
         absurd cc
 
-pub replayed_busy : (w : WorldState) (at : ℕ) (name : List ℕ) (names : List (List ℕ)) → is_whole w ≡ false → IsBusy w name
+pub replayed_busy : (w : WorldState) (at : ℕ) (name : List ℕ) (names : List (List ℕ)) → is_complete w ≡ false → IsBusy w name
     → replayed w at (name ∷ names) ≡ Err (at, why.Busy)
 replayed_busy w at name names going s =
     replayed_none w at name names going (busy_turn w name s)
@@ -186,16 +190,16 @@ one_world w a b t to_a to_b =
     let one : record { event = t.event; world = a } ≡ record { event = t.event; world = b } = cc in ap (λ (x : Taken). x.world) one
 
 -- what holds of each step so far and of the next holds of each
-pub EachStep-push : (P : WorldState → Turn → WorldState → Type 0) (old mid new : WorldState) (turns : List Turn) (t : Turn) → EachStep P old turns → Runs old turns mid
-    → turn_of mid t.actor ≡ Some (record { event = t.event; world = new }) → P mid t new → EachStep P old (turns ++ t ∷ [])
-EachStep-push P old mid new [] t each run e h =
+pub EachTurn-push : (P : WorldState → Turn → WorldState → Type 0) (old mid new : WorldState) (turns : List Turn) (t : Turn) → EachTurn P old turns → Runs old turns mid
+    → turn_of mid t.actor ≡ Some (record { event = t.event; world = new }) → P mid t new → EachTurn P old (turns ++ t ∷ [])
+EachTurn-push P old mid new [] t each run e h =
     subst (λ w. (m : WorldState) × (turn_of w t.actor ≡ Some (record { event = t.event; world = m })) × P w t m × Unit {0}) run (new, e, h, tt)
-EachStep-push P old mid new (u ∷ us) t each run e h =
+EachTurn-push P old mid new (u ∷ us) t each run e h =
     let is = one_world old run.0 each.0 u run.1 each.1 in
-    (each.0, each.1, each.2, EachStep-push P each.0 mid new us t each.3 (subst (λ w. Runs w us mid) is run.2) e h)
+    (each.0, each.1, each.2, EachTurn-push P each.0 mid new us t each.3 (subst (λ w. Runs w us mid) is run.2) e h)
 
-complete_replays : (w : WorldState) (at : ℕ) (turns : List Turn) (last : WorldState) → Runs w turns last → is_whole last ≡ true → RootGoesOn w turns → replayed w at (names_of turns) ≡ Ok last
-complete_replays w at [] last run whole goes = replayed_whole w at (ap is_whole (sym run) ∙ whole) ∙ ap (λ x. Ok x) (sym run)
+complete_replays : (w : WorldState) (at : ℕ) (turns : List Turn) (last : WorldState) → Runs w turns last → is_complete last ≡ true → RootGoesOn w turns → replayed w at (names_of turns) ≡ Ok last
+complete_replays w at [] last run whole goes = replayed_complete w at (ap is_complete (sym run) ∙ whole) ∙ ap (λ x. Ok x) (sym run)
 complete_replays w at (t ∷ ts) last run whole goes =
     let is = one_world w goes.0 run.0 t goes.1 run.1 in
     replayed_on w at t.actor (names_of ts) t.event run.0 goes.2 run.1
@@ -205,24 +209,24 @@ pub complete_runs_replay : CompleteRunsReplay
 complete_runs_replay i turns last run whole goes = complete_replays (opening i) 1 turns last run whole goes
 
 pub journals_replay : JournalsReplay
-journals_replay i entries outcome whole = (whole.last, complete_runs_replay i (turns_of entries) whole.last whole.complete.run whole.complete.whole whole.complete.goes_on, whole.ends)
+journals_replay i entries outcome whole = (whole.last, complete_runs_replay i (turns_of entries) whole.last whole.run.run whole.run.complete whole.run.goes_on, whole.ends)
 
 -- a complete run by these names
 record IsBy (names : List (List ℕ)) (old last : WorldState) : Type 0 where
   turns : List Turn
   by_names : names_of turns ≡ names
   run : Runs old turns last
-  whole : is_whole last ≡ true
+  whole : is_complete last ≡ true
   goes_on : RootGoesOn old turns
 
-none_left : (w : WorldState) (at : ℕ) (last : WorldState) (t : Bool) → is_whole w ≡ t → replayed w at [] ≡ Ok last → IsBy [] w last
+none_left : (w : WorldState) (at : ℕ) (last : WorldState) (t : Bool) → is_complete w ≡ t → replayed w at [] ≡ Ok last → IsBy [] w last
 none_left w at last false e r = let short = replayed_short w at e in absurd cc
 none_left w at last true e r =
-    let here = replayed_whole w at e in
+    let here = replayed_complete w at e in
     let is : w ≡ last = cc in
-    record { turns = []; by_names = refl; run = sym is; whole = subst (λ x. is_whole x ≡ true) is e; goes_on = tt }
+    record { turns = []; by_names = refl; run = sym is; whole = subst (λ x. is_complete x ≡ true) is e; goes_on = tt }
 
-by_first : (w : WorldState) (name : List ℕ) (names : List (List ℕ)) (t : Taken) (last : WorldState) → is_whole w ≡ false → turn_of w name ≡ Some t → IsBy names t.world last → IsBy (name ∷ names) w last
+by_first : (w : WorldState) (name : List ℕ) (names : List (List ℕ)) (t : Taken) (last : WorldState) → is_complete w ≡ false → turn_of w name ≡ Some t → IsBy names t.world last → IsBy (name ∷ names) w last
 by_first w name names t last going turn rest = record {
   turns = record { actor = name; event = t.event } ∷ rest.turns;
   by_names = ap (λ ns. name ∷ ns) rest.by_names;
@@ -231,37 +235,57 @@ by_first w name names t last going turn rest = record {
   goes_on = (t.world, turn, going, rest.goes_on);
 }
 
-by_turn : (w : WorldState) (at : ℕ) (name : List ℕ) (names : List (List ℕ)) (last : WorldState) (o : Option Taken) → is_whole w ≡ false → turn_of w name ≡ o
+by_turn : (w : WorldState) (at : ℕ) (name : List ℕ) (names : List (List ℕ)) (last : WorldState) (o : Option Taken) → is_complete w ≡ false → turn_of w name ≡ o
     → ((new : WorldState) → replayed new (at + 1) names ≡ Ok last → IsBy names new last) → replayed w at (name ∷ names) ≡ Ok last → IsBy (name ∷ names) w last
 by_turn w at name names last None going turn rest r = let none = replayed_none w at name names going turn in absurd cc
 by_turn w at name names last (Some t) going turn rest r =
     by_first w name names t last going turn (rest t.world (sym (replayed_on w at name names t.event t.world going turn) ∙ r))
 
-by_end : (w : WorldState) (at : ℕ) (name : List ℕ) (names : List (List ℕ)) (last : WorldState) (t : Bool) → is_whole w ≡ t
+by_end : (w : WorldState) (at : ℕ) (name : List ℕ) (names : List (List ℕ)) (last : WorldState) (t : Bool) → is_complete w ≡ t
     → ((new : WorldState) → replayed new (at + 1) names ≡ Ok last → IsBy names new last) → replayed w at (name ∷ names) ≡ Ok last → IsBy (name ∷ names) w last
 by_end w at name names last true e rest r = let extra = replayed_extra w at name names e in absurd cc
 by_end w at name names last false e rest r = by_turn w at name names last (turn_of w name) e refl rest r
 
 replays_by : (names : List (List ℕ)) (w : WorldState) (at : ℕ) (last : WorldState) → replayed w at names ≡ Ok last → IsBy names w last
-replays_by [] w at last r = none_left w at last (is_whole w) refl r
-replays_by (name ∷ names) w at last r = by_end w at name names last (is_whole w) refl (λ new. replays_by names new (at + 1) last) r
+replays_by [] w at last r = none_left w at last (is_complete w) refl r
+replays_by (name ∷ names) w at last r = by_end w at name names last (is_complete w) refl (λ new. replays_by names new (at + 1) last) r
 
-pub complete_of : (i : Image) (turns : List Turn) (last : WorldState) → Runs (opening i) turns last → is_whole last ≡ true → RootGoesOn (opening i) turns → IsCompleteRun i turns last
-complete_of i turns last run whole goes = record {
+-- each state of a run is sound
+sound_state : (i : Image) (turns : List Turn) (w : WorldState) → Runs (opening i) turns w → IsSoundState i w
+sound_state i turns w run = record {
+  distinct = names_distinct i turns w run;
+  slots = (slots_occupied i turns w run).occupied;
+  bounded = root_bounds i turns w run;
+  copies = copies_granted i turns w run;
+  gates = gates_kept i turns w run;
+  runs = runs_alone i turns w run;
+  within = none_within i turns w run;
+  older = held_older i turns w run;
+  lives = lives_are_counted i turns w run;
+  joined = ended_have_joined i turns w run;
+}
+
+sound_states : (i : Image) (done turns : List Turn) (mid last : WorldState) → Runs (opening i) done mid → Runs mid turns last → EachTurn (λ old t new. IsSoundState i new) mid turns
+sound_states i done [] mid last before run = tt
+sound_states i done (t ∷ ts) mid last before run =
+    let now = Runs-push (opening i) mid run.0 done t before run.1 in
+    (run.0, run.1, sound_state i (done ++ t ∷ []) run.0 now, sound_states i (done ++ t ∷ []) ts run.0 last now run.2)
+
+pub complete_of : (i : Image) (turns : List Turn) (last : WorldState) → Runs (opening i) turns last → is_complete last ≡ true → RootGoesOn (opening i) turns → IsCompleteRun i turns last
+complete_of i turns last run complete goes = record {
   run = run;
-  whole = whole;
+  complete = complete;
   goes_on = goes;
   lawful = moments_lawful i turns last run;
+  begins = sound_state i [] (opening i) refl;
+  sound = sound_states i [] turns (opening i) last refl run;
+  ended = all_have_ended i turns last run complete;
   written = runs_write_their_own i turns last run;
+  read = runs_read_their_own i turns last run;
   all_fuel = (fuel_kept i turns last run).0;
   paid = (fuel_kept i turns last run).1;
-  slots = slots_occupied i turns last run;
-  bounded = root_bounds i turns last run;
-  copies = copies_granted i turns last run;
-  gates = gates_kept i turns last run;
-  runs = runs_alone i turns last run;
-  within = none_within i turns last run;
-  older = held_older i turns last run;
+  bound = runs_end i turns last run;
+  suit = (slots_occupied i turns last run).suit;
 }
 
 pub replays_are_complete : ReplaysAreComplete
@@ -315,7 +339,7 @@ replaying_next i names n name p q lt is was f =
       told = was.told ∙ ap (replayed p.state (n + 1)) left ∙ replayed_on p.state (n + 1) name (drop (n + 1) names) f.event q.state f.goes_on f.turn;
       by_names = ap names_of f.noted ∙ map-append (λ (x : Turn). x.actor) p.turns (t ∷ []) ∙ ap (λ ns. ns ++ name ∷ []) was.by_names ∙ sym (take_more names n name lt is) ∙ ap (λ k. take k names) one;
       run = rw f.noted (Runs-push (opening i) p.state q.state p.turns t was.run f.turn);
-      goes_on = rw f.noted (EachStep-push _ (opening i) p.state q.state p.turns t was.goes_on was.run f.turn f.goes_on);
+      goes_on = rw f.noted (EachTurn-push _ (opening i) p.state q.state p.turns t was.goes_on was.run f.turn f.goes_on);
     }
 
 -- a name that is rejected

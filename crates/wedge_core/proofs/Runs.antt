@@ -4,12 +4,12 @@ use Rattle.std.specs.Prelude.{Some}
 use Rattle.wedge_base.specs.Images.{Image}
 use Rattle.wedge_events.specs.declared.events.Turn.{Turn}
 use Rattle.sthread_life.specs.Actors.{ActorState, root}
-use Rattle.sthread_life.specs.Cells.{Cells, opening_cells}
-use Rattle.sthread_life.specs.Worlds.{WorldState, opening, turn_of, Runs, settled}
-use Rattle.wedge_core.specs.Progress.{IsRun, state_of}
+use Rattle.run_laws.specs.Cells.{Cells, opening_cells}
+use Rattle.run_laws.specs.Worlds.{WorldState, opening, turn_of, Runs, settled}
+use Rattle.wedge_core.specs.Progress.{IsRunSoFar, state_of}
 
 pub opened_is_run : (i : Image) (cells : Cells) (actors : List ActorState) (turns : List Turn) → cells ≡ opening_cells i → actors ≡ root i ∷ [] → turns ≡ []
-    → IsRun (record { state = state_of i cells actors; turns = turns; stopped = false })
+    → IsRunSoFar (record { state = state_of i cells actors; turns = turns; stopped = false })
 opened_is_run i cells actors turns c a t =
     let state : state_of i cells actors ≡ opening i = cc in
     rw t (record { last = opening i; run = refl; current = λ e. ap settled state })

@@ -1,6 +1,6 @@
 -- One turn in serial order, and the end of it all.
-use Rattle.std.proofs.Common.{◌≡◌, ℕ, zero, suc, ◌-◌, ◌<◌, ◌≤◌, Bool, true, false, cond, List, [], ◌∷◌, ◌++◌, length, get_or, refl, sym, ap, subst, ◌∙◌, arith}
-use Rattle.std.specs.Prelude.{Option, Some, None, IfSome, IsSome, slice_get, slice_set, if◌then◌else◌}
+use Rattle.std.proofs.Common.{◌≡◌, ℕ, zero, suc, ◌-◌, ◌<◌, ◌≤◌, Bool, true, false, cond, List, [], ◌∷◌, ◌++◌, length, get_or, refl, sym, ap, subst, ◌∙◌, arith, inl, inr}
+use Rattle.std.specs.Prelude.{Option, Some, None, IfSome, IsSome, is_some, slice_get, slice_set, if◌then◌else◌}
 use Rattle.std.specs.Option.{option_to_list}
 use Rattle.wedge_base.specs.Images.{Image}
 use Rattle.wedge_base.specs.Names.{same, root_name}
@@ -12,30 +12,32 @@ use Rattle.wedge_events.specs.declared.events.Event.TheVariants as event
 use Rattle.wedge_events.specs.declared.events.Turn.{Turn}
 use Rattle.sthread_life.specs.declared.phase.Phase.{Phase}
 use Rattle.sthread_life.specs.declared.phase.Phase.TheVariants as phase
-use Rattle.sthread_life.specs.Actors.{ActorState}
+use Rattle.sthread_life.specs.Actors.{ActorState, root}
 use Rattle.sthread_life.specs.Children.{child_name}
-use Rattle.sthread_life.specs.Fuel.{work_left}
+use Rattle.run_laws.specs.Fuel.{work_left}
 use Rattle.sthread_life.specs.Local.{rest, has_ended}
-use Rattle.sthread_life.specs.Names.{IsNew, AreDistinct}
+use Rattle.run_laws.specs.Names.{IsNew, AreDistinct}
 use Rattle.sthread_life.specs.Taking.{next_start, takes, begun, child_of, has_entered, run_by, run_at}
-use Rattle.sthread_life.specs.Worlds.{WorldState, opening, actor_named, put_actor, with_begun, ready, resumed, Runs, is_ended, is_whole}
-use Rattle.sthread_life.proofs.Between.{takes_name}
-use Rattle.sthread_life.proofs.FamilyRuns.{Acts, ActsAlone, Starts, Enters, Joins, acts, one_begins, run_family}
-use Rattle.sthread_life.proofs.Named.{same_self, same_equal, found_name, put_put}
+use Rattle.run_laws.specs.FamilyTrees.{Family}
+use Rattle.run_laws.specs.Worlds.{WorldState, Taken, opening, actor_named, put_actor, with_begun, ready, resumed, Runs, is_ended, is_complete}
+use Rattle.run_laws.proofs.Between.{takes_name}
+use Rattle.run_laws.proofs.FamilyRuns.{Acts, ActsAlone, Starts, Enters, Joins, acts, one_begins, run_family, turn_family, opening_family}
+use Rattle.run_laws.proofs.Named.{same_self, same_equal, found_name, put_put}
 use Rattle.sthread_life.proofs.Resting.{rest-name}
-use Rattle.sthread_life.proofs.Settling.{AllReady, run_ready, turn_happens}
-use Rattle.sthread_life.proofs.Trees.{apart_too}
-use Rattle.sthread_life.proofs.Turns.{ready_name, turn_from}
-use Rattle.sthread_life.proofs.WorkLeft.{turn_works}
-use Rattle.wedge_core.specs.Progress.{Progress, IsFound, IsPlaceOf, IsTurn, IsWaiting, IsBusy, GoesOnBy, HasEnded}
-use Rattle.wedge_core.specs.Serial.{newest, live_names, AreNested, InSerialOrder, RootGoesOn, RootIsFirst, ArePlaced, names_in, IsSerial, LivesAfter}
+use Rattle.run_laws.proofs.Settling.{AllReady, run_ready, turn_ready, opening_ready, turn_happens}
+use Rattle.run_laws.proofs.Trees.{apart_too}
+use Rattle.run_laws.proofs.Turns.{ready_name, turn_from}
+use Rattle.run_laws.proofs.WorkLeft.{turn_works}
+use Rattle.wedge_core.specs.Progress.{Progress, IsFirstNamed, IsPlaceOf, IsTurn, IsWaiting, IsBusy, TookTurnOf, HasEnded}
+use Rattle.wedge_core.specs.Serial.{newest, live_names, AreNested, InSerialOrder, RootGoesOn, RootIsFirst, ArePlaced, names_in, IsSerial, LivesAfter, LivingGoOn, SerialOrderGoesOn}
 use Rattle.wedge_core.specs.Places.{place_in}
 use Rattle.wedge_core.specs.declared.serially.Live.{Live}
+use Rattle.wedge_core.proofs.HavingTurns.{HasTurn, Awaiting, AtBusy, turning}
 use Rattle.wedge_core.proofs.Indexing.{place_found, place_push, place_put_back}
 use Rattle.wedge_core.proofs.Advancing.{length-push}
-use Rattle.wedge_core.proofs.Replays.{EachStep-push}
+use Rattle.wedge_core.proofs.Replays.{EachTurn-push}
 use Rattle.wedge_core.proofs.Runs.{Runs-push}
-use Rattle.wedge_core.proofs.LiveStack.{IsNewest, newest_of, live_where, ended_where, live_append, one_lives, newest_is, named_in, put_in, nested_pop, nested_push, newest_waits_not, newest_busy_not}
+use Rattle.wedge_core.proofs.LiveStack.{IsNewest, newest_of, live_where, ended_where, live_append, one_lives, none_newest, newest_is, named_in, put_in, nested_pop, nested_push, newest_waits_not, newest_busy_not}
 use Rattle.wedge_core.proofs.Turning.{set_get, set_length, not_ended}
 
 -- ---- lists
@@ -196,7 +198,7 @@ record Left (p : Progress) (name : List ℕ) (n : Newest p name) (q : Progress) 
   put : put_actor p.state.actors after ≡ n.is_newest.before ++ after ∷ n.is_newest.behind
   are : q.state.actors ≡ with_begun (put_actor p.state.actors after) begins
 
-left : (p : Progress) (name : List ℕ) (n : Newest p name) (q : Progress) → GoesOnBy p name q → Left p name n q
+left : (p : Progress) (name : List ℕ) (n : Newest p name) (q : Progress) → TookTurnOf p name q → Left p name n q
 left p name n q g =
     let t = turn_leaves p.state name g.event q.state g.turn in
     record {
@@ -236,7 +238,7 @@ stack_after p q live new name place n stack at l after = by_begun l.begins refl
     behind : List ActorState
     behind = n.is_newest.behind
 
-    f : IsFound p.state.actors name place at.0
+    f : IsFirstNamed p.state.actors name place at.0
     f = at.1
 
     was : live ≡ live_names before ++ name ∷ []
@@ -349,7 +351,7 @@ placed_after : (p q : Progress) (live new : List Live) (name : List ℕ) (place 
     → AreDistinct q.state.actors → Left p name n q → LivesAfter q.state.actors place (length p.state.actors) live new → ArePlaced q.state.actors new
 placed_after p q live new name place n all at distinct l after = by_begun l.begins refl
   where
-    f : IsFound p.state.actors name place at.0
+    f : IsFirstNamed p.state.actors name place at.0
     f = at.1
 
     put : List ActorState
@@ -436,14 +438,14 @@ root_after p q name n r l = by_before n.is_newest.before refl l.begins refl
         }
 
 -- the root of a world is the first of its actors
-is_whole_first : (w : WorldState) (r : RootIsFirst w.actors) → is_whole w ≡ has_ended r.root_.phase
-is_whole_first w r =
+is_complete_first : (w : WorldState) (r : RootIsFirst w.actors) → is_complete w ≡ has_ended r.root_.phase
+is_complete_first w r =
     ap (λ as_. is_ended (actor_named as_ root_name)) r.first
     ∙ ap (λ t. is_ended (if t then Some r.root_ else actor_named r.others root_name)) (ap (λ n. same n root_name) r.named ∙ same_self root_name)
 
 -- while one lives, the root does
-pub not_whole : (w : WorldState) (live : List (List ℕ)) → RootIsFirst w.actors → live ≡ live_names w.actors → 0 < length live → is_whole w ≡ false
-not_whole w live r stack some = is_whole_first w r ∙ by_end (has_ended r.root_.phase) refl
+pub not_complete : (w : WorldState) (live : List (List ℕ)) → RootIsFirst w.actors → live ≡ live_names w.actors → 0 < length live → is_complete w ≡ false
+not_complete w live r stack some = is_complete_first w r ∙ by_end (has_ended r.root_.phase) refl
   where
     by_end : (t : Bool) → has_ended r.root_.phase ≡ t → has_ended r.root_.phase ≡ false
     by_end false e = e
@@ -453,8 +455,8 @@ not_whole w live r stack some = is_whole_first w r ∙ by_end (has_ended r.root_
         absurd (omega (arith, some, no))
 
 -- once none does, it has ended
-pub whole_at_last : (i : Image) (p : Progress) (live : List Live) → IsSerial i p live → length live ≤ 0 → is_whole p.state ≡ true
-whole_at_last i p live s none = let r = s.root_first in is_whole_first p.state r ∙ by_end r (has_ended r.root_.phase) refl
+pub whole_at_last : (i : Image) (p : Progress) (live : List Live) → IsSerial i p live → length live ≤ 0 → is_complete p.state ≡ true
+whole_at_last i p live s none = let r = s.root_first in is_complete_first p.state r ∙ by_end r (has_ended r.root_.phase) refl
   where
     by_end : (r : RootIsFirst p.state.actors) (t : Bool) → has_ended r.root_.phase ≡ t → has_ended r.root_.phase ≡ true
     by_end r true e = e
@@ -467,7 +469,7 @@ whole_at_last i p live s none = let r = s.root_first in is_whole_first p.state r
 -- ---- the next turn
 
 pub serial_next : (i : Image) (p q : Progress) (live new : List Live) (name : List ℕ) (place count : ℕ) → IsSerial i p live → 0 < length live → (n : Newest p name) → IsPlaceOf p.state.actors name place
-    → count ≡ length p.state.actors → GoesOnBy p name q → q.stopped ≡ false → LivesAfter q.state.actors place count live new → IsSerial i q new
+    → count ≡ length p.state.actors → TookTurnOf p name q → q.stopped ≡ false → LivesAfter q.state.actors place count live new → IsSerial i q new
 serial_next i p q live new name place count s some n at many g going after =
     let t : Turn = record { actor = name; event = g.event } in
     let l = left p name n q g in
@@ -478,19 +480,19 @@ serial_next i p q live new name place count s some n at many g going after =
     record {
       going = going;
       run = run;
-      order = subst (λ ts. InSerialOrder (opening i) ts) (sym g.noted) (EachStep-push _ (opening i) p.state q.state p.turns t s.order s.run g.turn is_newest);
-      goes_on = subst (λ ts. RootGoesOn (opening i) ts) (sym g.noted) (EachStep-push _ (opening i) p.state q.state p.turns t s.goes_on s.run g.turn (not_whole p.state (names_in live) s.root_first s.stack (omega (arith, some, names))));
+      order = subst (λ ts. InSerialOrder (opening i) ts) (sym g.noted) (EachTurn-push _ (opening i) p.state q.state p.turns t s.order s.run g.turn is_newest);
+      goes_on = subst (λ ts. RootGoesOn (opening i) ts) (sym g.noted) (EachTurn-push _ (opening i) p.state q.state p.turns t s.goes_on s.run g.turn (not_complete p.state (names_in live) s.root_first s.stack (omega (arith, some, names))));
       stack = stack_after p q (names_in live) (names_in new) name place n s.stack at l (names_after q.state.actors place (length p.state.actors) live new after_all);
       placed = placed_after p q live new name place n s.placed at (run_family i q.turns q.state run).distinct l after_all;
       root_first = root_after p q name n s.root_first l;
       nested = nested_after p q name n s.nested (run_ready i p.turns p.state s.run) l;
     }
 
-pub serial_less : (i : Image) (p q : Progress) (live : List Live) (name : List ℕ) → IsSerial i p live → GoesOnBy p name q → work_left q.state < work_left p.state
+pub serial_less : (i : Image) (p q : Progress) (live : List Live) (name : List ℕ) → IsSerial i p live → TookTurnOf p name q → work_left q.state < work_left p.state
 serial_less i p q live name s g = turn_works p.state name g.event q.state (run_ready i p.turns p.state s.run) (run_family i p.turns p.state s.run) g.turn
 
 -- an actor begun stands at the end
-pub place_still : (p q : Progress) (name : List ℕ) (place : ℕ) → IsPlaceOf p.state.actors name place → GoesOnBy p name q → place < length q.state.actors
+pub place_still : (p q : Progress) (name : List ℕ) (place : ℕ) → IsPlaceOf p.state.actors name place → TookTurnOf p name q → place < length q.state.actors
 place_still p q name place at g =
     let t = turn_leaves p.state name g.event q.state g.turn in
     let count : length (put_actor p.state.actors t.after) ≡ length p.state.actors = ap length (at.1.put t.after t.own) ∙ set_length p.state.actors place t.after in
@@ -509,3 +511,69 @@ ends_as actors place a x is at = let one : a ≡ x = one_of (sym is ∙ at) in a
   where
     one_of : {y z : ActorState} → Some y ≡ Some z → y ≡ z
     one_of e = cc
+
+-- ---- a run in serial order, by its turns alone
+
+newest_known : (w : WorldState) (turns : List Turn) (name : List ℕ) → AreDistinct w.actors → newest w.actors ≡ Some name → Newest (record { state = w; turns = turns; stopped = false }) name
+newest_known w turns name distinct is = by_names (live_names w.actors) refl
+  where
+    by_names : (ns : List (List ℕ)) → live_names w.actors ≡ ns → Newest (record { state = w; turns = turns; stopped = false }) name
+    by_names [] none = let f : None ≡ Some name = sym (none_newest w.actors none) ∙ is in absurd cc
+    by_names (m ∷ ms) some =
+        let count : length (live_names w.actors) ≡ suc (length ms) = ap length some in
+        let n = newest_of w.actors (omega (arith, count)) in
+        let found : newest w.actors ≡ Some n.0.name = ap newest n.1.is ∙ newest_is n.1.before n.1.behind n.0 n.1.lives n.1.others in
+        let both : Some n.0.name ≡ Some name = sym found ∙ is in
+        let own : n.0.name ≡ name = cc in
+        let all : AreDistinct (n.1.before ++ n.0 ∷ n.1.behind) = subst AreDistinct n.1.is distinct in
+        record {
+          actor = n.0;
+          is_newest = n.1;
+          own = own;
+          distinct = all;
+          named = ap (actor_named w.actors) (sym own) ∙ (ap (λ as_. actor_named as_ n.0.name) n.1.is ∙ named_in n.1.before n.1.behind n.0 all);
+        }
+
+abbrev took : Event → WorldState → Taken
+took e w = record { event = e; world = w }
+
+-- a turn leads to one world
+same_world : (e : Event) (v w : WorldState) → Some (took e v) ≡ Some (took e w) → v ≡ w
+same_world e v w is = ap (λ (t : Taken). t.world) (one_of is)
+  where
+    one_of : {x y : Taken} → Some x ≡ Some y → x ≡ y
+    one_of h = cc
+
+serial_nested : (old : WorldState) (turns : List Turn) (new : WorldState) → AllReady old → Family old.actors → Runs old turns new → InSerialOrder old turns → AreNested (live_names old.actors) → AreNested (live_names new.actors)
+serial_nested old [] new all family run order nested = subst (λ (w : WorldState). AreNested (live_names w.actors)) (sym run) nested
+serial_nested old (t ∷ ts) new all family run order nested =
+    let p : Progress = record { state = old; turns = []; stopped = false } in
+    let q : Progress = record { state = run.0; turns = record { actor = t.actor; event = t.event } ∷ []; stopped = false } in
+    let one = same_world t.event order.0 run.0 (sym order.1 ∙ run.1) in
+    let g : TookTurnOf p t.actor q = record { event = t.event; turn = run.1; noted = refl } in
+    let n = newest_known old [] t.actor family.distinct order.2 in
+    let mid = nested_after p q t.actor n nested all (left p t.actor n q g) in
+    serial_nested run.0 ts new (turn_ready old t.actor t.event run.0 all run.1) (turn_family old t.actor t.event run.0 all family run.1) run.2 (subst (λ (w : WorldState). InSerialOrder w ts) one order.3) mid
+
+opening_nested : (i : Image) → AreNested (live_names (opening i).actors)
+unfolding root
+opening_nested i = (tt, tt)
+
+-- an actor that lives has a turn, waits, or finds its gate busy
+pub living_go_on : LivingGoOn
+living_go_on i turns w name a run named live = elim (turning w name a named (run_ready i turns w run) live) [
+  | HasTurn t is ↦ inl (ap is_some is)
+  | Awaiting s ↦ inr (inl s)
+  | AtBusy s ↦ inr (inr s)
+]
+
+-- and in serial order the actor whose turn it is has one
+pub serial_goes_on : SerialOrderGoesOn
+serial_goes_on i turns w name run order is =
+    let n = newest_known w turns name (run_family i turns w run).distinct is in
+    let nested = serial_nested (opening i) turns w (opening_ready i) (opening_family i) run order (opening_nested i) in
+    elim (living_go_on i turns w name n.actor run n.named n.is_newest.lives) [
+      | inl has ↦ has
+      | inr (inl s) ↦ absurd (newest_waits_not i turns w n.actor name run n.is_newest n.own s)
+      | inr (inr s) ↦ absurd (newest_busy_not i turns w n.actor name run n.is_newest n.own nested s)
+    ]

@@ -10,21 +10,21 @@ use Rattle.wedge_events.specs.declared.events.Turn.{Turn}
 use Rattle.sthread_life.specs.Actors.{ActorState}
 use Rattle.sthread_life.specs.Local.{rest, has_ended, is_running}
 use Rattle.sthread_life.specs.Taking.{wanted, takes, begun}
-use Rattle.sthread_life.specs.Cells.{Cells, cells_after}
-use Rattle.sthread_life.specs.Worlds.{WorldState, opening, actor_named, put_actor, settled, with_begun, event_at, happened, wanting, turn_with, turn_of, turn_in, is_ended, ended_with, resumes, ready_at, ready, resumed}
-use Rattle.sthread_life.proofs.Between.{takes_name}
-use Rattle.sthread_life.proofs.Named.{found_name, named_put, put_put}
+use Rattle.run_laws.specs.Cells.{Cells, cells_after}
+use Rattle.run_laws.specs.Worlds.{WorldState, opening, actor_named, put_actor, settled, with_begun, event_at, happened, wanting, turn_with, turn_of, turn_in, is_ended, ended_with, resumes, ready_at, ready, resumed}
+use Rattle.run_laws.proofs.Between.{takes_name}
+use Rattle.run_laws.proofs.Named.{found_name, named_put, put_put}
 use Rattle.sthread_life.proofs.Resting.{rest-name, rest-stays}
-use Rattle.sthread_life.proofs.Settling.{EndAlike, turns_alike, put_ends, ends_event, resumed_ends, rests_settled}
-use Rattle.wedge_core.specs.Progress.{IsRun, IsTurn, HasEnded, IsFound, IsPlaceOf, Awaits, state_of, rested, rested_in}
+use Rattle.run_laws.proofs.Settling.{EndAlike, turns_alike, put_ends, ends_event, resumed_ends, rests_settled}
+use Rattle.wedge_core.specs.Progress.{IsRunSoFar, IsTurn, HasEnded, IsFirstNamed, IsPlaceOf, Awaits, state_of, rested, rested_in}
 use Rattle.wedge_core.specs.Turning.{event_asked, IsOfCell, StillWaits, IsDoneAt, HasWaited, HasMetBusy}
 use Rattle.wedge_core.proofs.Fitting.{asked_is, begins_none}
 use Rattle.wedge_core.proofs.Places.{get_at}
 use Rattle.wedge_core.proofs.Runs.{Runs-push}
 use Rattle.sthread_life.specs.Children.{child_name}
-use Rattle.sthread_life.proofs.Turns.{ready_else, ready_named}
-use Rattle.sthread_life.proofs.Trees.{put_same}
-use Rattle.sthread_life.proofs.Waits.{IsAwake}
+use Rattle.run_laws.proofs.Turns.{ready_else, ready_named}
+use Rattle.run_laws.proofs.Trees.{put_same}
+use Rattle.run_laws.proofs.Waits.{IsAwake}
 use Rattle.wedge_core.proofs.AtRest.{ended_is, none_with, rest_end}
 
 -- an actor that waits for no run takes a turn as it is
@@ -49,7 +49,7 @@ is_turn i cells after actors new name a q e named awake wants comes after_is new
 
 -- an event of a cell makes a turn
 pub cell_turn : (i : Image) (cells after : Cells) (actors : List ActorState) (place : ℕ) (name : List ℕ) (a new : ActorState) (q : Want) (e : Event)
-    → IsFound actors name place a → IsAwake a.phase → wanted (rest i a) ≡ Some q → IsOfCell q → event_asked cells (rest i a) q ≡ Some e → after ≡ cells_after cells e → new ≡ takes i (rest i a) e → new.name ≡ name
+    → IsFirstNamed actors name place a → IsAwake a.phase → wanted (rest i a) ≡ Some q → IsOfCell q → event_asked cells (rest i a) q ≡ Some e → after ≡ cells_after cells e → new ≡ takes i (rest i a) e → new.name ≡ name
     → IsTurn (state_of i cells actors) name e (state_of i after (slice_set actors place new))
 cell_turn i cells after actors place name a new q e found awake wants of_cell comes after_is new_is own =
     let w = state_of i cells actors in
@@ -75,7 +75,7 @@ set_length (y ∷ ys) zero x = refl
 set_length (y ∷ ys) (suc n) x = ap suc (set_length ys n x)
 
 -- one that is put in its place is found there
-pub found_set : (actors : List ActorState) (name : List ℕ) (place : ℕ) (a x : ActorState) → IsFound actors name place a → x.name ≡ name → IsFound (slice_set actors place x) name place x
+pub found_set : (actors : List ActorState) (name : List ℕ) (place : ℕ) (a x : ActorState) → IsFirstNamed actors name place a → x.name ≡ name → IsFirstNamed (slice_set actors place x) name place x
 found_set actors name place a x found own =
     let put = found.put x own in
     let there : actor_named actors x.name ≡ Some a = ap (actor_named actors) own ∙ found.named in
@@ -87,7 +87,7 @@ found_set actors name place a x found own =
     }
 
 -- what another comes to is the same before and after
-pub rested_event : (i : Image) (c : Cells) (actors : List ActorState) (name : List ℕ) (place : ℕ) (a b : ActorState) (q : Want) → IsFound actors name place a
+pub rested_event : (i : Image) (c : Cells) (actors : List ActorState) (name : List ℕ) (place : ℕ) (a b : ActorState) (q : Want) → IsFirstNamed actors name place a
     → event_at (state_of i c (slice_set actors place (rest i a))) b q ≡ event_at (state_of i c actors) b q
 rested_event i c actors name place a b q found =
     let own : (rest i a).name ≡ name = rest-name i a ∙ found_name actors name a found.named in
@@ -96,7 +96,7 @@ rested_event i c actors name place a b q found =
 
 -- what other actors have part in makes a turn
 pub family_turn : (i : Image) (cells new_cells : Cells) (actors new : List ActorState) (place : ℕ) (name : List ℕ) (a : ActorState) (q : Want) (entries new_entries : List LogEntry)
-    → IsFound actors name place a → IsAwake a.phase → wanted (rest i a) ≡ Some q → (d : IsDoneAt i cells (slice_set actors place (rest i a)) place q entries name new_cells new new_entries)
+    → IsFirstNamed actors name place a → IsAwake a.phase → wanted (rest i a) ≡ Some q → (d : IsDoneAt i cells (slice_set actors place (rest i a)) place q entries name new_cells new new_entries)
     → IsTurn (state_of i cells actors) name d.event (state_of i new_cells new)
 family_turn i cells new_cells actors new place name a q entries new_entries found awake wants d =
     let b = rest i a in
@@ -126,9 +126,9 @@ not_ended actors name a p live h = absurd (ended_by (actor_named actors name) a 
 
 -- a run whose last world is that of these parts goes on by a turn
 pub run_goes_on : (i : Image) (cells new_cells : Cells) (actors new_actors : List ActorState) (turns new_turns : List Turn) (name : List ℕ) (e : Event) (stopped : Bool)
-    → IsRun (record { state = state_of i cells actors; turns = turns; stopped = stopped }) → stopped ≡ false
+    → IsRunSoFar (record { state = state_of i cells actors; turns = turns; stopped = stopped }) → stopped ≡ false
     → IsTurn (state_of i cells actors) name e (state_of i new_cells new_actors) → new_turns ≡ turns ++ record { actor = name; event = e } ∷ []
-    → IsRun (record { state = state_of i new_cells new_actors; turns = new_turns; stopped = stopped })
+    → IsRunSoFar (record { state = state_of i new_cells new_actors; turns = new_turns; stopped = stopped })
 run_goes_on i cells new_cells actors new_actors turns new_turns name e stopped run going took noted =
     let t = turns_alike (state_of i cells actors) run.last name e (state_of i new_cells new_actors) (run.current going) took in
     record {
@@ -138,17 +138,17 @@ run_goes_on i cells new_cells actors new_actors turns new_turns name e stopped r
     }
 
 -- the actor at a place is the one that was found there
-one_at : (actors : List ActorState) (name : List ℕ) (place : ℕ) (a x : ActorState) → IsFound actors name place x → slice_get actors place ≡ Some a → IsFound actors name place a
-one_at actors name place a x found there = let is : x ≡ a = cc in subst (λ (y : ActorState). IsFound actors name place y) is found
+one_at : (actors : List ActorState) (name : List ℕ) (place : ℕ) (a x : ActorState) → IsFirstNamed actors name place x → slice_get actors place ≡ Some a → IsFirstNamed actors name place a
+one_at actors name place a x found there = let is : x ≡ a = cc in subst (λ (y : ActorState). IsFirstNamed actors name place y) is found
   where
     at : slice_get actors place ≡ Some x
     at = found.there
 
-pub found_at : (actors : List ActorState) (name : List ℕ) (place : ℕ) (a : ActorState) → IsPlaceOf actors name place → slice_get actors place ≡ Some a → IsFound actors name place a
+pub found_at : (actors : List ActorState) (name : List ℕ) (place : ℕ) (a : ActorState) → IsPlaceOf actors name place → slice_get actors place ≡ Some a → IsFirstNamed actors name place a
 found_at actors name place a found there = one_at actors name place a found.0 found.1 there
 
 -- the same where a list of them is read through a view
-pub found_through : (items actors : List ActorState) (name : List ℕ) (place : ℕ) (a : ActorState) → items ≡ actors → IsPlaceOf actors name place → a ≡ get_or items place a → IsFound items name place a
+pub found_through : (items actors : List ActorState) (name : List ℕ) (place : ℕ) (a : ActorState) → items ≡ actors → IsPlaceOf actors name place → a ≡ get_or items place a → IsFirstNamed items name place a
 found_through items actors name place a same at value =
     let here : IsPlaceOf items name place = subst (λ (as_ : List ActorState). IsPlaceOf as_ name place) (sym same) at in
     found_at items name place a here (get_at items place a here.1.inside value)

@@ -1,5 +1,10 @@
+-- Where the actor of a name is among actors, and an index that says so.
 pub mod Places
+-- What a world keeps.
 pub mod Progress
+-- Complete runs.
 pub mod Serial
+-- What the parts of a turn make of cells, actors and entries.
 pub mod Turning
+-- Schedules.
 pub mod Replay

@@ -4,12 +4,12 @@ use Rattle.wedge_base.specs.Images.{Image}
 use Rattle.wedge_events.specs.declared.events.Turn.{Turn}
 use Rattle.wedge_events.specs.Gates.{Kept}
 use Rattle.wedge_base.specs.declared.grants.GateId.{GateId}
-use Rattle.sthread_life.specs.Cells.{Cells, GateCell, kept_among, kept_in, put_kept}
-use Rattle.sthread_life.specs.Worlds.{WorldState, opening, actor_named, put_actor, turn_of, Runs, is_ended, settled, ready, at_rest}
+use Rattle.run_laws.specs.Cells.{Cells, GateCell, kept_among, kept_in, put_kept}
+use Rattle.run_laws.specs.Worlds.{WorldState, opening, actor_named, put_actor, turn_of, Runs, is_ended, settled, ready, at_rest}
 use Rattle.sthread_life.specs.Actors.{ActorState}
 use Rattle.sthread_life.specs.Local.{rest, has_ended}
 use Rattle.sthread_life.specs.Children.{child_name}
-use Rattle.sthread_life.specs.RecycledGates.{IsInside}
+use Rattle.run_laws.specs.RecycledGates.{IsInside}
 use Rattle.sthread_life.specs.Taking.{wanted}
 use Rattle.cow_pages.specs.PrivateMemory.{PrivateMemory}
 use Rattle.wedge_events.specs.declared.cells.GateAsk.TheVariants as gate_ask
@@ -23,9 +23,10 @@ pub record Progress : Type 0 where
   pub turns : List Turn
   pub stopped : Bool
 
--- The turns are a run from the initial state, and the state of a world that has not stopped is where that run
--- leads, but for local events of its actors: a turn that is refused may have made those that come before its event.
-pub record IsRun (p : Progress) : Type 0 where
+-- The turns are a run from the initial state, and the state of a world that has not stopped is
+-- where that run leads, but for local events of its actors: a turn that is refused may have made
+-- those that come before its event.
+pub record IsRunSoFar (p : Progress) : Type 0 where
   pub last : WorldState
   pub run : Runs (opening p.state.image) p.turns last
   pub current : p.stopped ≡ false → settled p.state ≡ settled last
@@ -53,14 +54,14 @@ abbrev pub opened : Image → Progress
 opened i = record { state = opening i; turns = []; stopped = false }
 
 -- at this index is the first actor of a name
-pub record IsFound (actors : List ActorState) (name : List ℕ) (place : ℕ) (a : ActorState) : Type 0 where
+pub record IsFirstNamed (actors : List ActorState) (name : List ℕ) (place : ℕ) (a : ActorState) : Type 0 where
   pub inside : place < length actors
   pub there : slice_get actors place ≡ Some a
   pub named : actor_named actors name ≡ Some a
   pub put : (new : ActorState) → new.name ≡ name → put_actor actors new ≡ slice_set actors place new
 
 abbrev pub IsPlaceOf : List ActorState → List ℕ → ℕ → Type 0
-IsPlaceOf actors name place = (a : ActorState) × IsFound actors name place a
+IsPlaceOf actors name place = (a : ActorState) × IsFirstNamed actors name place a
 
 -- at this index is the cell of a recycled gate
 pub record IsCellOf (cells : List GateCell) (id : GateId) (place : ℕ) (c : GateCell) : Type 0 where
@@ -105,7 +106,7 @@ abbrev pub rested : WorldState → List ℕ → WorldState
 rested w name = record w { actors = rested_in w.image w.actors (actor_named w.actors name) }
 
 -- a turn of the actor of a name was taken, and stands last among the turns
-pub record GoesOnBy (old : Progress) (name : List ℕ) (new : Progress) : Type 0 where
+pub record TookTurnOf (old : Progress) (name : List ℕ) (new : Progress) : Type 0 where
   pub event : Event
   pub turn : IsTurn old.state name event new.state
   pub noted : new.turns ≡ old.turns ++ record { actor = name; event = event } ∷ []

@@ -10,17 +10,18 @@ use Rattle.wedge_base.specs.declared.outcome.Outcome.{Outcome}
 use Rattle.wedge_events.specs.Journals.{turns_of}
 use Rattle.sthread_life.specs.Actors.{ActorState}
 use Rattle.sthread_life.specs.Local.{has_ended}
-use Rattle.sthread_life.specs.Outcomes.{outcome_of}
+use Rattle.run_laws.specs.Outcomes.{outcome_of}
 use Rattle.sthread_life.specs.Taking.{wanted}
-use Rattle.sthread_life.specs.Worlds.{WorldState, opening, actor_named, turn_of, at_rest, Runs, is_whole}
+use Rattle.run_laws.specs.Worlds.{WorldState, opening, actor_named, turn_of, at_rest, Runs, is_complete}
 use Rattle.wedge_core.specs.declared.error.Why.{Why}
 use Rattle.wedge_core.specs.declared.error.Why.TheVariants as why
 use Rattle.wedge_core.specs.declared.error.ReplayFault.{ReplayFault}
 use Rattle.wedge_core.specs.declared.error.ReplayFault.TheVariants as fault
 use Rattle.wedge_core.specs.Progress.{Progress, IsTurn}
-use Rattle.wedge_core.specs.Serial.{IsCompleteRun, IsWholeRun, RootGoesOn}
+use Rattle.wedge_core.specs.Serial.{IsCompleteRun, IsJournaledRun, RootGoesOn}
 
--- why an actor that has not ended has no turn: the recycled gate that it is to enter is busy, or it waits
+-- why an actor that has not ended has no turn: the recycled gate that it is to enter is busy, or it
+-- waits
 abbrev pub why_held : Option Want → Why
 why_held (Some (want.Gate id q)) = why.Busy
 why_held q = why.Waits
@@ -33,11 +34,11 @@ why_of w (Some a) = if has_ended a.phase then why.Ended else why_held (wanted (a
 abbrev pub why_none : WorldState → List ℕ → Why
 why_none w name = why_of w (actor_named w.actors name)
 
--- the state to which the turns of these actors lead, the last of them the end of the root; or the number of
--- the first name that has no turn, and why. The first of the names has the number `at`.
+-- the state to which the turns of these actors lead, the last of them the end of the root; or the
+-- number of the first name that has no turn, and why. The first of the names has the number `at`.
 abbrev pub replayed : WorldState → ℕ → List (List ℕ) → Result WorldState (ℕ × Why)
-replayed w at [] = if is_whole w then Ok w else Err (at, why.Short)
-replayed w at (name ∷ names) = if is_whole w then Err (at, why.Extra) else elim (turn_of w name) [
+replayed w at [] = if is_complete w then Ok w else Err (at, why.Short)
+replayed w at (name ∷ names) = if is_complete w then Err (at, why.Extra) else elim (turn_of w name) [
   | None ↦ Err (at, why_none w name)
   | Some t ↦ replayed t.world (at + 1) names
 ]
@@ -59,7 +60,7 @@ names_of turns = map (λ t. t.actor) turns
 
 -- the names of each complete run replay to its last state
 abbrev pub CompleteRunsReplay : Type 0
-CompleteRunsReplay = (i : Image) (turns : List Turn) (last : WorldState) → Runs (opening i) turns last → is_whole last ≡ true
+CompleteRunsReplay = (i : Image) (turns : List Turn) (last : WorldState) → Runs (opening i) turns last → is_complete last ≡ true
     → RootGoesOn (opening i) turns → replay_of i (names_of turns) ≡ Ok last
 
 -- and what a schedule replays to is the last state of a complete run by its names
@@ -69,7 +70,7 @@ ReplaysAreComplete = (i : Image) (names : List (List ℕ)) (last : WorldState) �
 
 -- so the names in the journal of a complete run replay to its outcome
 abbrev pub JournalsReplay : Type 0
-JournalsReplay = (i : Image) (entries : List LogEntry) (outcome : Outcome) → IsWholeRun i entries outcome
+JournalsReplay = (i : Image) (entries : List LogEntry) (outcome : Outcome) → IsJournaledRun i entries outcome
     → (last : WorldState) × (replay_of i (names_of (turns_of entries)) ≡ Ok last) × (outcome ≡ outcome_of last)
 
 -- ---- one name
@@ -77,11 +78,11 @@ JournalsReplay = (i : Image) (entries : List LogEntry) (outcome : Outcome) → I
 -- its turn is taken, and noted
 pub record Follows (old : Progress) (name : List ℕ) (new : Progress) : Type 0 where
   pub event : Event
-  pub goes_on : is_whole old.state ≡ false
+  pub goes_on : is_complete old.state ≡ false
   pub turn : IsTurn old.state name event new.state
   pub noted : new.turns ≡ old.turns ++ record { actor = name; event = event } ∷ []
   pub going : new.stopped ≡ false
 
 -- a schedule is rejected at it, whatever names come after it
-abbrev pub IsRejected : WorldState → ℕ → List ℕ → ReplayFault → Type 0
-IsRejected w at name e = (names : List (List ℕ)) → IsFaultOf (replayed w at (name ∷ names)) e
+abbrev pub IsScheduleRejected : WorldState → ℕ → List ℕ → ReplayFault → Type 0
+IsScheduleRejected w at name e = (names : List (List ℕ)) → IsFaultOf (replayed w at (name ∷ names)) e

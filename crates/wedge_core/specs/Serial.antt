@@ -1,62 +1,84 @@
 -- Complete runs.
-use Rattle.std.specs.Prelude.{◌≡◌, ◌+◌, ◌<◌, ◌≤◌, ◌++◌, ◌∷◌, [], length, map, slice_get, ℕ, true, false, List, Option, Some, None, if◌then◌else◌}
+use Rattle.std.specs.Prelude.{◌≡◌, ◌+◌, ◌<◌, ◌≤◌, ◌++◌, ◌∷◌, [], length, map, slice_get, ℕ, true, false, List, Option, Some, None, is_some, ◌⊎◌, if◌then◌else◌}
 use Rattle.wedge_base.specs.Images.{Image}
 use Rattle.wedge_base.specs.Names.{root_name}
 use Rattle.wedge_core.specs.Places.{place_in}
-use Rattle.wedge_core.specs.Progress.{Progress}
+use Rattle.wedge_core.specs.Progress.{Progress, IsWaiting, IsBusy}
 use Rattle.wedge_core.specs.declared.serially.Live.{Live}
 use Rattle.wedge_events.specs.Journals.{turns_of, numbered}
+use Rattle.wedge_events.specs.Lives.{most_lives}
 use Rattle.wedge_events.specs.declared.events.LogEntry.{LogEntry}
 use Rattle.wedge_events.specs.declared.events.Event.{Event}
 use Rattle.wedge_base.specs.declared.outcome.Outcome.{Outcome}
 use Rattle.sthread_life.specs.Actors.{ActorState}
 use Rattle.sthread_life.specs.Local.{has_ended}
 use Rattle.wedge_events.specs.declared.events.Turn.{Turn}
-use Rattle.sthread_life.specs.Moments.{EachStep, EachMoment}
-use Rattle.sthread_life.specs.Bounds.{IsWithinRoot}
-use Rattle.sthread_life.specs.CopiesGranted.{HasCopiesGranted}
-use Rattle.sthread_life.specs.GatesWithin.{is_under, NoneHoldsItsOwn, AreHeldOlder}
-use Rattle.sthread_life.specs.KnownGates.{AreGatesKept}
-use Rattle.sthread_life.specs.RecycledGates.{AreRunsAlone}
-use Rattle.sthread_life.specs.Fuel.{fuel_of, TakesItsUnits}
-use Rattle.sthread_life.specs.Laws.{IsLawful, IsWrittenByOwners, AreSlotsKept}
-use Rattle.sthread_life.specs.Worlds.{WorldState, opening, actor_named, Runs, is_whole}
-use Rattle.sthread_life.specs.Outcomes.{outcome_of}
+use Rattle.run_laws.specs.Moments.{EachTurn, EachMoment}
+use Rattle.run_laws.specs.Bounds.{IsWithinRoot}
+use Rattle.run_laws.specs.CopiesGranted.{HasCopiesGranted}
+use Rattle.run_laws.specs.GatesWithin.{is_under, NoneHoldsItsOwn, AreHeldOlder}
+use Rattle.run_laws.specs.KnownGates.{AreGatesKept}
+use Rattle.run_laws.specs.RecycledGates.{AreRunsAlone}
+use Rattle.run_laws.specs.Fuel.{fuel_of, most_turns, TakesItsUnits}
+use Rattle.run_laws.specs.Laws.{IsLawful, IsWrittenByOwners, IsReadByHolders}
+use Rattle.run_laws.specs.LiveSthreads.{lives_in}
+use Rattle.run_laws.specs.Names.{AreDistinct}
+use Rattle.run_laws.specs.Occupancy.{AreOccupied, SlotsSuit}
+use Rattle.run_laws.specs.Worlds.{WorldState, opening, actor_named, turn_of, Runs, is_complete}
+use Rattle.run_laws.specs.Outcomes.{outcome_of}
 
 -- before each of these turns the root has not ended
 abbrev pub RootGoesOn : WorldState → List Turn → Type 0
-RootGoesOn w turns = EachStep (λ old t new. is_whole old ≡ false) w turns
+RootGoesOn w turns = EachTurn (λ old t new. is_complete old ≡ false) w turns
 
--- The turns are a complete run of the image, up to the end of its root: each moment of it is lawful; the bytes of each tag
--- and of each stream come from those who may write them alone; each turn takes exactly its units of the image's fuel; each
--- slot was never used, or was released, or is held by one call, or one tag lives there; whatever an actor has on a declared tag
--- or descriptor, or the sheet of a gate gives, the root began with; each private copy is at the slot of a grant of a copy; a gate
--- is what its maker made, whoever knows it; each run has its gate's sheet with what was lent, a recycled gate has one run at a time, and
--- what it keeps has copies where its sheet grants them alone; and nobody at or under a run of a gate holds that
--- gate, but older ones and those that were made at or under the run.
+-- What holds of each state of a run: no two actors have one name; each slot was never used, or was
+-- released, or is held by one call, or one tag lives there; whatever an actor has on a declared tag
+-- or descriptor, or the sheet of a gate gives, the root began with; each private copy is at the
+-- slot of a grant of a copy; a gate is what its maker made, whoever knows it; each run has its
+-- gate's sheet with what was lent, a recycled gate has one run at a time, and what it keeps has
+-- copies where its sheet grants them alone; nobody at or under a run of a gate holds that gate, but
+-- older ones and those that were made at or under the run; the count of live sthreads is that of
+-- the lives which actors hold, and at most 256; and whoever has ended has joined all that it began.
+pub record IsSoundState (i : Image) (w : WorldState) : Type 0 where
+  pub distinct : AreDistinct w.actors
+  pub slots : AreOccupied w.cells w.actors
+  pub bounded : (name : List ℕ) (a : ActorState) → actor_named w.actors name ≡ Some a → IsWithinRoot i a
+  pub copies : (name : List ℕ) (a : ActorState) → actor_named w.actors name ≡ Some a → HasCopiesGranted a
+  pub gates : AreGatesKept w.actors
+  pub runs : AreRunsAlone w.cells w.actors
+  pub within : NoneHoldsItsOwn w.actors
+  pub older : AreHeldOlder w.actors
+  pub lives : (w.cells.lives ≡ lives_in w.actors) × (lives_in w.actors ≤ most_lives)
+  pub joined : (name : List ℕ) (a : ActorState) → actor_named w.actors name ≡ Some a → has_ended a.phase ≡ true → a.unjoined ≡ []
+
+-- The turns are a complete run of the image, up to the end of its root, by which every actor has
+-- ended: each moment of it is lawful, and each state sound; the bytes of each tag and of each
+-- stream come from those who may write them alone, and are given to those alone who may read them;
+-- each turn takes exactly its units of the image's fuel, and there are no more turns than that
+-- gives; and a tag is opened, and a slot released, as the slots are occupied.
 pub record IsCompleteRun (i : Image) (turns : List Turn) (last : WorldState) : Type 0 where
   pub run : Runs (opening i) turns last
-  pub whole : is_whole last ≡ true
+  pub complete : is_complete last ≡ true
   pub goes_on : RootGoesOn (opening i) turns
   pub lawful : EachMoment IsLawful (opening i) turns
+  pub begins : IsSoundState i (opening i)
+  pub sound : EachTurn (λ old t new. IsSoundState i new) (opening i) turns
+  pub ended : (name : List ℕ) (a : ActorState) → actor_named last.actors name ≡ Some a → has_ended a.phase ≡ true
   pub written : IsWrittenByOwners i turns last
+  pub read : IsReadByHolders i turns
   pub all_fuel : fuel_of (opening i) ≡ i.fuel
-  pub paid : EachStep TakesItsUnits (opening i) turns
-  pub slots : AreSlotsKept i turns last
-  pub bounded : (name : List ℕ) (a : ActorState) → actor_named last.actors name ≡ Some a → IsWithinRoot i a
-  pub copies : (name : List ℕ) (a : ActorState) → actor_named last.actors name ≡ Some a → HasCopiesGranted a
-  pub gates : AreGatesKept last.actors
-  pub runs : AreRunsAlone last.cells last.actors
-  pub within : NoneHoldsItsOwn last.actors
-  pub older : AreHeldOlder last.actors
+  pub paid : EachTurn TakesItsUnits (opening i) turns
+  pub bound : length turns ≤ most_turns i.fuel
+  pub suit : EachTurn SlotsSuit (opening i) turns
 
--- entries tell a complete run of the image with this outcome
-pub record IsWholeRun (i : Image) (entries : List LogEntry) (outcome : Outcome) : Type 0 where
+-- the entries of a journal are a complete run of the image, with this outcome
+pub record IsJournaledRun (i : Image) (entries : List LogEntry) (outcome : Outcome) : Type 0 where
   pub last : WorldState
-  pub complete : IsCompleteRun i (turns_of entries) last
+  pub run : IsCompleteRun i (turns_of entries) last
   pub ends : outcome ≡ outcome_of last
 
--- the name of the actor that was started last and has not ended: an actor is added behind the others as it starts
+-- the name of the actor that was started last and has not ended: an actor is added behind the
+-- others as it starts
 abbrev pub newest : List ActorState → Option (List ℕ)
 newest [] = None
 newest (a ∷ as_) = elim (newest as_) [ Some name ↦ Some name | None ↦ if has_ended a.phase then None else Some a.name ]
@@ -68,9 +90,20 @@ live_names (a ∷ as_) = if has_ended a.phase then live_names as_ else a.name �
 
 -- each turn is that of the actor that was started last and has not ended
 abbrev pub InSerialOrder : WorldState → List Turn → Type 0
-InSerialOrder w turns = EachStep (λ old t new. newest old.actors ≡ Some t.actor) w turns
+InSerialOrder w turns = EachTurn (λ old t new. newest old.actors ≡ Some t.actor) w turns
 
--- stamps are the places of the entries, from 1
+-- an actor of a run that has not ended has a turn, or awaits a child or a run that has not ended,
+-- or is to enter a recycled gate in which a run is
+abbrev pub LivingGoOn : Type 0
+LivingGoOn = (i : Image) (turns : List Turn) (w : WorldState) (name : List ℕ) (a : ActorState) → Runs (opening i) turns w → actor_named w.actors name ≡ Some a → has_ended a.phase ≡ false
+    → (is_some (turn_of w name) ≡ true) ⊎ (IsWaiting w name ⊎ IsBusy w name)
+
+-- and in a run in serial order the actor whose turn it is has one
+abbrev pub SerialOrderGoesOn : Type 0
+SerialOrderGoesOn = (i : Image) (turns : List Turn) (w : WorldState) (name : List ℕ) → Runs (opening i) turns w → InSerialOrder (opening i) turns → newest w.actors ≡ Some name
+    → is_some (turn_of w name) ≡ true
+
+-- stamps are the indices of the entries, from 1
 abbrev pub IsNumbered : List LogEntry → Type 0
 IsNumbered entries = entries ≡ numbered 1 (turns_of entries)
 
@@ -114,8 +147,8 @@ pub record IsSerial (i : Image) (p : Progress) (live : List Live) : Type 0 where
   pub root_first : RootIsFirst p.state.actors
   pub nested : AreNested (live_names p.state.actors)
 
--- Those that live after a turn, by those before: one behind them where there is an actor more, and one less where the actor at this
--- index has ended.
+-- Those that live after a turn, by those before: one behind them where there is an actor more, and
+-- one less where the actor at this index has ended.
 pub record LivesAfter (actors : List ActorState) (place count : ℕ) (old new : List Live) : Type 0 where
   pub begun : count < length actors → (c : ActorState) × (slice_get actors count ≡ Some c) × (new ≡ old ++ record { name = c.name; place = count } ∷ [])
   pub ended : length actors ≤ count → (a : ActorState) → slice_get actors place ≡ Some a → has_ended a.phase ≡ true → (l : Live) × (old ≡ new ++ l ∷ [])

@@ -10,13 +10,13 @@ use Rattle.wedge_events.specs.declared.events.Event.{Event}
 use Rattle.wedge_events.specs.declared.events.LogEntry.{LogEntry}
 use Rattle.sthread_life.specs.Actors.{ActorState}
 use Rattle.sthread_life.specs.Between.{WantFits, TakesFit}
-use Rattle.sthread_life.specs.Cells.{Cells, live_at, event_of, cells_after, kept_in}
+use Rattle.run_laws.specs.Cells.{Cells, live_at, event_of, cells_after, kept_in}
 use Rattle.sthread_life.specs.Children.{is_child, child_name}
-use Rattle.sthread_life.specs.FamilyTrees.{Family}
+use Rattle.run_laws.specs.FamilyTrees.{Family}
 use Rattle.sthread_life.specs.Local.{rest, run_awaited, has_ended}
 use Rattle.sthread_life.specs.Taking.{wanted, asks, takes, begun}
-use Rattle.sthread_life.specs.Worlds.{with_begun, event_at, actor_named, ready, is_ended}
-use Rattle.wedge_core.specs.Progress.{IsTurn, IsWaiting, IsBusy, IsRecorded, state_of, rested, IsFound}
+use Rattle.run_laws.specs.Worlds.{with_begun, event_at, actor_named, ready, is_ended}
+use Rattle.wedge_core.specs.Progress.{IsTurn, IsWaiting, IsBusy, IsRecorded, state_of, rested, IsFirstNamed}
 use Rattle.wedge_core.specs.Serial.{Notes}
 use Rattle.sthread_life.specs.declared.phase.Phase.TheVariants as phase
 
@@ -34,7 +34,7 @@ IsOfCell (want.Gate id q) = ⊥
 IsOfCell q = Unit {0}
 
 -- the event that an actor at rest wants of a cell is done and noted
-pub record IsMade (i : Image) (cells : Cells) (a : ActorState) (q : Want) (entries : List LogEntry) (name : List ℕ) (new_cells : Cells) (new : ActorState) (new_entries : List LogEntry) : Type 0 where
+pub record IsEventDone (i : Image) (cells : Cells) (a : ActorState) (q : Want) (entries : List LogEntry) (name : List ℕ) (new_cells : Cells) (new : ActorState) (new_entries : List LogEntry) : Type 0 where
   pub event : Event
   pub comes : event_asked cells a q ≡ Some event
   pub cells_are : new_cells ≡ cells_after cells event
@@ -63,7 +63,7 @@ pub record IsLeft (i : Image) (old : ActorState) (q : Want) (new : ActorState) :
 -- it was waiting for no run, or for one that has ended, and has gone on
 pub record HasGoneOn (actors : List ActorState) (place : ℕ) (name : List ℕ) (new : List ActorState) : Type 0 where
   pub actor : ActorState
-  pub found : IsFound actors name place actor
+  pub found : IsFirstNamed actors name place actor
   pub awake : run_awaited (ready actors actor).phase ≡ None
   pub new_is : new ≡ slice_set actors place (ready actors actor)
 
@@ -71,7 +71,7 @@ pub record HasGoneOn (actors : List ActorState) (place : ℕ) (name : List ℕ) 
 pub record StillWaits (actors : List ActorState) (place : ℕ) (name : List ℕ) (new : List ActorState) : Type 0 where
   pub actor : ActorState
   pub number : ℕ
-  pub found : IsFound actors name place actor
+  pub found : IsFirstNamed actors name place actor
   pub at : actor.phase ≡ phase.Waiting number
   pub not_ended : is_ended (actor_named actors (child_name name number)) ≡ false
   pub new_is : new ≡ actors
@@ -79,7 +79,7 @@ pub record StillWaits (actors : List ActorState) (place : ℕ) (name : List ℕ)
 -- it is the one of a name, has not ended and waits for no run
 pub record IsAwakeAt (cells : Cells) (actors : List ActorState) (place : ℕ) (name : List ℕ) : Type 0 where
   pub actor : ActorState
-  pub found : IsFound actors name place actor
+  pub found : IsFirstNamed actors name place actor
   pub lives : has_ended actor.phase ≡ false
   pub awake : run_awaited actor.phase ≡ None
   pub family : Family actors

@@ -9,8 +9,8 @@ ghost use Rattle.wedge_events.specs.Slots.{SlotFits, slot_reply, slot_next, decl
 ghost use Rattle.wedge_events.specs.Streams.{most_fds, declared_stream, stream_reply, stream_next};
 ghost use Rattle.image_form.specs.Rules.{IsTag};
 ghost use Rattle.sthread_life.specs.Between.{GivesBelow, IsInBounds};
-ghost use Rattle.sthread_life.specs.Cells.{AskFits, opening_cells, nothings, held, kept_in, live_at, event_of, cells_after};
-ghost use Rattle.sthread_life.specs.Written.{bytes_in};
+ghost use Rattle.run_laws.specs.Cells.{AskFits, opening_cells, nothings, held, kept_in, live_at, event_of, cells_after};
+ghost use Rattle.run_laws.specs.Written.{bytes_in};
 
 use crate::gates::{GateCell, ask_gate, is_entered};
 use fd_table::Stream;
@@ -45,7 +45,7 @@ impl Model for Cells {
     ghost use Rattle.wedge_base.specs.Images.{slots as most_slots};
     ghost use Rattle.wedge_events.specs.Streams.{most_fds};
     ghost use Rattle.sthread_life.specs.Between.{GivesBelow};
-    ghost use Rattle.sthread_life.specs.Cells.{Cells as Plain};
+    ghost use Rattle.run_laws.specs.Cells.{Cells as Plain};
 
     ghost Value = { Plain };
 
@@ -178,7 +178,8 @@ fn is_in_bounds(slots: &[SlotState], slot: Slot, ask: &SlotAsk)
     requires inside { slot < most_slots }
     requires all { length slots.now ≡ most_slots }
     requires fits { SlotFits (held (slice_get slots.now slot)) ask.now }
-    ensures { IsInBounds (AnEvent.Slot slot ask.now (slot_reply (held (slice_get slots.now slot)) ask.now)) }
+    ensures { IsInBounds
+        (AnEvent.Slot slot ask.now (slot_reply (held (slice_get slots.now slot)) ask.now)) }
 {
     // The tag is opened here, so that what its type keeps is at hand.
     match ask {
@@ -196,7 +197,7 @@ fn is_in_bounds(slots: &[SlotState], slot: Slot, ask: &SlotAsk)
 }
 
 /// Asks the directory of slots.
-#[tactic(auto, using(crate::proofs::Placing::place_in_bounds, sthread_life::proofs::Directing::next_sound))]
+#[tactic(auto, using(crate::proofs::Placing::place_in_bounds, run_laws::proofs::Directing::next_sound))]
 fn ask_places(places: &mut Directory, ask: DirectoryAsk) -> Result<DirectoryReply, NoMemory>
     requires { GivesBelow most_slots places.old }
     ensures is { IfOk result (λ r. r ≡ directory_reply places.old ask) }
@@ -209,7 +210,7 @@ fn ask_places(places: &mut Directory, ask: DirectoryAsk) -> Result<DirectoryRepl
 }
 
 /// Asks the directory of descriptors.
-#[tactic(auto, using(crate::proofs::Placing::number_in_bounds, sthread_life::proofs::Directing::next_sound))]
+#[tactic(auto, using(crate::proofs::Placing::number_in_bounds, run_laws::proofs::Directing::next_sound))]
 fn ask_numbers(numbers: &mut Directory, ask: DirectoryAsk) -> Result<DirectoryReply, NoMemory>
     requires { GivesBelow most_fds numbers.old }
     ensures is { IfOk result (λ r. r ≡ directory_reply numbers.old ask) }
@@ -242,7 +243,8 @@ fn ask_slot(slots: &mut Vec<SlotState>, slot: Slot, ask: &SlotAsk) -> Result<Slo
 #[tactic(auto, using(crate::proofs::CellPlaces::held_at, crate::proofs::Placing::gives_inside))]
 fn ask_stream(streams: &mut Vec<Stream>, fd: FdNo, ask: &StreamAsk) -> Result<StreamReply, NoMemory>
     requires { fd < length streams.old.items }
-    ensures is { IfOk result (λ r. r ≡ stream_reply (held (slice_get streams.old.items fd)) ask.now) }
+    ensures is { IfOk result (λ r. r
+        ≡ stream_reply (held (slice_get streams.old.items fd)) ask.now) }
     ensures after { OnOk result (streams.new.items
         ≡ slice_set streams.old.items fd
         (stream_next (held (slice_get streams.old.items fd)) ask.now)) }

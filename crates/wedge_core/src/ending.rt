@@ -2,13 +2,13 @@
 
 ghost use Rattle.std.specs.Prelude.{◌≡◌, ◌≤◌, ◌++◌, List, [], true, false, length, unwrap_or, option_map, IfOk, OnOk};
 ghost use Rattle.cow_pages.specs.PrivateMemory.{no_memory};
-ghost use Rattle.sthread_life.specs.Worlds.{is_whole};
+ghost use Rattle.run_laws.specs.Worlds.{is_complete};
 ghost use Rattle.wedge_events.specs.Streams.{most_fds};
 ghost use Rattle.std.specs.Ordering.{nat_cmp, is_lt};
 ghost use Rattle.std.specs.Cmp.Lexicographic.{slice_cmp};
 ghost use Rattle.sthread_life.specs.Actors.{whole};
 ghost use Rattle.std.specs.Option.{option_copied};
-ghost use Rattle.sthread_life.specs.Outcomes as outcomes;
+ghost use Rattle.run_laws.specs.Outcomes as outcomes;
 ghost use Rattle.sthread_life.specs.declared.files.StreamLabel.{StreamLabel as ALabel};
 
 use crate::residents::Resident;
@@ -26,7 +26,7 @@ use wedge_base::{
 /// The outcome of a world whose root has ended: a line for each actor, and one for each append stream.
 pub fn outcome(alloc: Global, world: &World<'_>) -> Result<Outcome, NoMemory>
     requires going { world.now.stopped ≡ false }
-    requires whole { is_whole world.now.state ≡ true }
+    requires whole { is_complete world.now.state ≡ true }
     ensures { IfOk result (λ o. o ≡ outcomes.outcome_of world.now.state) }
 {
     let image = world.program.image();
@@ -106,7 +106,8 @@ fn stream_lines(
     streams: &[Stream],
 ) -> Result<Vec<StreamLine>, NoMemory>
     requires { length streams.now ≤ most_fds }
-    ensures { IfOk result (λ v. v.items ≡ outcomes.streams_of image.now (outcomes.labels_of residents.now) 0 streams.now) }
+    ensures { IfOk result (λ v. v.items
+        ≡ outcomes.streams_of image.now (outcomes.labels_of residents.now) 0 streams.now) }
 {
     let mut lines = Vec::new(alloc);
     let mut number = 0u32;

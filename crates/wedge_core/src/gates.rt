@@ -3,7 +3,7 @@
 ghost use Rattle.std.specs.Prelude.{◌≡◌, ◌++◌, ◌∷◌, [], IfSome, IfNone, IfOk, OnOk, OnErr};
 ghost use Rattle.wedge_events.specs.Gates.{Kept as AKept, GateFits, gate_opening, gate_reply, gate_next};
 ghost use Rattle.wedge_base.specs.Identities.{same_gate};
-ghost use Rattle.sthread_life.specs.Cells.{kept_among, put_kept};
+ghost use Rattle.run_laws.specs.Cells.{kept_among, put_kept};
 ghost use Rattle.wedge_core.specs.Progress.{IsGateAt};
 
 use recycled_gate::Kept;
@@ -20,7 +20,7 @@ pub(crate) struct GateCell {
 }
 
 impl Model for GateCell {
-    ghost use Rattle.sthread_life.specs.Cells.{GateCell as Plain};
+    ghost use Rattle.run_laws.specs.Cells.{GateCell as Plain};
 
     ghost Value = { Plain };
 

@@ -8,8 +8,6 @@ mod gates;
 mod replaying;
 mod residents;
 mod serially;
-#[cfg(test)]
-mod tests;
 mod turns;
 mod world;
 
@@ -17,6 +15,6 @@ pub use cells::Cells;
 pub use ending::outcome;
 pub use error::{NoTurn, ReplayFault, Why};
 pub use replaying::{complete_runs_replay, replay};
-pub use serially::serial;
+pub use serially::{serial, serial_order_goes_on};
 pub use turns::{Taken, turn};
 pub use world::{World, open_world};

@@ -2,8 +2,8 @@
 
 ghost use Rattle.std.specs.Prelude.{◌≡◌, true, false, IfOk, IfErr, OnOk};
 ghost use Rattle.wedge_base.specs.Names.{root_name};
-ghost use Rattle.sthread_life.specs.Worlds.{is_whole};
-ghost use Rattle.wedge_core.specs.Replay.{replay_of, names_of, IsFaultOf, Follows, IsRejected, CompleteRunsReplay, ReplaysAreComplete, JournalsReplay};
+ghost use Rattle.run_laws.specs.Worlds.{is_complete};
+ghost use Rattle.wedge_core.specs.Replay.{replay_of, names_of, IsFaultOf, Follows, IsScheduleRejected, CompleteRunsReplay, ReplaysAreComplete, JournalsReplay};
 ghost use Rattle.wedge_core.specs.Serial.{IsCompleteRun};
 
 use crate::error::{NoTurn, ReplayFault, Why};
@@ -27,7 +27,7 @@ pub fn replay<'a>(
     ensures state { IfOk result (λ w. replay_of image.now schedule.now ≡ Ok w.state) }
     ensures turns { IfOk result (λ w. names_of w.turns ≡ schedule.now) }
     ensures run { IfOk result (λ w. IsCompleteRun image.now w.turns w.state) }
-    ensures whole { IfOk result (λ w. is_whole w.state ≡ true) }
+    ensures whole { IfOk result (λ w. is_complete w.state ≡ true) }
     ensures going { IfOk result (λ w. w.stopped ≡ false) }
     ensures rejected { IfErr result (λ e. IsFaultOf (replay_of image.now schedule.now) e) }
 {
@@ -55,7 +55,7 @@ fn follow(
     requires root { root.now ≡ root_name }
     requires going { world.old.stopped ≡ false }
     ensures ok { OnOk result (Follows world.old name.now world.new) }
-    ensures rejected { IfErr result (λ e. IsRejected world.old.state at name.now e) }
+    ensures rejected { IfErr result (λ e. IsScheduleRejected world.old.state at name.now e) }
 {
     if root_has_ended(world, root) {
         return Err(ReplayFault::BadSchedule {
@@ -85,7 +85,7 @@ fn follow(
 /// Whether the root of a world has ended.
 fn root_has_ended(world: &World<'_>, root: &ActorName) -> bool
     requires { root.now ≡ root_name }
-    ensures { result ≡ is_whole world.now.state }
+    ensures { result ≡ is_complete world.now.state }
 {
     match world.residents.place_of(root) {
         Some(place) => {

@@ -3,8 +3,8 @@
 ghost use Rattle.std.specs.Prelude.{◌≡◌, ◌<◌, ◌++◌, ◌∷◌, [], length, slice_get, vec_capacity, IfOk, OnOk, OnErr, IfSome, IfNone, None};
 ghost use Rattle.sthread_life.specs.Children.{child_name};
 ghost use Rattle.sthread_life.specs.Local.{has_ended, run_awaited};
-ghost use Rattle.sthread_life.specs.Worlds as worlds;
-ghost use Rattle.sthread_life.specs.Worlds.{actor_named};
+ghost use Rattle.run_laws.specs.Worlds as worlds;
+ghost use Rattle.run_laws.specs.Worlds.{actor_named};
 ghost use Rattle.wedge_core.specs.Places.{IsIndexOf};
 ghost use Rattle.wedge_core.specs.Progress.{IsPlaceOf};
 
@@ -97,7 +97,8 @@ impl Residents {
     /// The index of the first actor of the name of a child: the k-th that the actor of this name starts.
     pub fn place_of_child(&self, name: &ActorName, k: u32) -> Result<Option<usize>, NoMemory>
         ensures found { IfOk result (λ o. IfSome o (IsPlaceOf self.now (child_name name.now k))) }
-        ensures unknown { IfOk result (λ o. IfNone o (actor_named self.now (child_name name.now k) ≡ None)) }
+        ensures unknown { IfOk result (λ o. IfNone o (actor_named self.now (child_name name.now k)
+            ≡ None)) }
     {
         let alloc = *self.list.allocator();
         let mut parts = Vec::from_slice(alloc, name.parts())?;
@@ -123,7 +124,8 @@ impl Residents {
 
     /// The end of the k-th that the actor of this name started or entered, and the fuel that it has left, if it has ended.
     pub fn ended_with(&self, name: &ActorName, k: u32) -> Result<Option<(End, u32)>, NoMemory>
-        ensures { IfOk result (λ o. o ≡ worlds.ended_with (actor_named self.now (child_name name.now k))) }
+        ensures { IfOk result (λ o. o
+            ≡ worlds.ended_with (actor_named self.now (child_name name.now k))) }
     {
         let Some(place) = self.place_of_child(name, k)? else {
             return Ok(None);

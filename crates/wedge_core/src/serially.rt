@@ -1,9 +1,9 @@
 //! Complete runs on one thread.
 
 ghost use Rattle.std.specs.Prelude.{◌≡◌, ◌<◌, ◌++◌, ◌∷◌, [], length, map, IfOk, OnOk, true, false};
-ghost use Rattle.sthread_life.specs.Fuel.{work_left};
-ghost use Rattle.sthread_life.specs.Worlds as worlds;
-ghost use Rattle.wedge_core.specs.Serial.{IsWholeRun, IsNumbered, InSerialOrder, IsSerial, LivesAfter};
+ghost use Rattle.run_laws.specs.Fuel.{work_left};
+ghost use Rattle.run_laws.specs.Worlds as worlds;
+ghost use Rattle.wedge_core.specs.Serial.{IsJournaledRun, IsNumbered, InSerialOrder, IsSerial, LivesAfter, LivingGoOn, SerialOrderGoesOn};
 ghost use Rattle.wedge_events.specs.Journals.{turns_of};
 
 use crate::ending::outcome;
@@ -25,9 +25,10 @@ pub(crate) struct Live {
 /// journal are the places of its entries, from 1. Each turn is that of the actor that was started last and
 /// has not ended.
 pub fn serial(alloc: Global, image: &Image) -> Result<(Journal, Outcome), NoMemory>
-    ensures run { IfOk result (λ r. IsWholeRun image.now r.0.entries r.1) }
+    ensures run { IfOk result (λ r. IsJournaledRun image.now r.0.entries r.1) }
     ensures stamps { IfOk result (λ r. IsNumbered r.0.entries) }
-    ensures order { IfOk result (λ r. InSerialOrder (worlds.opening image.now) (turns_of r.0.entries)) }
+    ensures order { IfOk result
+        (λ r. InSerialOrder (worlds.opening image.now) (turns_of r.0.entries)) }
 {
     let mut world = open_world(alloc, image)?;
     let mut live = Vec::new(alloc);
@@ -73,7 +74,8 @@ fn note_lives(
 ) -> Result<(), NoMemory>
     requires inside { place < length world.now.state.actors }
     requires some { 0 < length live.old.items }
-    ensures { OnOk result (LivesAfter world.now.state.actors place count live.old.items live.new.items) }
+    ensures { OnOk result
+        (LivesAfter world.now.state.actors place count live.old.items live.new.items) }
 {
     let actors = world.residents.as_slice();
     if count < actors.len() {
@@ -87,3 +89,10 @@ fn note_lives(
     }
     Ok(())
 }
+
+/// In every run an actor that has not ended has a turn, unless it awaits a child or the run of a gate that has not ended, or is to
+/// enter a recycled gate in which a run is. In serial order the actor whose turn it is neither waits nor finds a gate busy.
+pub fn serial_order_goes_on()
+    ensures living { LivingGoOn }
+    ensures serial { SerialOrderGoesOn }
+{}

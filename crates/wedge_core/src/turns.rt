@@ -5,18 +5,18 @@ ghost use Rattle.sthread_life.specs.Actors.{whole};
 ghost use Rattle.wedge_events.specs.declared.events.SlotWant.{SlotWant as ASlotWant};
 ghost use Rattle.wedge_events.specs.declared.events.Want.{Want as AWant};
 ghost use Rattle.sthread_life.specs.Between.{WantFits};
-ghost use Rattle.sthread_life.specs.Cells.{Cells as SomeCells, cells_after};
+ghost use Rattle.run_laws.specs.Cells.{Cells as SomeCells, cells_after};
 ghost use Rattle.sthread_life.specs.Children.{child_name};
-ghost use Rattle.sthread_life.specs.Laws.{IsLawful};
-ghost use Rattle.sthread_life.specs.FamilyTrees.{Family};
+ghost use Rattle.run_laws.specs.Laws.{IsLawful};
+ghost use Rattle.run_laws.specs.FamilyTrees.{Family};
 ghost use Rattle.sthread_life.specs.Local.{rest, has_ended, run_awaited};
-ghost use Rattle.sthread_life.specs.Moments.{TurnHas};
+ghost use Rattle.run_laws.specs.Moments.{TurnHas};
 ghost use Rattle.sthread_life.specs.Taking.{wanted, takes};
-ghost use Rattle.sthread_life.specs.Worlds.{actor_named, is_ended};
-ghost use Rattle.sthread_life.specs.Written.{StepAppendsOwn, StepWritesOwn};
-ghost use Rattle.wedge_core.specs.Progress.{IsTurn, HasEnded, IsPlaceOf, IsWaiting, IsBusy, AreRecorded, rested, GoesOnBy};
+ghost use Rattle.run_laws.specs.Worlds.{actor_named, is_ended};
+ghost use Rattle.run_laws.specs.Written.{TurnAppendsOwn, TurnWritesOwn};
+ghost use Rattle.wedge_core.specs.Progress.{IsTurn, HasEnded, IsPlaceOf, IsWaiting, IsBusy, AreRecorded, rested, TookTurnOf};
 ghost use Rattle.wedge_core.specs.Serial.{Notes};
-ghost use Rattle.wedge_core.specs.Turning.{event_asked, IsOfCell, IsOfFamily, IsMade, IsLeft, HasGoneOn, StillWaits, IsAwakeAt, WantsOfFamily, IsBeginning, IsGoingAlone, IsJoining, IsTaking, HasTaken, HasDone, IsDoneAt, FindsBusy, WasTaken, HasWaited, HasMetBusy};
+ghost use Rattle.wedge_core.specs.Turning.{event_asked, IsOfCell, IsOfFamily, IsEventDone, IsLeft, HasGoneOn, StillWaits, IsAwakeAt, WantsOfFamily, IsBeginning, IsGoingAlone, IsJoining, IsTaking, HasTaken, HasDone, IsDoneAt, FindsBusy, WasTaken, HasWaited, HasMetBusy};
 
 use crate::cells::Cells;
 use crate::error::NoTurn;
@@ -58,16 +58,17 @@ pub fn turn(world: &mut World<'_>, name: &ActorName) -> Result<Taken, NoTurn>
         ≡ world.old.turns ++ record { actor = name.now; event = t.event } ∷ []) }
     ensures lawful { IfOk result (λ t. TurnHas IsLawful world.old.state
         (record { actor = name.now; event = t.event }) world.new.state) }
-    ensures owned { IfOk result (λ t. StepWritesOwn world.old.state
+    ensures owned { IfOk result (λ t. TurnWritesOwn world.old.state
         (record { actor = name.now; event = t.event }) world.new.state) }
-    ensures appended { IfOk result (λ t. StepAppendsOwn world.old.state
+    ensures appended { IfOk result (λ t. TurnAppendsOwn world.old.state
         (record { actor = name.now; event = t.event }) world.new.state) }
 
     ensures unknown { IsErrOf result NoTurn.Unknown
         ↔ ((world.old.stopped ≡ false) × (actor_named world.old.state.actors name.now ≡ None)) }
     ensures ended { IsErrOf result NoTurn.Ended
         ↔ ((world.old.stopped ≡ false) × HasEnded world.old.state.actors name.now) }
-    ensures unchanged { IsErrOf result NoTurn.Unknown ⊎ IsErrOf result NoTurn.Ended → world.new ≡ world.old }
+    ensures unchanged { IsErrOf result NoTurn.Unknown ⊎ IsErrOf result NoTurn.Ended
+        → world.new ≡ world.old }
     ensures waits { IsErrOf result NoTurn.Waits
         → (world.old.stopped ≡ false) × IsWaiting world.old.state name.now }
     ensures waiting { world.old.stopped ≡ false → IsWaiting world.old.state name.now
@@ -115,7 +116,7 @@ pub(crate) fn advance(
 ) -> Result<Went, NoMemory>
     requires going { world.old.stopped ≡ false }
     requires there { IsPlaceOf world.old.state.actors name.now place }
-    ensures took { IfOk result (λ r. r ≡ Went.Took → GoesOnBy world.old name.now world.new) }
+    ensures took { IfOk result (λ r. r ≡ Went.Took → TookTurnOf world.old name.now world.new) }
     ensures ended { IfOk result (λ r. r ≡ Went.Ended
         → HasEnded world.old.state.actors name.now × (world.new ≡ world.old)) }
     ensures waits { IfOk result (λ r. r ≡ Went.Waits → IsWaiting world.old.state name.now
@@ -181,8 +182,10 @@ fn advance_over(
 fn go_on(residents: &mut Residents, name: &ActorName, place: usize) -> Result<bool, NoMemory>
     requires there { IsPlaceOf residents.old name.now place }
     requires family { Family residents.old }
-    ensures goes { IfOk result (λ r. r ≡ true → HasGoneOn residents.old place name.now residents.new) }
-    ensures waits { IfOk result (λ r. r ≡ false → StillWaits residents.old place name.now residents.new) }
+    ensures goes { IfOk result (λ r. r ≡ true
+        → HasGoneOn residents.old place name.now residents.new) }
+    ensures waits { IfOk result (λ r. r ≡ false
+        → StillWaits residents.old place name.now residents.new) }
     ensures err { OnErr result (residents.new ≡ residents.old) }
 {
     let Some(run) = residents.run_awaited(place) else {
@@ -240,9 +243,10 @@ fn advance_one(
     requires awake { run_awaited resident.old.phase ≡ None }
     ensures made { IfOk result (λ o. IfNone o ((q : AWant)
         × (wanted (rest program.now resident.old) ≡ Some q) × IsOfCell q
-        × IsMade program.now cells.old (rest program.now resident.old) q entries.old.items name.now
+        × IsEventDone program.now cells.old (rest program.now resident.old) q entries.old.items name.now
         cells.new resident.new entries.new.items)) }
-    ensures left { IfOk result (λ o. IfSome o (λ q. IsLeft program.now resident.old q resident.new)) }
+    ensures left { IfOk result
+        (λ o. IfSome o (λ q. IsLeft program.now resident.old q resident.new)) }
     ensures same { IfOk result (λ o. IfSome o (λ q.
         (cells.new ≡ cells.old) × (entries.new.items ≡ entries.old.items))) }
     ensures kept { OnErr result (entries.new.items ≡ entries.old.items) }
@@ -265,7 +269,8 @@ fn do_want(
     want: Want,
 ) -> Result<Option<Want>, NoMemory>
     requires { WantFits resident.old want }
-    ensures made { IfOk result (λ o. IfNone o (IsOfCell want × IsMade program.now cells.old resident.old
+    ensures made { IfOk result (λ o. IfNone o (IsOfCell want
+        × IsEventDone program.now cells.old resident.old
         want entries.old.items name.now cells.new resident.new entries.new.items)) }
     ensures left { IfOk result (λ o. IfSome o (λ q. (q ≡ want) × IsOfFamily q
         × (resident.new ≡ resident.old))) }
@@ -302,7 +307,8 @@ fn do_family(
     want: Want,
 ) -> Result<Went, NoMemory>
     requires { WantsOfFamily program.now cells.old residents.old place name.now want }
-    ensures took { IfOk result (λ r. r ≡ Went.Took → IsDoneAt program.now cells.old residents.old place want
+    ensures took { IfOk result (λ r. r ≡ Went.Took
+        → IsDoneAt program.now cells.old residents.old place want
         entries.old.items name.now cells.new residents.new entries.new.items) }
     ensures waits { IfOk result (λ r. r ≡ Went.Waits → (child : ℕ) × (want ≡ AWant.Join child)
         × (is_ended (actor_named residents.old (child_name name.now child)) ≡ false)) }
@@ -365,9 +371,12 @@ fn do_gate(
     gate: GateId,
     ask: GateAsk,
 ) -> Result<Went, NoMemory>
-    requires { WantsOfFamily program.now cells.old residents.old place name.now (AWant.Gate gate ask) }
-    ensures took { IfOk result (λ r. r ≡ Went.Took → IsDoneAt program.now cells.old residents.old place
-        (AWant.Gate gate ask) entries.old.items name.now cells.new residents.new entries.new.items) }
+    requires { WantsOfFamily program.now cells.old residents.old place name.now
+        (AWant.Gate gate ask) }
+    ensures took { IfOk result (λ r. r ≡ Went.Took
+        → IsDoneAt program.now cells.old residents.old place
+        (AWant.Gate gate ask) entries.old.items name.now cells.new residents.new
+        entries.new.items) }
     ensures busy { IfOk result (λ r. r ≡ Went.Busy → FindsBusy cells.old (AWant.Gate gate ask)) }
     ensures same { IfOk result (λ r. (r ≡ Went.Took → ⊥) → (cells.new ≡ cells.old)
         × (residents.new ≡ residents.old) × (entries.new.items ≡ entries.old.items)) }
@@ -464,7 +473,8 @@ fn join(
     child: u32,
 ) -> Result<Went, NoMemory>
     requires { IsJoining residents.old place name.now child }
-    ensures took { IfOk result (λ r. r ≡ Went.Took → (c : SomeCells) → IsDoneAt program.now c residents.old place
+    ensures took { IfOk result (λ r. r ≡ Went.Took → (c : SomeCells)
+        → IsDoneAt program.now c residents.old place
         (AWant.Join child) entries.old.items name.now c residents.new entries.new.items) }
     ensures waits { IfOk result (λ r. r ≡ Went.Waits
         → is_ended (actor_named residents.old (child_name name.now child)) ≡ false) }
@@ -493,7 +503,7 @@ fn do_slot(
     want: SlotWant,
 ) -> Result<(), NoMemory>
     requires { WantFits resident.old (AWant.Slot slot want) }
-    ensures made { OnOk result (IsMade program.now cells.old resident.old
+    ensures made { OnOk result (IsEventDone program.now cells.old resident.old
         (AWant.Slot slot want) entries.old.items name.now cells.new resident.new
         entries.new.items) }
     ensures kept { OnErr result (entries.new.items ≡ entries.old.items) }
@@ -533,7 +543,7 @@ fn load(
     width: u8,
 ) -> Result<(), NoMemory>
     requires { WantFits resident.old (AWant.Slot slot (ASlotWant.Load offset width)) }
-    ensures made { OnOk result (IsMade program.now cells.old resident.old
+    ensures made { OnOk result (IsEventDone program.now cells.old resident.old
         (AWant.Slot slot (ASlotWant.Load offset width)) entries.old.items name.now cells.new
         resident.new entries.new.items) }
     ensures kept { OnErr result (entries.new.items ≡ entries.old.items) }
@@ -563,7 +573,7 @@ fn store(
     value: u32,
 ) -> Result<(), NoMemory>
     requires { WantFits resident.old (AWant.Slot slot (ASlotWant.Store offset width value)) }
-    ensures made { OnOk result (IsMade program.now cells.old resident.old
+    ensures made { OnOk result (IsEventDone program.now cells.old resident.old
         (AWant.Slot slot (ASlotWant.Store offset width value)) entries.old.items name.now
         cells.new resident.new entries.new.items) }
     ensures kept { OnErr result (entries.new.items ≡ entries.old.items) }
@@ -595,7 +605,8 @@ fn do_other(
 ) -> Result<(), NoMemory>
     requires fits { WantFits resident.old want }
     requires of_cell { IsOfCell want }
-    ensures made { OnOk result (IsMade program.now cells.old resident.old want entries.old.items name.now
+    ensures made { OnOk result
+        (IsEventDone program.now cells.old resident.old want entries.old.items name.now
         cells.new resident.new entries.new.items) }
     ensures kept { OnErr result (entries.new.items ≡ entries.old.items) }
 {
@@ -614,7 +625,8 @@ fn do_and_note(
 ) -> Result<(), NoMemory>
     requires fits { WantFits resident.old want }
     requires of_cell { IsOfCell want }
-    ensures made { OnOk result (IsMade program.now cells.old resident.old want entries.old.items name.now
+    ensures made { OnOk result
+        (IsEventDone program.now cells.old resident.old want entries.old.items name.now
         cells.new resident.new entries.new.items) }
     ensures kept { OnErr result (entries.new.items ≡ entries.old.items) }
 {

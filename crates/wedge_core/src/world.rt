@@ -30,8 +30,8 @@ pub struct World<'a> {
 
 impl<'a> Model for World<'a> {
     ghost use Rattle.std.specs.Prelude.{◌≡◌, false};
-    ghost use Rattle.sthread_life.specs.FamilyTrees.{Family};
-    ghost use Rattle.wedge_core.specs.Progress.{Progress, IsRun};
+    ghost use Rattle.run_laws.specs.FamilyTrees.{Family};
+    ghost use Rattle.wedge_core.specs.Progress.{Progress, IsRunSoFar};
     ghost use Rattle.wedge_core.specs.Serial.{IsNumbered};
     ghost use Rattle.wedge_events.specs.Journals.{turns_of};
 
@@ -45,7 +45,7 @@ impl<'a> Model for World<'a> {
 
     ghost invariant = { λ w. record {
       numbered : IsNumbered w.entries.items;
-      run : IsRun (record {
+      run : IsRunSoFar (record {
         state = record { image = w.program; cells = w.cells; actors = w.residents };
         turns = turns_of w.entries.items;
         stopped = w.stopped;
@@ -76,7 +76,8 @@ impl<'a> World<'a> {
     pub(crate) fn into_entries(self) -> Vec<LogEntry>
         ensures numbered { IsNumbered result.items }
         ensures turns { turns_of result.items ≡ self.entry.turns }
-        ensures run { self.entry.stopped ≡ false → LeadsTo (turns_of result.items) self.entry.state }
+        ensures run { self.entry.stopped ≡ false
+            → LeadsTo (turns_of result.items) self.entry.state }
     {
         let World { entries, .. } = self;
         entries

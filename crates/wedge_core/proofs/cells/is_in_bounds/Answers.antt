@@ -7,7 +7,7 @@ use Rattle.wedge_events.specs.declared.cells.SlotAsk.{SlotAsk}
 use Rattle.wedge_events.specs.declared.cells.SlotAsk.TheVariants as ask
 use Rattle.wedge_events.specs.declared.events.Event.TheVariants as event
 use Rattle.sthread_life.specs.Between.{IsInBounds}
-use Rattle.sthread_life.specs.Cells.{held}
+use Rattle.run_laws.specs.Cells.{held}
 use Rattle.wedge_core.proofs.CellPlaces.{held_at}
 use Rattle.wedge_core.proofs.Placing.{places_inside, snaps_inside}
 use Rattle.wedge_core.proofs.cells.is_in_bounds.Goals as goal

@@ -1,7 +1,7 @@
 use Rattle.std.proofs.Common.{◌≡◌, ◌≤◌, ◌-◌, ◌++◌, length}
 use Rattle.wedge_base.specs.Images.{slots as most_slots}
 use Rattle.wedge_events.specs.Slots.{declared_slots}
-use Rattle.sthread_life.specs.Cells.{nothings}
+use Rattle.run_laws.specs.Cells.{nothings}
 use Rattle.wedge_core.proofs.cells.opening_slots.Given as goal
 
 abbrev pub invariant-loop-alloc : goal.invariant-loop-alloc

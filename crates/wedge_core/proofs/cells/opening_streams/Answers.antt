@@ -1,7 +1,7 @@
 use Rattle.std.proofs.Common.{◌≡◌, ◌∙◌, ◌<◌, ◌≤◌, ◌+◌, ◌-◌, ◌++◌, ◌∷◌, [], length, ap, sym, rules, arith}
 use Rattle.std.specs.Prelude.{None}
 use Rattle.wedge_events.specs.Streams.{most_fds}
-use Rattle.sthread_life.specs.Cells.{nothings}
+use Rattle.run_laws.specs.Cells.{nothings}
 use Rattle.wedge_core.proofs.CellPlaces.{nothings_push, nothings_none}
 use Rattle.wedge_core.proofs.cells.opening_streams.Goals as goal
 

@@ -1,7 +1,7 @@
 use Rattle.std.proofs.Common.{◌≡◌, ◌≤◌, ◌-◌, ◌++◌, length, map}
 use Rattle.std.specs.Prelude.{Some}
 use Rattle.wedge_events.specs.Streams.{most_fds, declared_stream}
-use Rattle.sthread_life.specs.Cells.{nothings}
+use Rattle.run_laws.specs.Cells.{nothings}
 use Rattle.wedge_core.proofs.cells.opening_streams.Given as goal
 
 abbrev pub invariant-loop-streams : goal.invariant-loop-streams

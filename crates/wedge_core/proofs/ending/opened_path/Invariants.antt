@@ -1,5 +1,5 @@
 use Rattle.std.proofs.Common.{◌≡◌, drop}
-use Rattle.sthread_life.specs.Outcomes as outcomes
+use Rattle.run_laws.specs.Outcomes as outcomes
 use Rattle.wedge_core.proofs.ending.opened_path.Given as goal
 
 abbrev pub invariant-loop-resident : goal.invariant-loop-resident

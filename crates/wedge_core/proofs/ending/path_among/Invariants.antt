@@ -1,6 +1,6 @@
 use Rattle.std.proofs.Common.{◌≡◌, List, ◌++◌, drop}
 use Rattle.sthread_life.specs.declared.files.StreamLabel.{StreamLabel}
-use Rattle.sthread_life.specs.Outcomes as outcomes
+use Rattle.run_laws.specs.Outcomes as outcomes
 use Rattle.wedge_core.proofs.ending.path_among.Given as goal
 
 abbrev pub invariant-loop-label : goal.invariant-loop-label

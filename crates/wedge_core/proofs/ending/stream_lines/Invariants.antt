@@ -1,5 +1,5 @@
 use Rattle.std.proofs.Common.{◌≡◌, ◌++◌, drop}
-use Rattle.sthread_life.specs.Outcomes as outcomes
+use Rattle.run_laws.specs.Outcomes as outcomes
 use Rattle.wedge_core.proofs.ending.stream_lines.Given as goal
 
 abbrev pub invariant-loop-stream : goal.invariant-loop-stream

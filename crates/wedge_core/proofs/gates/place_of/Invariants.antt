@@ -1,6 +1,6 @@
 use Rattle.std.proofs.Common.{◌≡◌, ◌++◌, take, drop}
 use Rattle.wedge_events.specs.Gates.{Kept}
-use Rattle.sthread_life.specs.Cells.{kept_among, put_kept}
+use Rattle.run_laws.specs.Cells.{kept_among, put_kept}
 use Rattle.wedge_core.proofs.gates.place_of.Given as goal
 
 abbrev pub invariant-loop-i : goal.invariant-loop-i

@@ -1,5 +1,5 @@
 use Rattle.std.proofs.Common.{◌≡◌, false, ap, Err, rules}
-use Rattle.sthread_life.specs.Worlds.{is_whole}
+use Rattle.run_laws.specs.Worlds.{is_complete}
 use Rattle.wedge_core.proofs.Replays.{not_true, replayed_unknown, replayed_ended, replayed_waits, replayed_busy}
 use Rattle.wedge_core.proofs.replaying.follow.Goals as goal
 use Rattle.wedge_core.proofs.replaying.follow.Goals.{in-Ok, in-Err-NoMemory, in-Err-Unknown, in-Err-Ended, in-Err-Waits, in-Err-Busy}
@@ -9,7 +9,7 @@ returns-clause-rejected c =
     let w = c.args.world.now.state in
     let at = c.args.at in
     let name = c.args.name.now in
-    let going : is_whole w ≡ false = search rules in
+    let going : is_complete w ≡ false = search rules in
     elim c.match-turn.branch [
       | in-Ok b ↦ rw b.result-is tt
       | in-Err-NoMemory b ↦ rw b.result-is (λ names. tt)
@@ -21,7 +21,7 @@ returns-clause-rejected c =
 
 pub returns-clause-ok : goal.returns-clause-ok
 returns-clause-ok c =
-    let lives : is_whole c.args.world.now.state ≡ false = search rules in
+    let lives : is_complete c.args.world.now.state ≡ false = search rules in
     elim c.match-turn.branch [
       | in-Ok b ↦ rw b.result-is (record {
         event = b.in-Ok.field-0.event;

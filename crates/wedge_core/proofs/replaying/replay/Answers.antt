@@ -1,5 +1,5 @@
 use Rattle.std.proofs.Common.{rules, ◌≡◌, sym, subst, drop, suc, true}
-use Rattle.sthread_life.specs.Worlds.{opening, is_whole}
+use Rattle.run_laws.specs.Worlds.{opening, is_complete}
 use Rattle.wedge_core.specs.Replay.{replayed, IsFaultOf}
 use Rattle.wedge_core.proofs.Replays.{replaying_next, replaying_rest, complete_of}
 use Rattle.wedge_core.proofs.replaying.replay.Goals as goal
@@ -18,5 +18,5 @@ loop-i-preserved c =
 
 pub returns-clause-run : goal.returns-clause-run
 returns-clause-run c =
-    let whole : is_whole c.loop-i.world.state ≡ true = search rules in
+    let whole : is_complete c.loop-i.world.state ≡ true = search rules in
     complete_of c.args.image.now c.loop-i.world.turns c.loop-i.world.state c.loop-i.invariant.run whole c.loop-i.invariant.goes_on

@@ -1,11 +1,11 @@
 use Rattle.std.proofs.Common.{◌≡◌, ◌∙◌, ◌≤◌, ◌∷◌, [], ap, sym, subst, length, rules}
 use Rattle.wedge_events.specs.Journals.{turns_of}
 use Rattle.wedge_base.specs.Names.{root_name}
-use Rattle.sthread_life.specs.Worlds.{opening}
+use Rattle.run_laws.specs.Worlds.{opening}
 use Rattle.wedge_core.specs.Progress.{Progress}
 use Rattle.wedge_core.specs.Serial.{IsSerial, RootGoesOn, InSerialOrder}
 use Rattle.wedge_core.proofs.LiveStack.{opening_serial}
-use Rattle.wedge_core.proofs.Numbering.{whole_run_of}
+use Rattle.wedge_core.proofs.Numbering.{journaled_run}
 use Rattle.wedge_core.proofs.SerialSteps.{whole_at_last}
 use Rattle.wedge_core.proofs.serially.serial.Goals as goal
 
@@ -35,7 +35,7 @@ returns-clause-run c =
     let none : length c.loop-world.live.items ≤ 0 = search rules in
     let entries = c.into_entries.result.items in
     let goes_on : RootGoesOn (opening c.args.image.now) (turns_of entries) = subst (RootGoesOn (opening c.args.image.now)) (sym c.into_entries.ensures.turns) s.goes_on in
-    rw c.new.ensures (whole_run_of c.args.image.now p.state entries c.in_ok-outcome.outcome c.loop-world.invariant.image (c.into_entries.ensures.run s.going) (whole_at_last c.args.image.now p c.loop-world.live.items s none) goes_on c.in_ok-outcome.ensures)
+    rw c.new.ensures (journaled_run c.args.image.now p.state entries c.in_ok-outcome.outcome c.loop-world.invariant.image (c.into_entries.ensures.run s.going) (whole_at_last c.args.image.now p c.loop-world.live.items s none) goes_on c.in_ok-outcome.ensures)
 
 pub returns-clause-order : goal.returns-clause-order
 returns-clause-order c =

@@ -1,5 +1,5 @@
 use Rattle.std.proofs.Common.{◌≡◌}
-use Rattle.sthread_life.specs.Fuel.{work_left}
+use Rattle.run_laws.specs.Fuel.{work_left}
 use Rattle.wedge_core.specs.Serial.{IsSerial}
 use Rattle.wedge_core.proofs.serially.serial.Given as goal
 

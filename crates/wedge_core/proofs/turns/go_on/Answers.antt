@@ -5,8 +5,8 @@ use Rattle.sthread_life.specs.Actors.{ActorState, whole}
 use Rattle.sthread_life.specs.Children.{child_name, fuel_given}
 use Rattle.sthread_life.specs.Local.{run_awaited}
 use Rattle.sthread_life.specs.Taking.{has_joined}
-use Rattle.sthread_life.specs.Worlds.{actor_named, ended_with}
-use Rattle.wedge_core.specs.Progress.{IsFound}
+use Rattle.run_laws.specs.Worlds.{actor_named, ended_with}
+use Rattle.wedge_core.specs.Progress.{IsFirstNamed}
 use Rattle.wedge_core.specs.Turning.{HasGoneOn}
 use Rattle.wedge_core.proofs.GoingOn.{waits_at, awaited_there, stays_awake, gone_back, back_given}
 use Rattle.wedge_core.proofs.Indexing.{index_put_back}
@@ -26,8 +26,8 @@ resume-requires-clause-waits c =
     let place = c.args.place in
     let name = c.args.name.now in
     let a = c.index_mut-resident.result.now in
-    let there : IsFound items name place a = found_through items actors name place a c.residents.view_is c.requires.there c.index_mut-resident.ensures.value in
-    let f : IsFound actors name place a = subst (λ as_. IsFound as_ name place a) c.residents.view_is there in
+    let there : IsFirstNamed items name place a = found_through items actors name place a c.residents.view_is c.requires.there c.index_mut-resident.ensures.value in
+    let f : IsFirstNamed actors name place a = subst (λ as_. IsFirstNamed as_ name place a) c.residents.view_is there in
     let at : a.phase ≡ phase.Waiting c.in-Some.run' = waits_at a.phase c.in-Some.run' (sym c.in-Some.is ∙ awaited_there actors place a c.run_awaited.result f.there c.run_awaited.ensures) in
     ap (λ (x : ActorState). x.phase) c.resident.view_is ∙ at
 
@@ -38,8 +38,8 @@ resume-requires-clause-back c =
     let place = c.args.place in
     let name = c.args.name.now in
     let a = c.index_mut-resident.result.now in
-    let there : IsFound items name place a = found_through items actors name place a c.residents.view_is c.requires.there c.index_mut-resident.ensures.value in
-    let f : IsFound actors name place a = subst (λ as_. IsFound as_ name place a) c.residents.view_is there in
+    let there : IsFirstNamed items name place a = found_through items actors name place a c.residents.view_is c.requires.there c.index_mut-resident.ensures.value in
+    let f : IsFirstNamed actors name place a = subst (λ as_. IsFirstNamed as_ name place a) c.residents.view_is there in
     let at : a.phase ≡ phase.Waiting c.in-Some.run' = waits_at a.phase c.in-Some.run' (sym c.in-Some.is ∙ awaited_there actors place a c.run_awaited.result f.there c.run_awaited.ensures) in
     let ends : ended_with (actor_named actors (child_name name c.in-Some.run')) ≡ Some (c.in-Some-2.end, c.in-Some-2.fuel) = sym c.in_ok-end.ensures ∙ c.in-Some-2.is in
     subst (λ (x : ActorState). IsSomeAnd (fuel_given x.unjoined c.in-Some.run') (λ g. c.in-Some-2.fuel ≤ g)) (sym c.resident.view_is)
@@ -52,8 +52,8 @@ invariant_of-residents c =
     let place = c.args.place in
     let name = c.args.name.now in
     let a = c.index_mut-resident.result.now in
-    let there : IsFound items name place a = found_through items actors name place a c.residents.view_is c.requires.there c.index_mut-resident.ensures.value in
-    let f : IsFound actors name place a = subst (λ as_. IsFound as_ name place a) c.residents.view_is there in
+    let there : IsFirstNamed items name place a = found_through items actors name place a c.residents.view_is c.requires.there c.index_mut-resident.ensures.value in
+    let f : IsFirstNamed actors name place a = subst (λ as_. IsFirstNamed as_ name place a) c.residents.view_is there in
     let at : a.phase ≡ phase.Waiting c.in-Some.run' = waits_at a.phase c.in-Some.run' (sym c.in-Some.is ∙ awaited_there actors place a c.run_awaited.result f.there c.run_awaited.ensures) in
     let new = whole c.resume.new.self c.resident.inside.memory in
     let own : new.name ≡ a.name = c.resume.ensures.name ∙ ap (λ (x : ActorState). x.name) c.resident.view_is in
@@ -66,8 +66,8 @@ returns-clause-goes c = λ _.
     let place = c.args.place in
     let name = c.args.name.now in
     let a = c.index_mut-resident.result.now in
-    let there : IsFound items name place a = found_through items actors name place a c.residents.view_is c.requires.there c.index_mut-resident.ensures.value in
-    let f : IsFound actors name place a = subst (λ as_. IsFound as_ name place a) c.residents.view_is there in
+    let there : IsFirstNamed items name place a = found_through items actors name place a c.residents.view_is c.requires.there c.index_mut-resident.ensures.value in
+    let f : IsFirstNamed actors name place a = subst (λ as_. IsFirstNamed as_ name place a) c.residents.view_is there in
     let at : a.phase ≡ phase.Waiting c.in-Some.run' = waits_at a.phase c.in-Some.run' (sym c.in-Some.is ∙ awaited_there actors place a c.run_awaited.result f.there c.run_awaited.ensures) in
     let ends : ended_with (actor_named actors (child_name name c.in-Some.run')) ≡ Some (c.in-Some-2.end, c.in-Some-2.fuel) = sym c.in_ok-end.ensures ∙ c.in-Some-2.is in
     let new = whole c.resume.new.self c.resident.inside.memory in

@@ -1,8 +1,8 @@
 use Rattle.std.proofs.Common.{◌≡◌, ◌-◌, ◌++◌, ◌∷◌, [], ◌∙◌, ap, sym, subst, false, length, take, rules}
 use Rattle.wedge_events.specs.Journals.{turns_of}
-use Rattle.sthread_life.proofs.Mediating.{turn_lawful}
-use Rattle.sthread_life.proofs.Writing.{step_appends_own, step_writes_own}
-use Rattle.wedge_core.specs.Progress.{Progress, IsRun, IsTurn}
+use Rattle.run_laws.proofs.Mediating.{turn_lawful}
+use Rattle.run_laws.proofs.Writing.{turn_appends_own, turn_writes_own}
+use Rattle.wedge_core.specs.Progress.{Progress, IsRunSoFar, IsTurn}
 use Rattle.wedge_core.proofs.Advancing.{run_is_ready, ended_turns_not, waiting_turns_not, waiting_ended_not, busy_turns_not, busy_ended_not, busy_waits_not, IsUndone, undone, stopped_run}
 use Rattle.wedge_core.proofs.turns.turn.Goals as goal
 
@@ -52,7 +52,7 @@ returns-in-Ok-clause-being_busy c = λ going busy.
 pub returns-in-Ok-clause-lawful : goal.returns-in-Ok-clause-lawful
 returns-in-Ok-clause-lawful c =
     let old = c.args.world.now in
-    let run : IsRun old = subst IsRun c.world.view_is c.world.invariant.run in
+    let run : IsRunSoFar old = subst IsRunSoFar c.world.view_is c.world.invariant.run in
     let going : old.stopped ≡ false = search rules in
     let turn : IsTurn old.state c.args.name.now c.in-Ok.event c.advance.new.world.state = search rules in
     turn_lawful old.state (record { actor = c.args.name.now; event = c.in-Ok.event }) c.advance.new.world.state (run_is_ready old run going) turn
@@ -60,18 +60,18 @@ returns-in-Ok-clause-lawful c =
 pub returns-in-Ok-clause-owned : goal.returns-in-Ok-clause-owned
 returns-in-Ok-clause-owned c =
     let old = c.args.world.now in
-    let run : IsRun old = subst IsRun c.world.view_is c.world.invariant.run in
+    let run : IsRunSoFar old = subst IsRunSoFar c.world.view_is c.world.invariant.run in
     let going : old.stopped ≡ false = search rules in
     let turn : IsTurn old.state c.args.name.now c.in-Ok.event c.advance.new.world.state = search rules in
-    step_writes_own old.state (record { actor = c.args.name.now; event = c.in-Ok.event }) c.advance.new.world.state (run_is_ready old run going) turn
+    turn_writes_own old.state (record { actor = c.args.name.now; event = c.in-Ok.event }) c.advance.new.world.state (run_is_ready old run going) turn
 
 pub returns-in-Ok-clause-appended : goal.returns-in-Ok-clause-appended
 returns-in-Ok-clause-appended c =
     let old = c.args.world.now in
-    let run : IsRun old = subst IsRun c.world.view_is c.world.invariant.run in
+    let run : IsRunSoFar old = subst IsRunSoFar c.world.view_is c.world.invariant.run in
     let going : old.stopped ≡ false = search rules in
     let turn : IsTurn old.state c.args.name.now c.in-Ok.event c.advance.new.world.state = search rules in
-    step_appends_own old.state (record { actor = c.args.name.now; event = c.in-Ok.event }) c.advance.new.world.state (run_is_ready old run going) turn
+    turn_appends_own old.state (record { actor = c.args.name.now; event = c.in-Ok.event }) c.advance.new.world.state (run_is_ready old run going) turn
 
 pub invariant_of-world : goal.invariant_of-world
 invariant_of-world c =

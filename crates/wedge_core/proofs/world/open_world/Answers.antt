@@ -2,9 +2,9 @@ use Rattle.std.proofs.Common.{◌≡◌, ◌∙◌, ◌∷◌, [], List, ap, sym
 use Rattle.wedge_events.specs.declared.events.LogEntry.{LogEntry}
 use Rattle.wedge_events.specs.Journals.{turns_of}
 use Rattle.sthread_life.specs.Actors.{root}
-use Rattle.sthread_life.specs.Cells.{opening_cells}
-use Rattle.sthread_life.specs.FamilyTrees.{Family}
-use Rattle.sthread_life.proofs.FamilyRuns.{opening_family}
+use Rattle.run_laws.specs.Cells.{opening_cells}
+use Rattle.run_laws.specs.FamilyTrees.{Family}
+use Rattle.run_laws.proofs.FamilyRuns.{opening_family}
 use Rattle.wedge_core.specs.Serial.{IsNumbered}
 use Rattle.wedge_core.proofs.Runs.{opened_is_run}
 use Rattle.wedge_core.proofs.world.open_world.Goals as goal

@@ -1,7 +1,7 @@
 use Rattle.std.proofs.Common.{◌≡◌, ℕ, List, ap, sym, subst, ◌∙◌}
 use Rattle.std.specs.Prelude.{Option, None, IfSome, IfNone}
 use Rattle.sthread_life.specs.Actors.{ActorState}
-use Rattle.sthread_life.specs.Worlds.{actor_named}
+use Rattle.run_laws.specs.Worlds.{actor_named}
 use Rattle.wedge_core.specs.Progress.{IsPlaceOf}
 use Rattle.wedge_core.specs.Places.{place_in, place_by}
 use Rattle.wedge_core.proofs.Indexing.{place_found, place_none}

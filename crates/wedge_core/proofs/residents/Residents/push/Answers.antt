@@ -1,7 +1,7 @@
 use Rattle.std.proofs.Common.{◌≡◌, ◌++◌, ◌∷◌, [], List, length, sym, subst, rules}
 use Rattle.std.specs.Prelude.{None}
 use Rattle.sthread_life.specs.Actors.{ActorState}
-use Rattle.sthread_life.specs.Worlds.{actor_named}
+use Rattle.run_laws.specs.Worlds.{actor_named}
 use Rattle.wedge_core.specs.Places.{IsIndexOf}
 use Rattle.wedge_core.proofs.Indexing.{index_push}
 use Rattle.wedge_core.proofs.residents.Residents.push.Goals as goal

@@ -1,0 +1,133 @@
+//! Laws of the definitions: each is the contract of a function that does nothing.
+
+ghost use Rattle.wedge_base.specs.Images.{Image};
+ghost use Rattle.run_laws.specs.Laws.{CellsOpen, AccessesAreIsolated, MomentsAreLawful, NamesAreDistinct, RunsWriteTheirOwn, RunsReadTheirOwn, LivesAreCounted, FuelIsKept, RootBounds, SlotsAreOccupied, CopiesAreGranted, GatesAreKept, NoneRunsWithin, GatesHeldAreOlder, RunsAreAlone, RunsEnd, EndedHaveJoinedAll, AllHaveEnded, DraftsAreSorted};
+ghost use Rattle.run_laws.specs.Walks.{RootsWalk};
+
+/// In every run, whatever the image and the order of the turns, each request that an instruction makes
+/// takes place exactly where the actor's sheet allows it and nothing else refuses it; a denial names the
+/// missing grant, and all else stays but that a load or store ends its actor and a call answers that it is
+/// denied; where no request is in question nothing is denied. A call is refused with the code of its row. Each
+/// actor ends exactly by the cause of its end, passes no instruction over, and pays exactly what each moment
+/// costs: a unit of fuel for an instruction, and one for each byte that it reads or appends, and of the path of a root
+/// directory or of a file that it opens. Its drafts are as its calls made them. Its private bytes are those that it stored, and
+/// a load gives them. It starts and joins its own children alone, each with no more rights than it has itself, and makes
+/// tags, gates and the copies with which children and the runs of gates begin by its own calls alone. It enters a gate that
+/// it holds alone, and the run begins with the sheet, the argument and the fuel that the gate's maker fixed; with the memory that
+/// the maker fixed too, or, in a recycled gate, with that which the gate's cell keeps; and with what the caller lends of its own
+/// where that sheet names nothing. Each turn of an actor that waited for such a run begins with the
+/// value, the end and the fuel that this run left, and each other turn with the actor as it was.
+pub fn moments_are_lawful()
+    ensures { MomentsAreLawful }
+{}
+
+/// In every run the bytes of each tag are those that the image declares, with the stores of the run
+/// written over them in order, and each store was made by an actor with ReadWrite on the tag; the
+/// bytes of each stream are those that the image declares, with the appends of the run behind them in order,
+/// each by an actor with the bit to append. Which tag lives in a slot, its blocks, the kind of a stream and
+/// whether it is open, and all else that the cells hold, is changed by their own events alone: no load or store
+/// changes a tag's number, no append closes a stream.
+pub fn runs_write_their_own()
+    ensures { RunsWriteTheirOwn }
+{}
+
+/// In every run each load of a tag was made by an actor with Read on it or more, and each read of a stream by one with the
+/// bit to read.
+pub fn runs_read_their_own()
+    ensures { RunsReadTheirOwn }
+{}
+
+/// As a run begins, each cell is as the rule of its own kind has it.
+pub fn cells_open_by_their_rules()
+    ensures { (image : Image) → CellsOpen image }
+{}
+
+/// In every world of a run each actor has a name of its own.
+pub fn names_are_distinct()
+    ensures { NamesAreDistinct }
+{}
+
+/// In every run the entries of an actor are a walk of its own: each is an event that it asks at rest, and they
+/// lead to what it is in the end, whatever the cells and the other actors do.
+pub fn actors_walk()
+    ensures { RootsWalk }
+{}
+
+/// In every world of a run the count of live sthreads is that of the actors that have not ended and are not runs of gates, and of
+/// the children that are being prepared; and it is at most 256.
+pub fn lives_are_counted()
+    ensures { LivesAreCounted }
+{}
+
+/// In every run the fuel of the actors that are not joined yet is in sum that of the image, less exactly the units that the
+/// turns took: a unit for each instruction, and one for each byte that was read or appended, and of the path of a root
+/// directory or of a file that was opened. A start gives fuel to a child, and the entry of a gate to its run; a join, or the
+/// end of a run, brings back what is left: none of them changes the sum.
+/// So every run ends: 1,029 turns for each unit of fuel, and two, are more than it can have.
+pub fn fuel_is_kept()
+    ensures sum { FuelIsKept }
+    ensures ends { RunsEnd }
+{}
+
+/// In every world of a run, no actor has a right on a declared tag, or bits on a declared descriptor, that the root did
+/// not have. Where the root's user is not 0, every actor has the root's user and root directory, and every actor's root directory
+/// is under the root's.
+pub fn rights_are_within_the_roots()
+    ensures { RootBounds }
+{}
+
+/// In every world of a run a slot was never used, or was released, or is held by the call of one actor, or one tag lives
+/// there; no two live tags have one number, and a tag lives nowhere but in the slot in which those that hold it have it. So a
+/// tag is opened only where none lives, in a slot that its actor claimed, and a slot is released only by the actor that
+/// closed the tag there.
+pub fn slots_are_occupied()
+    ensures { SlotsAreOccupied }
+{}
+
+/// In every world of a run, each private copy of an actor is at the slot of a grant of a copy on its own sheet, and each copy with which the
+/// runs of a gate begin is at the slot of one on the gate's.
+pub fn copies_are_granted()
+    ensures { CopiesAreGranted }
+{}
+
+/// In every world of a run an actor knows each gate that it holds, by its sheet or because it made it; the sheet of a gate names only gates
+/// that were made before it; and a gate that an actor knows is the one that its maker made under that identity, whoever knows it.
+pub fn gates_are_kept()
+    ensures { GatesAreKept }
+{}
+
+/// Whatever two worlds hold besides, where an actor is the same in both, each tag that it may load from lives in the same slot with the
+/// same bytes or in neither, and each descriptor on which it has a bit has the same stream, a load or a store in the slot of such a tag, and a
+/// read or an append on such a descriptor, has the same event in both: the same reply. The actor then is the same in both, and the
+/// cells still look alike to it.
+pub fn accesses_are_isolated()
+    ensures { AccessesAreIsolated }
+{}
+
+/// In every world of a run, each run of a gate has the gate's sheet, with what was lent to it where that names nothing, and so no other
+/// grant of a copy. A recycled gate is entered exactly while one run of it has not ended, and what it keeps for the next run has the copies
+/// alone that the gate's sheet grants.
+pub fn runs_are_alone()
+    ensures { RunsAreAlone }
+{}
+
+/// In every world of a run, no actor that runs a gate, and none that such a run started or that these started, holds that gate: what it holds
+/// was made before the gate, or at or under the run. So no gate is entered from within.
+pub fn gates_are_not_held_within()
+    ensures own { NoneRunsWithin }
+    ensures others { GatesHeldAreOlder }
+{}
+
+/// In every world of a run, an actor that has ended has joined every actor that it began. So once the root has ended, each
+/// actor has: no child and no run of a gate outlives a complete run.
+pub fn complete_runs_end_all()
+    ensures joined { EndedHaveJoinedAll }
+    ensures all { AllHaveEnded }
+{}
+
+/// In every run, at each instruction, the drafts of the actor have their tags, descriptors and gates in order, and at most 1,024
+/// of them. So what a denied start, making or loan of a draft names is what its actor lacks first
+/// (`excess_names_the_missing_grant` of grant_sheet).
+pub fn drafts_are_sorted()
+    ensures { DraftsAreSorted }
+{}

@@ -1,5 +1,0 @@
-use Rattle.sthread_life.proofs.GatesWithin.{none_within, held_older}
-use Rattle.sthread_life.proofs.laws.gates_are_not_held_within.Goals as goal
-
-pub returns : goal.returns
-returns c = record { own = none_within; others = held_older }
