@@ -60,18 +60,51 @@ mv "$work/out" "$work/schedule"
 measure 'children, replayed' 100000 "$wedge" replay "$work/children.wedge" "$work/schedule"
 cmp "$work/out" "$work/report" || exit 1
 
-# Ten thousand children over 1 MiB of data, of which each writes one page, one started and joined after another.
-{
+# Ten thousand children, one started and joined after another, over so many pages of data, of which each writes one.
+children_over() {
     {
-        printf '.proc main\nsvc sc_new\nli s0, 10000\nagain:\nli a0, 0\nla a1, kid\nli a3, 10\nsvc sthread_create\n'
-        printf 'svc sthread_join\naddi s0, s0, -1\nbnez s0, again\nsvc exit\n.proc kid\nli t0, data_big\nsw t0, 0(t0)\nsvc exit\n'
-    } | partition 500000
-    printf '[[data]]\nname = "big"\nbase = 1048576\nhex = "'
-    awk 'BEGIN { for (k = 0; k < 1048576; k++) printf "a5" }'
-    printf '"\n'
-} > "$work/data.toml"
-"$wedge" build "$work/data.toml" > "$work/data.wedge" || exit 1
-measure 'children over 1 MiB of data' 10000 "$wedge" run "$work/data.wedge"
+        {
+            printf '.proc main\nsvc sc_new\nli s0, 10000\nagain:\nli a0, 0\nla a1, kid\nli a3, 10\nsvc sthread_create\n'
+            printf 'svc sthread_join\naddi s0, s0, -1\nbnez s0, again\nsvc exit\n.proc kid\nli t0, data_big\nsw t0, 0(t0)\nsvc exit\n'
+        } | partition 500000
+        printf '[[data]]\nname = "big"\nbase = 1048576\nhex = "'
+        awk -v bytes="$(($1 * 4096))" 'BEGIN { for (k = 0; k < bytes; k++) printf "a5" }'
+        printf '"\n'
+    } > "$work/data.toml"
+    "$wedge" build "$work/data.toml" > "$work/data.wedge" || exit 1
+    measure "children over $1 pages of data" 10000 "$wedge" run "$work/data.wedge"
+}
+children_over 16
+children_over 64
+children_over 256
+
+# 255 children that live at once over so many pages, of which each writes one: replayed by a schedule in which all are started
+# before the first of them goes on. Where GNU time is there, its memory too.
+living_at_once() {
+    {
+        {
+            printf '.proc main\nsvc sc_new\nli s0, 255\nmore:\nli a0, 0\nla a1, kid\nli a3, 10\nsvc sthread_create\naddi s0, s0, -1\nbnez s0, more\n'
+            printf 'li s0, 0\nagain:\naddi s0, s0, 1\nmv a0, s0\nsvc sthread_join\nli t0, 255\nbne s0, t0, again\nli a0, 0\nsvc exit\n'
+            printf '.proc kid\nli t0, data_big\nsw t0, 0(t0)\nli a0, 0\nsvc exit\n'
+        } | partition 500000
+        printf '[[data]]\nname = "big"\nbase = 1048576\nhex = "'
+        awk -v bytes="$(($1 * 4096))" 'BEGIN { for (k = 0; k < bytes; k++) printf "a5" }'
+        printf '"\n'
+    } > "$work/living.toml"
+    "$wedge" build "$work/living.toml" > "$work/living.wedge" || exit 1
+    awk 'BEGIN {
+        for (k = 0; k < 510; k++) print "0"
+        for (k = 1; k <= 255; k++) print "0." k
+        for (k = 0; k < 256; k++) print "0"
+    }' > "$work/living.schedule"
+    measure "children at once over $1 pages" 255 "$wedge" replay "$work/living.wedge" "$work/living.schedule"
+    if [ -x /usr/bin/time ]; then
+        /usr/bin/time -f "  memory in all: %M KiB" "$program" replay "$work/living.wedge" "$work/living.schedule" 2>&1 > /dev/null | cat
+    fi
+}
+living_at_once 16
+living_at_once 64
+living_at_once 256
 
 # A hundred thousand runs of a gate, one entered after another, and the same replayed.
 {

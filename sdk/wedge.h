@@ -24,7 +24,7 @@ enum wedge_code {
 /* ---- rights on tags, and bits on descriptors */
 
 enum wedge_right {
-    WEDGE_COW = 1,       /* a private copy of the bytes as they are when the child starts */
+    WEDGE_COW = 1,       /* a private copy: of the bytes as they are as the child is prepared, or of the starter's own copy */
     WEDGE_READ = 2,      /* to load */
     WEDGE_READ_WRITE = 3 /* to load and to store, and to place and free blocks */
 };
@@ -245,7 +245,7 @@ static inline struct wedge_reply wedge_grant_fd(uint32_t draft, uint32_t fd, enu
     return wedge_call(9, draft, fd, bits, 0);
 }
 
-/* Puts the gate that this actor has at an entry into a draft. */
+/* Puts the gate at an entry into a draft: the one that this actor has there as the draft is used. */
 static inline struct wedge_reply wedge_grant_gate(uint32_t draft, void (*entry)(uint32_t, uint32_t))
 {
     return wedge_call(10, draft, (uintptr_t)entry, 0, 0);
@@ -311,16 +311,17 @@ static inline struct wedge_reply wedge_make_recycled_gate(uint32_t draft, void (
 /* For wedge_enter, in place of a draft: nothing is lent to the run. */
 #define WEDGE_LEND_NOTHING 0xffffffffu
 
-/* Enters the gate that this actor has at an entry, and waits for the run. A draft of tags and descriptors is lent to it
- * where the gate's own sheet names nothing, for this run alone; or WEDGE_LEND_NOTHING. */
+/* Enters the gate that this actor has at an entry, and waits for the run. A draft of tags (to load or store; no
+ * copies) and descriptors is lent to it where the gate's own sheet names nothing, for this run alone; or
+ * WEDGE_LEND_NOTHING. */
 static inline struct wedge_joined wedge_enter(void (*entry)(uint32_t, uint32_t), uint32_t argument, uint32_t lent)
 {
     struct wedge_answer answer = wedge_ask(14, (uintptr_t)entry, argument, lent, 0);
     return (struct wedge_joined){answer.a0, answer.a1, answer.a2};
 }
 
-/* ---- descriptors and files. A buffer has at most 256 bytes and lies in the stack, the heap or the data; one that is
- * written may also lie in the text, where constants are. None lies in a tag. Each byte takes a unit of fuel. */
+/* ---- descriptors and files. A buffer has at most 256 bytes and lies in the stack, the heap or the data; one from
+ * which bytes are taken, to append or as a path, may also lie in the text, where constants are. None lies in a tag. Each byte takes a unit of fuel. */
 
 /* Reads the next bytes of a source. The value is their number, 0 at the end. */
 static inline struct wedge_reply wedge_read(uint32_t fd, void *buffer, uint32_t length)
