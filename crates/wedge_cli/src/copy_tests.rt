@@ -157,7 +157,7 @@ svc exit
 ];
 
 /// The run in which the child has its one turn before the root stores.
-fn copied() -> Run<'static> {
+fn copied() -> Run<'static, 'static> {
     Run {
         part: Part {
             right: "ReadWrite",

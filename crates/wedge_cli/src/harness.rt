@@ -10,13 +10,13 @@ use std::thread::Threads;
 
 /// A call of the program and what it leaves.
 #[derive(Clone, Copy)]
-pub(crate) struct Case<'a> {
+pub(crate) struct Case<'w, 'a, 's, 'o> {
     /// The arguments.
-    pub words: &'a [&'a str],
+    pub words: &'w [&'w str],
     /// The bytes of the file `a`.
     pub a: &'a [u8],
     /// The bytes of the file `s`.
-    pub s: &'a [u8],
+    pub s: &'s [u8],
     /// The number of the read that fails, from 1; 0 for none.
     pub read_fails: u64,
     /// The number of the write on the error stream that fails, from 1; 0 for none.
@@ -26,13 +26,13 @@ pub(crate) struct Case<'a> {
     /// The exit status.
     pub status: u8,
     /// The bytes on the output.
-    pub out: &'a str,
+    pub out: &'o str,
     /// The bytes on the error stream.
-    pub err: &'a str,
+    pub err: &'o str,
 }
 
 /// Without arguments, over empty files, with the status 0 and nothing written. Nothing fails.
-pub(crate) const CASE: Case<'static> = Case {
+pub(crate) const CASE: Case<'static, 'static, 'static, 'static> = Case {
     words: &[],
     a: b"",
     s: b"",
@@ -87,7 +87,7 @@ fn file(alloc: Global, name: &str, bytes: &[u8]) -> Result<MemFile, AllocError> 
 pub(crate) fn call<R: Threads + Wait + Abort + Sync>(
     rt: &R,
     alloc: Global,
-    case: Case<'_>,
+    case: Case<'_, '_, '_, '_>,
 ) -> Result<Left, Fail> {
     let words = strings(alloc, case.words)?;
     let a = file(alloc, "a", case.a)?;
@@ -120,7 +120,7 @@ pub(crate) fn call<R: Threads + Wait + Abort + Sync>(
 pub(crate) fn leaves<R: Threads + Wait + Abort + Sync>(
     rt: &R,
     alloc: Global,
-    case: Case<'_>,
+    case: Case<'_, '_, '_, '_>,
 ) -> Result<(), Fail> {
     let left = call(rt, alloc, case)?;
     compares(rt, &left, case);
@@ -131,7 +131,7 @@ pub(crate) fn leaves<R: Threads + Wait + Abort + Sync>(
 pub(crate) fn leaves_turns<R: Threads + Wait + Abort + Sync>(
     rt: &R,
     alloc: Global,
-    case: Case<'_>,
+    case: Case<'_, '_, '_, '_>,
     turns: Option<usize>,
 ) -> Result<(), Fail> {
     let left = call(rt, alloc, case)?;
@@ -141,7 +141,7 @@ pub(crate) fn leaves_turns<R: Threads + Wait + Abort + Sync>(
 }
 
 /// What was left is what the case has.
-fn compares(rt: &impl Abort, left: &Left, case: Case<'_>) {
+fn compares(rt: &impl Abort, left: &Left, case: Case<'_, '_, '_, '_>) {
     assert_eq!(rt; left.err.as_slice(), case.err.as_bytes());
     assert_eq!(rt; left.out.as_slice(), case.out.as_bytes());
     assert_eq!(rt; left.status, case.status);
@@ -166,7 +166,7 @@ pub(crate) fn is_no_command<R: Threads + Wait + Abort + Sync>(
 pub(crate) fn written<R: Threads + Wait + Abort + Sync>(
     rt: &R,
     alloc: Global,
-    case: Case<'_>,
+    case: Case<'_, '_, '_, '_>,
 ) -> Result<Vec<u8>, Fail> {
     let left = call(rt, alloc, case)?;
     assert_eq!(rt; left.err.as_slice(), b"".as_slice());
@@ -252,10 +252,10 @@ pub(crate) fn image_of<R: Threads + Wait + Abort + Sync>(
 
 /// A partition, a schedule of its image, and the report.
 #[derive(Clone, Copy)]
-pub(crate) struct Run<'a> {
-    pub part: Part<'a>,
-    pub schedule: &'a str,
-    pub report: &'a str,
+pub(crate) struct Run<'p, 't> {
+    pub part: Part<'p>,
+    pub schedule: &'t str,
+    pub report: &'t str,
 }
 
 /// `run` prints the report of a partition's image.
@@ -279,7 +279,7 @@ pub(crate) fn reports<R: Threads + Wait + Abort + Sync>(
 pub(crate) fn replays<R: Threads + Wait + Abort + Sync>(
     rt: &R,
     alloc: Global,
-    run: Run<'_>,
+    run: Run<'_, '_>,
 ) -> Result<(), Fail> {
     let image = image_of(rt, alloc, run.part)?;
     let case = Case {
@@ -296,7 +296,7 @@ pub(crate) fn replays<R: Threads + Wait + Abort + Sync>(
 pub(crate) fn runs<R: Threads + Wait + Abort + Sync>(
     rt: &R,
     alloc: Global,
-    run: Run<'_>,
+    run: Run<'_, '_>,
 ) -> Result<(), Fail> {
     let image = image_of(rt, alloc, run.part)?;
     let case = Case {

@@ -414,12 +414,18 @@ fn joins<R: Threads + Wait + Abort + Sync>(
         "actor 0 main exited {} pc 00010034 fuel {}\nactor 0.1 kid {}\nstream 0 out \"\"\n",
         joined.value, joined.fuel, joined.report
     )?;
+    let text = [JOINED, joined.kid];
+    let part = Part {
+        fuel: PART.fuel,
+        user: PART.user,
+        root: PART.root,
+        right: "ReadWrite",
+        hex: "",
+        tables: "",
+        text: &text,
+    };
     let run = Run {
-        part: Part {
-            right: "ReadWrite",
-            text: &[JOINED, joined.kid],
-            ..PART
-        },
+        part,
         schedule: schedule.as_str(),
         report: report.as_str(),
     };
