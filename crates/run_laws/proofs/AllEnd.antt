@@ -6,8 +6,6 @@ use Rattle.wedge_base.specs.Images.{Image}
 use Rattle.wedge_base.specs.Names.{same, root_name}
 use Rattle.wedge_events.specs.declared.events.Event.{Event}
 use Rattle.wedge_events.specs.declared.events.Turn.{Turn}
-use Rattle.sthread_life.specs.declared.phase.Phase.{Phase}
-use Rattle.sthread_life.specs.declared.phase.Phase.TheVariants as phase
 use Rattle.sthread_life.specs.Actors.{ActorState, root}
 use Rattle.sthread_life.specs.Children.{is_child, child_name}
 use Rattle.sthread_life.specs.Local.{has_ended, rest}
@@ -16,7 +14,7 @@ use Rattle.run_laws.specs.Ends.{is_end_event}
 use Rattle.run_laws.specs.FamilyTrees.{IsChildOf, IsOfTree, Family}
 use Rattle.run_laws.specs.Fuel.{starter_of, number_in, has_child}
 use Rattle.run_laws.specs.Laws.{EndedHaveJoinedAll, AllHaveEnded}
-use Rattle.run_laws.specs.Worlds.{WorldState, opening, actor_named, put_actor, with_begun, turn_of, Runs, ready, resumed, is_ended}
+use Rattle.run_laws.specs.Worlds.{WorldState, opening, actor_named, put_actor, with_begun, Runs, ready, resumed, is_ended}
 use Rattle.run_laws.proofs.Between.{event_for, takes_name}
 use Rattle.run_laws.proofs.FamilyRuns.{Acts, ActsAlone, Starts, Enters, Joins, acts, one_begins, run_family}
 use Rattle.run_laws.proofs.Happening.{Happens, Requested, Joined, Snaps, GateSnaps, Started, Opens, Releases, Numbers, OpensFile, LastJoined, Ended, EntersGate, LeavesGate, EntersRecycled, LeavesRecycled}

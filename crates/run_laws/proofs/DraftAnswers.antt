@@ -6,7 +6,6 @@ use Rattle.std.specs.Prelude.{Option, Some, None, option_and_then, not, ◌||◌
 use Rattle.wedge_base.specs.Images.{Image, fetch}
 use Rattle.wedge_base.specs.Sheets.{Draft, empty_draft, takes_tag, takes_fd, takes_gate, with_tag, with_fd, with_gate}
 use Rattle.wedge_base.specs.declared.rights.Code.TheVariants as code
-use Rattle.wedge_base.specs.declared.rights.FdBits.{FdBits}
 use Rattle.wedge_base.specs.declared.rights.Right.TheVariants as right
 use Rattle.rv_isa.specs.declared.Instr.{Instr}
 use Rattle.rv_isa.specs.Table.{decode}
@@ -15,11 +14,11 @@ use Rattle.rv_hart.specs.declared.Need.{Need}
 use Rattle.rv_hart.specs.declared.Need.TheVariants as need
 use Rattle.rv_hart.specs.Local.{local}
 use Rattle.sthread_life.specs.declared.phase.Phase.TheVariants as phase
-use Rattle.sthread_life.specs.Actors.{ActorState, answers, refuses, spends, gate_held}
+use Rattle.sthread_life.specs.Actors.{ActorState, answers, refuses, spends}
 use Rattle.sthread_life.specs.Calls.{serves, exit, is_procedure, create, join, tag_new, tag_delete, smalloc, sfree, fd_read, fd_append, fd_close, draft_call, sc_new, sc_mem_add, sc_fd_add, sc_cgate_add, add_gate_to, with_draft, add_right, add_right_to, add_bits, add_bits_to, bits, a0, a1, a2, a7, set_user, sc_user, path_in, set_root, sc_root, file_open, cgate_make, cgate}
 use Rattle.sthread_life.specs.Local.{needed, executed, fuelled, fetched, step}
 use Rattle.run_laws.specs.Allowed.{answered}
-use Rattle.run_laws.specs.Drafting.{right_of_number, bits_of_number, edited, with_new, drafts_by_call, is_draft_call, draft_value, AnswersDraft, AnswersNeed, AnswersInstr, AnswersWith, AnswersDrafts}
+use Rattle.run_laws.specs.Drafting.{right_of_number, bits_of_number, edited, with_new, drafts_by_call, is_draft_call, draft_value, AnswersNeed, AnswersInstr, AnswersWith, AnswersDrafts}
 use Rattle.run_laws.specs.Refusals.{full, bad, right_refusal, bits_refusal, gate_refusal, fuel_short, user_refusal, root_refusal, draft_refusal}
 use Rattle.run_laws.specs.Worlds.{WorldState, with_actor}
 use Rattle.run_laws.proofs.Buffers.{path_is}

@@ -53,7 +53,6 @@ use Rattle.sthread_life.specs.Taking.{runs, loads_by, loads_at, takes}
 use Rattle.sthread_life.specs.Copying.{Preparation}
 use Rattle.sthread_life.specs.declared.copy_grant.CopyGrant.{CopyGrant}
 use Rattle.sthread_life.specs.Lending.{may_lend, excess_lent}
-use Rattle.sthread_life.specs.Entrances.{Entrance}
 use Rattle.callgate.specs.declared.gate.Gate.{Gate}
 
 -- ---- what leaves them as they are

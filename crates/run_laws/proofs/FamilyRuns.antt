@@ -27,14 +27,14 @@ use Rattle.run_laws.specs.Laws.{NamesAreDistinct, FuelIsKept}
 use Rattle.sthread_life.specs.Local.{step, is_running, has_ended, end_reached, run_local, rest}
 use Rattle.run_laws.specs.Moments.{EachTurn}
 use Rattle.run_laws.specs.Paying.{cost_at, cost_by, given_by, brought_by}
-use Rattle.sthread_life.specs.Taking.{next_start, takes, begun, child_of, run_by, run_at, has_entered}
+use Rattle.sthread_life.specs.Taking.{next_start, takes, begun, child_of, run_by}
 use Rattle.run_laws.specs.Worlds.{WorldState, opening, actor_named, put_actor, with_begun, turn_of, Runs, ready, resumed}
 use Rattle.run_laws.proofs.Between.{event_for, IsJoin, joined_is, takes_name, takes_between, entered_by}
 use Rattle.run_laws.proofs.Families.{IsOfOne, takes_same, first_child}
 use Rattle.run_laws.specs.FamilyTrees.{IsOfTree, Family, WaitsForOwn}
 use Rattle.run_laws.proofs.FamilyKept.{family_alone, JoinsChild, family_joined, StartsChild, family_started, has_more}
 use Rattle.run_laws.proofs.FuelSums.{sum_alone, sum_joined, sum_started}
-use Rattle.run_laws.proofs.Happening.{Happens, Requested, Joined, Snaps, GateSnaps, Started, Opens, Releases, Numbers, OpensFile, LastJoined, Ended, AtStart, AtEnter, EntersGate, LeavesGate, EntersRecycled, LeavesRecycled}
+use Rattle.run_laws.proofs.Happening.{Happens, Requested, Joined, Snaps, GateSnaps, Started, Opens, Releases, Numbers, OpensFile, LastJoined, Ended, AtStart, EntersGate, LeavesGate, EntersRecycled, LeavesRecycled}
 use Rattle.run_laws.proofs.Meeting.{IsRequest}
 use Rattle.run_laws.proofs.Named.{found_name, same_equal}
 use Rattle.run_laws.proofs.Paying.{step_pays, event_pays}
@@ -42,7 +42,6 @@ use Rattle.sthread_life.proofs.Resting.{rests, rest-stays, rest-name, rest-ended
 use Rattle.run_laws.proofs.Settling.{AllReady, turn_happens, turn_ready, opening_ready, turned_there}
 use Rattle.run_laws.proofs.Trees.{IsPut, put_same}
 use Rattle.sthread_life.specs.Between.{IsBetween}
-use Rattle.sthread_life.specs.Entrances.{Entrance}
 use Rattle.run_laws.proofs.Waits.{waits_none, leaves_awake}
 use Rattle.run_laws.proofs.Turns.{back, RunEnded, Readies, Stays, Back, readies, turn_from}
 

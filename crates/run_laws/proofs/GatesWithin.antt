@@ -32,13 +32,13 @@ use Rattle.run_laws.proofs.Families.{takes_sheet, child_begins}
 use Rattle.run_laws.proofs.FamilyKept.{has_name, next_is_new}
 use Rattle.run_laws.proofs.FamilyRuns.{Acts, ActsAlone, Starts, Enters, Joins, acts, one_begins, kept_at_rest, resumed_family, turn_family, opening_family}
 use Rattle.run_laws.proofs.GateMoments.{event_makes_gates}
-use Rattle.run_laws.proofs.GateRuns.{held_is, IsEntry}
+use Rattle.run_laws.proofs.GateRuns.{held_is}
 use Rattle.run_laws.proofs.KnownGates.{named_still, named_or_last, order_known, Grows, Keeps, Adds, step_grows, by_phase, AreHeld, rest_held, resumed_held, turn_held, opening_held}
-use Rattle.run_laws.proofs.Named.{same_self, same_equal, found_name, put_put}
+use Rattle.run_laws.proofs.Named.{found_name, put_put}
 use Rattle.run_laws.proofs.RecycledRuns.{named_id, entered_known, takes_run_of}
-use Rattle.sthread_life.proofs.Resting.{steps_step, stays, goes_on, rest-name, rest-stays}
+use Rattle.sthread_life.proofs.Resting.{steps_step, stays, goes_on, rest-name}
 use Rattle.run_laws.proofs.Settling.{AllReady, turn_happens, turn_ready, opening_ready, turned_there}
-use Rattle.run_laws.proofs.Trees.{IsPut, IsDoer, IsOther, child_apart, find_put, found_put, found_else, found_or_last}
+use Rattle.run_laws.proofs.Trees.{IsPut, IsDoer, IsOther, find_put, found_put, found_or_last}
 use Rattle.run_laws.proofs.Turns.{ready_is, ready_name, ready_sheet, turn_from}
 
 -- ---- names

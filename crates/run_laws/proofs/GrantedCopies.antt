@@ -58,7 +58,7 @@ use Rattle.run_laws.proofs.Between.{IsPreparing, takes_name}
 use Rattle.sthread_life.proofs.ByNumber.{same_number, number_itself}
 use Rattle.run_laws.proofs.Families.{takes_sheet}
 use Rattle.run_laws.proofs.FamilyRuns.{Acts, ActsAlone, Starts, Enters, Joins, acts, one_begins}
-use Rattle.run_laws.proofs.Happening.{Happens, snap_cases, Requested, Joined, Snaps, GateSnaps, Started, Opens, Releases, Numbers, OpensFile, LastJoined, Ended, AtEnter, EntersGate, LeavesGate, EntersRecycled, LeavesRecycled, memory_for}
+use Rattle.run_laws.proofs.Happening.{Happens, snap_cases, Requested, Joined, Snaps, GateSnaps, Started, Opens, Releases, Numbers, OpensFile, LastJoined, Ended, EntersGate, LeavesGate, EntersRecycled, LeavesRecycled, memory_for}
 use Rattle.run_laws.proofs.Keeping.{step_remembers, event_copies}
 use Rattle.run_laws.proofs.Preparing.{was_preparing}
 use Rattle.sthread_life.proofs.Resting.{IsCalm, steps_step, rests, stays, goes_on, rest-stays, rest-name}

@@ -64,7 +64,6 @@ use Rattle.run_laws.proofs.WritingRanges.{length-bytes_of, written_at}
 use Rattle.sthread_life.specs.Copying.{Preparation}
 use Rattle.sthread_life.specs.declared.copy_grant.CopyGrant.{CopyGrant}
 use Rattle.sthread_life.specs.Lending.{may_lend, excess_lent}
-use Rattle.sthread_life.specs.Entrances.{Entrance}
 use Rattle.callgate.specs.declared.gate.Gate.{Gate}
 
 -- what keeps private memory

@@ -30,14 +30,14 @@ use Rattle.sthread_life.specs.Local.{is_running, step, run_local, rest}
 use Rattle.run_laws.specs.Requests.{Request, Loads, Stores, Reads, Appends, Closes, Opens, Creates, Makes, Enters as EntersAt, Deletes, Allots, Frees, request_at}
 use Rattle.sthread_life.specs.Taking.{next_start, takes, child_of, run_by, begun}
 use Rattle.run_laws.specs.Worlds.{WorldState, opening, actor_named, put_actor, with_begun, turn_of, ready, resumed, Runs, with_actor}
-use Rattle.run_laws.proofs.Between.{takes_name, entered_is}
+use Rattle.run_laws.proofs.Between.{takes_name}
 use Rattle.run_laws.proofs.Bounding.{with_same, with_other}
 use Rattle.run_laws.proofs.Families.{takes_sheet, child_begins, run_begins}
 use Rattle.run_laws.proofs.FamilyRuns.{Acts, ActsAlone, Starts, Enters, Joins, acts, one_begins}
 use Rattle.run_laws.proofs.Turns.{ready_is, ready_name, ready_sheet, turn_from}
 use Rattle.run_laws.proofs.GateRuns.{held_is, IsEntry}
 use Rattle.run_laws.proofs.GateMoments.{step_makes_gates, event_makes_gates}
-use Rattle.run_laws.proofs.Happening.{AtStart, AtEnter}
+use Rattle.run_laws.proofs.Happening.{AtStart}
 use Rattle.run_laws.proofs.Named.{same_self, same_equal, put_put, named_begun}
 use Rattle.sthread_life.proofs.Resting.{steps_step, stays, goes_on, running_is, rest-name}
 use Rattle.run_laws.proofs.Settling.{AllReady, turn_happens, turn_ready, opening_ready, turned_there}

@@ -107,6 +107,8 @@ pub mod FamilyRuns
 pub mod Bounding
 -- In which slots an actor has tags.
 pub mod SlotsKnown
+-- The slot in which an actor has a tag that it made, or may store to.
+pub mod TagSlots
 -- The slots and the tags of every run are as they should be.
 pub mod Occupying
 -- Every turn of a run leaves the slots and the tags as they should be, and so does every run.

@@ -1,5 +1,5 @@
 -- Each moment of a run: each request is mediated, and each end has its cause.
-use Rattle.std.proofs.Common.{◌≡◌, ◌+◌, ℕ, zero, suc, Bool, true, false, List, [], ◌∷◌, refl, sym, ap, subst, ◌∙◌, inl, inr}
+use Rattle.std.proofs.Common.{length, ◌≡◌, ◌+◌, ℕ, zero, suc, Bool, true, false, List, [], ◌∷◌, refl, sym, ap, subst, ◌∙◌, inl, inr}
 use Rattle.wedge_events.specs.Lives.{most_lives, lives_next}
 use Rattle.std.specs.Prelude.{Option, Some, None, nat_lt, IsSomeAnd, option_map, not, ◌+◌, slice_get, slice_set, slice_range, option_and_then, if◌then◌else◌, ◌++◌}
 use Rattle.cow_pages.specs.PrivateMemory.{PrivateMemory}
@@ -57,13 +57,13 @@ use Rattle.sthread_life.specs.Taking.{next_start, pair, runs, loads_by, loads_at
 use Rattle.run_laws.specs.Cells.{Cells, held, slot_in, stream_in, cells_after}
 use Rattle.run_laws.specs.Worlds.{WorldState, opening, actor_named, put_actor, with_begun, turn_of, Runs, with_actor, ready, resumed}
 use Rattle.run_laws.specs.Requests.{Access, Request, Loads, Stores, Reads, Appends, Closes, Opens, Creates, Deletes, Allots, Frees, request_at, in_tag, Makes, Enters}
-use Rattle.run_laws.specs.Allowed.{may_use, lacks, is_refused, next_word, IsDone, denied, HasBegunGate, IsAboutToEnter}
-use Rattle.run_laws.specs.Moments.{EachMoment, TurnHas, is_use, slot_used, NothingDenied, IsChecked, ComesToEvent, IsMet, IsAnswered, MeetsWith, AnswersAt, GoesOnAs, EachMomentOf}
+use Rattle.run_laws.specs.Allowed.{may_use, lacks, is_refused, next_word, IsDone, denied, comes_to, HasBegunGate, IsAboutToEnter}
+use Rattle.run_laws.specs.Moments.{EachMoment, EachInstructionOf, TurnHas, is_use, slot_used, NothingDenied, IsChecked, ComesToEvent, IsMet, IsAnswered, Misses, MeetsWith, AnswersAt, GoesOnAs, EachMomentOf}
 use Rattle.run_laws.specs.Ends.{GoesTo, is_end_event, end_of, end_at, end_by, reply_end}
 use Rattle.run_laws.specs.Refusals.{full, RefusesIn, RefusesAfter, slot_refuses, is_refusal, refused}
 use Rattle.run_laws.specs.Remembering.{WordRemembers, EventRemembers}
 use Rattle.run_laws.specs.TagCalls.{MakesAt}
-use Rattle.run_laws.specs.Laws.{IsLawful, MomentsAreLawful}
+use Rattle.run_laws.specs.Laws.{IsLawful, MomentsAreLawful, InstructionsAreLawful}
 use Rattle.run_laws.proofs.Checking.{kept, put_there, checked_denied, checked_allowed, after, stayed, same_slots, pair_on, slot_world}
 use Rattle.run_laws.proofs.TagMoments.{claim_unused, close_answered, place_answered, free_answered, opened_denials, released_denials, claim_slot_next, close_next, place_next, free_next, opened_next, released_next, slots_told, claim_slot_refused, close_refused, place_refused, free_refused, claim_slot_passed, close_passed, place_passed, free_passed, step_makes, want_makes, open_makes, release_makes}
 use Rattle.run_laws.proofs.StreamMoments.{stream_answered, stream_next, stream_refused, stream_passed}
@@ -86,6 +86,7 @@ use Rattle.run_laws.proofs.Families.{step_family, event_family, ended_so}
 use Rattle.run_laws.specs.GateCalls.{InstrMakesGates, EventMakesGates}
 use Rattle.run_laws.proofs.GateMoments.{step_makes_gates, event_makes_gates}
 use Rattle.run_laws.proofs.MakingGates.{longer}
+use Rattle.run_laws.proofs.TagSlots.{made_slot, used_slot, at_slot, of_slot}
 use Rattle.sthread_life.specs.Entrances.{Entrance}
 use Rattle.run_laws.specs.Families.{joined}
 use Rattle.run_laws.proofs.Turns.{Readies, Stays, Back, readies, turn_from}
@@ -94,7 +95,7 @@ use Rattle.run_laws.proofs.Turns.{Readies, Stays, Back, readies, turn_from}
 
 -- a request that is checked at once
 checked_now : (w : WorldState) (b p x a : ActorState) (r : Request) → actor_named w.actors b.name ≡ Some a → p.name ≡ b.name → p.denials ≡ b.denials → x.name ≡ b.name → p.phase ≡ phase.Running
-    → ((o : Option ActorState) → IsDone p r None o → o ≡ Some (record p { phase = phase_for p r })) → ((o : Option ActorState) → o ≡ Some (record p { phase = phase_for p r }) → IsDone p r None o)
+    → ((o : Option ActorState) → IsDone p r None o → o ≡ Some (record p { phase = phase_for p r })) → (lacks p r ≡ None → (o : Option ActorState) → o ≡ Some (record p { phase = phase_for p r }) → IsDone p r None o)
     → (phase_for p r ≡ phase.Running → ⊥) → ((y : Denial) → (denied p r y).phase ≡ phase.Running) → ((y : Denial) → (denied p r y).name ≡ p.name) → (DoneNow p r x → x ≡ record p { phase = phase_for p r }) → IsCheckedNow p r x
     → IsChecked (with_actor w b) p r None (with_actor w x)
 checked_now w b p x a r named pn pd xn run from to moves runs_on same_name out now = by_denial (lacks p r) refl (is_refused p r) refl
@@ -116,7 +117,7 @@ checked_now w b p x a r named pn pd xn run from to moves runs_on same_name out n
         checked_denied (with_actor w b) p r None (with_actor w x) y lack (λ e. not_within (denied_runs y (now.denied y lack)) (sym found ∙ from _ e)) (put_again_at (denied p r y) (same_name y ∙ pn) (now.denied y lack))
     by_denial None lack false refused =
         let is = out (now.done lack refused) in
-        checked_allowed (with_actor w b) p r None (with_actor w x) false lack refused (λ e. refl, λ e. to _ (found ∙ ap Some is)) (kept w w.cells b x xn (ap (λ (z : ActorState). z.denials) is ∙ pd)) (λ z. absurd cc)
+        checked_allowed (with_actor w b) p r None (with_actor w x) false lack refused (λ e. refl, λ e. to lack _ (found ∙ ap Some is)) (kept w w.cells b x xn (ap (λ (z : ActorState). z.denials) is ∙ pd)) (λ z. absurd cc)
     by_denial None lack true refused =
         let is = now.refused lack refused in
         checked_allowed (with_actor w b) p r None (with_actor w x) true lack refused (λ e. absurd (not_within is.0 (sym found ∙ from _ e)), λ e. absurd cc) (kept w w.cells b x xn (is.1 ∙ pd)) (λ z. refl)
@@ -181,18 +182,28 @@ checked_enter w b p x a entry lent named pn pd xn now = by_denial (lacks p r) re
 comes_there : (w : WorldState) (b p x : ActorState) → p.name ≡ b.name → (q : Want) × (x ≡ record p { phase = phase.Within q }) → ComesToEvent (with_actor w b) p (with_actor w x)
 comes_there w b p x pn q = (q.0, ap (with_actor w) q.1 ∙ ap (λ (as_ : List ActorState). record w { actors = as_ }) (sym (put_put w.actors b (record p { phase = phase.Within q.0 }) pn)))
 
+none_lacking : (t : Bool) (d : Denial) → (if t then None else Some d) ≡ None → t ≡ true
+none_lacking true d lack = refl
+none_lacking false d lack = absurd cc
+
 met_by : (w : WorldState) (b p x a : ActorState) (r : Request) → actor_named w.actors b.name ≡ Some a → p.name ≡ b.name → p.denials ≡ b.denials → x.name ≡ b.name → p.phase ≡ phase.Running → MetBy p r x → IsMet (with_actor w b) p (Some r) (with_actor w x)
 met_by w b p x a (Loads y rd s) named pn pd xn run m = comes_there w b p x pn m
 met_by w b p x a (Stores y value) named pn pd xn run m = comes_there w b p x pn m
 met_by w b p x a (Reads fd s n) named pn pd xn run m = comes_there w b p x pn m
 met_by w b p x a (Appends fd s bytes) named pn pd xn run m = comes_there w b p x pn m
 met_by w b p x a (Closes fd s) named pn pd xn run m = comes_there w b p x pn m
-met_by w b p x a (Opens path f c) named pn pd xn run m = checked_now w b p x a (Opens path f c) named pn pd xn run (λ o e. e.1) (λ o e. (refl, e)) (λ e. absurd cc) (λ y. refl) (λ y. refl) (λ e. e) m
-met_by w b p x a (Creates d) named pn pd xn run m = checked_now w b p x a (Creates d) named pn pd xn run (λ o e. e.1) (λ o e. (refl, e)) (λ e. absurd cc) (λ y. refl) (λ y. refl) (λ e. e) m
+met_by w b p x a (Opens path f c) named pn pd xn run m = checked_now w b p x a (Opens path f c) named pn pd xn run (λ o e. e.1) (λ lack o e. (refl, e)) (λ e. absurd cc) (λ y. refl) (λ y. refl) (λ e. e) m
+met_by w b p x a (Creates d) named pn pd xn run m = checked_now w b p x a (Creates d) named pn pd xn run (λ o e. e.1) (λ lack o e. (refl, e)) (λ e. absurd cc) (λ y. refl) (λ y. refl) (λ e. e) m
 met_by w b p x a (Makes d) named pn pd xn run m = checked_make w b p x a d named pn pd xn m
 met_by w b p x a (Enters entry lent) named pn pd xn run m = checked_enter w b p x a entry lent named pn pd xn m
-met_by w b p x a (Deletes tag) named pn pd xn run m = checked_now w b p x a (Deletes tag) named pn pd xn run (λ o e. e.1) (λ o e. (refl, e)) (λ e. absurd cc) (λ y. refl) (λ y. refl) (λ e. e) m
-met_by w b p x a (Allots tag size) named pn pd xn run m = checked_now w b p x a (Allots tag size) named pn pd xn run (λ o e. e.1) (λ o e. (refl, e)) (λ e. absurd cc) (λ y. refl) (λ y. refl) (λ e. e) m
+met_by w b p x a (Deletes tag) named pn pd xn run m = checked_now w b p x a (Deletes tag) named pn pd xn run
+    (λ o e. of_slot (λ slot. o ≡ comes_to p (want.Slot slot (slot_want.Close tag))) _ e.1)
+    (λ lack o e. (refl, at_slot (λ slot. o ≡ comes_to p (want.Slot slot (slot_want.Close tag))) _ _ (made_slot p tag (none_lacking _ (denial.NotMaker tag) lack)) e))
+    (λ e. absurd cc) (λ y. refl) (λ y. refl) (λ e. e) m
+met_by w b p x a (Allots tag size) named pn pd xn run m = checked_now w b p x a (Allots tag size) named pn pd xn run
+    (λ o e. of_slot (λ slot. o ≡ comes_to p (want.Slot slot (slot_want.Smalloc tag size))) _ e.1)
+    (λ lack o e. (refl, at_slot (λ slot. o ≡ comes_to p (want.Slot slot (slot_want.Smalloc tag size))) _ _ (used_slot p tag (none_lacking _ (denial.Tag tag right.ReadWrite) lack)) e))
+    (λ e. absurd cc) (λ y. refl) (λ y. refl) (λ e. e) m
 met_by w b p x a (Frees q g) named pn pd xn run m = comes_there w b p x pn m
 
 met_as : (w : WorldState) (b p x a : ActorState) (o : Option Request) → actor_named w.actors b.name ≡ Some a → p.name ≡ b.name → p.denials ≡ b.denials → x.name ≡ b.name → p.phase ≡ phase.Running
@@ -337,14 +348,55 @@ claimed_for w b (Some d) ready there = (claim_answered w b (record w.cells { liv
 
 answered_for : (w : WorldState) (b a : ActorState) (rd : ℕ) (s : Bool) (q : Want) → actor_named w.actors b.name ≡ Some a → IsRequest (LoadsAt w.image b.hart rd s) b q → IsAnsweredFor w b q (request_for w.cells b rd s q)
 answered_for w b a rd s (want.Slots directory_ask.Claim) named own = claim_unused w b (claim w.cells.places) w.cells.places
-answered_for w b a rd s (want.Slot slot (slot_want.Close tag)) named own = close_answered w b a slot tag (slot_in w.cells slot) named refl own.1
-answered_for w b a rd s (want.Slot slot (slot_want.Smalloc tag size)) named own = place_answered w b a slot tag size (slot_in w.cells slot) named refl own.1
+answered_for w b a rd s (want.Slot slot (slot_want.Close tag)) named own = close_answered w b a slot tag (slot_in w.cells slot) named refl (made_slot b tag own.0 ∙ ap Some (sym own.1))
+answered_for w b a rd s (want.Slot slot (slot_want.Smalloc tag size)) named own = place_answered w b a slot tag size (slot_in w.cells slot) named refl (used_slot b tag own.0 ∙ ap Some (sym own.1))
 answered_for w b a rd s (want.Slot slot (slot_want.Sfree offset)) named own = free_answered w b a slot offset (slot_in w.cells slot) named refl
 answered_for w b a rd s (want.Slot slot (slot_want.Load offset width)) named own = load_answered w b a slot offset width rd s (slot_in w.cells slot) named own refl
 answered_for w b a rd s (want.Slot slot (slot_want.Store offset width value)) named own = store_answered w b a slot offset width value (slot_in w.cells slot) named refl
 answered_for w b a rd s (want.Fd fd q) named own = stream_answered w b a fd q named own
 answered_for w b a rd s (want.Lives lives_ask.Claim) named own = claimed_for w b (slice_get b.drafts (a0 b)) own refl
 answered_for w b a rd s q named own = absurd own
+
+-- an access that reaches no bytes of a tag
+misses_load : (w : WorldState) (b : ActorState) (slot offset width rd : ℕ) (s : Bool) (o : Option Live) (g : Option Segment) → slot_in w.cells slot ≡ g
+    → Misses (with_actor w b) b (want.Slot slot (slot_want.Load offset width)) (event.Slot slot (slot_ask.Load offset width o) (slot_reply_of g (slot_ask.Load offset width o)))
+    (in_tag (λ x. Loads x rd s) (record { slot = slot; offset = offset }) width g) (slot_world w b slot g (slot_ask.Load offset width o) (slot_reply_of g (slot_ask.Load offset width o)))
+unfolding takes
+misses_load w b slot offset width rd s o None there = record { asked = slot_ask.Load offset width o; is = refl; after = stayed w b (ends b end_.Unmapped) _ (same_slots w slot None there) refl }
+misses_load w b slot offset width rd s o (Some g) there = by_bytes (nat_lt offset (length g.bytes)) _
+  where
+    by_bytes : (u : Bool) (r : SlotReply)
+        → Misses (with_actor w b) b (want.Slot slot (slot_want.Load offset width)) (event.Slot slot (slot_ask.Load offset width o) (if not u then slot_reply.Unmapped else r))
+        (if u then Some (Loads (access slot offset width g) rd s) else None) (slot_world w b slot (Some g) (slot_ask.Load offset width o) (if not u then slot_reply.Unmapped else r))
+    by_bytes false r = record { asked = slot_ask.Load offset width o; is = refl; after = stayed w b (ends b end_.Unmapped) _ (same_slots w slot (Some g) there) refl }
+    by_bytes true r = tt
+
+misses_store : (w : WorldState) (b : ActorState) (slot offset width value : ℕ) (o : Option Live) (g : Option Segment) → slot_in w.cells slot ≡ g
+    → Misses (with_actor w b) b (want.Slot slot (slot_want.Store offset width value)) (event.Slot slot (slot_ask.Store offset width value o) (slot_reply_of g (slot_ask.Store offset width value o)))
+    (in_tag (λ x. Stores x value) (record { slot = slot; offset = offset }) width g) (slot_world w b slot g (slot_ask.Store offset width value o) (slot_reply_of g (slot_ask.Store offset width value o)))
+unfolding takes
+misses_store w b slot offset width value o None there = record { asked = slot_ask.Store offset width value o; is = refl; after = stayed w b (ends b end_.Unmapped) _ (same_slots w slot None there) refl }
+misses_store w b slot offset width value o (Some g) there = by_bytes (nat_lt offset (length g.bytes)) _
+  where
+    by_bytes : (u : Bool) (r : SlotReply)
+        → Misses (with_actor w b) b (want.Slot slot (slot_want.Store offset width value)) (event.Slot slot (slot_ask.Store offset width value o) (if not u then slot_reply.Unmapped else r))
+        (if u then Some (Stores (access slot offset width g) value) else None) (slot_world w b slot (Some g) (slot_ask.Store offset width value o) (if not u then slot_reply.Unmapped else r))
+    by_bytes false r = record { asked = slot_ask.Store offset width value o; is = refl; after = stayed w b (ends b end_.Unmapped) _ (same_slots w slot (Some g) there) refl }
+    by_bytes true r = tt
+
+abbrev MissesFor : WorldState → ActorState → Want → Option Request → Type 0
+MissesFor w b q o = Misses (with_actor w b) b q (event_for w.cells b q) o (after w b (event_for w.cells b q))
+
+misses_for : (w : WorldState) (b : ActorState) (N : ℕ → Type 0) (rd : ℕ) (s : Bool) (q : Want) → IsRequest N b q → MissesFor w b q (request_for w.cells b rd s q)
+misses_for w b N rd s (want.Slots directory_ask.Claim) own = tt
+misses_for w b N rd s (want.Slot slot (slot_want.Close tag)) own = tt
+misses_for w b N rd s (want.Slot slot (slot_want.Smalloc tag size)) own = tt
+misses_for w b N rd s (want.Slot slot (slot_want.Sfree offset)) own = tt
+misses_for w b N rd s (want.Slot slot (slot_want.Load offset width)) own = misses_load w b slot offset width rd s _ (slot_in w.cells slot) refl
+misses_for w b N rd s (want.Slot slot (slot_want.Store offset width value)) own = misses_store w b slot offset width value _ (slot_in w.cells slot) refl
+misses_for w b N rd s (want.Fd fd q) own = tt
+misses_for w b N rd s (want.Lives lives_ask.Claim) own = tt
+misses_for w b N rd s q own = absurd own
 
 -- an event of no request
 unasked : (w : WorldState) (b : ActorState) (e : Event) → begun w.image b e ≡ None → (takes w.image b e).denials ≡ b.denials → NothingDenied (with_actor w b) (after w b e)
@@ -388,11 +440,13 @@ snap_unasked w b slot tag g = (
 answered_at : (w : WorldState) (b a : ActorState) (e : Event) → actor_named w.actors b.name ≡ Some a → Happens w b e → AnswersAt (with_actor w b) b b.phase e (after w b e)
 answered_at w b a e named (Requested r) =
     subst (λ ph. AnswersAt (with_actor w b) b ph e (after w b e)) (sym r.at)
-    (subst (λ y. IsAnswered (with_actor w b) b y (request_at w.image w.cells b) (after w b y)) (sym r.is)
-    (subst (IsAnsweredFor w b r.want) (sym (r.asked w.cells)) (answered_for w b a r.rd r.is_signed r.want named r.own)))
+    (subst (λ y. IsAnswered (with_actor w b) b y (request_at w.image w.cells b) (after w b y) × Misses (with_actor w b) b r.want y (request_at w.image w.cells b) (after w b y)) (sym r.is) (
+      subst (IsAnsweredFor w b r.want) (sym (r.asked w.cells)) (answered_for w b a r.rd r.is_signed r.want named r.own),
+      subst (MissesFor w b r.want) (sym (r.asked w.cells)) (misses_for w b _ r.rd r.is_signed r.want r.own),
+    ))
 answered_at w b a e named (Joined j) =
     subst (λ ph. AnswersAt (with_actor w b) b ph e (after w b e)) (sym j.at)
-    (subst (λ o. IsAnswered (with_actor w b) b e o (after w b e)) (sym (j.asked w.cells)) (join_unasked w b j.number e j.join))
+    (subst (λ o. IsAnswered (with_actor w b) b e o (after w b e)) (sym (j.asked w.cells)) (join_unasked w b j.number e j.join), tt)
 answered_at w b a e named (Snaps s) =
     subst (λ ph. AnswersAt (with_actor w b) b ph e (after w b e)) (sym s.at)
     (subst (λ y. NothingDenied (with_actor w b) (after w b y) × (is_use y ≡ false)) (sym s.is) (snap_unasked w b s.grant.slot s.grant.tag (slot_in w.cells s.grant.slot)))
@@ -890,11 +944,9 @@ turn_has P w t new all e instructs happens a named =
     subst (λ (x : ActorState). (b : ActorState) × GoesOnAs w.actors x x.phase b × EachMomentOf P (with_actor w b) b t.event new) same_actor
     (ready w.actors p.actor, goes, subst (λ (x : ActorState). EachMomentOf P v x t.event new) p.is moments)
 
--- a turn of a world whose actors rest as those of a run do is lawful
-pub turn_lawful : (w : WorldState) (t : Turn) (new : WorldState) → AllReady w → turn_of w t.actor ≡ Some (record { event = t.event; world = new }) → TurnHas IsLawful w t new
-turn_lawful w t new all e =
-    turn_has IsLawful w t new all e
-    (λ w a b named run.
+-- an instruction is lawful, in whatever world
+instruction_lawful : (w : WorldState) (a b : ActorState) → actor_named w.actors b.name ≡ Some a → b.phase ≡ phase.Running → IsLawful (with_actor w b) b None (with_actor w (step w.image b))
+instruction_lawful w a b named run =
     let x = step w.image b in
     let name = (steps_step w.image b).name in
     record {
@@ -910,7 +962,12 @@ turn_lawful w t new all e =
       copies = put_such (λ y. NotPreparing y.phase) w b x a named name (step_unprepared w.image b run);
       snaps = tt;
       gates = put_such (InstrMakesGates (with_actor w b) b b.fuel) w b x a named name (step_makes_gates (with_actor w b) b run);
-    })
+    }
+
+-- a turn of a world whose actors rest as those of a run do is lawful
+pub turn_lawful : (w : WorldState) (t : Turn) (new : WorldState) → AllReady w → turn_of w t.actor ≡ Some (record { event = t.event; world = new }) → TurnHas IsLawful w t new
+turn_lawful w t new all e =
+    turn_has IsLawful w t new all e instruction_lawful
     (λ w a b e named h. record {
       mediated = answered_at w b a e named h;
       ends = done_such (λ y. (end_of y.phase ≡ end_by b.phase e) × (has_ended y.phase ≡ is_end_event (Some e))) w b a e named (ends_by w b e h, reached w.image b e);
@@ -932,3 +989,37 @@ each_lawful old (t ∷ ts) new all run = (run.0, run.1, turn_lawful old t run.0 
 
 pub moments_lawful : MomentsAreLawful
 moments_lawful i turns new run = each_lawful (opening i) turns new (opening_ready i) run
+
+-- whoever goes on has its name still
+goes_named : (actors : List ActorState) (a b : ActorState) (p : Phase) → GoesOnAs actors a p b → b.name ≡ a.name
+goes_named actors a b phase.Running is = ap (λ (x : ActorState). x.name) is
+goes_named actors a b (phase.Within q) is = ap (λ (x : ActorState). x.name) is
+goes_named actors a b (phase.Starting pre) is = ap (λ (x : ActorState). x.name) is
+goes_named actors a b (phase.MakingGate pre) is = ap (λ (x : ActorState). x.name) is
+goes_named actors a b (phase.Opening slot tag) is = ap (λ (x : ActorState). x.name) is
+goes_named actors a b (phase.Releasing slot) is = ap (λ (x : ActorState). x.name) is
+goes_named actors a b (phase.OpeningFile o) is = ap (λ (x : ActorState). x.name) is
+goes_named actors a b (phase.Entering entrance) is = ap (λ (x : ActorState). x.name) is
+goes_named actors a b (phase.Waiting k) is = by_run (actor_named actors (a.name ++ k ∷ [])) is
+  where
+    by_run : (o : Option ActorState) → IsSomeAnd o (λ c. (e : End) × (c.phase ≡ phase.Ended e) × (b ≡ joined a (phase.Waiting k) k e c.fuel)) → b.name ≡ a.name
+    by_run None so = absurd so
+    by_run (Some c) so = ap (λ (x : ActorState). x.name) so.2
+goes_named actors a b (phase.Ending x) is = ap (λ (x : ActorState). x.name) is
+goes_named actors a b (phase.Ended x) is = ap (λ (x : ActorState). x.name) is
+
+-- each instruction of an actor that is there is lawful
+each_instruction : (w : WorldState) (a b : ActorState) → actor_named w.actors b.name ≡ Some a → EachInstructionOf IsLawful (with_actor w b) b
+each_instruction w a b named n runs =
+    let x = run_local w.image n b in
+    let here : actor_named w.actors x.name ≡ Some a = subst (λ m. actor_named w.actors m ≡ Some a) (sym (run_name w.image n b _ refl)) named in
+    let own = instruction_lawful w a x here (running_is x.phase runs) in
+    subst (λ (v : WorldState). IsLawful v x None (with_actor (with_actor w b) (run_local w.image (suc n) b))) (put_twice w b x (run_name w.image n b _ refl))
+    (subst (λ (v : WorldState). IsLawful (with_actor w x) x None v) (ap (with_actor w) (sym (one_more w.image n b _ refl runs)) ∙ put_twice w b (run_local w.image (suc n) b) (run_name w.image (suc n) b _ refl)) own)
+  where
+    put_twice : (w : WorldState) (b x : ActorState) → x.name ≡ b.name → with_actor w x ≡ with_actor (with_actor w b) x
+    put_twice w b x name = ap (λ (as_ : List ActorState). record w { actors = as_ }) (sym (put_put w.actors b x name))
+
+pub instructions_lawful : InstructionsAreLawful
+instructions_lawful i turns w run name a named b goes =
+    each_instruction w a b (subst (λ m. actor_named w.actors m ≡ Some a) (sym (goes_named w.actors a b a.phase goes ∙ found_name w.actors name a named)) named)

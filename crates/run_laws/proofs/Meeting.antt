@@ -1,5 +1,5 @@
 -- What an instruction comes to: the request that it makes, its end, and the code with which it is refused.
-use Rattle.std.proofs.Common.{◌≡◌, ℕ, zero, suc, ◌+◌, ◌-◌, ◌≤◌, ◌<◌, Bool, true, false, true≢false, List, [], refl, sym, ap, subst, ◌∙◌, arith, inl, inr}
+use Rattle.std.proofs.Common.{◌≡◌, ℕ, zero, suc, ◌+◌, ◌-◌, ◌/◌, ◌%◌, ◌≤◌, ◌<◌, Bool, true, false, true≢false, List, [], refl, sym, ap, subst, ◌∙◌, arith, inl, inr}
 use Rattle.std.proofs.lemmas.Bool.{eqb-true}
 use Rattle.std.proofs.lemmas.Bool.Decides.{nat_tests}
 use Rattle.std.specs.Prelude.{Option, Some, None, is_some, option_map, option_and_then, not, ◌&&◌, ◌||◌, ◌==◌, nat_lt, nat_le, if◌then◌else◌, ◌∷◌, ◌++◌, length, slice_get, slice_range, is_none, unwrap_or}
@@ -28,7 +28,8 @@ use Rattle.rv_hart.specs.declared.Need.TheVariants as need
 use Rattle.rv_hart.specs.Local.{local}
 use Rattle.sthread_life.specs.declared.phase.Phase.{Phase}
 use Rattle.sthread_life.specs.declared.phase.Phase.TheVariants as phase
-use Rattle.wedge_base.specs.Files.{may_open}
+use Rattle.wedge_base.specs.Files.{bits_from, may_open}
+use Rattle.wedge_base.specs.Rights.{bits_within}
 use Rattle.wedge_base.specs.declared.image.FileEntry.{FileEntry}
 use Rattle.wedge_base.specs.declared.rights.FdBits.{FdBits}
 use Rattle.wedge_base.specs.declared.rights.StreamKind.{StreamKind}
@@ -50,7 +51,7 @@ use Rattle.run_laws.proofs.StreamCalls.{stream_request, stream_refusal, IsStream
 use Rattle.run_laws.specs.Cells.{Cells, slot_in, stream_in}
 use Rattle.run_laws.specs.Refusals.{fuel_short, full, deep, no_such, bad, start_refusal, create_refusal, pages_refusal, address_refusal, life_refusal, slots_refusal, close_refusal, place_refusal, block_refusal, free_refusal, call_refusal, call_refusal_after, right_refusal, bits_refusal, gate_refusal, number_refusal, read_refusal, append_refusal, need_refusal, instr_refusal, word_refusal, refusal_at, read_refusal_after, append_refusal_after, stream_close_refusal, need_refusal_after, instr_refusal_after, word_refusal_after, refusal_after, refused, user_refusal, root_refusal, draft_refusal, file_refusal, open_refusal, make_refusal, entry_refusal, lending_refusal, enter_refusal}
 use Rattle.run_laws.specs.Requests.{Access, Request, Loads, Stores, Reads, Appends, Closes, Creates, Deletes, Allots, Frees, create_of, in_tag, in_window, bytes_at, in_stream, is_room, read_of, append_of, close_of, free_of, call_request, needed_request, instr_request, word_request, request_at, Opens, bits_to_open, file_of, path_at, open_of, Makes, suits_gate, make_of, Enters, lent_of, lending_of, enter_of}
-use Rattle.run_laws.specs.Allowed.{may_use, lacks, is_refused, is_checked_at_event, denied as denied_of, fits_kind, opened_as, HasBegunGate, IsAboutToEnter, enter_lacks, enter_refused}
+use Rattle.run_laws.specs.Allowed.{may_use, may_be_opened, lacks, is_refused, is_checked_at_event, denied as denied_of, fits_kind, opened_as, HasBegunGate, IsAboutToEnter, enter_lacks, enter_refused}
 use Rattle.sthread_life.specs.Children.{is_child}
 use Rattle.run_laws.specs.Ends.{end_of, copy_end, window_end, needed_end, instr_end, fuel_end, word_end, end_at}
 use Rattle.run_laws.specs.MadeGates.{IsGateOf}
@@ -62,8 +63,6 @@ use Rattle.cow_pages.specs.PrivateMemory.{PrivateMemory}
 use Rattle.grant_sheet.proofs.SheetWithin.{sheet_within}
 use Rattle.sthread_life.specs.Lending.{may_lend, excess_lent}
 use Rattle.callgate.specs.declared.gate.Gate.{Gate}
-use Rattle.wedge_base.specs.declared.grants.GateKind.{GateKind}
-use Rattle.wedge_base.specs.declared.grants.GateKind.TheVariants as gate_kind
 use Rattle.run_laws.proofs.EnteringGates.{IsEnterable, enterable_at}
 use Rattle.run_laws.proofs.Drafted.{is_drafted}
 
@@ -684,7 +683,25 @@ kinds_suit : (k : StreamKind) (b : FdBits) → fits_kind k b ≡ suits k b
 kinds_suit kind.Source b = refl
 kinds_suit kind.Append b = refl
 
-file_tests : (N : ℕ → Bool → ℕ → Type 0) (a : ActorState) (path : List ℕ) (f : FileEntry) (b : FdBits) (t u : Bool) → a1 a ≤ a.fuel → may_open a.sheet.user f b ≡ t → fits_kind f.kind b ≡ u
+-- a mode is read as the step reads it
+opens_so : (user : ℕ) (f : FileEntry) (b : FdBits) → may_be_opened user f b ≡ may_open user f b
+opens_so user f b = ap (λ t. (user == 0) || t) (by_owner (user == f.owner) b.read b.append)
+  where
+    eighths : (n : ℕ) → n / 8 ≡ n / 4 / 2
+    eighths n = grind (arith)
+
+    by_bits : (r a r_held a_held : Bool) → ((not r || r_held) && (not a || a_held)) ≡ ((if r then r_held else true) && (if a then a_held else true))
+    by_bits true true r_held a_held = refl
+    by_bits true false r_held a_held = refl
+    by_bits false true r_held a_held = refl
+    by_bits false false r_held a_held = refl
+
+    by_owner : (t r a : Bool) → ((not r || (if t then f.mode % 2 == 1 else f.mode / 4 % 2 == 1)) && (not a || (if t then f.mode / 2 % 2 == 1 else f.mode / 8 % 2 == 1)))
+        ≡ bits_within (record { read = r; append = a }) (bits_from (if t then f.mode else f.mode / 4))
+    by_owner true r a = by_bits r a (f.mode % 2 == 1) (f.mode / 2 % 2 == 1)
+    by_owner false r a = by_bits r a (f.mode / 4 % 2 == 1) (f.mode / 8 % 2 == 1) ∙ ap (λ n. (if r then f.mode / 4 % 2 == 1 else true) && (if a then n % 2 == 1 else true)) (eighths f.mode)
+
+file_tests : (N : ℕ → Bool → ℕ → Type 0) (a : ActorState) (path : List ℕ) (f : FileEntry) (b : FdBits) (t u : Bool) → a1 a ≤ a.fuel → may_be_opened a.sheet.user f b ≡ t → fits_kind f.kind b ≡ u
     → Comes N a (λ c. Some (Opens path f b)) (λ c. None) None (if t && not u then Some bad else None)
     (if not t then denies a (denial.File path) else if not u then refuses a code.Bad else record a { phase = phase.OpeningFile (opened_as path f b) })
 file_tests N a path f b false u paid may fits = denied_now N a (Opens path f b) (denial.File path) _ refl (ap (λ v. if v then None else Some (denial.File path)) may) refl
@@ -718,7 +735,9 @@ file_comes : (N : ℕ → Bool → ℕ → Type 0) (a : ActorState) (path : List
 file_comes N a path b None paid = comes_refused N a _ _ code.NoSuch (λ c. refl)
 file_comes N a path b (Some f) paid =
     subst (λ v. Comes N a (λ c. Some (Opens path f b)) (λ c. None) None (file_refusal a b (Some f)) (if not (may_open a.sheet.user f b) then denies a (denial.File path) else if not v then refuses a code.Bad else record a { phase = phase.OpeningFile (opened_as path f b) }))
-    (kinds_suit f.kind b) (file_tests N a path f b _ _ paid refl refl)
+    (kinds_suit f.kind b)
+    (subst (λ t. Comes N a (λ c. Some (Opens path f b)) (λ c. None) None (file_refusal a b (Some f)) (if not t then denies a (denial.File path) else if not (fits_kind f.kind b) then refuses a code.Bad else record a { phase = phase.OpeningFile (opened_as path f b) }))
+    (opens_so a.sheet.user f b) (file_tests N a path f b _ _ paid refl refl))
 
 fuel_comes : (N : ℕ → Bool → ℕ → Type 0) (i : Image) (a : ActorState) (path : List ℕ) (b : FdBits) (t : Bool) → nat_lt a.fuel (a1 a) ≡ t → nat_le (a1 a) a.fuel ≡ not t
     → Comes N a (λ c. open_of i a (a1 a) (Some b) (Some path)) (λ c. None) None (open_refusal i a (a1 a) (Some b) (Some path)) (if t then refuses a code.FuelShort else open_file a path b (file_at i path))

@@ -9,7 +9,7 @@ use Rattle.wedge_events.specs.declared.cells.GateReply.TheVariants as gate_reply
 use Rattle.wedge_events.specs.declared.cells.GateAsk.TheVariants as gate_ask
 use Rattle.wedge_base.specs.Blocks.{rounded, first_fit}
 use Rattle.wedge_base.specs.Bytes.{number_of}
-use Rattle.wedge_events.specs.Directories.{Directory, Claim, claim, claim_reply, claim_next, is_among, is_claimed, release}
+use Rattle.wedge_events.specs.Directories.{Directory, Claim, no_number, claim, claim_from, claim_reply, claim_next, is_among, is_claimed, release}
 use Rattle.wedge_base.specs.Images.{Image, most_pages}
 use Rattle.wedge_base.specs.Maps.{Map, at}
 use Rattle.wedge_base.specs.Names.{same, root_name}
@@ -47,7 +47,7 @@ use Rattle.run_laws.specs.Laws.{SlotsAreOccupied}
 use Rattle.sthread_life.specs.Local.{rest}
 use Rattle.run_laws.specs.Moments.{EachTurn}
 use Rattle.run_laws.specs.GateCalls.{EventMakesGates}
-use Rattle.run_laws.specs.Occupancy.{slot_of_call, tag_of_call, slot_known, GateHasIn, HasIn, AreOccupied, AskSuits, SlotsSuit}
+use Rattle.run_laws.specs.Occupancy.{slot_of_call, tag_of_call, slot_known, GateHasIn, HasIn, AreOccupied, AskSuits, IsFreed, SlotsSuit}
 use Rattle.sthread_life.specs.Taking.{next_start, takes, begun, child_of, run_by}
 use Rattle.run_laws.specs.Worlds.{WorldState, opening, actor_named, with_actor, resumed, turn_of, Runs}
 use Rattle.run_laws.proofs.Between.{IsPreparing, MayPrepare, MayNumber, Leaves, event_for, takes_name, takes_between, MayWait}
@@ -483,8 +483,43 @@ turn_occupied w name e new all occ t =
 
 -- ---- each ask suits
 
+-- a place that is released is among those released
+free_again : (d : Directory) (place : ℕ) → is_claimed d place ≡ true → is_claimed (release d place) place ≡ false
+free_again d place e = subst (λ t. is_claimed (if t then record d { released = place ∷ d.released } else d) place ≡ false) (sym e) (now_free (nat_lt place d.unused) (place == place) (eq-eqb place place refl))
+  where
+    now_free : (u t : Bool) → t ≡ true → (u && not (t || is_among d.released place)) ≡ false
+    now_free true true h = refl
+    now_free false true h = refl
+    now_free u false h = absurd (true≢false (sym h))
+
+abbrev first_unused : Directory → Claim
+first_unused d = record { place = d.unused; left = record d { number = d.number + 1; unused = d.unused + 1 } }
+
+-- where no place can be claimed, numbers are used up or each place is claimed
+all_claimed : (d : Directory) → claim d ≡ None → (no_number ≤ d.number) ⊎ ((place : ℕ) → place < d.places → is_claimed d place ≡ true)
+all_claimed d none = by_number (nat_lt d.number no_number) refl none
+  where
+    beyond : (n : ℕ) → nat_lt n no_number ≡ false → no_number ≤ n
+    beyond n e = grind (arith, nat_tests, e)
+
+    below : (place unused places : ℕ) → nat_lt unused places ≡ false → place < places → nat_lt place unused ≡ true
+    below place unused places e h = grind (arith, nat_tests, e, h)
+
+    by_unused : (t : Bool) → nat_lt d.unused d.places ≡ t → (if t then Some (first_unused d) else None) ≡ None → nat_lt d.unused d.places ≡ false
+    by_unused true e f = absurd cc
+    by_unused false e f = e
+
+    by_released : (ps : List ℕ) → d.released ≡ ps → claim_from d ps ≡ None → (place : ℕ) → place < d.places → is_claimed d place ≡ true
+    by_released [] is f place h =
+        ap (λ ps. nat_lt place d.unused && not (is_among ps place)) is ∙ ap (λ t. t && true) (below place d.unused d.places (by_unused _ refl f) h)
+    by_released (p ∷ ps) is f place h = absurd cc
+
+    by_number : (t : Bool) → nat_lt d.number no_number ≡ t → (if t then claim_from d d.released else None) ≡ None → (no_number ≤ d.number) ⊎ ((place : ℕ) → place < d.places → is_claimed d place ≡ true)
+    by_number true e f = inr (by_released d.released refl f)
+    by_number false e f = inl (beyond d.number e)
+
 suits_claim : (w : WorldState) (o : Option Claim) → Occupied w → claim w.cells.places ≡ o → AskSuits w.cells (event.Slots directory_ask.Claim (claim_reply w.cells.places o))
-suits_claim w None occ is = tt
+suits_claim w None occ is = all_claimed w.cells.places is
 suits_claim w (Some k) occ is =
     let new = given_apart.gives w.cells.places k occ.released is in
     (new.free, empty (tag_in w.cells k.place) refl (λ tag e. true≢false (sym (occ.occupied.lived k.place tag e) ∙ new.free)))
@@ -536,11 +571,48 @@ suits w a e cells occ there (EntersRecycled x) = subst (AskSuits w.cells) (sym x
 suits w a e cells occ there (LeavesGate l) = subst (AskSuits w.cells) (sym l.is) tt
 suits w a e cells occ there (LeavesRecycled l) = subst (AskSuits w.cells) (sym l.is) tt
 
+-- ---- a slot that was released can be claimed again
+
+freed_want : (w : WorldState) (b : ActorState) (N : ℕ → Type 0) (q : Want) → IsRequest N b q → IsFreed (event_for w.cells b q) (cells_after w.cells (event_for w.cells b q))
+freed_want w b N (want.Slots directory_ask.Claim) own = tt
+freed_want w b N (want.Slot slot (slot_want.Close tag)) own = tt
+freed_want w b N (want.Slot slot (slot_want.Load offset width)) own = tt
+freed_want w b N (want.Slot slot (slot_want.Store offset width value)) own = tt
+freed_want w b N (want.Slot slot (slot_want.Smalloc tag size)) own = tt
+freed_want w b N (want.Slot slot (slot_want.Sfree offset)) own = tt
+freed_want w b N (want.Fd fd q) own = tt
+freed_want w b N (want.Lives lives_ask.Claim) own = tt
+freed_want w b N q own = absurd own
+
+freed : (w : WorldState) (a : ActorState) (e : Event) → Occupied w → actor_named w.actors a.name ≡ Some a → Happens w (rest w.image a) e → IsFreed e (cells_after w.cells e)
+freed w a e occ there (Requested r) = subst (λ x. IsFreed x (cells_after w.cells x)) (sym r.is) (freed_want w (rest w.image a) _ r.want r.own)
+freed w a e occ there (Releases r) =
+    let at_ = rest-uncalm w.image a (phase.Releasing r.slot) (λ h. h) r.at in
+    subst (λ x. IsFreed x (cells_after w.cells x)) (sym r.is) (free_again w.cells.places r.slot (occ.occupied.called a.name a r.slot there (ap slot_of_call at_)).0)
+freed w a e occ there (Joined j) = subst (λ x. IsFreed x (cells_after w.cells x)) (sym j.join.is) tt
+freed w a e occ there (Snaps s) = subst (λ x. IsFreed x (cells_after w.cells x)) (sym s.is) tt
+freed w a e occ there (GateSnaps s) = subst (λ x. IsFreed x (cells_after w.cells x)) (sym s.is) tt
+freed w a e occ there (Started s) = subst (λ x. IsFreed x (cells_after w.cells x)) (sym s.is) tt
+freed w a e occ there (Opens o) = subst (λ x. IsFreed x (cells_after w.cells x)) (sym o.is) tt
+freed w a e occ there (Numbers n) = subst (λ x. IsFreed x (cells_after w.cells x)) (sym n.is) tt
+freed w a e occ there (OpensFile f) = subst (λ x. IsFreed x (cells_after w.cells x)) (sym f.is) tt
+freed w a e occ there (LastJoined j) = subst (λ x. IsFreed x (cells_after w.cells x)) (sym j.join.is) tt
+freed w a e occ there (Ended f) = subst (λ x. IsFreed x (cells_after w.cells x)) (sym f.is) tt
+freed w a e occ there (EntersGate x) = subst (λ y. IsFreed y (cells_after w.cells y)) (sym x.is) tt
+freed w a e occ there (EntersRecycled x) = subst (λ y. IsFreed y (cells_after w.cells y)) (sym x.is) tt
+freed w a e occ there (LeavesGate l) = subst (λ y. IsFreed y (cells_after w.cells y)) (sym l.is) tt
+freed w a e occ there (LeavesRecycled l) = subst (λ y. IsFreed y (cells_after w.cells y)) (sym l.is) tt
+
 pub turn_suits : (w : WorldState) (t : Turn) (new : WorldState) → AllReady w → Occupied w → turn_of w t.actor ≡ Some (record { event = t.event; world = new }) → SlotsSuit w t new
 turn_suits w t new all occ e =
     let p = turn_from w t.actor t.event new e in
     let v = resumed w p.actor in
-    suits v p.parts.actor t.event all.cells (resumed_occupied w p.actor occ (turned_there w t.actor p.actor p.named)) (turned_there v t.actor p.parts.actor p.parts.named) (turn_happens w t.actor t.event new all p)
+    let goes = resumed_occupied w p.actor occ (turned_there w t.actor p.actor p.named) in
+    let there = turned_there v t.actor p.parts.actor p.parts.named in
+    let h = turn_happens w t.actor t.event new all p in (
+      suits v p.parts.actor t.event all.cells goes there h,
+      subst (λ (x : WorldState). IsFreed t.event x.cells) (sym p.parts.new_is) (freed v p.parts.actor t.event goes there h),
+    )
 
 -- ---- runs
 

@@ -1,7 +1,7 @@
 -- In every run a recycled gate is entered exactly while one run of it lives, and what it keeps has the copies alone that its sheet grants.
 use Rattle.std.proofs.Common.{◌≡◌, ℕ, zero, suc, ◌+◌, Bool, true, false, true≢false, List, [], ◌∷◌, ◌++◌, refl, sym, ap, subst, ◌∙◌, inl, inr}
 use Rattle.std.specs.List.{list_any}
-use Rattle.std.specs.Prelude.{Option, Some, None, map, not, ◌==◌, ◌&&◌, ◌||◌, ◌⊎◌, length, is_none, if◌then◌else◌}
+use Rattle.std.specs.Prelude.{Option, Some, None, map, not, ◌==◌, ◌&&◌, ◌||◌, length, is_none, if◌then◌else◌}
 use Rattle.std.specs.FinMap.Entries.{by_order}
 use Rattle.std.specs.Ordering.{nat_cmp}
 use Rattle.std.specs.declared.cmp.Ordering.{Ordering}
@@ -39,7 +39,7 @@ use Rattle.sthread_life.specs.Lending.{sheet_lent, may_lend}
 use Rattle.sthread_life.specs.Local.{has_ended, is_running, step, run_local, rest}
 use Rattle.run_laws.specs.RecycledGates.{IsInside, IsEntered, IsKeptFor, IsRunOf, AreRunsAlone}
 use Rattle.sthread_life.specs.Taking.{next_start, takes, begun, child_of, run_by}
-use Rattle.run_laws.specs.Worlds.{WorldState, opening, actor_named, put_actor, with_begun, turn_of, ready, resumed, with_actor}
+use Rattle.run_laws.specs.Worlds.{WorldState, opening, actor_named, put_actor, with_begun, ready, resumed, with_actor}
 use Rattle.run_laws.proofs.Between.{event_for, joined_is, entered_is, takes_name}
 use Rattle.run_laws.proofs.CellChanging.{gate_changes}
 use Rattle.run_laws.proofs.EnteringGates.{run_is}

@@ -10,7 +10,6 @@ use Rattle.wedge_events.specs.declared.cells.DirectoryAsk.TheVariants as directo
 use Rattle.wedge_events.specs.declared.cells.Live.{Live}
 use Rattle.wedge_events.specs.declared.cells.LivesAsk.TheVariants as lives_ask
 use Rattle.wedge_events.specs.declared.cells.SlotAsk.TheVariants as slot_ask
-use Rattle.wedge_events.specs.declared.cells.SlotReply.{SlotReply}
 use Rattle.wedge_events.specs.declared.cells.SlotReply.TheVariants as slot_reply
 use Rattle.wedge_events.specs.declared.events.Event.{Event}
 use Rattle.wedge_events.specs.declared.events.SlotWant.TheVariants as slot_want

@@ -10,7 +10,7 @@ use Rattle.sthread_life.specs.Children.{child_name}
 use Rattle.sthread_life.specs.Local.{rest, run_local}
 use Rattle.sthread_life.specs.Taking.{next_start, takes, begun, child_of, run_by}
 use Rattle.run_laws.specs.Laws.{DraftsAreSorted}
-use Rattle.run_laws.specs.Worlds.{WorldState, opening, actor_named, put_actor, with_begun, turn_of, Runs, ready, resumed}
+use Rattle.run_laws.specs.Worlds.{WorldState, opening, actor_named, put_actor, with_begun, Runs, ready, resumed}
 use Rattle.run_laws.proofs.Between.{takes_name}
 use Rattle.run_laws.proofs.DraftsFit.{AreFew, get_few, run_few, rest_few, takes_few}
 use Rattle.run_laws.proofs.FamilyRuns.{Acts, ActsAlone, Starts, Enters, Joins, acts, one_begins}

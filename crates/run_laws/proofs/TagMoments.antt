@@ -7,7 +7,7 @@ use Rattle.wedge_base.specs.Blocks.{Block, rounded, first_fit, block_at}
 use Rattle.wedge_events.specs.Directories.{Directory, Claim, no_number, claim_from, claim, claim_reply, claim_next as left_by}
 use Rattle.wedge_base.specs.Images.{Image, fetch, address_of}
 use Rattle.wedge_base.specs.Maps.{at}
-use Rattle.wedge_base.specs.Sheets.{made_tag}
+use Rattle.wedge_base.specs.Sheets.{made_tag, slot_on}
 use Rattle.wedge_events.specs.Slots.{Segment, place_reply, slot_reply as slot_reply_of}
 use Rattle.wedge_base.specs.declared.rights.Denial.TheVariants as denial
 use Rattle.wedge_base.specs.declared.rights.Code.TheVariants as code
@@ -31,7 +31,7 @@ use Rattle.rv_hart.specs.declared.Need.{Need}
 use Rattle.rv_hart.specs.declared.Need.TheVariants as need
 use Rattle.rv_hart.specs.Local.{local}
 use Rattle.sthread_life.specs.declared.phase.Phase.TheVariants as phase
-use Rattle.sthread_life.specs.Actors.{ActorState, right_of, slot_held, answers, refuses, wants}
+use Rattle.sthread_life.specs.Actors.{ActorState, right_of, answers, refuses, wants}
 use Rattle.run_laws.specs.Allowed.{may_use, answered}
 use Rattle.sthread_life.specs.Calls.{a0, a7, are_pages, serves}
 use Rattle.run_laws.specs.Cells.{slot_in, tag_in}
@@ -44,6 +44,8 @@ use Rattle.run_laws.specs.Requests.{Deletes, Allots, Frees}
 use Rattle.run_laws.specs.TagCalls.{call_want, need_want, instr_want, word_want, want_at, ComesWith, MakesAt}
 use Rattle.sthread_life.specs.Taking.{pair, takes}
 use Rattle.run_laws.specs.Worlds.{WorldState, actor_named, put_actor, with_actor}
+use Rattle.sthread_life.proofs.ByNumber.{found_gone, found_elsewhere}
+use Rattle.run_laws.proofs.TagSlots.{at_slot}
 use Rattle.run_laws.proofs.Between.{event_for}
 use Rattle.run_laws.proofs.Bounding.{with_same}
 use Rattle.run_laws.proofs.Checking.{slot_cells, kept, put_there, checked_denied, checked_allowed, after, stayed, same_slots, pair_on, slot_world}
@@ -121,29 +123,29 @@ close_held : (w : WorldState) (b a : ActorState) (slot tag : ℕ) (g : Option Se
     → IsClosed (with_actor w b) b slot tag (event.Slot slot (slot_ask.Close tag) (slot_reply_of g (slot_ask.Close tag))) (slot_world w b slot g (slot_ask.Close tag) (slot_reply_of g (slot_ask.Close tag)))
 unfolding takes
 close_held w b a slot tag None named there = record {
-  unused = (kept w (slot_cells w slot None (slot_ask.Close tag) slot_reply.NoSuch) b (refuses b code.NoSuch) refl refl, refl);
+  quiet = kept w (slot_cells w slot None (slot_ask.Close tag) slot_reply.NoSuch) b (refuses b code.NoSuch) refl refl;
   done = λ live. let f : None ≡ Some tag = lives_so w slot tag None there live in absurd cc;
-  none = λ gone. same_slots w slot None there;
+  none = λ gone. (refl, same_slots w slot None there);
 }
 close_held w b a slot tag (Some g) named there = by_test (g.tag == tag) refl
   where
     by_test : (t : Bool) → (g.tag == tag) ≡ t
         → IsClosed (with_actor w b) b slot tag (event.Slot slot (slot_ask.Close tag) (if t then slot_reply.Closed else slot_reply.NoSuch)) (slot_world w b slot (Some g) (slot_ask.Close tag) (if t then slot_reply.Closed else slot_reply.NoSuch))
     by_test true e = record {
-      unused = (kept w (slot_cells w slot (Some g) (slot_ask.Close tag) slot_reply.Closed) b (record b { phase = phase.Releasing slot }) refl refl, refl);
+      quiet = kept w (slot_cells w slot (Some g) (slot_ask.Close tag) slot_reply.Closed) b (record b { phase = phase.Releasing slot }) refl refl;
       done = λ live. (refl, put_there w b (record b { phase = phase.Releasing slot }) a named refl);
       none = λ gone. absurd (gone (ap (option_map (λ x. x.tag)) there ∙ ap Some (eqb-true g.tag tag e)));
     }
     by_test false e = record {
-      unused = (kept w (slot_cells w slot (Some g) (slot_ask.Close tag) slot_reply.NoSuch) b (refuses b code.NoSuch) refl refl, refl);
+      quiet = kept w (slot_cells w slot (Some g) (slot_ask.Close tag) slot_reply.NoSuch) b (refuses b code.NoSuch) refl refl;
       done = λ live. let f : Some g.tag ≡ Some tag = lives_so w slot tag (Some g) there live in let same : g.tag ≡ tag = cc in absurd (true≢false (sym (eq-eqb g.tag tag same) ∙ e));
-      none = λ gone. same_slots w slot (Some g) there;
+      none = λ gone. (refl, same_slots w slot (Some g) there);
     }
 
-pub close_answered : (w : WorldState) (b a : ActorState) (slot tag : ℕ) (g : Option Segment) → actor_named w.actors b.name ≡ Some a → slot_in w.cells slot ≡ g → slot ≡ slot_held b tag
+pub close_answered : (w : WorldState) (b a : ActorState) (slot tag : ℕ) (g : Option Segment) → actor_named w.actors b.name ≡ Some a → slot_in w.cells slot ≡ g → slot_on b.sheet b.made tag ≡ Some slot
     → IsAnswered (with_actor w b) b (event.Slot slot (slot_ask.Close tag) (slot_reply_of g (slot_ask.Close tag))) (Some (Deletes tag)) (slot_world w b slot g (slot_ask.Close tag) (slot_reply_of g (slot_ask.Close tag)))
 close_answered w b a slot tag g named there held =
-    subst (λ n. IsClosed (with_actor w b) b n tag (event.Slot slot (slot_ask.Close tag) (slot_reply_of g (slot_ask.Close tag))) (slot_world w b slot g (slot_ask.Close tag) (slot_reply_of g (slot_ask.Close tag)))) held
+    at_slot (λ n. IsClosed (with_actor w b) b n tag (event.Slot slot (slot_ask.Close tag) (slot_reply_of g (slot_ask.Close tag))) (slot_world w b slot g (slot_ask.Close tag) (slot_reply_of g (slot_ask.Close tag)))) _ slot held
     (close_held w b a slot tag g named there)
 
 pub close_next : (i : Image) (b : ActorState) (slot tag : ℕ) (g : Option Segment) → IsNext b.hart (takes i b (event.Slot slot (slot_ask.Close tag) (slot_reply_of g (slot_ask.Close tag))))
@@ -215,10 +217,10 @@ place_held w b a slot tag size (Some g) named there = by_tests (g.tag == tag) (f
       none = λ gap. let f : Some place ≡ None = sym gap_is ∙ gap in absurd cc;
     }
 
-pub place_answered : (w : WorldState) (b a : ActorState) (slot tag size : ℕ) (g : Option Segment) → actor_named w.actors b.name ≡ Some a → slot_in w.cells slot ≡ g → slot ≡ slot_held b tag
+pub place_answered : (w : WorldState) (b a : ActorState) (slot tag size : ℕ) (g : Option Segment) → actor_named w.actors b.name ≡ Some a → slot_in w.cells slot ≡ g → slot_on b.sheet b.made tag ≡ Some slot
     → IsAnswered (with_actor w b) b (event.Slot slot (slot_ask.Smalloc tag size) (slot_reply_of g (slot_ask.Smalloc tag size))) (Some (Allots tag size)) (slot_world w b slot g (slot_ask.Smalloc tag size) (slot_reply_of g (slot_ask.Smalloc tag size)))
 place_answered w b a slot tag size g named there held =
-    subst (λ n. IsPlaced (with_actor w b) b n tag size (event.Slot slot (slot_ask.Smalloc tag size) (slot_reply_of g (slot_ask.Smalloc tag size))) (slot_world w b slot g (slot_ask.Smalloc tag size) (slot_reply_of g (slot_ask.Smalloc tag size)))) held
+    at_slot (λ n. IsPlaced (with_actor w b) b n tag size (event.Slot slot (slot_ask.Smalloc tag size) (slot_reply_of g (slot_ask.Smalloc tag size))) (slot_world w b slot g (slot_ask.Smalloc tag size) (slot_reply_of g (slot_ask.Smalloc tag size)))) _ slot held
     (place_held w b a slot tag size g named there)
 
 pub place_next : (i : Image) (b : ActorState) (slot tag size : ℕ) (g : Option Segment) → IsNext b.hart (takes i b (event.Slot slot (slot_ask.Smalloc tag size) (slot_reply_of g (slot_ask.Smalloc tag size))))
@@ -405,6 +407,7 @@ open_makes w b slot tag = (
   ap (λ (as_ : List ActorState). record w { cells = slot_cells w slot (slot_in w.cells slot) (slot_ask.Open tag (a0 b)) slot_reply.Opened; actors = as_ })
       (sym (put_put w.actors b (record b { made = made_tag b.made tag slot; hart = answered_twice b tag (address_of slot 0); memory = record b.memory { copies = without_copy b.memory.copies slot }; phase = phase.Running }) refl)),
   made_is_held b slot tag,
+  record { gone = found_gone b.memory.copies slot; beside = λ other apart. found_elsewhere b.memory.copies slot other apart },
 )
 
 pub release_makes : (w : WorldState) (b : ActorState) (slot : ℕ) → MakesAt (with_actor w b) b (phase.Releasing slot) (event.Slots (directory_ask.Release slot) directory_reply.Released) (after w b (event.Slots (directory_ask.Release slot) directory_reply.Released))

@@ -42,7 +42,7 @@ use Rattle.run_laws.specs.Cells.{slot_in}
 use Rattle.run_laws.specs.Fuel.{unit_work, units_of, opening_work, phase_work, tasks_of, tasks_in, work_left, most_turns, units_of_turn}
 use Rattle.run_laws.specs.Laws.{RunsEnd}
 use Rattle.sthread_life.specs.Local.{is_running, rest}
-use Rattle.sthread_life.specs.Taking.{next_start, answered_end, copies_asked, has_snapped, takes, begun, copied_on, has_entered, run_at, run_by}
+use Rattle.sthread_life.specs.Taking.{next_start, answered_end, copies_asked, has_snapped, takes, begun, copied_on, run_by}
 use Rattle.run_laws.specs.Worlds.{WorldState, opening, actor_named, put_actor, with_begun, turn_of, Runs, ready, resumed}
 use Rattle.wedge_base.specs.Names.{same}
 use Rattle.run_laws.proofs.Between.{IsPreparing, MayPrepare, MayNumber, Leaves, numbered_is, opened_is, takes_between, takes_name, IsMaking, MayWait, entered_by}

@@ -1,13 +1,12 @@
 -- What a sheet allows: the grant that a request lacks, what refuses it besides, and what it leaves
 -- where it is done and where it is denied. Nothing here calls the step.
-use Rattle.std.specs.Prelude.{◌≡◌, ℕ, ◌+◌, ◌-◌, ◌%◌, ◌^◌, ◌⊎◌, Bool, true, false, not, ◌||◌, List, [], ◌∷◌, ◌++◌, length, nat_lt, slice_range, slice_set, take, drop, Option, Some, None, is_none, IsSomeAnd, if◌then◌else◌}
+use Rattle.std.specs.Prelude.{◌≡◌, ℕ, ◌+◌, ◌-◌, ◌*◌, ◌/◌, ◌%◌, ◌^◌, ◌==◌, ◌⊎◌, Bool, true, false, not, ◌&&◌, ◌||◌, List, [], ◌∷◌, ◌++◌, length, nat_lt, slice_range, slice_set, take, drop, Option, Some, None, is_none, IsSomeAnd, if◌then◌else◌}
 use Rattle.wedge_base.specs.Blocks.{block_at}
 use Rattle.wedge_base.specs.Bytes.{number_of}
-use Rattle.wedge_base.specs.Files.{may_open}
 use Rattle.wedge_base.specs.Maps.{has}
 use Rattle.wedge_base.specs.Memory.{write_at}
 use Rattle.wedge_base.specs.Rights.{at_least, read_bit, append_bit}
-use Rattle.wedge_base.specs.Sheets.{Draft, first_excess, made_gate, lent_to}
+use Rattle.wedge_base.specs.Sheets.{Draft, first_excess, slot_on, made_gate, lent_to}
 use Rattle.wedge_base.specs.declared.rights.Denial.{Denial}
 use Rattle.wedge_base.specs.declared.rights.Denial.TheVariants as denial
 use Rattle.wedge_events.specs.Streams.{Stream}
@@ -37,7 +36,7 @@ use Rattle.sthread_life.specs.Copying.{Preparation}
 use Rattle.run_laws.specs.MadeGates.{IsGateOf}
 use Rattle.sthread_life.specs.Opening.{FileOpening}
 use Rattle.sthread_life.specs.declared.phase.Phase.TheVariants as phase
-use Rattle.sthread_life.specs.Actors.{ActorState, right_of, bits_of, slot_held}
+use Rattle.sthread_life.specs.Actors.{ActorState, right_of, bits_of}
 use Rattle.run_laws.specs.Requests.{Access, Request, Loads, Stores, Reads, Appends, Closes, Opens, Creates, Makes, Deletes, Allots, Frees, Enters}
 use Rattle.run_laws.specs.Holding.{gate_for, loan, loan_lacks}
 use Rattle.sthread_life.specs.Entrances.{Entrance}
@@ -58,6 +57,17 @@ may_close k bits = if is_source k then bits.read else bits.append
 abbrev pub bit_to_close : StreamKind → FdBits
 bit_to_close k = if is_source k then read_bit else append_bit
 
+-- User 0 may open any file, and anyone else with the bits of the file's mode, which are from the
+-- lowest up: the owner may read, the owner may append, others may read, others may append.
+abbrev pub mode_read : ℕ → FileEntry → Bool
+mode_read user f = if user == f.owner then f.mode % 2 == 1 else f.mode / 4 % 2 == 1
+
+abbrev pub mode_append : ℕ → FileEntry → Bool
+mode_append user f = if user == f.owner then f.mode / 2 % 2 == 1 else f.mode / 8 % 2 == 1
+
+abbrev pub may_be_opened : ℕ → FileEntry → FdBits → Bool
+may_be_opened user f b = (user == 0) || ((not b.read || mode_read user f) && (not b.append || mode_append user f))
+
 -- To enter a gate lacks the gate, where the actor holds none at the entry; or else what is lent may
 -- lack a grant.
 abbrev pub enter_lacks : ActorState → ℕ → Option Draft → Option Gate → Option Denial
@@ -71,7 +81,7 @@ lacks a (Stores x value) = if may_use a x.living.tag right.ReadWrite then None e
 lacks a (Reads fd s n) = if (bits_of a fd).read then None else Some (denial.Fd fd read_bit)
 lacks a (Appends fd s bytes) = if (bits_of a fd).append then None else Some (denial.Fd fd append_bit)
 lacks a (Closes fd s) = if may_close s.kind (bits_of a fd) then None else Some (denial.Fd fd (bit_to_close s.kind))
-lacks a (Opens path f b) = if may_open a.sheet.user f b then None else Some (denial.File path)
+lacks a (Opens path f b) = if may_be_opened a.sheet.user f b then None else Some (denial.File path)
 lacks a (Creates d) = first_excess a.sheet a.made d
 lacks a (Makes d) = first_excess a.sheet a.made d
 lacks a (Enters entry lent) = enter_lacks a entry lent (gate_for a entry)
@@ -144,6 +154,11 @@ comes_to a q = Some (record a { phase = phase.Within q })
 abbrev pub answered : ActorState → ℕ → ℕ → Hart
 answered a value code = record { pc = next_word a; regs = slice_set (slice_set a.hart.regs 10 value) 11 code }
 
+-- the address of an offset in the window of a slot: windows are 65,536 bytes each, from 0x40000000
+-- on
+abbrev pub window_address : ℕ → ℕ → ℕ
+window_address slot offset = 0x40000000 + slot * 65536 + offset
+
 -- the next bytes of a stream, so many at most
 abbrev pub next_bytes : Stream → ℕ → List ℕ
 next_bytes s n = take n (drop s.position s.bytes)
@@ -190,8 +205,8 @@ IsDone a (Opens path f b) e now = (e ≡ None) × (now ≡ Some (record a { phas
 IsDone a (Creates d) e now = (e ≡ None) × (now ≡ comes_to a (want.Lives lives_ask.Claim))
 IsDone a (Makes d) e now = (e ≡ None) × IsSomeAnd now (HasBegunGate a d)
 IsDone a (Enters entry lent) e now = (e ≡ None) × IsSomeAnd now (IsAboutToEnter a entry lent)
-IsDone a (Deletes tag) e now = (e ≡ None) × (now ≡ comes_to a (want.Slot (slot_held a tag) (slot_want.Close tag)))
-IsDone a (Allots tag size) e now = (e ≡ None) × (now ≡ comes_to a (want.Slot (slot_held a tag) (slot_want.Smalloc tag size)))
+IsDone a (Deletes tag) e now = (e ≡ None) × IsSomeAnd (slot_on a.sheet a.made tag) (λ slot. now ≡ comes_to a (want.Slot slot (slot_want.Close tag)))
+IsDone a (Allots tag size) e now = (e ≡ None) × IsSomeAnd (slot_on a.sheet a.made tag) (λ slot. now ≡ comes_to a (want.Slot slot (slot_want.Smalloc tag size)))
 IsDone a (Frees p g) e now =
     (e ≡ Some (event.Slot p.slot (slot_ask.Sfree p.offset (living_as a g.tag)) slot_reply.Freed))
     × (now ≡ Some (record a { hart = answered a 0 0; phase = phase.Running }))

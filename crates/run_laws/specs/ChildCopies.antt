@@ -6,6 +6,8 @@ use Rattle.std.specs.Option.{option_or}
 use Rattle.cow_pages.specs.Copies.{Copies, copy_at}
 use Rattle.cow_pages.specs.Listed.{bytes_listed}
 use Rattle.cow_pages.specs.PrivateMemory.{PrivateMemory}
+use Rattle.wedge_base.specs.Bytes.{zeros}
+use Rattle.wedge_base.specs.Images.{Image}
 use Rattle.wedge_base.specs.Maps.{Map}
 use Rattle.wedge_base.specs.Pages.{PageAt, pages_of}
 use Rattle.wedge_base.specs.Sheets.{granted, empty_draft}
@@ -24,7 +26,7 @@ use Rattle.rv_hart.specs.Local.{reg}
 use Rattle.sthread_life.specs.declared.copy_grant.CopyGrant.{CopyGrant}
 use Rattle.sthread_life.specs.declared.phase.Phase.{Phase}
 use Rattle.sthread_life.specs.declared.phase.Phase.TheVariants as phase
-use Rattle.sthread_life.specs.Actors.{ActorState, pristine, right_of}
+use Rattle.sthread_life.specs.Actors.{ActorState, right_of}
 use Rattle.run_laws.specs.Cells.{slot_in}
 use Rattle.sthread_life.specs.Copying.{Preparation, copied_from}
 use Rattle.run_laws.specs.Worlds.{WorldState, actor_named}
@@ -90,11 +92,15 @@ SnapsNext old a p (g ∷ gs) e b =
     (e ≡ event.Slot g.slot (slot_ask.Snap g.tag) (snap_reply (pages_living (slot_in old.cells g.slot) g.tag)))
     × Prepares a (copied_from (option_map bytes_listed (pages_living (slot_in old.cells g.slot) g.tag)) g.slot p.memory) gs b
 
--- a child is prepared from the moment at which a life is claimed for it, from the pristine memory
--- on
+-- the private memory with which a child, and each run of a gate, begins before copies are made: 131,072
+-- zero bytes from 0x20000000 on, for stack and heap, and the data ranges of the image as the image has them
+abbrev pub memory_of_image : Image → PrivateMemory
+memory_of_image i = record { ranges = record { base = 0x20000000; bytes = zeros 131072 } ∷ i.ranges; copies = [] }
+
+-- a child is prepared from the moment at which a life is claimed for it, from that memory on
 abbrev pub PreparesBy : WorldState → ActorState → Phase → Event → ActorState → Type 0
 PreparesBy old a (phase.Starting p) e b = SnapsNext old a p p.left e b
-PreparesBy old a q (event.Lives lives_ask.Claim lives_reply.Claimed) b = Prepares a (pristine old.image) (grants_asked a) b
+PreparesBy old a q (event.Lives lives_ask.Claim lives_reply.Claimed) b = Prepares a (memory_of_image old.image) (grants_asked a) b
 PreparesBy old a q e b = NotPreparing b.phase
 
 abbrev pub MakesCopies : WorldState → ActorState → Option Event → WorldState → Type 0

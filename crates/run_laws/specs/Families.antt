@@ -34,7 +34,6 @@ use Rattle.callgate.specs.Runs.{IsRunSheet}
 use Rattle.callgate.specs.declared.gate.Gate.{Gate}
 use Rattle.wedge_base.specs.declared.grants.GateKind.TheVariants as gate_kind
 use Rattle.wedge_events.specs.declared.cells.GateAsk.TheVariants as gate_ask
-use Rattle.wedge_events.specs.declared.cells.GateReply.{GateReply}
 use Rattle.wedge_events.specs.declared.cells.GateReply.TheVariants as gate_reply
 use Rattle.wedge_events.specs.declared.cells.LivesAsk.TheVariants as lives_ask
 

@@ -15,10 +15,10 @@ use Rattle.rv_hart.specs.Local.{reg}
 use Rattle.sthread_life.specs.declared.copy_grant.CopyGrant.{CopyGrant}
 use Rattle.sthread_life.specs.declared.phase.Phase.{Phase}
 use Rattle.sthread_life.specs.declared.phase.Phase.TheVariants as phase
-use Rattle.sthread_life.specs.Actors.{ActorState, pristine}
+use Rattle.sthread_life.specs.Actors.{ActorState}
 use Rattle.run_laws.specs.Allowed.{lacks, with_gate_made}
 use Rattle.run_laws.specs.Cells.{slot_in}
-use Rattle.run_laws.specs.ChildCopies.{IsPrepared, copies_in, pages_living, snap_reply}
+use Rattle.run_laws.specs.ChildCopies.{IsPrepared, copies_in, memory_of_image, pages_living, snap_reply}
 use Rattle.sthread_life.specs.Copying.{Preparation, copied_from}
 use Rattle.sthread_life.specs.Resting.{NotMaking}
 use Rattle.run_laws.specs.MadeGates.{IsGateOf}
@@ -49,7 +49,7 @@ pub record PreparesGate (a : ActorState) (d : Draft) (m : PrivateMemory) (gs : L
 -- ---- in the instruction, once its unit of fuel is taken: a call that may make its gate begins
 -- with the image's data and the draft's grants of copies
 abbrev pub BeginsGate : Image → ActorState → Draft → ActorState → Type 0
-BeginsGate i a d b = PreparesGate a d (pristine i) (copies_in (granted a.sheet a.made d).tags) b
+BeginsGate i a d b = PreparesGate a d (memory_of_image i) (copies_in (granted a.sheet a.made d).tags) b
 
 abbrev pub BeginsUnless : Image → ActorState → Draft → Option Denial → ActorState → Type 0
 BeginsUnless i a d None b = BeginsGate i a d b

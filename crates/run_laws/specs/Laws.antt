@@ -14,7 +14,7 @@ use Rattle.run_laws.specs.Cells.{opening_cells, slot_in, stream_in, kept_in}
 use Rattle.sthread_life.specs.Local.{has_ended, run_local}
 use Rattle.wedge_base.specs.Sheets.{Draft, grants, most_grants}
 use Rattle.grant_sheet.specs.Missing.{IsSortedDraft}
-use Rattle.run_laws.specs.Worlds.{WorldState, opening, actor_named, ready, Runs, is_complete}
+use Rattle.run_laws.specs.Worlds.{WorldState, opening, actor_named, with_actor, ready, Runs, is_complete}
 use Rattle.run_laws.specs.Names.{AreDistinct}
 use Rattle.run_laws.specs.Fuel.{fuel_of, most_turns, TakesItsUnits}
 use Rattle.run_laws.specs.Bounds.{IsWithinRoot}
@@ -23,7 +23,7 @@ use Rattle.run_laws.specs.Written.{BytesFollow, TurnWritesOwn, FlowsFollow, Turn
 use Rattle.run_laws.specs.Readers.{TurnLoadsOwn, TurnReadsOwn}
 use Rattle.run_laws.specs.LiveSthreads.{lives_in}
 use Rattle.run_laws.specs.CellHistories.{CellsFollow}
-use Rattle.run_laws.specs.Moments.{EachTurn, EachMoment, IsMediated}
+use Rattle.run_laws.specs.Moments.{EachTurn, EachMoment, EachInstructionOf, GoesOnAs, IsMediated}
 use Rattle.run_laws.specs.Ends.{EndsByCause, GoesOn}
 use Rattle.run_laws.specs.Refusals.{RefusesByRow}
 use Rattle.run_laws.specs.Paying.{Pays}
@@ -64,6 +64,12 @@ pub record IsLawful (old : WorldState) (a : ActorState) (e : Option Event) (new 
 -- each moment of each run is lawful
 abbrev pub MomentsAreLawful : Type 0
 MomentsAreLawful = (i : Image) (turns : List Turn) (new : WorldState) → Runs (opening i) turns new → EachMoment IsLawful (opening i) turns
+
+-- and so is each instruction that an actor of a world of a run can carry out before its next event,
+-- whether a turn of it can be taken there or not
+abbrev pub InstructionsAreLawful : Type 0
+InstructionsAreLawful = (i : Image) (turns : List Turn) (w : WorldState) → Runs (opening i) turns w → (name : List ℕ) (a : ActorState) → actor_named w.actors name ≡ Some a
+    → (b : ActorState) → GoesOnAs w.actors a a.phase b → EachInstructionOf IsLawful (with_actor w b) b
 
 -- in every world of a run the count of live sthreads is that of the lives which its actors hold, and
 -- there are no more than may live at a time

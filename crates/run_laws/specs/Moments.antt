@@ -3,14 +3,16 @@
 -- checked in it; where no request is in question, nothing is denied.
 use Rattle.std.specs.Prelude.{◌≡◌, ◌↔◌, ℕ, zero, suc, ◌==◌, Bool, true, false, not, ◌&&◌, List, [], ◌∷◌, length, Option, Some, None, is_none, if◌then◌else◌, IsSomeAnd, ◌++◌}
 use Rattle.wedge_base.specs.Blocks.{rounded, first_fit}
-use Rattle.wedge_base.specs.Images.{address_of}
 use Rattle.wedge_events.specs.Slots.{Segment}
 use Rattle.wedge_base.specs.declared.rights.Denial.{Denial}
 use Rattle.wedge_base.specs.declared.outcome.DenialAt.{DenialAt}
+use Rattle.wedge_events.specs.declared.events.SlotWant.TheVariants as slot_want
 use Rattle.wedge_events.specs.declared.events.Want.{Want}
+use Rattle.wedge_events.specs.declared.events.Want.TheVariants as want
 use Rattle.wedge_events.specs.declared.events.Event.{Event}
 use Rattle.wedge_events.specs.declared.events.Event.TheVariants as event
 use Rattle.wedge_events.specs.declared.events.Turn.{Turn}
+use Rattle.wedge_events.specs.declared.cells.SlotAsk.{SlotAsk}
 use Rattle.wedge_events.specs.declared.cells.SlotAsk.TheVariants as slot_ask
 use Rattle.wedge_events.specs.declared.cells.SlotReply.{SlotReply}
 use Rattle.wedge_events.specs.declared.cells.SlotReply.TheVariants as slot_reply
@@ -18,14 +20,16 @@ use Rattle.wedge_events.specs.declared.cells.StreamReply.{StreamReply}
 use Rattle.wedge_events.specs.declared.cells.StreamReply.TheVariants as stream_reply
 use Rattle.sthread_life.specs.declared.phase.Phase.{Phase}
 use Rattle.sthread_life.specs.declared.phase.Phase.TheVariants as phase
-use Rattle.sthread_life.specs.Actors.{ActorState, slot_held}
+use Rattle.wedge_base.specs.Sheets.{slot_on}
+use Rattle.sthread_life.specs.Actors.{ActorState}
 use Rattle.run_laws.specs.Cells.{slot_in, tag_in}
 use Rattle.sthread_life.specs.Local.{is_running, run_local}
 use Rattle.run_laws.specs.Worlds.{WorldState, actor_named, turn_of, with_actor}
 use Rattle.run_laws.specs.Requests.{Request, Deletes, Allots, request_at}
-use Rattle.run_laws.specs.Allowed.{lacks, is_refused, is_checked_at_event, IsDone, denied, answered}
+use Rattle.run_laws.specs.Allowed.{lacks, is_refused, is_checked_at_event, IsDone, denied, answered, window_address}
 use Rattle.run_laws.specs.Families.{joined}
 use Rattle.wedge_base.specs.declared.rights.End.{End}
+use Rattle.wedge_base.specs.declared.rights.End.TheVariants as end_
 
 -- of each step of a run
 abbrev pub EachTurn : (WorldState → Turn → WorldState → Type 0) → WorldState → List Turn → Type 0
@@ -35,9 +39,12 @@ EachTurn P old (t ∷ ts) = (mid : WorldState) × (turn_of old t.actor ≡ Some 
 -- Of each moment of a turn by the actor a: P says what holds of a world, its actor, the event if
 -- there is one, and the world after. Each instruction is a moment while the actor runs; once it
 -- runs no more, the event is.
+abbrev pub EachInstructionOf : (WorldState → ActorState → Option Event → WorldState → Type 0) → WorldState → ActorState → Type 0
+EachInstructionOf P old a = (n : ℕ) → is_running (run_local old.image n a).phase ≡ true
+    → P (with_actor old (run_local old.image n a)) (run_local old.image n a) None (with_actor old (run_local old.image (suc n) a))
+
 pub record EachMomentOf (P : WorldState → ActorState → Option Event → WorldState → Type 0) (old : WorldState) (a : ActorState) (e : Event) (new : WorldState) : Type 0 where
-  pub instructions : (n : ℕ) → is_running (run_local old.image n a).phase ≡ true
-      → P (with_actor old (run_local old.image n a)) (run_local old.image n a) None (with_actor old (run_local old.image (suc n) a))
+  pub instructions : EachInstructionOf P old a
   pub event : (n : ℕ) × (is_running (run_local old.image n a).phase ≡ false) × P (with_actor old (run_local old.image n a)) (run_local old.image n a) (Some e) new
 
 -- An actor that waits for the run of a gate goes on with the end and the fuel of that very run,
@@ -69,6 +76,7 @@ slot_used (slot_reply.Loaded value) = true
 slot_used slot_reply.Stored = true
 slot_used (slot_reply.Placed offset) = true
 slot_used slot_reply.Freed = true
+slot_used slot_reply.Closed = true
 slot_used r = false
 
 abbrev pub stream_used : StreamReply → Bool
@@ -114,21 +122,21 @@ gap_in (Some g) tag size = if g.tag == tag then first_fit 0 (rounded size) (leng
 pub record IsPlaced (old : WorldState) (a : ActorState) (slot tag size : ℕ) (e : Event) (new : WorldState) : Type 0 where
   pub quiet : NothingDenied old new
   pub done : (offset : ℕ) → gap_in (slot_in old.cells slot) tag size ≡ Some offset
-      → (e ≡ event.Slot slot (slot_ask.Smalloc tag size) (slot_reply.Placed offset)) × (actor_named new.actors a.name ≡ Some (record a { hart = answered a (address_of slot offset) 0; phase = phase.Running }))
+      → (e ≡ event.Slot slot (slot_ask.Smalloc tag size) (slot_reply.Placed offset)) × (actor_named new.actors a.name ≡ Some (record a { hart = answered a (window_address slot offset) 0; phase = phase.Running }))
   pub none : gap_in (slot_in old.cells slot) tag size ≡ None → (is_use e ≡ false) × (new.cells ≡ old.cells)
 
--- A tag that lives is closed, and its slot is to be released; where it lives no more, the cells are
--- as before.
+-- A tag that lives is closed, and its slot is to be released; where it lives no more, nothing is
+-- closed, and the cells are as before.
 pub record IsClosed (old : WorldState) (a : ActorState) (slot tag : ℕ) (e : Event) (new : WorldState) : Type 0 where
-  pub unused : IsUnused old e new
+  pub quiet : NothingDenied old new
   pub done : tag_in old.cells slot ≡ Some tag
       → (e ≡ event.Slot slot (slot_ask.Close tag) slot_reply.Closed) × (actor_named new.actors a.name ≡ Some (record a { phase = phase.Releasing slot }))
-  pub none : (tag_in old.cells slot ≡ Some tag → ⊥) → new.cells ≡ old.cells
+  pub none : (tag_in old.cells slot ≡ Some tag → ⊥) → (is_use e ≡ false) × (new.cells ≡ old.cells)
 
 -- the event to which an allowed request came that was checked in its instruction
 abbrev pub IsCompleted : WorldState → ActorState → Event → Request → WorldState → Type 0
-IsCompleted old a e (Deletes tag) new = IsClosed old a (slot_held a tag) tag e new
-IsCompleted old a e (Allots tag size) new = IsPlaced old a (slot_held a tag) tag size e new
+IsCompleted old a e (Deletes tag) new = IsSomeAnd (slot_on a.sheet a.made tag) (λ slot. IsClosed old a slot tag e new)
+IsCompleted old a e (Allots tag size) new = IsSomeAnd (slot_on a.sheet a.made tag) (λ slot. IsPlaced old a slot tag size e new)
 IsCompleted old a e r new = IsUnused old e new
 
 -- an event of an actor that is within an instruction with this request
@@ -142,8 +150,20 @@ abbrev pub MeetsWith : WorldState → ActorState → ℕ → WorldState → Type
 MeetsWith old a zero new = NothingDenied old new
 MeetsWith old a (suc n) new = IsMet old (record a { fuel = n }) (request_at old.image old.cells (record a { fuel = n })) new
 
+-- An access in the window of a slot where no tag lives, or behind the tag's bytes, is no request:
+-- it is Unmapped, its actor ends, and nothing else changes.
+pub record IsUnmapped (old : WorldState) (a : ActorState) (slot : ℕ) (e : Event) (new : WorldState) : Type 0 where
+  pub asked : SlotAsk
+  pub is : e ≡ event.Slot slot asked slot_reply.Unmapped
+  pub after : new ≡ with_actor old (record a { phase = phase.Ending end_.Unmapped })
+
+abbrev pub Misses : WorldState → ActorState → Want → Event → Option Request → WorldState → Type 0
+Misses old a (want.Slot slot (slot_want.Load offset width)) e None new = IsUnmapped old a slot e new
+Misses old a (want.Slot slot (slot_want.Store offset width value)) e None new = IsUnmapped old a slot e new
+Misses old a q e r new = Unit {0}
+
 abbrev pub AnswersAt : WorldState → ActorState → Phase → Event → WorldState → Type 0
-AnswersAt old a (phase.Within q) e new = IsAnswered old a e (request_at old.image old.cells a) new
+AnswersAt old a (phase.Within q) e new = IsAnswered old a e (request_at old.image old.cells a) new × Misses old a q e (request_at old.image old.cells a) new
 AnswersAt old a p e new = IsAnswered old a e None new
 
 -- each request is mediated

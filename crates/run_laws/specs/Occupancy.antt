@@ -2,7 +2,7 @@
 -- held by the call of one actor, or one tag lives there; and a tag lives nowhere but in the slot in
 -- which those that hold it have it.
 use Rattle.std.specs.Prelude.{◌≡◌, ℕ, ◌<◌, ◌≤◌, true, false, List, length, Option, Some, None, ◌⊎◌, [], ◌∷◌}
-use Rattle.wedge_events.specs.Directories.{is_claimed}
+use Rattle.wedge_events.specs.Directories.{is_claimed, no_number}
 use Rattle.wedge_base.specs.Images.{most_pages}
 use Rattle.wedge_base.specs.Sheets.{slot_on, nothing_made}
 use Rattle.wedge_events.specs.declared.cells.DirectoryAsk.TheVariants as directory_ask
@@ -61,14 +61,20 @@ pub record AreOccupied (c : Cells) (actors : List ActorState) : Type 0 where
       → (tag < c.places.number) × ((s : ℕ) → tag_in c s ≡ Some tag → s ≡ slot)
   pub unheld : (m n : List ℕ) (a b : ActorState) (tag slot : ℕ) → actor_named actors m ≡ Some a → actor_named actors n ≡ Some b → tag_of_call a.phase ≡ Some tag → HasIn b tag slot → ⊥
 
--- So each ask fits: a slot that is claimed was free and empty, a tag is opened with 1 to 16 pages
--- in a claimed slot in which none lives, and a slot that is released is claimed and none lives
--- there.
+-- So each ask fits: a slot that is claimed was free and empty, and none is claimed only where every
+-- slot is claimed already or numbers of tags are used up; a tag is opened with 1 to 16 pages in a
+-- claimed slot in which none lives; and a slot that is released is claimed and none lives there.
 abbrev pub AskSuits : Cells → Event → Type 0
 AskSuits c (event.Slots directory_ask.Claim (directory_reply.Claimed slot tag)) = (is_claimed c.places slot ≡ false) × (tag_in c slot ≡ None)
+AskSuits c (event.Slots directory_ask.Claim directory_reply.Full) = (no_number ≤ c.places.number) ⊎ ((slot : ℕ) → slot < c.places.places → is_claimed c.places slot ≡ true)
 AskSuits c (event.Slots (directory_ask.Release slot) r) = (is_claimed c.places slot ≡ true) × (tag_in c slot ≡ None)
 AskSuits c (event.Slot slot (slot_ask.Open tag pages) r) = (is_claimed c.places slot ≡ true) × (tag_in c slot ≡ None) × (slot < length c.slots) × (1 ≤ pages) × (pages ≤ most_pages)
 AskSuits c e = Unit {0}
 
+-- and a slot that was released can be claimed again
+abbrev pub IsFreed : Event → Cells → Type 0
+IsFreed (event.Slots (directory_ask.Release slot) r) c = is_claimed c.places slot ≡ false
+IsFreed e c = Unit {0}
+
 abbrev pub SlotsSuit : WorldState → Turn → WorldState → Type 0
-SlotsSuit old t new = AskSuits old.cells t.event
+SlotsSuit old t new = AskSuits old.cells t.event × IsFreed t.event new.cells

@@ -18,7 +18,6 @@ use Rattle.wedge_events.specs.declared.cells.SlotReply.{SlotReply}
 use Rattle.wedge_events.specs.declared.cells.SlotReply.TheVariants as slot_reply
 use Rattle.wedge_events.specs.declared.cells.StreamReply.{StreamReply}
 use Rattle.wedge_events.specs.declared.cells.StreamReply.TheVariants as stream_reply
-use Rattle.wedge_base.specs.Files.{may_open}
 use Rattle.wedge_base.specs.declared.image.FileEntry.{FileEntry}
 use Rattle.wedge_base.specs.declared.rights.FdBits.{FdBits}
 use Rattle.wedge_base.specs.declared.rights.Right.TheVariants as right
@@ -35,7 +34,7 @@ use Rattle.run_laws.specs.Cells.{Cells, slot_in, stream_in}
 use Rattle.sthread_life.specs.Children.{is_child}
 use Rattle.run_laws.specs.Worlds.{WorldState, with_actor}
 use Rattle.run_laws.specs.Requests.{bytes_at, path_at, is_room, bits_to_open, file_of, suits_gate, lent_of}
-use Rattle.run_laws.specs.Allowed.{may_use, is_source, fits_kind, answered}
+use Rattle.run_laws.specs.Allowed.{may_use, may_be_opened, is_source, fits_kind, answered}
 use Rattle.run_laws.specs.Holding.{gate_for, loan_lacks, is_loan}
 use Rattle.callgate.specs.declared.gate.Gate.{Gate}
 
@@ -77,7 +76,7 @@ append_refusal a fd n (Some bytes) = transfer_refusal a fd n
 -- kind
 abbrev pub file_refusal : ActorState → FdBits → Option FileEntry → Option ℕ
 file_refusal a b None = Some no_such
-file_refusal a b (Some f) = if may_open a.sheet.user f b && not (fits_kind f.kind b) then Some bad else None
+file_refusal a b (Some f) = if may_be_opened a.sheet.user f b && not (fits_kind f.kind b) then Some bad else None
 
 abbrev pub open_refusal : Image → ActorState → ℕ → Option FdBits → Option (List ℕ) → Option ℕ
 open_refusal i a n None path = Some bad

@@ -1,10 +1,10 @@
 -- The calls that no sheet may forbid, and what the calls that make and delete tags leave: read off
 -- the registers, the directory and the slot, a second statement beside the step.
-use Rattle.std.specs.Prelude.{◌≡◌, ℕ, zero, suc, ◌*◌, ◌==◌, Bool, true, false, ◌&&◌, List, [], slice_set, Option, Some, None, nat_lt, if◌then◌else◌}
-use Rattle.cow_pages.specs.Copies.{without_copy}
+use Rattle.std.specs.Prelude.{◌≡◌, ◌≢◌, ℕ, zero, suc, ◌*◌, ◌==◌, Bool, true, false, ◌&&◌, List, [], slice_set, Option, Some, None, nat_lt, if◌then◌else◌}
+use Rattle.cow_pages.specs.Copies.{Copies, copy_at, without_copy}
 use Rattle.wedge_base.specs.Bytes.{zeros}
 use Rattle.wedge_events.specs.Directories.{Claim, claim}
-use Rattle.wedge_base.specs.Images.{Image, fetch, address_of}
+use Rattle.wedge_base.specs.Images.{Image, fetch}
 use Rattle.wedge_base.specs.Sheets.{made_tag}
 use Rattle.wedge_events.specs.declared.cells.DirectoryAsk.TheVariants as directory_ask
 use Rattle.wedge_events.specs.declared.cells.DirectoryReply.TheVariants as directory_reply
@@ -24,7 +24,7 @@ use Rattle.rv_hart.specs.Local.{local, reg}
 use Rattle.sthread_life.specs.declared.phase.Phase.{Phase}
 use Rattle.sthread_life.specs.declared.phase.Phase.TheVariants as phase
 use Rattle.sthread_life.specs.Actors.{ActorState, right_of}
-use Rattle.run_laws.specs.Allowed.{answered}
+use Rattle.run_laws.specs.Allowed.{answered, window_address}
 use Rattle.sthread_life.specs.Children.{is_child}
 use Rattle.run_laws.specs.Families.{answered_twice}
 use Rattle.run_laws.specs.FileCalls.{OpensAt}
@@ -71,6 +71,11 @@ ClaimsSlot old a e new = (c : Claim) → claim old.cells.places ≡ Some c
       actors = put_actor old.actors (record a { phase = phase.Opening c.place old.cells.places.number });
     })
 
+-- copies without the one at a slot: there is none there, and each other is as before
+pub record AreWithout (old : Copies) (slot : ℕ) (new : Copies) : Type 0 where
+  pub gone : copy_at new slot ≡ None
+  pub beside : (other : ℕ) → other ≢ slot → copy_at new other ≡ copy_at old other
+
 -- a tag is opened in its slot with zero bytes and no blocks; its actor has made it, may store to
 -- it, has no private copy there, and is answered its number and its address
 abbrev pub OpensTag : WorldState → ActorState → ℕ → ℕ → Event → WorldState → Type 0
@@ -80,12 +85,13 @@ OpensTag old a slot tag e new =
       cells = record old.cells { slots = slice_set old.cells.slots slot (Some (record { tag = tag; bytes = zeros (reg a.hart.regs 10 * 4096); blocks = [] })) };
       actors = put_actor old.actors (record a {
         made = made_tag a.made tag slot;
-        hart = answered_twice a tag (address_of slot 0);
+        hart = answered_twice a tag (window_address slot 0);
         memory = record a.memory { copies = without_copy a.memory.copies slot };
         phase = phase.Running;
       });
     })
     × (right_of (record a { made = made_tag a.made tag slot }) tag ≡ Some right.ReadWrite)
+    × AreWithout a.memory.copies slot (without_copy a.memory.copies slot)
 
 -- the slot of a tag that was closed is released, and the call is answered 0
 abbrev pub ReleasesSlot : WorldState → ActorState → ℕ → Event → WorldState → Type 0

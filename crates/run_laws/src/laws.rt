@@ -1,7 +1,7 @@
 //! Laws of the definitions: each is the contract of a function that does nothing.
 
 ghost use Rattle.wedge_base.specs.Images.{Image};
-ghost use Rattle.run_laws.specs.Laws.{CellsOpen, AccessesAreIsolated, MomentsAreLawful, NamesAreDistinct, RunsWriteTheirOwn, RunsReadTheirOwn, LivesAreCounted, FuelIsKept, RootBounds, SlotsAreOccupied, CopiesAreGranted, GatesAreKept, NoneRunsWithin, GatesHeldAreOlder, RunsAreAlone, RunsEnd, EndedHaveJoinedAll, AllHaveEnded, DraftsAreSorted};
+ghost use Rattle.run_laws.specs.Laws.{CellsOpen, AccessesAreIsolated, MomentsAreLawful, InstructionsAreLawful, NamesAreDistinct, RunsWriteTheirOwn, RunsReadTheirOwn, LivesAreCounted, FuelIsKept, RootBounds, SlotsAreOccupied, CopiesAreGranted, GatesAreKept, NoneRunsWithin, GatesHeldAreOlder, RunsAreAlone, RunsEnd, EndedHaveJoinedAll, AllHaveEnded, DraftsAreSorted};
 ghost use Rattle.run_laws.specs.Walks.{RootsWalk};
 
 /// In every run, whatever the image and the order of the turns, each request that an instruction makes
@@ -17,8 +17,10 @@ ghost use Rattle.run_laws.specs.Walks.{RootsWalk};
 /// the maker fixed too, or, in a recycled gate, with that which the gate's cell keeps; and with what the caller lends of its own
 /// where that sheet names nothing. Each turn of an actor that waited for such a run begins with the
 /// value, the end and the fuel that this run left, and each other turn with the actor as it was.
+/// All this holds also of the instructions of an actor whose next event has to wait.
 pub fn moments_are_lawful()
-    ensures { MomentsAreLawful }
+    ensures moments { MomentsAreLawful }
+    ensures instructions { InstructionsAreLawful }
 {}
 
 /// In every run the bytes of each tag are those that the image declares, with the stores of the run
