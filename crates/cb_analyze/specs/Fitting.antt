@@ -1,4 +1,4 @@
--- Which grants permit all of some accesses, kept access by access.
+-- Of each grant, whether it permits all accesses so far.
 use Rattle.std.specs.Prelude.{◌&&◌, List, Option, Some, None, if◌then◌else◌}
 use Rattle.wedge_base.specs.declared.rights.Right.TheVariants as right
 use Rattle.wedge_base.specs.Rights.{read_bit, append_bit}

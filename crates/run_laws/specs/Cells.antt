@@ -46,7 +46,7 @@ opening_cells i = record {
   gates = [];
 }
 
--- what is in a slot, and the stream behind a descriptor
+-- what is in a slot, and the stream behind a descriptor; the number may be out of range
 abbrev pub held : {X : Type 0} → Option (Option X) → Option X
 held None = None
 held (Some x) = x
@@ -86,7 +86,7 @@ event_of c (ask.Lives q) = Some (event.Lives q (lives_reply c.lives q))
 event_of c (ask.Gate id q) = Some (event.Gate id q (gate_reply (kept_in c id) q))
 event_of c q = None
 
--- the cell of an event goes on, and every other stays
+-- the cell of an event takes its next state, and every other stays
 abbrev pub cells_after : Cells → Event → Cells
 cells_after c (event.Slots q r) = record c { places = directory_next c.places q }
 cells_after c (event.Slot slot q r) = record c { slots = slice_set c.slots slot (slot_after (slot_in c slot) q r) }

@@ -27,7 +27,7 @@ right_of_number n = if n == 1 then right.Cow else if n == 2 then right.Read else
 abbrev pub bits_of_number : ℕ → FdBits
 bits_of_number n = record { read = (if n == 2 then false else true); append = (if n == 1 then false else true) }
 
--- the draft of a number goes on, unless the call is refused
+-- the drafts with the one of this number edited, unless the call is refused
 abbrev pub edited : List Draft → ℕ → Option ℕ → (Draft → Draft) → Option Draft → List Draft
 edited ds k (Some code) edit d = ds
 edited ds k None edit None = ds

@@ -1,4 +1,4 @@
--- Starts, joins and ends among actors, read off the registers, the drafts and the child: a second
+-- Starts, entries of gates, joins and ends, read off the registers, the drafts and the child: a second
 -- statement, beside the step.
 use Rattle.std.specs.Prelude.{◌≡◌, ℕ, ◌+◌, ◌-◌, true, List, [], ◌∷◌, ◌++◌, replicate, slice_get, slice_set, Option, Some, None, IsSomeAnd, IfSome, false, unwrap_or}
 use Rattle.wedge_base.specs.Sheets.{Made, Draft, nothing_made, made_tag, made_fd, first_excess, granted}

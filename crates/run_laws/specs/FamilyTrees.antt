@@ -1,6 +1,7 @@
 -- What holds of the actors of every run: each but the root was started by another that is there; no
--- two have one name; a child that is not joined stands behind its starter and is worth at most what
--- it was given; and whoever has not ended is not joined.
+-- two have one name; a child that is not joined comes after its starter in the list, and its fuel and
+-- what it gave to its own children are at most what it was given; and whoever has not ended is not
+-- joined.
 use Rattle.std.specs.Prelude.{◌≡◌, ℕ, ◌+◌, ◌≤◌, true, false, List, [], ◌∷◌, Option, Some, IsSomeAnd, ◌⊎◌}
 use Rattle.wedge_base.specs.Names.{root_name}
 use Rattle.sthread_life.specs.Actors.{ActorState}

@@ -77,7 +77,7 @@ abbrev pub LivesAreCounted : Type 0
 LivesAreCounted = (i : Image) (turns : List Turn) (w : WorldState) → Runs (opening i) turns w → (w.cells.lives ≡ lives_in w.actors) × (lives_in w.actors ≤ most_lives)
 
 -- after each run the bytes in each slot are those that the image declares, with what the run wrote
--- over them in order, and in each step of it whoever stores into a slot may store to the tag that
+-- over them in order, and in each turn of it whoever stores into a slot may store to the tag that
 -- lives there; each stream is as the image declares it, with what the run added and took, and
 -- whoever appends to it may; and whatever else the cells hold is changed by their own events alone
 pub record IsWrittenByOwners (i : Image) (turns : List Turn) (new : WorldState) : Type 0 where

@@ -17,7 +17,7 @@ pub mod Ends
 pub mod Refusals
 -- What each moment costs its actor in fuel, read off the text, the registers and the reply.
 pub mod Paying
--- Starts, joins and ends among actors, read off the registers, the drafts and the child.
+-- Starts, entries of gates, joins and ends, read off the registers, the drafts and the child.
 pub mod Families
 -- What the call that opens a file leaves, once it is allowed.
 pub mod FileCalls

@@ -31,7 +31,7 @@ use Rattle.run_laws.specs.Families.{joined}
 use Rattle.wedge_base.specs.declared.rights.End.{End}
 use Rattle.wedge_base.specs.declared.rights.End.TheVariants as end_
 
--- of each step of a run
+-- of each turn of a run
 abbrev pub EachTurn : (WorldState → Turn → WorldState → Type 0) → WorldState → List Turn → Type 0
 EachTurn P old [] = Unit {0}
 EachTurn P old (t ∷ ts) = (mid : WorldState) × (turn_of old t.actor ≡ Some (record { event = t.event; world = mid })) × P old t mid × EachTurn P mid ts

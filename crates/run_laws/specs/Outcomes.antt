@@ -20,7 +20,7 @@ use Rattle.run_laws.specs.Worlds.{WorldState}
 abbrev pub line_of : Image → ActorState → End → ActorLine
 line_of i a e = record { name = a.name; compartment = procedure_name i a.compartment; end = e; pc = a.hart.pc; fuel = a.fuel; denials = a.denials }
 
--- a line put in its place: lines stand in the order of names
+-- a line inserted by its name: lines are sorted by name
 abbrev pub with_line : ActorLine → List ActorLine → List ActorLine
 with_line l [] = l ∷ []
 with_line l (m ∷ ms) = if is_lt (slice_cmp nat_cmp l.name m.name) then l ∷ m ∷ ms else m ∷ with_line l ms

@@ -3,8 +3,9 @@
 -- the path of a root directory one more for each byte of it; a read costs a unit for each byte that
 -- it gave, an append that took place one for each byte of its length, the call's third argument,
 -- and a file that was opened one for each byte of its path's text, the second argument; nothing
--- else costs anything. A start gives fuel to the child, as the call's fourth argument says, and a
--- join brings back what the child has left.
+-- else costs anything. A start gives fuel to the child, as the call's fourth argument says, and the
+-- entry of a gate gives the gate's fuel to the run; a join, or the end of a run, brings back what is
+-- left.
 use Rattle.std.specs.Prelude.{◌≡◌, ◌+◌, ◌==◌, ℕ, zero, suc, List, length, slice_get, Option, Some, None, IsSomeAnd, if◌then◌else◌}
 use Rattle.wedge_base.specs.Images.{Image, fetch}
 use Rattle.wedge_events.specs.declared.events.Event.{Event}

@@ -1,6 +1,7 @@
 -- The private bytes of an actor, in its ranges and in its copies of tags: a load gives what is
--- there, a store writes its own bytes and no others, and nothing else changes any, but that a tag
--- which the actor opens hides no copy. Said byte by byte, apart from the step.
+-- there, a store writes its own bytes and no others, and nothing else changes any, except that its
+-- copy at a slot is dropped when it opens a tag there, and all of its private memory when it ends.
+-- Said byte by byte, apart from the step.
 use Rattle.std.specs.Prelude.{◌≡◌, ℕ, zero, suc, ◌+◌, ◌-◌, ◌%◌, ◌==◌, ◌<◌, ◌≤◌, ◌≢◌, ◌⊎◌, Bool, not, ◌&&◌, List, [], ◌∷◌, length, slice_get, Option, Some, None, IsSomeAnd, option_map, option_and_then, nat_le, if◌then◌else◌}
 use Rattle.std.specs.Option.{option_or}
 use Rattle.cow_pages.specs.Copies.{Copies, copy_at, read_copy, without_copy}
@@ -28,7 +29,7 @@ use Rattle.sthread_life.specs.Actors.{ActorState}
 use Rattle.run_laws.specs.Worlds.{WorldState, actor_named}
 use Rattle.run_laws.specs.Allowed.{next_word}
 
--- the byte of the k-th range at an address, if it has one there
+-- the byte of a range at an address, if it has one there; and of the k-th range
 abbrev pub byte_at : ℕ → MemoryRange → Option ℕ
 byte_at address r = if nat_le r.base address then slice_get r.bytes (address - r.base) else None
 
@@ -78,13 +79,14 @@ found_by_load i a address width =
     else if in_text i address width then Some (read_text i address width)
     else option_or (bytes_in a.memory.ranges address width) (copied_bytes a.memory.copies width (slot_of address))
 
--- a store into private memory, where it is aligned and not in the text
+-- where a store goes: into a private range, into a private copy, or neither
 pub data Target : Type 0 where
   InRange : Target
   InCopy : Place → Target
   Elsewhere : Target
 
--- where the bytes of a store lie: in one range, or else in a copy at a place of the windows
+-- where the bytes of a store lie: in one range, or else in a copy at a place of the windows; only
+-- an aligned store outside the text goes there
 abbrev pub copy_target : Option Place → Option (List ℕ) → Target
 copy_target (Some p) (Some bytes) = InCopy p
 copy_target p bytes = Elsewhere

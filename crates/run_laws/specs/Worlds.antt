@@ -113,7 +113,7 @@ abbrev pub turn_with : WorldState → Option ActorState → Option Taken
 turn_with w None = None
 turn_with w (Some a) = turn_in (resumed w a) (ready w.actors a)
 
--- a turn: an actor goes on if it waited for a run that has ended, makes its local events, and then
+-- a turn: an actor goes on if it waited for a run that has ended, makes its local steps, and then
 -- one shared event; there is at most one outcome
 unfoldable pub turn_of : WorldState → List ℕ → Option Taken
 turn_of w name = turn_with w (actor_named w.actors name)
@@ -127,7 +127,7 @@ abbrev pub is_ended : Option ActorState → Bool
 is_ended None = false
 is_ended (Some a) = has_ended a.phase
 
--- a run is whole where its root has ended
+-- a run is complete once its root has ended
 abbrev pub is_complete : WorldState → Bool
 is_complete w = is_ended (actor_named w.actors root_name)
 
@@ -135,6 +135,6 @@ is_complete w = is_ended (actor_named w.actors root_name)
 abbrev pub at_rest : WorldState → ActorState → ActorState
 at_rest w a = rest w.image (ready w.actors a)
 
--- the world with every actor at rest: two worlds that are equal so differ in local events alone
+-- the world with every actor at rest: two worlds that are equal so differ in local steps alone
 abbrev pub settled : WorldState → WorldState
 settled w = record w { actors = map (at_rest w) w.actors }

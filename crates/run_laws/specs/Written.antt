@@ -32,7 +32,7 @@ abbrev pub stores_in : ℕ → Event → Bool
 stores_in slot (event.Slot s (slot_ask.Store offset width value live) slot_reply.Stored) = s == slot
 stores_in slot e = false
 
--- where a step stores into a slot, a tag lives there, and the step's actor may store to it
+-- where a turn stores into a slot, a tag lives there, and the turn's actor may store to it
 abbrev pub TurnWritesOwn : WorldState → Turn → WorldState → Type 0
 TurnWritesOwn old t new = (slot : ℕ) → stores_in slot t.event ≡ true
     → (g : Segment) × (slot_in old.cells slot ≡ Some g) × MayStore old.actors t.actor g.tag
@@ -54,6 +54,6 @@ abbrev pub appends_to : ℕ → Event → Bool
 appends_to fd (event.Fd n (stream_ask.Append bits bytes) stream_reply.Appended) = n == fd
 appends_to fd e = false
 
--- where a step appends to a descriptor, the step's actor may
+-- where a turn appends to a descriptor, the turn's actor may
 abbrev pub TurnAppendsOwn : WorldState → Turn → WorldState → Type 0
 TurnAppendsOwn old t new = (fd : ℕ) → appends_to fd t.event ≡ true → MayAppend old.actors t.actor fd

@@ -49,8 +49,8 @@ pub fn names_are_distinct()
     ensures { NamesAreDistinct }
 {}
 
-/// In every run the entries of an actor are a walk of its own: each is an event that it asks at rest, and they
-/// lead to what it is in the end, whatever the cells and the other actors do.
+/// In every run the entries of the root are a walk of the root alone: each is an event that it asks at rest, and they
+/// lead to what it is in the end, whatever the cells and the other actors do. Of other actors nothing is said here.
 pub fn actors_walk()
     ensures { RootsWalk }
 {}
@@ -65,7 +65,7 @@ pub fn lives_are_counted()
 /// turns took: a unit for each instruction, and one for each byte that was read or appended, and of the path of a root
 /// directory or of a file that was opened. A start gives fuel to a child, and the entry of a gate to its run; a join, or the
 /// end of a run, brings back what is left: none of them changes the sum.
-/// So every run ends: 1,029 turns for each unit of fuel, and two, are more than it can have.
+/// So every run ends: it has at most 1,029 turns for each unit of fuel, and two.
 pub fn fuel_is_kept()
     ensures sum { FuelIsKept }
     ensures ends { RunsEnd }
@@ -80,8 +80,8 @@ pub fn rights_are_within_the_roots()
 
 /// In every world of a run a slot was never used, or was released, or is held by the call of one actor, or one tag lives
 /// there; no two live tags have one number, and a tag lives nowhere but in the slot in which those that hold it have it. So a
-/// tag is opened only where none lives, in a slot that its actor claimed, and a slot is released only by the actor that
-/// closed the tag there.
+/// claim gives a slot that was not claimed and is empty, and none is free where it gives none, unless the numbers of tags are used up;
+/// a tag is opened in a claimed slot that is empty; and a slot that is released was claimed and is empty, and can be claimed again.
 pub fn slots_are_occupied()
     ensures { SlotsAreOccupied }
 {}

@@ -81,7 +81,7 @@ IsRefused (Replay image schedule) files before after why = IsReplayRefused image
 IsRefused (Derive trace) files before after why = IsTraceRefused trace (files trace) (before trace) (after trace) why
 IsRefused (Analyze trace query name) files before after why = IsQueryRefused query name trace (files trace) (before trace) (after trace) why
 
--- its image or its partition is refused
+-- its image or its partition is rejected, or the two files of a link make no image
 abbrev pub IsUnfit : Asked → (List ℕ → Option (List ℕ)) → Type 0
 IsUnfit (Run image flag) files = WhereExposed (files image) (λ bytes. IsErr (image_of bytes))
 IsUnfit (Show image) files = WhereExposed (files image) (λ bytes. IsErr (image_of bytes))

@@ -64,7 +64,7 @@ abbrev pub IsReported : Image → RunFlag → Option Journal → List Text → T
 IsReported i flag None texts = ⊥
 IsReported i flag (Some journal) texts = IsReportOf i flag journal texts
 
--- an image's file is run, listed, or built of a partition's
+-- a file is run or listed as an image, or built as a partition
 pub record RunsImage (flag : RunFlag) (content : Option (List ℕ)) (kept : Option Journal) (texts : List Text) : Type 0 where
   pub image : Image
   pub encoded : WhereExposed content (λ bytes. Encodes image bytes)

@@ -26,7 +26,7 @@ word_text w (Some ins) = text ins
 unfoldable pub says : ℕ → List ℕ
 says w = word_text w (decode w)
 
--- eight hexadecimal digits, and a blank
+-- eight hexadecimal digits, and a space
 unfoldable pub column : ℕ → List ℕ
 column n = address_text n ++ codes " "
 

@@ -95,7 +95,7 @@ pub record IsReadFault (name : List ℕ) (before after : ℕ) (file : List ℕ) 
   pub named : file ≡ name
   pub rose : before < after
 
--- why the bytes of a partition's file are not had, but for its length
+-- why the bytes of a partition's file could not be used, but for its length
 abbrev pub IsPartitionUnread : List ℕ → ℕ → ℕ → Refusal → Type 0
 IsPartitionUnread name before after refusal.NoMemory = Unit {0}
 IsPartitionUnread name before after (refusal.Read file) = IsReadFault name before after file
@@ -106,7 +106,7 @@ pub record IsTooLong (k : FileKind) (content : Option (List ℕ)) (why : Refusal
   pub is : why ≡ too_long k
   pub longer : WhereExposed content (λ bytes. most_of k < length bytes)
 
--- why the bytes of the file of a name are not had
+-- why the bytes of the file of a name could not be used
 abbrev pub IsUnread : FileKind → List ℕ → Option (List ℕ) → ℕ → ℕ → Refusal → Type 0
 IsUnread k name content before after refusal.NoMemory = Unit {0}
 IsUnread k name content before after (refusal.Read file) = IsReadFault name before after file
@@ -117,7 +117,7 @@ IsUnread k name content before after (refusal.Trace fault) = IsTooLong k content
 IsUnread k name content before after (refusal.Elf fault) = IsTooLong k content (refusal.Elf fault)
 IsUnread k name content before after (refusal.NoSuchName item) = ⊥
 
--- why the image of a file is not had: memory ran out, a read failed, or its bytes are refused so
+-- why the image of a file could not be used: out of memory, a read that failed, or bytes that are rejected so
 abbrev pub IsRefusedBy : (List ℕ → Result Image Refusal) → List ℕ → Option (List ℕ) → ℕ → ℕ → Refusal → Type 0
 IsRefusedBy meant name content before after refusal.NoMemory = Unit {0}
 IsRefusedBy meant name content before after (refusal.Read file) = IsReadFault name before after file

@@ -165,7 +165,7 @@ fn add_two(line: &mut Vec<u8>, first: &[u8], second: &[u8]) -> Result<(), AllocE
     Ok(())
 }
 
-/// Adds a number, what stands after it, and a word.
+/// Adds a number, the text after it, and a word.
 fn add_place(
     alloc: Global,
     line: &mut Vec<u8>,

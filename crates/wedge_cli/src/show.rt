@@ -56,7 +56,7 @@ fn write_word_line(
     Ok(())
 }
 
-/// Adds eight hexadecimal digits and a blank.
+/// Adds eight hexadecimal digits and a space.
 #[tactic(auto, unfolding(crate::specs::Listing::column))]
 fn write_column(number: u32, out: &mut Vec<u8>) -> Result<(), NoMemory>
     ensures { OnOk result (out.new.items ≡ out.old.items ++ listings.column number) }

@@ -24,14 +24,14 @@ pub record Progress : Type 0 where
   pub stopped : Bool
 
 -- The turns are a run from the initial state, and the state of a world that has not stopped is
--- where that run leads, but for local events of its actors: a turn that is refused may have made
+-- where that run leads, but for local steps of its actors: a turn that is refused may have made
 -- those that come before its event.
 pub record IsRunSoFar (p : Progress) : Type 0 where
   pub last : WorldState
   pub run : Runs (opening p.state.image) p.turns last
   pub current : p.stopped ≡ false → settled p.state ≡ settled last
 
--- these turns lead to a state, but for local events
+-- these turns lead to a state, but for local steps
 pub record LeadsTo (turns : List Turn) (state : WorldState) : Type 0 where
   pub last : WorldState
   pub run : Runs (opening state.image) turns last

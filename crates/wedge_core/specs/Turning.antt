@@ -24,7 +24,7 @@ use Rattle.sthread_life.specs.declared.phase.Phase.TheVariants as phase
 abbrev pub event_asked : Cells → ActorState → Want → Option Event
 event_asked c a q = event_of c (asks a (live_at c q) q)
 
--- what is of the actor and of one cell alone
+-- an event that changes its actor and one cell, and begins no actor
 abbrev pub IsOfCell : Want → Type 0
 IsOfCell (want.Start child) = ⊥
 IsOfCell (want.Join child) = ⊥

@@ -22,7 +22,7 @@ pub(crate) struct Live {
 }
 
 /// A complete run of an image, on the calling thread: its journal and its outcome. The stamps of the
-/// journal are the places of its entries, from 1. Each turn is that of the actor that was started last and
+/// journal are the indices of its entries, counted from 1. Each turn is that of the actor that was started last and
 /// has not ended.
 pub fn serial(alloc: Global, image: &Image) -> Result<(Journal, Outcome), NoMemory>
     ensures run { IfOk result (λ r. IsJournaledRun image.now r.0.entries r.1) }

@@ -47,7 +47,7 @@ pub(crate) enum Went {
     Busy,
 }
 
-/// Takes a turn of the actor of a name: its local events up to its next shared event, and that event.
+/// Takes a turn of the actor of a name: its local steps up to its next event, and that event.
 /// After `Unknown` or `Ended` the world is unchanged. `Waits` comes exactly where the actor's next event is the
 /// join of a child that has not ended, or where it waits for the run of a gate that has not; and `Busy` where its
 /// next event is the entry of a recycled gate in which a run is. The actor is then at rest, and all else is

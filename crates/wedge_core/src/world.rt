@@ -17,7 +17,7 @@ use wedge_base::NoMemory;
 use wedge_events::{Event, LogEntry};
 
 /// The world of a run: every actor and every cell, and the turns taken so far. Its turns are always a
-/// run from the initial state of its image, and its state is where that run leads, but for local events
+/// run from the initial state of its image, and its state is where that run leads, but for local steps
 /// of its actors, unless it has stopped because it ran out of memory.
 #[derive(Drop)]
 pub struct World<'a> {
