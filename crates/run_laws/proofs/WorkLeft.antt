@@ -121,11 +121,11 @@ tasks_begun actors (Some c) = tasks_behind actors c
 
 -- an actor that comes to rest has paid, or has little left to do
 record IsPaid (a b : ActorState) (units : ℕ) : Type 0 where
-  within : (q : Want) → b.phase ≡ phase.Within q → 7 + most_grants ≤ unit_work * units + phase_work a.phase
-  starting : (p : Preparation) → b.phase ≡ phase.Starting p → 6 + length p.left ≤ unit_work * units + phase_work a.phase
-  making : (p : Preparation) → length p.left ≤ most_grants → b.phase ≡ phase.MakingGate p → 6 + length p.left ≤ unit_work * units + phase_work a.phase
-  opening : (slot tag : ℕ) → b.phase ≡ phase.Opening slot tag → 6 ≤ unit_work * units + phase_work a.phase
-  releasing : (slot : ℕ) → b.phase ≡ phase.Releasing slot → 6 ≤ unit_work * units + phase_work a.phase
+  within : (q : Want) → b.phase ≡ phase.Within q → 5 + most_grants ≤ unit_work * units + phase_work a.phase
+  starting : (p : Preparation) → b.phase ≡ phase.Starting p → 4 + length p.left ≤ unit_work * units + phase_work a.phase
+  making : (p : Preparation) → length p.left ≤ most_grants → b.phase ≡ phase.MakingGate p → 4 + length p.left ≤ unit_work * units + phase_work a.phase
+  opening : (slot tag : ℕ) → b.phase ≡ phase.Opening slot tag → 4 ≤ unit_work * units + phase_work a.phase
+  releasing : (slot : ℕ) → b.phase ≡ phase.Releasing slot → 4 ≤ unit_work * units + phase_work a.phase
   file : (o : FileOpening) → b.phase ≡ phase.OpeningFile o → opening_work o.number ≤ unit_work * units + phase_work a.phase
   entering : (x : Entrance) → b.phase ≡ phase.Entering x → 5 ≤ unit_work * units + phase_work a.phase
   ending : (e : End) → b.phase ≡ phase.Ending e → 1 ≤ unit_work * units + phase_work a.phase
@@ -148,7 +148,7 @@ paid_entering f g x p e h = subst (HasPaid f g) e h
 paid_file : (f g : ℕ) (o : FileOpening) (p : Phase) → p ≡ phase.OpeningFile o → HasPaid f g p → g < f
 paid_file f g o p e h = subst (HasPaid f g) e h
 
-opening_most : (n : Option ℕ) → opening_work n ≤ 7
+opening_most : (n : Option ℕ) → opening_work n ≤ 5
 opening_most None = omega arith
 opening_most (Some fd) = omega arith
 
@@ -156,7 +156,7 @@ rest_paid : (i : Image) (a : ActorState) (t : Bool) → is_running a.phase ≡ t
 rest_paid i a true e =
     let r = rests i a e in
     let units = rest_units i a in
-    let work : phase_work a.phase ≡ 2 = ap phase_work (running_is a.phase e) in
+    let work : phase_work a.phase ≡ 1 = ap phase_work (running_is a.phase e) in
     record {
       within = λ q is. let less = paid_within a.fuel (rest i a).fuel (rest i a).phase q is r.paid in omega (arith, less, units, work);
       starting = λ p is. absurd (subst IsCalm is r.calm);
@@ -171,13 +171,13 @@ rest_paid i a false e =
     let stays = rest-stays i a e in
     let same : (rest i a).phase ≡ a.phase = ap (λ (x : ActorState). x.phase) stays in
     record {
-      within = λ q is. let work : phase_work a.phase ≡ 7 + most_grants = ap phase_work (sym same ∙ is) in omega (arith, work);
-      starting = λ p is. let work : phase_work a.phase ≡ 6 + length p.left = ap phase_work (sym same ∙ is) in omega (arith, work);
-      making = λ p few is. let work : phase_work a.phase ≡ 6 + length p.left = ap phase_work (sym same ∙ is) in omega (arith, work);
-      opening = λ slot tag is. let work : phase_work a.phase ≡ 6 = ap phase_work (sym same ∙ is) in omega (arith, work);
-      releasing = λ slot is. let work : phase_work a.phase ≡ 6 = ap phase_work (sym same ∙ is) in omega (arith, work);
+      within = λ q is. let work : phase_work a.phase ≡ 5 + most_grants = ap phase_work (sym same ∙ is) in omega (arith, work);
+      starting = λ p is. let work : phase_work a.phase ≡ 4 + length p.left = ap phase_work (sym same ∙ is) in omega (arith, work);
+      making = λ p few is. let work : phase_work a.phase ≡ 4 + length p.left = ap phase_work (sym same ∙ is) in omega (arith, work);
+      opening = λ slot tag is. let work : phase_work a.phase ≡ 4 = ap phase_work (sym same ∙ is) in omega (arith, work);
+      releasing = λ slot is. let work : phase_work a.phase ≡ 4 = ap phase_work (sym same ∙ is) in omega (arith, work);
       file = λ o is. let work : phase_work a.phase ≡ opening_work o.number = ap phase_work (sym same ∙ is) in omega (arith, work);
-      entering = λ x is. let work : phase_work a.phase ≡ 5 = ap phase_work (sym same ∙ is) in omega (arith, work);
+      entering = λ x is. let work : phase_work a.phase ≡ 4 = ap phase_work (sym same ∙ is) in omega (arith, work);
       ending = λ x is. let work : phase_work a.phase ≡ 1 = ap phase_work (sym same ∙ is) in omega (arith, work);
     }
 
@@ -237,7 +237,7 @@ leaves_none (event.Enter run) p h = not_within p (λ q is. subst MayWait is h)
 leaves_none (event.Gate id (gate_ask.Enter run first) (gate_reply.Entered memory)) p h = not_within p (λ q is. subst MayWait is h)
 leaves_none e p h = between_one p h
 
-work_without : (p : Phase) → NotWithin p → (IsMaking p → ⊥) → ((pre : Preparation) → p ≡ phase.Starting pre → length pre.left ≤ most_grants) → phase_work p ≤ 6 + most_grants
+work_without : (p : Phase) → NotWithin p → (IsMaking p → ⊥) → ((pre : Preparation) → p ≡ phase.Starting pre → length pre.left ≤ most_grants) → phase_work p ≤ 4 + most_grants
 work_without phase.Running h none few = omega arith
 work_without (phase.Within q) h none few = absurd h
 work_without (phase.Starting pre) h none few = let left = few pre refl in omega (arith, left)
@@ -261,7 +261,7 @@ claimed_left i b pre few is =
     omega (arith, left, fewer, most)
 
 -- whoever wanted an event prepares a child after the claim of a life alone, with as many copies as a draft has grants
-request_work : (w : WorldState) (b : ActorState) (e : Event) (q : Want) → b.phase ≡ phase.Within q → AreFew b.drafts → phase_work (takes w.image b e).phase ≤ 6 + most_grants
+request_work : (w : WorldState) (b : ActorState) (e : Event) (q : Want) → b.phase ≡ phase.Within q → AreFew b.drafts → phase_work (takes w.image b e).phase ≤ 4 + most_grants
 request_work w b e q at few =
     work_without (takes w.image b e).phase (leaves_none e (takes w.image b e).phase (takes_between w.image b e))
     (λ k. subst IsMaking at (was_making w.image b e k))
@@ -272,26 +272,26 @@ request_work w b e q at few =
     by_cause pre is (inr before) = absurd (subst IsPreparing at before)
 
 snapped_work : (b : ActorState) (p : Preparation) (slot : ℕ) (gs : List CopyGrant) (o : Option (List ℕ)) → b.phase ≡ phase.Starting p → p.left ≡ gs
-    → phase_work (has_snapped b b.phase slot o).phase ≤ 6 + length (behind_first gs)
+    → phase_work (has_snapped b b.phase slot o).phase ≤ 4 + length (behind_first gs)
 snapped_work b p slot gs o at left =
     let fewer = prepared_left b.sheet b.made b.memory.copies (copied_from o slot p.memory) (behind_first p.left) in
-    let work : phase_work (has_snapped b b.phase slot o).phase ≡ 6 + length (prepared b.sheet b.made b.memory.copies (copied_from o slot p.memory) (behind_first p.left)).left = ap (λ ph. phase_work (has_snapped b ph slot o).phase) at in
+    let work : phase_work (has_snapped b b.phase slot o).phase ≡ 4 + length (prepared b.sheet b.made b.memory.copies (copied_from o slot p.memory) (behind_first p.left)).left = ap (λ ph. phase_work (has_snapped b ph slot o).phase) at in
     let same : length (behind_first p.left) ≡ length (behind_first gs) = ap (λ l. length (behind_first l)) left in
     omega (arith, fewer, work, same)
 
 snap_work : (i : Image) (b : ActorState) (p : Preparation) (slot tag : ℕ) (grant : CopyGrant) (others : List CopyGrant) (g : Option Segment) → b.phase ≡ phase.Starting p → p.left ≡ grant ∷ others
-    → phase_work (takes i b (event.Slot slot (slot_ask.Snap tag) (slot_reply_of g (slot_ask.Snap tag)))).phase ≤ 6 + length others
+    → phase_work (takes i b (event.Slot slot (slot_ask.Snap tag) (slot_reply_of g (slot_ask.Snap tag)))).phase ≤ 4 + length others
 unfolding takes
 snap_work i b p slot tag grant others g at left =
-    snap_cases (λ r. phase_work (takes i b (event.Slot slot (slot_ask.Snap tag) r)).phase ≤ 6 + length others) g tag
+    snap_cases (λ r. phase_work (takes i b (event.Slot slot (slot_ask.Snap tag) r)).phase ≤ 4 + length others) g tag
     (λ pages. snapped_work b p slot (grant ∷ others) (Some (bytes_listed pages)) at left) (snapped_work b p slot (grant ∷ others) None at left)
 
-made_work : (b : ActorState) (d : Draft) (p : Preparation) (gs : List CopyGrant) → phase_work (makes_or_waits b d p gs).phase ≤ 6 + length p.left
+made_work : (b : ActorState) (d : Draft) (p : Preparation) (gs : List CopyGrant) → phase_work (makes_or_waits b d p gs).phase ≤ 4 + length p.left
 made_work b d p [] = omega arith
 made_work b d p (g ∷ gs) = omega arith
 
 gate_snapped_work : (b : ActorState) (p : Preparation) (slot : ℕ) (grant : CopyGrant) (others : List CopyGrant) (o : Option (List ℕ)) → b.phase ≡ phase.MakingGate p → p.left ≡ grant ∷ others
-    → phase_work (has_snapped b b.phase slot o).phase ≤ 6 + length others
+    → phase_work (has_snapped b b.phase slot o).phase ≤ 4 + length others
 gate_snapped_work b p slot grant others o at left =
     let next = copied_on b p slot o in
     let fewer = prepared_left b.sheet b.made b.memory.copies (copied_from o slot p.memory) (behind_first p.left) in
@@ -301,10 +301,10 @@ gate_snapped_work b p slot grant others o at left =
     omega (arith, fewer, most, work, same)
 
 gate_snap_work : (i : Image) (b : ActorState) (p : Preparation) (slot tag : ℕ) (grant : CopyGrant) (others : List CopyGrant) (g : Option Segment) → b.phase ≡ phase.MakingGate p → p.left ≡ grant ∷ others
-    → phase_work (takes i b (event.Slot slot (slot_ask.Snap tag) (slot_reply_of g (slot_ask.Snap tag)))).phase ≤ 6 + length others
+    → phase_work (takes i b (event.Slot slot (slot_ask.Snap tag) (slot_reply_of g (slot_ask.Snap tag)))).phase ≤ 4 + length others
 unfolding takes
 gate_snap_work i b p slot tag grant others g at left =
-    snap_cases (λ r. phase_work (takes i b (event.Slot slot (slot_ask.Snap tag) r)).phase ≤ 6 + length others) g tag
+    snap_cases (λ r. phase_work (takes i b (event.Slot slot (slot_ask.Snap tag) r)).phase ≤ 4 + length others) g tag
     (λ pages. gate_snapped_work b p slot grant others (Some (bytes_listed pages)) at left) (gate_snapped_work b p slot grant others None at left)
 
 -- the tasks of the doer and of a child after the event, against those before and the units
@@ -343,9 +343,9 @@ last_phase : (i : Image) (b : ActorState) (k : ℕ) (x y : End) (fuel : ℕ) →
 unfolding takes
 last_phase i b k x y fuel at = last_work (record b { fuel = b.fuel + fuel; unjoined = without_child b.unjoined k }) x y at
 
-number_work : (i : Image) (b : ActorState) (r : DirectoryReply) → phase_work (takes i b (event.Fds directory_ask.Claim r)).phase ≤ 6
+number_work : (i : Image) (b : ActorState) (r : DirectoryReply) → phase_work (takes i b (event.Fds directory_ask.Claim r)).phase ≤ 4
 unfolding takes
-number_work i b (directory_reply.Claimed fd number) = numbered_is (λ x. phase_work x.phase ≤ 6) b b.phase fd (omega arith) (λ o. omega arith)
+number_work i b (directory_reply.Claimed fd number) = numbered_is (λ x. phase_work x.phase ≤ 4) b b.phase fd (omega arith) (λ o. omega arith)
 number_work i b directory_reply.Full = omega arith
 number_work i b directory_reply.Released = omega arith
 
@@ -428,8 +428,8 @@ event_less w a e drafts (Numbers n) =
     let s = takes_same w.image b e one in
     let k = kept_at_rest w.image a _ refl in
     let paid = (rest_paid w.image a _ refl).file n.opening n.at in
-    let work : opening_work n.opening.number ≡ 7 = ap opening_work n.none in
-    let few : phase_work (takes w.image b e).phase ≤ 6 = subst (λ y. phase_work (takes w.image b y).phase ≤ 6) (sym n.is) (number_work w.image b _) in
+    let work : opening_work n.opening.number ≡ 5 = ap opening_work n.none in
+    let few : phase_work (takes w.image b e).phase ≤ 4 = subst (λ y. phase_work (takes w.image b y).phase ≤ 4) (sym n.is) (number_work w.image b _) in
     let none : begun_tasks (begun w.image b e) ≡ 0 = ap begun_tasks (one_begins w.image b e one) in
     let count : length (takes w.image b e).unjoined ≡ length a.unjoined = ap length (s.unjoined ∙ k.unjoined) in
     omega (arith, paid, work, few, none, count)
@@ -439,7 +439,7 @@ event_less w a e drafts (OpensFile f) =
     let s = takes_same w.image b e one in
     let k = kept_at_rest w.image a _ refl in
     let paid = (rest_paid w.image a _ refl).file f.opening f.at in
-    let work : opening_work f.opening.number ≡ 6 = ap opening_work f.some in
+    let work : opening_work f.opening.number ≡ 4 = ap opening_work f.some in
     let few : phase_work (takes w.image b e).phase ≤ 2 = subst (λ y. phase_work (takes w.image b y).phase ≤ 2) (sym f.is) (file_work w.image b f.fd _) in
     let none : begun_tasks (begun w.image b e) ≡ 0 = ap begun_tasks (one_begins w.image b e one) in
     let count : length (takes w.image b e).unjoined ≡ length a.unjoined = ap length (s.unjoined ∙ k.unjoined) in

@@ -65,20 +65,20 @@ TakesItsUnits old t new = (a : ActorState) → actor_named old.actors t.actor �
 -- phase has to do, and one for each child that is to be joined. A call may start a child with as
 -- many copies of tags as a draft has grants, each by a turn of its own.
 abbrev pub unit_work : ℕ
-unit_work = 5 + most_grants
+unit_work = 4 + most_grants
 
 abbrev pub opening_work : Option ℕ → ℕ
-opening_work None = 7
-opening_work (Some fd) = 6
+opening_work None = 5
+opening_work (Some fd) = 4
 
 abbrev pub phase_work : Phase → ℕ
-phase_work phase.Running = 2
-phase_work (phase.Within q) = 7 + most_grants
-phase_work (phase.Starting p) = 6 + length p.left
-phase_work (phase.MakingGate p) = 6 + length p.left
-phase_work (phase.Opening slot tag) = 6
-phase_work (phase.Releasing slot) = 6
-phase_work (phase.Entering entrance) = 5
+phase_work phase.Running = 1
+phase_work (phase.Within q) = 5 + most_grants
+phase_work (phase.Starting p) = 4 + length p.left
+phase_work (phase.MakingGate p) = 4 + length p.left
+phase_work (phase.Opening slot tag) = 4
+phase_work (phase.Releasing slot) = 4
+phase_work (phase.Entering entrance) = 4
 phase_work (phase.Waiting number) = 1
 phase_work (phase.OpeningFile o) = opening_work o.number
 phase_work (phase.Ending e) = 1
@@ -96,4 +96,4 @@ work_left w = unit_work * fuel_of w + tasks_in w.actors
 
 -- the most turns of a run with so much fuel: the work of its root
 abbrev pub most_turns : ℕ → ℕ
-most_turns fuel = unit_work * fuel + 2
+most_turns fuel = unit_work * fuel + 1

@@ -52,10 +52,11 @@ pub record IsSoundState (i : Image) (w : WorldState) : Type 0 where
   pub joined : (name : List ℕ) (a : ActorState) → actor_named w.actors name ≡ Some a → has_ended a.phase ≡ true → a.unjoined ≡ []
 
 -- The turns are a complete run of the image, up to the end of its root, by which every actor has
--- ended: each moment of it is lawful, and each state sound; the bytes of each tag and of each
--- stream come from those who may write them alone, and are given to those alone who may read them;
--- each turn takes exactly its units of the image's fuel, and there are no more turns than that
--- gives; and a tag is opened, and a slot released, as the slots are occupied.
+-- ended: each moment of it is lawful, and each state sound; after each of its turns the bytes of each
+-- tag and of each stream come from those who may write them alone, and they are given to those alone
+-- who may read them; each turn takes exactly its units of the image's fuel, and there are no more
+-- turns than that gives; and a slot is claimed and released, and a tag opened, as the slots are
+-- occupied.
 pub record IsCompleteRun (i : Image) (turns : List Turn) (last : WorldState) : Type 0 where
   pub run : Runs (opening i) turns last
   pub complete : is_complete last ≡ true
@@ -64,7 +65,7 @@ pub record IsCompleteRun (i : Image) (turns : List Turn) (last : WorldState) : T
   pub begins : IsSoundState i (opening i)
   pub sound : EachTurn (λ old t new. IsSoundState i new) (opening i) turns
   pub ended : (name : List ℕ) (a : ActorState) → actor_named last.actors name ≡ Some a → has_ended a.phase ≡ true
-  pub written : IsWrittenByOwners i turns last
+  pub written : (done left : List Turn) (w : WorldState) → turns ≡ done ++ left → Runs (opening i) done w → IsWrittenByOwners i done w
   pub read : IsReadByHolders i turns
   pub all_fuel : fuel_of (opening i) ≡ i.fuel
   pub paid : EachTurn TakesItsUnits (opening i) turns
