@@ -44,7 +44,7 @@ use Rattle.run_laws.specs.Cells.{Cells, opening_cells, slot_in, tag_in, cells_af
 use Rattle.sthread_life.specs.Children.{child_name}
 use Rattle.run_laws.specs.Families.{made_under, made_by}
 use Rattle.run_laws.specs.Laws.{SlotsAreOccupied}
-use Rattle.sthread_life.specs.Local.{rest}
+use Rattle.sthread_life.specs.Local.{rest, is_running}
 use Rattle.run_laws.specs.Moments.{EachTurn}
 use Rattle.run_laws.specs.GateCalls.{EventMakesGates}
 use Rattle.run_laws.specs.Occupancy.{slot_of_call, tag_of_call, slot_known, GateHasIn, HasIn, AreOccupied, AskSuits, IsFreed, SlotsSuit}
@@ -62,7 +62,7 @@ use Rattle.run_laws.proofs.KnownGates.{Grows, Keeps, by_phase}
 use Rattle.run_laws.proofs.Meeting.{IsRequest}
 use Rattle.run_laws.proofs.Occupying.{Turns, IsPlain, occupied_after, stays_so, claims_so, opens_so, closes_so, releases_so}
 use Rattle.run_laws.proofs.Opening.{cells_open}
-use Rattle.sthread_life.proofs.Resting.{rest-name, rest-uncalm}
+use Rattle.sthread_life.proofs.Resting.{rest-name, rest-stays, rest-uncalm}
 use Rattle.run_laws.proofs.Settling.{AreCells, AllReady, turn_happens, turn_ready, opening_ready, turned_there}
 use Rattle.run_laws.proofs.SlotsKnown.{grown_has, rest_has, same_has, child_has, run_of_has}
 use Rattle.run_laws.proofs.Trees.{IsPut, put_same}
@@ -189,6 +189,18 @@ quiet_calls (event.Enter run) p k h = waiting_calls p h
 quiet_calls (event.Gate id (gate_ask.Enter run first) (gate_reply.Entered memory)) p k h = waiting_calls p h
 quiet_calls e p k h = between_calls p h
 
+-- an actor that comes to rest in no such call was in none
+running_free : (p : Phase) → is_running p ≡ true → slot_of_call p ≡ None
+running_free phase.Running e = refl
+running_free p e = absurd cc
+
+rest_free : (i : Image) (a : ActorState) → slot_of_call (rest i a).phase ≡ None → slot_of_call a.phase ≡ None
+rest_free i a free = by_running (is_running a.phase) refl
+  where
+    by_running : (t : Bool) → is_running a.phase ≡ t → slot_of_call a.phase ≡ None
+    by_running true e = running_free a.phase e
+    by_running false e = ap (λ (x : ActorState). slot_of_call x.phase) (sym (rest-stays i a e)) ∙ free
+
 -- ---- the replies to requests that are quiet
 
 load_quiet : (g : Option Segment) (offset width : ℕ) (live : Option Live) → IsQuietSlot (slot_reply_of g (slot_ask.Load offset width live)) (slot_ask.Load offset width live)
@@ -293,20 +305,20 @@ pub record Occupied (w : WorldState) : Type 0 where
   pub occupied : AreOccupied w.cells w.actors
   pub released : AreReleased w.cells.places.unused w.cells.places.released
 
-quiet_turn : (w : WorldState) (a : ActorState) (e : Event) → Occupied w → actor_named w.actors a.name ≡ Some a → IsQuiet e → (made_by (rest w.image a) (Some e)).tags ≡ (rest w.image a).made.tags → Leads w a e → TurnsBy w a e
-quiet_turn w a e occ there quiet none l =
+quiet_turn : (w : WorldState) (a : ActorState) (e : Event) → Occupied w → actor_named w.actors a.name ≡ Some a → slot_of_call (rest w.image a).phase ≡ None → IsQuiet e → (made_by (rest w.image a) (Some e)).tags ≡ (rest w.image a).made.tags → Leads w a e → TurnsBy w a e
+quiet_turn w a e occ there free quiet none l =
     let calls = quiet_calls e (takes w.image (rest w.image a) e).phase quiet (takes_between w.image (rest w.image a) e) in
-    stays_so w.cells (cells_after w.cells e) w.actors a (takes w.image (rest w.image a) e) occ.occupied there (l.changed.places ∙ quiet_places w.cells.places e quiet)
+    stays_so w.cells (cells_after w.cells e) w.actors a (takes w.image (rest w.image a) e) occ.occupied there (rest_free w.image a free) (l.changed.places ∙ quiet_places w.cells.places e quiet)
     (λ slot. tag_seen (cells_after w.cells e) slot ∙ (ap tag_of (l.changed.occupants slot) ∙ (quiet_tags slot (occupant_in w.cells slot) e quiet ∙ sym (tag_seen w.cells slot))))
     calls.0 calls.1 (still_has w.image a e none l.grows)
 
 -- the claim of a slot
-claim_turn : (w : WorldState) (a : ActorState) (o : Option Claim) → Occupied w → actor_named w.actors a.name ≡ Some a → claim w.cells.places ≡ o
+claim_turn : (w : WorldState) (a : ActorState) (o : Option Claim) → Occupied w → actor_named w.actors a.name ≡ Some a → slot_of_call (rest w.image a).phase ≡ None → claim w.cells.places ≡ o
     → Turns (record w.cells { places = claim_next w.cells.places o }) w.actors a (takes w.image (rest w.image a) (event.Slots directory_ask.Claim (claim_reply w.cells.places o)))
 unfolding takes
-claim_turn w a None occ there is = stays_so w.cells w.cells w.actors a _ occ.occupied there refl (λ slot. refl) refl refl (still_has w.image a (event.Slots directory_ask.Claim directory_reply.Full) refl (Keeps refl refl refl))
-claim_turn w a (Some k) occ there is =
-    claims_so w.cells (record w.cells { places = k.left }) w.actors a _ k occ.occupied there (given_apart.gives w.cells.places k occ.released is) (claimed_rises w.cells.places k is) refl (λ slot. refl) refl refl
+claim_turn w a None occ there free is = stays_so w.cells w.cells w.actors a _ occ.occupied there (rest_free w.image a free) refl (λ slot. refl) refl refl (still_has w.image a (event.Slots directory_ask.Claim directory_reply.Full) refl (Keeps refl refl refl))
+claim_turn w a (Some k) occ there free is =
+    claims_so w.cells (record w.cells { places = k.left }) w.actors a _ k occ.occupied there (rest_free w.image a free) (given_apart.gives w.cells.places k occ.released is) (claimed_rises w.cells.places k is) refl (λ slot. refl) refl refl
     (still_has w.image a (event.Slots directory_ask.Claim (directory_reply.Claimed k.place w.cells.places.number)) refl (Keeps refl refl refl))
 
 if_tag : (t : Bool) (o p : Option Occupant) → tag_of (if t then o else p) ≡ (if t then tag_of o else tag_of p)
@@ -314,16 +326,16 @@ if_tag true o p = refl
 if_tag false o p = refl
 
 -- the close of a tag
-close_turn : (w : WorldState) (a : ActorState) (slot tag : ℕ) (g : Option Segment) → Occupied w → actor_named w.actors a.name ≡ Some a → slot_in w.cells slot ≡ g
+close_turn : (w : WorldState) (a : ActorState) (slot tag : ℕ) (g : Option Segment) → Occupied w → actor_named w.actors a.name ≡ Some a → slot_of_call (rest w.image a).phase ≡ None → slot_in w.cells slot ≡ g
     → Leads w a (event.Slot slot (slot_ask.Close tag) (slot_reply_of g (slot_ask.Close tag)))
     → TurnsBy w a (event.Slot slot (slot_ask.Close tag) (slot_reply_of g (slot_ask.Close tag)))
 unfolding takes tag_of
-close_turn w a slot tag None occ there lives l = quiet_turn w a (event.Slot slot (slot_ask.Close tag) slot_reply.NoSuch) occ there tt refl l
-close_turn w a slot tag (Some g) occ there lives l = by_test (g.tag == tag) refl l
+close_turn w a slot tag None occ there free lives l = quiet_turn w a (event.Slot slot (slot_ask.Close tag) slot_reply.NoSuch) occ there free tt refl l
+close_turn w a slot tag (Some g) occ there free lives l = by_test (g.tag == tag) refl l
   where
     closed : (g.tag == tag) ≡ true → Leads w a (event.Slot slot (slot_ask.Close tag) slot_reply.Closed) → TurnsBy w a (event.Slot slot (slot_ask.Close tag) slot_reply.Closed)
     closed is l =
-        closes_so w.cells (cells_after w.cells (event.Slot slot (slot_ask.Close tag) slot_reply.Closed)) w.actors a (takes w.image (rest w.image a) (event.Slot slot (slot_ask.Close tag) slot_reply.Closed)) slot tag occ.occupied there
+        closes_so w.cells (cells_after w.cells (event.Slot slot (slot_ask.Close tag) slot_reply.Closed)) w.actors a (takes w.image (rest w.image a) (event.Slot slot (slot_ask.Close tag) slot_reply.Closed)) slot tag occ.occupied there (rest_free w.image a free)
         (ap (option_map (λ x. x.tag)) lives ∙ ap Some (eqb-true g.tag tag is)) refl
         (λ s. tag_seen (cells_after w.cells (event.Slot slot (slot_ask.Close tag) slot_reply.Closed)) s ∙ (ap tag_of (l.changed.occupants s) ∙ (if_tag (slot == s) None (occupant_in w.cells s) ∙ ap (λ o. if slot == s then None else o) (sym (tag_seen w.cells s)))))
         refl refl (still_has w.image a (event.Slot slot (slot_ask.Close tag) slot_reply.Closed) refl l.grows)
@@ -332,7 +344,7 @@ close_turn w a slot tag (Some g) occ there lives l = by_test (g.tag == tag) refl
         → Leads w a (event.Slot slot (slot_ask.Close tag) (if t then slot_reply.Closed else slot_reply.NoSuch))
         → TurnsBy w a (event.Slot slot (slot_ask.Close tag) (if t then slot_reply.Closed else slot_reply.NoSuch))
     by_test true is l = closed is l
-    by_test false is l = quiet_turn w a (event.Slot slot (slot_ask.Close tag) slot_reply.NoSuch) occ there tt refl l
+    by_test false is l = quiet_turn w a (event.Slot slot (slot_ask.Close tag) slot_reply.NoSuch) occ there free tt refl l
 
 -- the opening of a tag
 open_turn : (w : WorldState) (a : ActorState) (slot tag pages : ℕ) → Occupied w → actor_named w.actors a.name ≡ Some a → a.phase ≡ phase.Opening slot tag
@@ -353,10 +365,20 @@ released_number : (d : Directory) (slot : ℕ) (t : Bool) → (if t then record 
 released_number d slot true = refl
 released_number d slot false = refl
 
+-- a place that is released is among those released
+free_again : (d : Directory) (place : ℕ) → is_claimed d place ≡ true → is_claimed (release d place) place ≡ false
+free_again d place e = subst (λ t. is_claimed (if t then record d { released = place ∷ d.released } else d) place ≡ false) (sym e) (now_free (nat_lt place d.unused) (place == place) (eq-eqb place place refl))
+  where
+    now_free : (u t : Bool) → t ≡ true → (u && not (t || is_among d.released place)) ≡ false
+    now_free true true h = refl
+    now_free false true h = refl
+    now_free u false h = absurd (true≢false (sym h))
+
 release_turn : (w : WorldState) (a : ActorState) (slot : ℕ) → Occupied w → actor_named w.actors a.name ≡ Some a → a.phase ≡ phase.Releasing slot → TurnsBy w a (event.Slots (directory_ask.Release slot) directory_reply.Released)
 unfolding takes
 release_turn w a slot occ there at_ =
     releases_so w.cells (record w.cells { places = release w.cells.places slot }) w.actors a _ slot occ.occupied there (ap slot_of_call at_) (released_number w.cells.places slot (is_claimed w.cells.places slot))
+    (free_again w.cells.places slot (occ.occupied.called a.name a slot there (ap slot_of_call at_)).0)
     (λ s apart. released_claims w.cells.places slot s (is_claimed w.cells.places slot) apart) (λ s. refl) refl refl (still_has w.image a (event.Slots (directory_ask.Release slot) directory_reply.Released) refl (Keeps refl refl refl))
 
 -- ---- any turn
@@ -376,45 +398,45 @@ tags_under m (phase.Ending x) fd = refl
 tags_under m (phase.Ended x) fd = refl
 
 -- no tag is made by a request
-want_turn : (w : WorldState) (a : ActorState) (N : ℕ → Type 0) (q : Want) → Occupied w → actor_named w.actors a.name ≡ Some a → IsRequest N (rest w.image a) q
+want_turn : (w : WorldState) (a : ActorState) (N : ℕ → Type 0) (q : Want) → Occupied w → actor_named w.actors a.name ≡ Some a → slot_of_call (rest w.image a).phase ≡ None → IsRequest N (rest w.image a) q
     → (made_by (rest w.image a) (Some (event_for w.cells (rest w.image a) q))).tags ≡ (rest w.image a).made.tags
     → Leads w a (event_for w.cells (rest w.image a) q) → TurnsBy w a (event_for w.cells (rest w.image a) q)
-want_turn w a N (want.Slots directory_ask.Claim) occ there own none l = claim_turn w a (claim w.cells.places) occ there refl
-want_turn w a N (want.Slot slot (slot_want.Close tag)) occ there own none l = close_turn w a slot tag (slot_in w.cells slot) occ there refl l
-want_turn w a N (want.Slot slot (slot_want.Load offset width)) occ there own none l = quiet_turn w a _ occ there (load_quiet (slot_in w.cells slot) offset width _) none l
-want_turn w a N (want.Slot slot (slot_want.Store offset width value)) occ there own none l = quiet_turn w a _ occ there (store_quiet (slot_in w.cells slot) offset width value _) none l
-want_turn w a N (want.Slot slot (slot_want.Smalloc tag size)) occ there own none l = quiet_turn w a _ occ there (place_quiet (slot_in w.cells slot) tag size) none l
-want_turn w a N (want.Slot slot (slot_want.Sfree offset)) occ there own none l = quiet_turn w a _ occ there (free_quiet (slot_in w.cells slot) offset _) none l
-want_turn w a N (want.Fd fd q) occ there own none l = quiet_turn w a _ occ there tt none l
-want_turn w a N (want.Lives lives_ask.Claim) occ there own none l = quiet_turn w a _ occ there tt none l
-want_turn w a N q occ there own none l = absurd own
+want_turn w a N (want.Slots directory_ask.Claim) occ there free own none l = claim_turn w a (claim w.cells.places) occ there free refl
+want_turn w a N (want.Slot slot (slot_want.Close tag)) occ there free own none l = close_turn w a slot tag (slot_in w.cells slot) occ there free refl l
+want_turn w a N (want.Slot slot (slot_want.Load offset width)) occ there free own none l = quiet_turn w a _ occ there free (load_quiet (slot_in w.cells slot) offset width _) none l
+want_turn w a N (want.Slot slot (slot_want.Store offset width value)) occ there free own none l = quiet_turn w a _ occ there free (store_quiet (slot_in w.cells slot) offset width value _) none l
+want_turn w a N (want.Slot slot (slot_want.Smalloc tag size)) occ there free own none l = quiet_turn w a _ occ there free (place_quiet (slot_in w.cells slot) tag size) none l
+want_turn w a N (want.Slot slot (slot_want.Sfree offset)) occ there free own none l = quiet_turn w a _ occ there free (free_quiet (slot_in w.cells slot) offset _) none l
+want_turn w a N (want.Fd fd q) occ there free own none l = quiet_turn w a _ occ there free tt none l
+want_turn w a N (want.Lives lives_ask.Claim) occ there free own none l = quiet_turn w a _ occ there free tt none l
+want_turn w a N q occ there free own none l = absurd own
 
 by_happening : (w : WorldState) (a : ActorState) (e : Event) → AreCells w.image w.cells → Occupied w → actor_named w.actors a.name ≡ Some a → Happens w (rest w.image a) e → TurnsBy w a e
 by_happening w a e cells occ there (Requested r) =
     subst (TurnsBy w a) (sym r.is)
-    (want_turn w a _ r.want occ there r.own (ap (λ (m : Made). m.tags) (want_made _ w.cells (rest w.image a) r.want r.own r.at)) (subst (Leads w a) r.is (leads w a e cells (Requested r))))
-by_happening w a e cells occ there (Joined j) = subst (TurnsBy w a) (sym j.join.is) (quiet_turn w a _ occ there tt refl (subst (Leads w a) j.join.is (leads w a e cells (Joined j))))
+    (want_turn w a _ r.want occ there (ap slot_of_call r.at) r.own (ap (λ (m : Made). m.tags) (want_made _ w.cells (rest w.image a) r.want r.own r.at)) (subst (Leads w a) r.is (leads w a e cells (Requested r))))
+by_happening w a e cells occ there (Joined j) = subst (TurnsBy w a) (sym j.join.is) (quiet_turn w a _ occ there (ap slot_of_call j.at) tt refl (subst (Leads w a) j.join.is (leads w a e cells (Joined j))))
 by_happening w a e cells occ there (Snaps s) =
     subst (TurnsBy w a) (sym s.is)
-    (quiet_turn w a _ occ there (snap_quiet (slot_in w.cells s.grant.slot) s.grant.tag) (ap (λ (m : Made). m.tags) (made_same (rest w.image a).made s.grant.slot _ _ tt)) (subst (Leads w a) s.is (leads w a e cells (Snaps s))))
+    (quiet_turn w a _ occ there (ap slot_of_call s.at) (snap_quiet (slot_in w.cells s.grant.slot) s.grant.tag) (ap (λ (m : Made). m.tags) (made_same (rest w.image a).made s.grant.slot _ _ tt)) (subst (Leads w a) s.is (leads w a e cells (Snaps s))))
 by_happening w a e cells occ there (GateSnaps s) =
     subst (TurnsBy w a) (sym s.is)
-    (quiet_turn w a _ occ there (snap_quiet (slot_in w.cells s.grant.slot) s.grant.tag) (ap (λ (m : Made). m.tags) (made_same (rest w.image a).made s.grant.slot _ _ tt)) (subst (Leads w a) s.is (leads w a e cells (GateSnaps s))))
-by_happening w a e cells occ there (Started s) = subst (TurnsBy w a) (sym s.is) (quiet_turn w a _ occ there tt refl (subst (Leads w a) s.is (leads w a e cells (Started s))))
+    (quiet_turn w a _ occ there (ap slot_of_call s.at) (snap_quiet (slot_in w.cells s.grant.slot) s.grant.tag) (ap (λ (m : Made). m.tags) (made_same (rest w.image a).made s.grant.slot _ _ tt)) (subst (Leads w a) s.is (leads w a e cells (GateSnaps s))))
+by_happening w a e cells occ there (Started s) = subst (TurnsBy w a) (sym s.is) (quiet_turn w a _ occ there (ap slot_of_call s.at) tt refl (subst (Leads w a) s.is (leads w a e cells (Started s))))
 by_happening w a e cells occ there (Opens o) =
     let l = subst (Leads w a) o.is (leads w a e cells (Opens o)) in
     subst (TurnsBy w a) (sym o.is) (open_turn w a o.slot o.tag (a0 (rest w.image a)) occ there (rest-uncalm w.image a (phase.Opening o.slot o.tag) (λ h. h) o.at) l.changed)
 by_happening w a e cells occ there (Releases r) =
     subst (TurnsBy w a) (sym r.is) (release_turn w a r.slot occ there (rest-uncalm w.image a (phase.Releasing r.slot) (λ h. h) r.at))
-by_happening w a e cells occ there (Numbers n) = subst (TurnsBy w a) (sym n.is) (quiet_turn w a _ occ there tt refl (subst (Leads w a) n.is (leads w a e cells (Numbers n))))
+by_happening w a e cells occ there (Numbers n) = subst (TurnsBy w a) (sym n.is) (quiet_turn w a _ occ there (ap slot_of_call n.at) tt refl (subst (Leads w a) n.is (leads w a e cells (Numbers n))))
 by_happening w a e cells occ there (OpensFile f) =
-    subst (TurnsBy w a) (sym f.is) (quiet_turn w a _ occ there tt (tags_under (rest w.image a).made (rest w.image a).phase f.fd) (subst (Leads w a) f.is (leads w a e cells (OpensFile f))))
-by_happening w a e cells occ there (LastJoined j) = subst (TurnsBy w a) (sym j.join.is) (quiet_turn w a _ occ there tt refl (subst (Leads w a) j.join.is (leads w a e cells (LastJoined j))))
-by_happening w a e cells occ there (Ended f) = subst (TurnsBy w a) (sym f.is) (quiet_turn w a _ occ there tt refl (subst (Leads w a) f.is (leads w a e cells (Ended f))))
-by_happening w a e cells occ there (EntersGate x) = subst (TurnsBy w a) (sym x.is) (quiet_turn w a _ occ there tt refl (subst (Leads w a) x.is (leads w a e cells (EntersGate x))))
-by_happening w a e cells occ there (EntersRecycled x) = subst (TurnsBy w a) (sym x.is) (quiet_turn w a _ occ there tt refl (subst (Leads w a) x.is (leads w a e cells (EntersRecycled x))))
-by_happening w a e cells occ there (LeavesGate f) = subst (TurnsBy w a) (sym f.is) (quiet_turn w a _ occ there tt refl (subst (Leads w a) f.is (leads w a e cells (LeavesGate f))))
-by_happening w a e cells occ there (LeavesRecycled f) = subst (TurnsBy w a) (sym f.is) (quiet_turn w a _ occ there tt refl (subst (Leads w a) f.is (leads w a e cells (LeavesRecycled f))))
+    subst (TurnsBy w a) (sym f.is) (quiet_turn w a _ occ there (ap slot_of_call f.at) tt (tags_under (rest w.image a).made (rest w.image a).phase f.fd) (subst (Leads w a) f.is (leads w a e cells (OpensFile f))))
+by_happening w a e cells occ there (LastJoined j) = subst (TurnsBy w a) (sym j.join.is) (quiet_turn w a _ occ there (ap slot_of_call j.at) tt refl (subst (Leads w a) j.join.is (leads w a e cells (LastJoined j))))
+by_happening w a e cells occ there (Ended f) = subst (TurnsBy w a) (sym f.is) (quiet_turn w a _ occ there (ap slot_of_call f.at) tt refl (subst (Leads w a) f.is (leads w a e cells (Ended f))))
+by_happening w a e cells occ there (EntersGate x) = subst (TurnsBy w a) (sym x.is) (quiet_turn w a _ occ there (ap slot_of_call x.at) tt refl (subst (Leads w a) x.is (leads w a e cells (EntersGate x))))
+by_happening w a e cells occ there (EntersRecycled x) = subst (TurnsBy w a) (sym x.is) (quiet_turn w a _ occ there (ap slot_of_call x.at) tt refl (subst (Leads w a) x.is (leads w a e cells (EntersRecycled x))))
+by_happening w a e cells occ there (LeavesGate f) = subst (TurnsBy w a) (sym f.is) (quiet_turn w a _ occ there (ap slot_of_call f.at) tt refl (subst (Leads w a) f.is (leads w a e cells (LeavesGate f))))
+by_happening w a e cells occ there (LeavesRecycled f) = subst (TurnsBy w a) (sym f.is) (quiet_turn w a _ occ there (ap slot_of_call f.at) tt refl (subst (Leads w a) f.is (leads w a e cells (LeavesRecycled f))))
 
 -- who starts a child, and who enters a gate, has what it had
 begins_plain : (w : WorldState) (a : ActorState) (e : Event) → EventMakesGates (with_actor w (rest w.image a)) (rest w.image a) (rest w.image a).phase e (takes w.image (rest w.image a) e) → Acts w (rest w.image a) e
@@ -463,7 +485,7 @@ resumed_occupied w a occ there = by_case (readies w.actors a)
     by_case (Back k at r is) =
         let x = back a k r.how r.run.fuel in
         let put : IsPut w.actors a x = record { name = refl; there = there } in
-        let goes = stays_so w.cells w.cells w.actors a x occ.occupied there refl (λ slot. refl) refl refl (λ tag slot h. h) in
+        let goes = stays_so w.cells w.cells w.actors a x occ.occupied there (ap slot_of_call at) refl (λ slot. refl) refl refl (λ tag slot h. h) in
         subst (λ (y : ActorState). Occupied (with_actor w y)) (sym is)
         (record { occupied = occupied_after w.cells w.cells w.actors a x None occ.occupied put goes (λ c e. absurd cc); released = occ.released })
 
@@ -482,15 +504,6 @@ turn_occupied w name e new all occ t =
     subst Occupied (sym p.parts.new_is) (record { occupied = after; released = cells_released w.cells e occ.released })
 
 -- ---- each ask suits
-
--- a place that is released is among those released
-free_again : (d : Directory) (place : ℕ) → is_claimed d place ≡ true → is_claimed (release d place) place ≡ false
-free_again d place e = subst (λ t. is_claimed (if t then record d { released = place ∷ d.released } else d) place ≡ false) (sym e) (now_free (nat_lt place d.unused) (place == place) (eq-eqb place place refl))
-  where
-    now_free : (u t : Bool) → t ≡ true → (u && not (t || is_among d.released place)) ≡ false
-    now_free true true h = refl
-    now_free false true h = refl
-    now_free u false h = absurd (true≢false (sym h))
 
 abbrev first_unused : Directory → Claim
 first_unused d = record { place = d.unused; left = record d { number = d.number + 1; unused = d.unused + 1 } }
@@ -629,6 +642,17 @@ declared_so i slot tag e = by_entry (slice_get i.tags slot) refl (sym (ap (optio
     by_entry None there f = absurd cc
     by_entry (Some t) there f = (cc, inside i.tags slot t there)
 
+-- and in each slot that is claimed then a declared tag lives
+declared_lives : (i : Image) (slot : ℕ) → slot < length i.tags → tag_in (opening_cells i) slot ≡ Some slot
+declared_lives i slot h =
+    let entry = entry_at i.tags slot h in
+    ap (option_map (λ (g : Segment). g.tag)) ((cells_open i).slots slot) ∙ ap (λ (o : Option TagEntry). option_map (λ (g : Segment). g.tag) (option_map (declared_segment slot) o)) entry.1
+  where
+    entry_at : (ts : List TagEntry) (n : ℕ) → n < length ts → (t : TagEntry) × (slice_get ts n ≡ Some t)
+    entry_at [] n h = absurd (omega (arith, h))
+    entry_at (t ∷ ts) zero h = (t, refl)
+    entry_at (t ∷ ts) (suc n) h = let inner : n < length ts = omega (arith, h) in entry_at ts n inner
+
 -- and the root has each of its tags in that slot
 root_known : (n : ℕ) (ts : List TagEntry) (k : ℕ) (g : Grant) → at (root_tags n ts) k ≡ Some g → (g.slot ≡ k) × (k < n + length ts)
 root_known n [] k g e = absurd cc
@@ -653,6 +677,7 @@ opening_occupied i = record {
     lived = λ slot tag e. claimed slot (declared_so i slot tag e).1;
     called = λ m a slot there e. none_called m a slot there e;
     alone = λ m n a b slot p q e f. none_called m a slot p e;
+    belongs = λ slot e f. none_empty slot e f;
     numbered = λ slot tag e. let h = declared_so i slot tag e in subst (λ n. n < length i.tags) h.0 h.1;
     apart = λ s t tag e f. (declared_so i s tag e).0 ∙ sym (declared_so i t tag f).0;
     coming = λ m a tag there e. none_coming m a tag there e;
@@ -665,6 +690,13 @@ opening_occupied i = record {
   where
     claimed : (slot : ℕ) → slot < length i.tags → (nat_lt slot (length i.tags) && true) ≡ true
     claimed slot e = grind (arith, nat_tests, e)
+
+    declared : (slot : ℕ) (t : Bool) → nat_lt slot (length i.tags) ≡ t → (t && true) ≡ true → slot < length i.tags
+    declared slot true is e = grind (arith, nat_tests, is)
+    declared slot false is e = absurd cc
+
+    none_empty : {X : Type 0} (slot : ℕ) → (nat_lt slot (length i.tags) && true) ≡ true → tag_in (opening_cells i) slot ≡ None → X
+    none_empty slot e f = let g : None ≡ Some slot = sym f ∙ declared_lives i slot (declared slot (nat_lt slot (length i.tags)) refl e) in absurd cc
 
     is_root : (m : List ℕ) (a : ActorState) (t : Bool) → (if t then Some (root i) else None) ≡ Some a → root i ≡ a
     is_root m a true e = cc

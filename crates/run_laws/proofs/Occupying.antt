@@ -8,14 +8,18 @@ use Rattle.sthread_life.specs.Actors.{ActorState}
 use Rattle.run_laws.specs.Cells.{Cells, tag_in}
 use Rattle.run_laws.specs.Occupancy.{slot_of_call, tag_of_call, HasIn, AreOccupied}
 use Rattle.run_laws.specs.Worlds.{actor_named, put_actor, with_begun}
-use Rattle.run_laws.proofs.Named.{same_self}
-use Rattle.run_laws.proofs.Trees.{IsPut, IsDoer, IsOther, FoundPut, find_put, found_or_last}
+use Rattle.run_laws.proofs.Named.{same_self, same_equal, named_begun}
+use Rattle.run_laws.proofs.Trees.{IsPut, IsDoer, IsOther, FoundPut, find_put, found_put, found_else, found_or_last}
 use Rattle.tag_directory.specs.Laws.{IsClaimed}
 
 -- ---- what a turn makes of cells and of its actor, and what the others still meet
 
 abbrev IsAnother : List ActorState → ActorState → List ℕ → ActorState → Type 0
 IsAnother actors a m y = (same a.name m ≡ false) × (actor_named actors m ≡ Some y)
+
+-- a slot is held by the call of an actor other than this one
+abbrev AnotherHolds : List ActorState → ActorState → ℕ → Type 0
+AnotherHolds actors a slot = (m : List ℕ) × (y : ActorState) × IsAnother actors a m y × (slot_of_call y.phase ≡ Some slot)
 
 pub record Turns (d : Cells) (actors : List ActorState) (a x : ActorState) : Type 0 where
   pub lived : (slot tag : ℕ) → tag_in d slot ≡ Some tag → is_claimed d.places slot ≡ true
@@ -24,6 +28,7 @@ pub record Turns (d : Cells) (actors : List ActorState) (a x : ActorState) : Typ
   pub called : (slot : ℕ) → slot_of_call x.phase ≡ Some slot → (is_claimed d.places slot ≡ true) × (tag_in d slot ≡ None)
   pub called_others : (m : List ℕ) (y : ActorState) (slot : ℕ) → IsAnother actors a m y → slot_of_call y.phase ≡ Some slot → (is_claimed d.places slot ≡ true) × (tag_in d slot ≡ None)
   pub alone : (m : List ℕ) (y : ActorState) (slot : ℕ) → IsAnother actors a m y → slot_of_call x.phase ≡ Some slot → slot_of_call y.phase ≡ Some slot → ⊥
+  pub belongs : (slot : ℕ) → is_claimed d.places slot ≡ true → tag_in d slot ≡ None → (slot_of_call x.phase ≡ Some slot) ⊎ AnotherHolds actors a slot
   pub coming : (tag : ℕ) → tag_of_call x.phase ≡ Some tag → (tag < d.places.number) × ((slot : ℕ) → tag_in d slot ≡ Some tag → ⊥)
   pub coming_others : (m : List ℕ) (y : ActorState) (tag : ℕ) → IsAnother actors a m y → tag_of_call y.phase ≡ Some tag → (tag < d.places.number) × ((slot : ℕ) → tag_in d slot ≡ Some tag → ⊥)
   pub once : (m : List ℕ) (y : ActorState) (tag : ℕ) → IsAnother actors a m y → tag_of_call x.phase ≡ Some tag → tag_of_call y.phase ≡ Some tag → ⊥
@@ -80,6 +85,10 @@ module _ (c d : Cells) (actors : List ActorState) (a x : ActorState) (o : Option
   now_alone m n y z slot (Begun is) g e f = none_some (slot_of_call y.phase) slot (plain y is).calls e
   now_alone m n y z slot g (Begun is) e f = none_some (slot_of_call z.phase) slot (plain z is).calls f
 
+  now_belongs : (slot : ℕ) → (slot_of_call x.phase ≡ Some slot) ⊎ AnotherHolds actors a slot → (m : List ℕ) × (y : ActorState) × (actor_named (with_begun (put_actor actors x) o) m ≡ Some y) × (slot_of_call y.phase ≡ Some slot)
+  now_belongs slot (inl own) = (a.name, x, named_begun (put_actor actors x) o a.name x (found_put actors a x put), own)
+  now_belongs slot (inr h) = (h.0, h.1, named_begun (put_actor actors x) o h.0 h.1 (found_else actors a x h.0 put h.2.0 ∙ h.2.1), h.3)
+
   now_coming : (m : List ℕ) (y : ActorState) (tag : ℕ) → Found actors a x o m y → tag_of_call y.phase ≡ Some tag → (tag < d.places.number) × ((slot : ℕ) → tag_in d slot ≡ Some tag → ⊥)
   now_coming m y tag (TheDoer is same_actor) e = t.coming tag (subst (λ (z : ActorState). tag_of_call z.phase ≡ Some tag) same_actor e)
   now_coming m y tag (Another other) e = t.coming_others m y tag other e
@@ -112,6 +121,7 @@ module _ (c d : Cells) (actors : List ActorState) (a x : ActorState) (o : Option
     lived = t.lived;
     called = λ m y slot there e. now_called m y slot (find actors a x o m y put there) e;
     alone = λ m n y z slot p q e f. now_alone m n y z slot (find actors a x o m y put p) (find actors a x o n z put q) e f;
+    belongs = λ slot e f. now_belongs slot (t.belongs slot e f);
     numbered = t.numbered;
     apart = t.apart;
     coming = λ m y tag there e. now_coming m y tag (find actors a x o m y put there) e;
@@ -129,16 +139,38 @@ apart_names a m apart is = true≢false (sym (same_self a.name) ∙ (ap (same a.
 tag_moves : (c d : Cells) → ((slot : ℕ) → tag_in d slot ≡ tag_in c slot) → (slot tag : ℕ) → tag_in d slot ≡ Some tag → tag_in c slot ≡ Some tag
 tag_moves c d tags slot tag e = sym (tags slot) ∙ e
 
--- the slots and their directory stay, and the actor is in no such call
-pub stays_so : (c d : Cells) (actors : List ActorState) (a x : ActorState) → AreOccupied c actors → actor_named actors a.name ≡ Some a → d.places ≡ c.places → ((slot : ℕ) → tag_in d slot ≡ tag_in c slot)
+-- who held a slot before the turn is another, where its actor did not
+still_belongs : (c : Cells) (actors : List ActorState) (a : ActorState) (slot : ℕ) → AreOccupied c actors → actor_named actors a.name ≡ Some a → is_claimed c.places slot ≡ true → tag_in c slot ≡ None → (slot_of_call a.phase ≡ Some slot → ⊥)
+    → AnotherHolds actors a slot
+still_belongs c actors a slot was there taken empty free =
+    let h = was.belongs slot taken empty in
+    by_name h.0 h.1 (same a.name h.0) refl h.2 h.3
+  where
+    by_name : (m : List ℕ) (y : ActorState) (t : Bool) → same a.name m ≡ t → actor_named actors m ≡ Some y → slot_of_call y.phase ≡ Some slot → AnotherHolds actors a slot
+    by_name m y true is found holds =
+        let both : Some a ≡ Some y = sym there ∙ (ap (actor_named actors) (same_equal a.name m is) ∙ found) in
+        let same_actor : a ≡ y = cc in
+        absurd (free (subst (λ (q : ActorState). slot_of_call q.phase ≡ Some slot) (sym same_actor) holds))
+    by_name m y false is found holds = (m, y, (is, found), holds)
+
+-- a call that holds one slot holds no other
+apart_slots : (o : Option ℕ) (slot s : ℕ) → o ≡ Some slot → (slot == s) ≡ false → o ≡ Some s → ⊥
+apart_slots o slot s is apart e =
+    let both : Some slot ≡ Some s = sym is ∙ e in
+    let same_slot : slot ≡ s = cc in
+    true≢false (sym (eq-eqb slot s same_slot) ∙ apart)
+
+-- the slots and their directory stay, and the actor was in no such call and is in none
+pub stays_so : (c d : Cells) (actors : List ActorState) (a x : ActorState) → AreOccupied c actors → actor_named actors a.name ≡ Some a → slot_of_call a.phase ≡ None → d.places ≡ c.places → ((slot : ℕ) → tag_in d slot ≡ tag_in c slot)
     → slot_of_call x.phase ≡ None → tag_of_call x.phase ≡ None → ((tag slot : ℕ) → HasIn x tag slot → HasIn a tag slot) → Turns d actors a x
-stays_so c d actors a x was there places tags calls opens known = record {
+stays_so c d actors a x was there free places tags calls opens known = record {
   lived = λ slot tag e. claimed_so slot (was.lived slot tag (moved slot tag e));
   numbered = λ slot tag e. below tag (was.numbered slot tag (moved slot tag e));
   apart = λ s t tag e f. was.apart s t tag (moved s tag e) (moved t tag f);
   called = λ slot e. none_some (slot_of_call x.phase) slot calls e;
   called_others = λ m y slot other e. let h = was.called m y slot other.1 e in (claimed_so slot h.0, tags slot ∙ h.1);
   alone = λ m y slot other e f. none_some (slot_of_call x.phase) slot calls e;
+  belongs = λ slot e f. inr (still_belongs c actors a slot was there (was_claimed slot e) (sym (tags slot) ∙ f) (λ g. none_some (slot_of_call a.phase) slot free g));
   coming = λ tag e. none_some (tag_of_call x.phase) tag opens e;
   coming_others = λ m y tag other e. let h = was.coming m y tag other.1 e in (below tag h.0, λ slot f. h.1 slot (moved slot tag f));
   once = λ m y tag other e f. none_some (tag_of_call x.phase) tag opens e;
@@ -155,19 +187,23 @@ stays_so c d actors a x was there places tags calls opens known = record {
     claimed_so : (slot : ℕ) → is_claimed c.places slot ≡ true → is_claimed d.places slot ≡ true
     claimed_so slot e = ap (λ p. is_claimed p slot) places ∙ e
 
+    was_claimed : (slot : ℕ) → is_claimed d.places slot ≡ true → is_claimed c.places slot ≡ true
+    was_claimed slot e = ap (λ p. is_claimed p slot) (sym places) ∙ e
+
     below : (tag : ℕ) → tag < c.places.number → tag < d.places.number
     below tag e = subst (λ p. tag < p.number) (sym places) e
 
--- a slot is claimed for a tag
-pub claims_so : (c d : Cells) (actors : List ActorState) (a x : ActorState) (k : Claim) → AreOccupied c actors → actor_named actors a.name ≡ Some a → IsClaimed c.places k → k.left.number ≡ c.places.number + 1
+-- a slot is claimed for a tag, by an actor that was in no such call
+pub claims_so : (c d : Cells) (actors : List ActorState) (a x : ActorState) (k : Claim) → AreOccupied c actors → actor_named actors a.name ≡ Some a → slot_of_call a.phase ≡ None → IsClaimed c.places k → k.left.number ≡ c.places.number + 1
     → d.places ≡ k.left → ((slot : ℕ) → tag_in d slot ≡ tag_in c slot) → slot_of_call x.phase ≡ Some k.place → tag_of_call x.phase ≡ Some c.places.number → ((tag slot : ℕ) → HasIn x tag slot → HasIn a tag slot) → Turns d actors a x
-claims_so c d actors a x k was there new more places tags calls opens known = record {
+claims_so c d actors a x k was there free new more places tags calls opens known = record {
   lived = λ slot tag e. claimed_so slot (was.lived slot tag (moved slot tag e));
   numbered = λ slot tag e. below tag (was.numbered slot tag (moved slot tag e));
   apart = λ s t tag e f. was.apart s t tag (moved s tag e) (moved t tag f);
   called = λ slot e. let is = the_slot slot e in (subst (λ n. is_claimed d.places n ≡ true) is (ap (λ p. is_claimed p k.place) places ∙ new.taken), subst (λ n. tag_in d n ≡ None) is (empty (tag_in c k.place) refl));
   called_others = λ m y slot other e. let h = was.called m y slot other.1 e in (claimed_so slot h.0, tags slot ∙ h.1);
   alone = λ m y slot other e f. let is = the_slot slot e in unclaimed (subst (λ n. is_claimed c.places n ≡ true) (sym is) (was.called m y slot other.1 f).0);
+  belongs = belongs_so;
   coming = λ tag e. let is = the_tag tag e in (top tag is, λ slot f. over tag is (was.numbered slot tag (moved slot tag f)));
   coming_others = λ m y tag other e. let h = was.coming m y tag other.1 e in (below tag h.0, λ slot f. h.1 slot (moved slot tag f));
   once = λ m y tag other e f. over tag (the_tag tag e) (was.coming m y tag other.1 f).0;
@@ -213,6 +249,15 @@ claims_so c d actors a x k was there new more places tags calls opens known = re
     empty None e = tags k.place ∙ e
     empty (Some tag) e = absurd (unclaimed (was.lived k.place tag e))
 
+    belongs_so : (slot : ℕ) → is_claimed d.places slot ≡ true → tag_in d slot ≡ None → (slot_of_call x.phase ≡ Some slot) ⊎ AnotherHolds actors a slot
+    belongs_so slot e f = by_place (k.place == slot) refl
+      where
+        by_place : (t : Bool) → (k.place == slot) ≡ t → (slot_of_call x.phase ≡ Some slot) ⊎ AnotherHolds actors a slot
+        by_place true is = inl (calls ∙ ap Some (eqb-true k.place slot is))
+        by_place false is =
+            let taken : is_claimed c.places slot ≡ true = sym (new.others slot is) ∙ (ap (λ p. is_claimed p slot) (sym places) ∙ e) in
+            inr (still_belongs c actors a slot was there taken (sym (tags slot) ∙ f) (λ g. none_some (slot_of_call a.phase) slot free g))
+
 -- the tag of a slot that is claimed for it is opened there
 pub opens_so : (c d : Cells) (actors : List ActorState) (a x : ActorState) (slot tag : ℕ) → AreOccupied c actors → actor_named actors a.name ≡ Some a → slot_of_call a.phase ≡ Some slot → tag_of_call a.phase ≡ Some tag
     → d.places ≡ c.places → ((s : ℕ) → tag_in d s ≡ (if slot == s then Some tag else tag_in c s)) → slot_of_call x.phase ≡ None → tag_of_call x.phase ≡ None
@@ -227,6 +272,7 @@ opens_so c d actors a x slot tag was there holds opens places tags calls none kn
   called = λ s e. none_some (slot_of_call x.phase) s calls e;
   called_others = λ m y s other e. let h = was.called m y s other.1 e in (claimed_so s h.0, still_empty m y s other e h.1);
   alone = λ m y s other e f. none_some (slot_of_call x.phase) s calls e;
+  belongs = λ s e f. inr (belongs_so s e f);
   coming = λ t e. none_some (tag_of_call x.phase) t none e;
   coming_others = λ m y t other e. let h = was.coming m y t other.1 e in (below t h.0, λ s f. elim (lives s t f) [ inl is ↦ apart_names a m other.0 (was.once a.name m a y tag there other.1 opens (subst (λ n. tag_of_call y.phase ≡ Some n) (sym is.1) e)) | inr g ↦ h.1 s g ]);
   once = λ m y t other e f. none_some (tag_of_call x.phase) t none e;
@@ -242,6 +288,13 @@ opens_so c d actors a x slot tag was there holds opens places tags calls none kn
   where
     claimed_so : (s : ℕ) → is_claimed c.places s ≡ true → is_claimed d.places s ≡ true
     claimed_so s e = ap (λ p. is_claimed p s) places ∙ e
+
+    belongs_so : (s : ℕ) → is_claimed d.places s ≡ true → tag_in d s ≡ None → AnotherHolds actors a s
+    belongs_so s e f = by_slot (slot == s) refl (sym (tags s) ∙ f)
+      where
+        by_slot : (b : Bool) → (slot == s) ≡ b → (if b then Some tag else tag_in c s) ≡ None → AnotherHolds actors a s
+        by_slot true is g = absurd cc
+        by_slot false is g = still_belongs c actors a s was there (ap (λ p. is_claimed p s) (sym places) ∙ e) g (apart_slots (slot_of_call a.phase) slot s holds is)
 
     below : (t : ℕ) → t < c.places.number → t < d.places.number
     below t e = subst (λ p. t < p.number) (sym places) e
@@ -274,16 +327,17 @@ opens_so c d actors a x slot tag was there holds opens places tags calls none kn
         let h = was.held a.name a t s there old in
         (below t h.0, λ u f. elim (lives u t f) [ inl here ↦ absurd (was.unheld a.name a.name a a tag s there there opens (subst (λ n. HasIn a n s) (sym here.1) old)) | inr g ↦ h.1 u g ])
 
--- a tag is closed, and its slot is to be released
-pub closes_so : (c d : Cells) (actors : List ActorState) (a x : ActorState) (slot tag : ℕ) → AreOccupied c actors → actor_named actors a.name ≡ Some a → tag_in c slot ≡ Some tag
+-- a tag is closed, by an actor that was in no such call, and its slot is to be released
+pub closes_so : (c d : Cells) (actors : List ActorState) (a x : ActorState) (slot tag : ℕ) → AreOccupied c actors → actor_named actors a.name ≡ Some a → slot_of_call a.phase ≡ None → tag_in c slot ≡ Some tag
     → d.places ≡ c.places → ((s : ℕ) → tag_in d s ≡ (if slot == s then None else tag_in c s)) → slot_of_call x.phase ≡ Some slot → tag_of_call x.phase ≡ None → ((t s : ℕ) → HasIn x t s → HasIn a t s) → Turns d actors a x
-closes_so c d actors a x slot tag was there live places tags calls none known = record {
+closes_so c d actors a x slot tag was there free live places tags calls none known = record {
   lived = λ s t e. claimed_so s (was.lived s t (moved s t e));
   numbered = λ s t e. below t (was.numbered s t (moved s t e));
   apart = λ s u t e f. was.apart s u t (moved s t e) (moved u t f);
   called = λ s e. let is = the_slot s e in (subst (λ n. is_claimed d.places n ≡ true) is (claimed_so slot (was.lived slot tag live)), subst (λ n. tag_in d n ≡ None) is (tags slot ∙ by_self (slot == slot) (eq-eqb slot slot refl)));
   called_others = λ m y s other e. let h = was.called m y s other.1 e in (claimed_so s h.0, tags s ∙ still (slot == s) s h.1);
   alone = λ m y s other e f. let is = the_slot s e in none_some (tag_in c slot) tag (subst (λ n. tag_in c n ≡ None) (sym is) (was.called m y s other.1 f).1) live;
+  belongs = belongs_so;
   coming = λ t e. none_some (tag_of_call x.phase) t none e;
   coming_others = λ m y t other e. let h = was.coming m y t other.1 e in (below t h.0, λ s f. h.1 s (moved s t f));
   once = λ m y t other e f. none_some (tag_of_call x.phase) t none e;
@@ -318,11 +372,18 @@ closes_so c d actors a x slot tag was there live places tags calls none known = 
     still true s e = refl
     still false s e = e
 
+    belongs_so : (s : ℕ) → is_claimed d.places s ≡ true → tag_in d s ≡ None → (slot_of_call x.phase ≡ Some s) ⊎ AnotherHolds actors a s
+    belongs_so s e f = by_slot (slot == s) refl (sym (tags s) ∙ f)
+      where
+        by_slot : (b : Bool) → (slot == s) ≡ b → (if b then None else tag_in c s) ≡ None → (slot_of_call x.phase ≡ Some s) ⊎ AnotherHolds actors a s
+        by_slot true is g = inl (calls ∙ ap Some (eqb-true slot s is))
+        by_slot false is g = inr (still_belongs c actors a s was there (ap (λ p. is_claimed p s) (sym places) ∙ e) g (λ h. none_some (slot_of_call a.phase) s free h))
+
 -- the slot of a tag that was closed is released
 pub releases_so : (c d : Cells) (actors : List ActorState) (a x : ActorState) (slot : ℕ) → AreOccupied c actors → actor_named actors a.name ≡ Some a → slot_of_call a.phase ≡ Some slot
-    → d.places.number ≡ c.places.number → ((s : ℕ) → (slot == s) ≡ false → is_claimed d.places s ≡ is_claimed c.places s) → ((s : ℕ) → tag_in d s ≡ tag_in c s)
+    → d.places.number ≡ c.places.number → is_claimed d.places slot ≡ false → ((s : ℕ) → (slot == s) ≡ false → is_claimed d.places s ≡ is_claimed c.places s) → ((s : ℕ) → tag_in d s ≡ tag_in c s)
     → slot_of_call x.phase ≡ None → tag_of_call x.phase ≡ None → ((t s : ℕ) → HasIn x t s → HasIn a t s) → Turns d actors a x
-releases_so c d actors a x slot was there holds number places tags calls none known = record {
+releases_so c d actors a x slot was there holds number given_up places tags calls none known = record {
   lived = λ s t e. claimed_so s (was.lived s t (moved s t e)) (λ is. none_some (tag_in c slot) t (was.called a.name a slot there holds).1 (subst (λ n. tag_in c n ≡ Some t) (sym is) (moved s t e)));
   numbered = λ s t e. below t (was.numbered s t (moved s t e));
   apart = λ s u t e f. was.apart s u t (moved s t e) (moved u t f);
@@ -331,6 +392,7 @@ releases_so c d actors a x slot was there holds number places tags calls none kn
       let h = was.called m y s other.1 e in
       (claimed_so s h.0 (λ is. apart_names a m other.0 (was.alone a.name m a y s there other.1 (subst (λ n. slot_of_call a.phase ≡ Some n) is holds) e)), tags s ∙ h.1);
   alone = λ m y s other e f. none_some (slot_of_call x.phase) s calls e;
+  belongs = λ s e f. inr (belongs_so s e f);
   coming = λ t e. none_some (tag_of_call x.phase) t none e;
   coming_others = λ m y t other e. let h = was.coming m y t other.1 e in (below t h.0, λ s f. h.1 s (moved s t f));
   once = λ m y t other e f. none_some (tag_of_call x.phase) t none e;
@@ -353,3 +415,10 @@ releases_so c d actors a x slot was there holds number places tags calls none kn
         by_slot : (b : Bool) → (slot == s) ≡ b → is_claimed d.places s ≡ true
         by_slot true is = absurd (other (eqb-true slot s is))
         by_slot false is = places s is ∙ e
+
+    belongs_so : (s : ℕ) → is_claimed d.places s ≡ true → tag_in d s ≡ None → AnotherHolds actors a s
+    belongs_so s e f = by_slot (slot == s) refl
+      where
+        by_slot : (b : Bool) → (slot == s) ≡ b → AnotherHolds actors a s
+        by_slot true is = absurd (true≢false (sym (subst (λ n. is_claimed d.places n ≡ true) (sym (eqb-true slot s is)) e) ∙ given_up))
+        by_slot false is = still_belongs c actors a s was there (sym (places s is) ∙ e) (sym (tags s) ∙ f) (apart_slots (slot_of_call a.phase) slot s holds is)

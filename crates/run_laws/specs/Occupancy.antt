@@ -42,16 +42,19 @@ GateHasIn (g ∷ gs) tag slot = (slot_on g.sheet nothing_made tag ≡ Some slot)
 abbrev pub HasIn : ActorState → ℕ → ℕ → Type 0
 HasIn a tag slot = (slot_known a tag ≡ Some slot) ⊎ GateHasIn a.gates tag slot
 
--- A tag lives in a claimed slot alone. A call holds a claimed slot in which none lives, and no
--- other call holds it. Every number is below the directory's next one; no tag lives in two slots,
--- and one that is to be opened lives nowhere, is held by nobody and is to be opened by one call. A
--- tag that an actor holds, or that the sheet of a gate names which it knows, lives, if it does, in
--- the slot in which that actor or that sheet has it.
+-- A tag lives in a claimed slot alone. A call holds a claimed slot in which no tag lives, and no
+-- other call holds it; and the other way round, each claimed slot in which no tag lives is held by
+-- the call of some actor. Every number is below the directory's next one; no tag lives in two
+-- slots, and one that is to be opened lives nowhere, is held by nobody and is to be opened by one
+-- call. A tag that an actor holds, or that the sheet of a gate names which it knows, lives, if it
+-- does, in the slot in which that actor or that sheet has it.
 pub record AreOccupied (c : Cells) (actors : List ActorState) : Type 0 where
   pub lived : (slot tag : ℕ) → tag_in c slot ≡ Some tag → is_claimed c.places slot ≡ true
   pub called : (name : List ℕ) (a : ActorState) (slot : ℕ) → actor_named actors name ≡ Some a → slot_of_call a.phase ≡ Some slot
       → (is_claimed c.places slot ≡ true) × (tag_in c slot ≡ None)
   pub alone : (m n : List ℕ) (a b : ActorState) (slot : ℕ) → actor_named actors m ≡ Some a → actor_named actors n ≡ Some b → slot_of_call a.phase ≡ Some slot → slot_of_call b.phase ≡ Some slot → m ≡ n
+  pub belongs : (slot : ℕ) → is_claimed c.places slot ≡ true → tag_in c slot ≡ None
+      → (name : List ℕ) × (a : ActorState) × (actor_named actors name ≡ Some a) × (slot_of_call a.phase ≡ Some slot)
   pub numbered : (slot tag : ℕ) → tag_in c slot ≡ Some tag → tag < c.places.number
   pub apart : (s t tag : ℕ) → tag_in c s ≡ Some tag → tag_in c t ≡ Some tag → s ≡ t
   pub coming : (name : List ℕ) (a : ActorState) (tag : ℕ) → actor_named actors name ≡ Some a → tag_of_call a.phase ≡ Some tag
