@@ -65,7 +65,7 @@ pub fn lives_are_counted()
 /// turns took: a unit for each instruction, and one for each byte that was read or appended, and of the path of a root
 /// directory or of a file that was opened. A start gives fuel to a child, and the entry of a gate to its run; a join, or the
 /// end of a run, brings back what is left: none of them changes the sum.
-/// So every run ends: it has at most 1,029 turns for each unit of fuel, and two.
+/// So every run ends: it has at most 1,028 turns for each unit of fuel, and one.
 pub fn fuel_is_kept()
     ensures sum { FuelIsKept }
     ensures ends { RunsEnd }
