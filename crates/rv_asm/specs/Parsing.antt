@@ -23,7 +23,8 @@ use Rattle.rv_asm.specs.declared.mnemonics.Shorthand.TheVariants as short
 use Rattle.rv_asm.specs.declared.mnemonics.Head.{Head}
 use Rattle.rv_asm.specs.declared.mnemonics.Head.TheVariants as head
 
--- the first words that are no instruction's
+-- the directives and pseudoinstructions: `.word`, `.proc` and `svc`, and those of chapter 25 of the
+-- manual
 abbrev pub shorthands : List (List ℕ × Shorthand)
 shorthands =
     (codes ".word", short.Word) ∷
@@ -49,14 +50,14 @@ shorthand_named word = lookup (λ name. bytes_eq word name) shorthands
 unfoldable pub head_named : List ℕ → Option Head
 head_named word = or_else (option_map head.Machine (op_named word)) (option_map head.Short (shorthand_named word))
 
--- the service call of a name
+-- the service call that has a name
 abbrev pub service_named : List ℕ → Option Service
 service_named text = find (λ s. bytes_eq (service_name s) text) services
 
 abbrev pub zero : Number
 zero = number.Literal (pos 0)
 
--- what stands where there are no operands
+-- `x` where no operand is written
 abbrev pub bare : {X : Type 0} → X → List ℕ → Option X
 bare x [] = Some x
 bare x (c ∷ cs) = None
@@ -77,14 +78,14 @@ abbrev pub is_fence : Op → Bool
 is_fence op.Fence = true
 is_fence _ = false
 
--- an instruction of the table; `fence` alone orders everything
+-- an instruction of the table; `fence` without operands orders every access
 unfoldable pub machine : Op → List ℕ → Option Template
 machine o text =
     if is_fence o && length text == 0
     then Some (template o 0 0 0 (number.Literal (pos 255)))
     else with_form (form_of o) o text
 
--- the instruction that a shorthand is another word for
+-- the instruction that a pseudoinstruction stands for. Chapter 25 of the manual; `call` is one JAL
 unfoldable pub synonym : Shorthand → List ℕ → Option Template
 synonym short.Move text = two_registers text >>= λ p. Some (template op.Addi p.0 p.1 0 zero)
 synonym short.Jump text = one_number text >>= λ n. Some (template op.Jal 0 0 0 n)
@@ -95,7 +96,7 @@ synonym short.BranchNotZero text = register_number text >>= λ p. Some (template
 synonym short.Nothing text = bare (template op.Addi 0 0 0 zero) text
 synonym _ text = None
 
--- what a shorthand means
+-- the statement of a directive or pseudoinstruction
 unfoldable pub shorthand : Shorthand → List ℕ → Option Statement
 shorthand short.Word text = one_number text >>= λ n. Some (statement.Word n)
 shorthand short.Procedure text = one (operands text) >>= λ name. Some (statement.Procedure name (is_name name))

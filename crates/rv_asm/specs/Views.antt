@@ -1,4 +1,4 @@
--- What the code's types stand for.
+-- The values that the code's types stand for.
 use Rattle.std.specs.Prelude.{ℕ, List, [], ◌∷◌, Option}
 use Rattle.std.specs.HashMap.{get_by}
 use Rattle.std.specs.Str.{bytes_eq}

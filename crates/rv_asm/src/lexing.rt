@@ -53,7 +53,7 @@ fn place_of_comment(line: &[u8]) -> Option<usize>
     line.iter().position(|c| *c == b'#')
 }
 
-/// What a line says: `#` begins a comment.
+/// A line without its comment, which begins with `#`, and trimmed.
 #[tactic(auto, unfolding(crate::specs::Lexing::content))]
 pub(crate) fn content(line: &[u8]) -> &[u8]
     ensures { result.now ≡ lexing.content line.now }
@@ -70,7 +70,7 @@ fn place_of_blank(text: &[u8]) -> Option<usize>
     text.iter().position(|c| is_blank(*c))
 }
 
-/// The first word of a text, and what follows it.
+/// The first word of a text, and the text after it.
 pub(crate) fn first_word(text: &[u8]) -> (&[u8], &[u8])
     ensures word { result.0.now ≡ lexing.first_word text.now }
     ensures rest { result.1.now ≡ lexing.following text.now }

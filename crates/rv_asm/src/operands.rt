@@ -1,4 +1,4 @@
-//! The shapes that operands have.
+//! The shapes of operands.
 
 ghost use Rattle.std.specs.Prelude.{◌≡◌, ◌==◌, ◌<◌, option_map, position, IfSome};
 ghost use Rattle.rv_asm.specs.Operands as operands;
@@ -28,7 +28,7 @@ fn closed_register(text: &[u8]) -> Option<u8>
     }
 }
 
-/// `N(rs1)`: an offset, and the register to which it is added.
+/// `N(rs1)`: an offset, and the base register to which it is added.
 #[tactic(auto, unfolding(crate::specs::Operands::based))]
 fn based(text: &[u8]) -> Option<(Number<'_>, u8)>
     ensures is { option_map (λ x. (number_view x.0, x.1)) result ≡ operands.based text.now }
