@@ -131,29 +131,6 @@ local i h = elim i.op [
   | op.Ebreak ↦ asks h need.Break
 ]
 
--- whether an operation only computes a value, for its destination
-abbrev pub computes : Op → Bool
-computes op.Jal = false
-computes op.Jalr = false
-computes op.Beq = false
-computes op.Bne = false
-computes op.Blt = false
-computes op.Bge = false
-computes op.Bltu = false
-computes op.Bgeu = false
-computes op.Lb = false
-computes op.Lh = false
-computes op.Lw = false
-computes op.Lbu = false
-computes op.Lhu = false
-computes op.Sb = false
-computes op.Sh = false
-computes op.Sw = false
-computes op.Fence = false
-computes op.Ecall = false
-computes op.Ebreak = false
-computes o = true
-
 -- a load or a store is of 1, 2 or 4 bytes
 abbrev pub HasWidth : Need → Type 0
 HasWidth (need.Load address width is_signed) = (width ≡ 1) ⊎ (width ≡ 2) ⊎ (width ≡ 4)
@@ -169,7 +146,7 @@ is_load n = false
 abbrev pub extended : ℕ → Bool → ℕ → ℕ
 extended width is_signed value = if is_signed then alu.as_word (signed (8 * width) value) else value
 
--- the value that the load of an operation gives
+-- the value that the load of an operation gives: the same, by the operation
 abbrev pub loaded_value : Op → ℕ → ℕ
 loaded_value op.Lb value = extended 1 true value
 loaded_value op.Lh value = extended 2 true value
