@@ -184,6 +184,7 @@ words es ls line at (statement.LoadNumber rd n) = number_loaded es rd n
 words es ls line at (statement.LoadAddress rd name) = address_loaded ls rd name
 words es ls line at (statement.Service s) = Ok (service_words (service_number s))
 words es ls line at (statement.Faulty w n) = Err w
+words es ls line at (statement.FaultyLoad n) = Err why.Operand
 
 -- how many words a number takes to load; a name without a value counts one word
 abbrev pub number_size : Result ℤ Why → ℕ
@@ -198,6 +199,7 @@ size es (statement.LoadNumber rd n) = number_size (integer es n)
 size es (statement.LoadAddress rd name) = 2
 size es (statement.Service s) = 2
 size es (statement.Faulty w n) = n
+size es (statement.FaultyLoad n) = number_size (integer es n)
 size es s = 0
 
 -- the address after a statement

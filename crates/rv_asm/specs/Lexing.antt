@@ -54,6 +54,11 @@ abbrev pub three : {X : Type 0} → List X → Option (X × X × X)
 three (a ∷ b ∷ c ∷ []) = Some (a, b, c)
 three _ = None
 
+-- the second element of a list that has one
+abbrev pub second : {X : Type 0} → List X → Option X
+second (a ∷ b ∷ rest) = Some b
+second _ = None
+
 -- the text before the first comma, and the text after it
 unfoldable pub at_comma : List ℕ → Option (List ℕ × List ℕ)
 at_comma text =

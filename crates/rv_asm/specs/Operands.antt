@@ -3,7 +3,7 @@ use Rattle.std.specs.Prelude.{ℕ, ◌-◌, ◌==◌, Bool, List, [], ◌∷◌,
 use Rattle.std.specs.List.{before_first, after_first}
 use Rattle.std.specs.Str.{bytes_eq}
 use Rattle.rv_isa.specs.Text.{register_names}
-use Rattle.rv_asm.specs.Lexing.{operands, one, two, three}
+use Rattle.rv_asm.specs.Lexing.{operands, one, two, three, second}
 use Rattle.wedge_base.specs.Texts.{is_name}
 use Rattle.rv_asm.specs.Numbers.{Number, number, decimal}
 
@@ -47,6 +47,10 @@ based text =
 -- the shapes of operands
 unfoldable pub one_number : List ℕ → Option Number
 one_number text = one (operands text) >>= number
+
+-- the second operand where it is a number or a name, whatever the others are
+unfoldable pub second_number : List ℕ → Option Number
+second_number text = second (operands text) >>= number
 
 unfoldable pub register_number : List ℕ → Option (ℕ × Number)
 register_number text =

@@ -12,7 +12,7 @@ use Rattle.rv_asm.specs.Lexing.{first_word, following, content, operands, one}
 use Rattle.wedge_base.specs.Texts.{is_name}
 use Rattle.rv_asm.specs.Numbers.{Number}
 use Rattle.rv_asm.specs.Numbers as number
-use Rattle.rv_asm.specs.Operands.{◌>>=◌, or_else, one_number, register_number, register_base, register_label, two_registers, two_registers_number, three_registers}
+use Rattle.rv_asm.specs.Operands.{◌>>=◌, or_else, one_number, second_number, register_number, register_base, register_label, two_registers, two_registers_number, three_registers}
 use Rattle.rv_asm.specs.Statements.{Template, template, Statement}
 use Rattle.rv_asm.specs.Statements as statement
 use Rattle.wedge_base.specs.Services.{services, service_name}
@@ -111,20 +111,30 @@ abbrev pub with_head : Head → List ℕ → Option Statement
 with_head (head.Machine o) text = machine o text >>= λ t. Some (statement.Instruction t)
 with_head (head.Short s) text = shorthand s text
 
--- how many words a line has whose operands are invalid
+-- how many words a line other than `li` counts whose operands are invalid
 abbrev pub words_at_fault : Head → ℕ
 words_at_fault (head.Short short.Procedure) = 0
 words_at_fault (head.Short short.LoadAddress) = 2
 words_at_fault (head.Short short.Service) = 2
 words_at_fault h = 1
 
-abbrev pub or_faulty : Head → Option Statement → Statement
-or_faulty h None = statement.Faulty why.Operand (words_at_fault h)
-or_faulty h (Some s) = s
+-- an `li` whose operands are invalid, by its second operand where that is a number
+abbrev pub faulty_load : Option Number → Statement
+faulty_load None = statement.Faulty why.Operand 1
+faulty_load (Some n) = statement.FaultyLoad n
+
+-- the statement of a line whose operands are invalid
+abbrev pub faulty_statement : Head → List ℕ → Statement
+faulty_statement (head.Short short.LoadNumber) text = faulty_load (second_number text)
+faulty_statement h text = statement.Faulty why.Operand (words_at_fault h)
+
+abbrev pub or_faulty : Head → List ℕ → Option Statement → Statement
+or_faulty h text None = faulty_statement h text
+or_faulty h text (Some s) = s
 
 abbrev pub headed : Option Head → List ℕ → Statement
 headed None text = statement.Faulty why.Mnemonic 1
-headed (Some h) text = or_faulty h (with_head h text)
+headed (Some h) text = or_faulty h text (with_head h text)
 
 -- a first word that ends in `:` makes a label
 unfoldable pub labelled : List ℕ → List ℕ → Statement

@@ -19,6 +19,8 @@ template op rd rs1 rs2 imm = record { op = op; rd = rd; rs1 = rs1; rs2 = rs2; im
 
 -- `Label` and `Procedure` carry the name, and whether the line is well formed. `Faulty` is a line
 -- that is invalid whatever its names mean, with the reason and the number of words that it counts.
+-- `FaultyLoad` is an `li` whose operands are invalid but whose second is a number: it counts the
+-- words that the number takes.
 pub data Statement : Type 0 where
   Blank : Statement
   Label : List ℕ → Bool → Statement
@@ -29,3 +31,4 @@ pub data Statement : Type 0 where
   LoadAddress : ℕ → List ℕ → Statement
   Service : service.Service → Statement
   Faulty : Why → ℕ → Statement
+  FaultyLoad : Number → Statement

@@ -32,6 +32,7 @@ statement_view (code.LoadNumber rd n) = statement.LoadNumber rd.number (number_v
 statement_view (code.LoadAddress rd name) = statement.LoadAddress rd.number name.now
 statement_view (code.Service n) = statement.Service n
 statement_view (code.Faulty why words) = statement.Faulty why words
+statement_view (code.FaultyLoad n) = statement.FaultyLoad (number_view n)
 
 -- a map of names as a function of them
 abbrev pub equates_view : Equates → List ℕ → Option ℕ

@@ -201,6 +201,7 @@ pub(crate) fn words(
             Ok(Code::Two(add_word(17, 0, service_immediate(service)), call_word()))
         }
         Statement::Faulty { why, .. } => Err(why),
+        Statement::FaultyLoad { .. } => Err(Why::Operand),
     }
 }
 
@@ -224,7 +225,9 @@ fn size(equates: &Equates<'_>, statement: &Statement<'_>) -> u32
     match *statement {
         Statement::Blank | Statement::Label { .. } | Statement::Procedure { .. } => 0,
         Statement::Word(_) | Statement::Instruction(_) => 1,
-        Statement::LoadNumber { number, .. } => number_size(equates, number),
+        Statement::LoadNumber { number, .. } | Statement::FaultyLoad { number } => {
+            number_size(equates, number)
+        }
         Statement::LoadAddress { .. } | Statement::Service(_) => 2,
         Statement::Faulty { words, .. } => u32::from(words),
     }

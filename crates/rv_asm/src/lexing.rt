@@ -119,6 +119,18 @@ pub(crate) fn two(text: &[u8]) -> Option<(&[u8], &[u8])>
     Some((trim(first), trim(rest)))
 }
 
+/// The second operand of a text that has two or more.
+#[tactic(auto, using(crate::proofs::Commas::second_none, crate::proofs::Commas::second_comma, crate::proofs::Commas::second_alone))]
+pub(crate) fn second(text: &[u8]) -> Option<&[u8]>
+    ensures { option_map (λ x. x.now) result ≡ lexing.second (lexing.operands text.now) }
+{
+    let (_, rest) = at_comma(text)?;
+    match at_comma(rest) {
+        Some((second, _)) => Some(trim(second)),
+        None => Some(trim(rest)),
+    }
+}
+
 /// The operands of a text that has three.
 #[tactic(auto, using(crate::proofs::Commas::three_none, crate::proofs::Commas::three_one, crate::proofs::Commas::three_comma, crate::proofs::Commas::three_alone))]
 pub(crate) fn three(text: &[u8]) -> Option<(&[u8], &[u8], &[u8])>

@@ -4,7 +4,7 @@ ghost use Rattle.std.specs.Prelude.{◌≡◌, ◌==◌, ◌<◌, option_map, po
 ghost use Rattle.rv_asm.specs.Operands as operands;
 ghost use Rattle.rv_asm.specs.Views.{number_view};
 
-use crate::lexing::{one, three, two};
+use crate::lexing::{one, second, three, two};
 use crate::literals::number;
 use crate::numbers::Number;
 use crate::registers::register;
@@ -46,6 +46,14 @@ pub(crate) fn one_number(text: &[u8]) -> Option<Number<'_>>
     ensures { option_map number_view result ≡ operands.one_number text.now }
 {
     number(one(text)?)
+}
+
+/// The second operand where it is a number or a name, whatever the others are.
+#[tactic(auto, unfolding(crate::specs::Operands::second_number))]
+pub(crate) fn second_number(text: &[u8]) -> Option<Number<'_>>
+    ensures { option_map number_view result ≡ operands.second_number text.now }
+{
+    number(second(text)?)
 }
 
 /// A register and a number.

@@ -12,8 +12,8 @@ use crate::lexing::{content, first_word, one};
 use crate::mnemonics::{Head, Shorthand, head_named};
 use crate::numbers::Number;
 use crate::operands::{
-    one_number, register_base, register_label, register_number, three_registers, two_registers,
-    two_registers_number,
+    one_number, register_base, register_label, register_number, second_number, three_registers,
+    two_registers, two_registers_number,
 };
 use crate::services::service_named;
 use crate::statements::Statement;
@@ -154,7 +154,7 @@ fn shorthand(shorthand: Shorthand, text: &[u8]) -> Option<Statement<'_>>
     }
 }
 
-/// How many words a line has whose operands are invalid.
+/// How many words a line other than `li` counts whose operands are invalid.
 fn words_at_fault(head: Head) -> u8
     ensures { result ≡ parsing.words_at_fault head }
 {
@@ -162,6 +162,23 @@ fn words_at_fault(head: Head) -> u8
         Head::Short(Shorthand::Procedure) => 0,
         Head::Short(Shorthand::LoadAddress | Shorthand::Service) => 2,
         _ => 1,
+    }
+}
+
+/// The statement of a line with this first word, whose operands are invalid.
+fn faulty_statement(head: Head, text: &[u8]) -> Statement<'_>
+    ensures { statement_view result ≡ parsing.faulty_statement head text.now }
+{
+    let why = Why::Operand;
+    match head {
+        Head::Short(Shorthand::LoadNumber) => match second_number(text) {
+            Some(number) => Statement::FaultyLoad { number },
+            None => Statement::Faulty { why, words: 1 },
+        },
+        _ => Statement::Faulty {
+            why,
+            words: words_at_fault(head),
+        },
     }
 }
 
@@ -185,10 +202,7 @@ fn headed<'a>(word: &[u8], text: &'a [u8]) -> Statement<'a>
             words: 1,
         },
         Some(head) => match with_head(head, text) {
-            None => Statement::Faulty {
-                why: Why::Operand,
-                words: words_at_fault(head),
-            },
+            None => faulty_statement(head, text),
             Some(statement) => statement,
         },
     }

@@ -26,4 +26,7 @@ pub(crate) enum Statement<'a> {
     Service(Service),
     /// The line is invalid whatever its names mean, for this reason, and counts this many words.
     Faulty { why: Why, words: u8 },
+    /// An `li` whose operands are invalid but whose second is a number: it counts the words that the
+    /// number takes.
+    FaultyLoad { number: Number<'a> },
 }
