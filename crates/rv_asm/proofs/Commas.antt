@@ -3,7 +3,7 @@ use Rattle.std.proofs.Common.{◌≡◌, ℕ, ◌+◌, ◌<◌, ◌≤◌, Bool,
 use Rattle.std.specs.List.{slice_split, position_or_len, before_first, after_first, onto_first}
 use Rattle.std.proofs.lemmas.Bool.{ltb-true, ltb-false}
 use Rattle.std.proofs.lemmas.List.Splits.{slice_split_first, slice_split-cons_no, length-slice_split}
-use Rattle.rv_asm.specs.Lexing.{is_comma, at_comma, trim, operands, one, two, three}
+use Rattle.rv_asm.specs.Lexing.{is_comma, at_comma, trim, operands, one, two, three, second}
 
 -- whether there is a comma
 abbrev has_comma : List ℕ → Bool
@@ -95,6 +95,16 @@ two_comma t a b c d h k =
 
 pub two_alone : (t a b : List ℕ) → at_comma t ≡ Some (a, b) → at_comma b ≡ None → two (operands t) ≡ Some (trim a, trim b)
 two_alone t a b h k = rw (operands_comma t a b h, pieces_none b k) refl
+
+pub second_none : (t : List ℕ) → at_comma t ≡ None → second (operands t) ≡ None
+second_none [] h = rw (operands_empty [] refl) refl
+second_none (c ∷ cs) h = rw (operands_none (c ∷ cs) (omega arith) h) refl
+
+pub second_comma : (t a b c d : List ℕ) → at_comma t ≡ Some (a, b) → at_comma b ≡ Some (c, d) → second (operands t) ≡ Some (trim c)
+second_comma t a b c d h k = rw (operands_comma t a b h, pieces_comma b c d k) refl
+
+pub second_alone : (t a b : List ℕ) → at_comma t ≡ Some (a, b) → at_comma b ≡ None → second (operands t) ≡ Some (trim b)
+second_alone t a b h k = rw (operands_comma t a b h, pieces_none b k) refl
 
 pub three_none : (t : List ℕ) → at_comma t ≡ None → three (operands t) ≡ None
 three_none [] h = rw (operands_empty [] refl) refl

@@ -61,6 +61,7 @@ statement_long es ls line at (statement.LoadNumber rd n) = number_long (integer 
 statement_long es ls line at (statement.LoadAddress rd name) = address_long (address_of ls name) rd
 statement_long es ls line at (statement.Service s) = refl
 statement_long es ls line at (statement.Faulty w n) = refl
+statement_long es ls line at (statement.FaultyLoad n) = refl
 
 pub words_are_counted : WordsAreCounted
 words_are_counted es ls line at s ws e = ap (λ r. long r (size es s)) (sym e) ∙ statement_long es ls line at s

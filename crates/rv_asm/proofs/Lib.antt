@@ -6,7 +6,7 @@ pub mod Commas
 pub mod Trims
 -- A number that is cut off at a limit, a digit at a time.
 pub mod Digits
--- The first place of a list at which a test passes.
+-- The first position in a list at which a test passes.
 pub mod Places
 -- One more equate at the end of a list.
 pub mod Equating
@@ -30,5 +30,5 @@ pub mod Placing
 pub mod Reading
 -- The text of an instruction is one line, and is assembled to its word.
 pub mod ReadBack
--- A statement has as many words as it counts for.
+-- A statement has as many words as it counts.
 pub mod Counted

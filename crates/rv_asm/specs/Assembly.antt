@@ -1,4 +1,4 @@
--- What a text means: its words and its procedures, or the first line that is invalid.
+-- What a text means: its words and its procedures, or its first invalid line.
 use Rattle.std.specs.Prelude.{◌≡◌, ℕ, ◌+◌, ◌-◌, ◌*◌, ◌/◌, ◌%◌, ◌^◌, ◌==◌, ℤ, pos, negsuc, Bool, false, ◌&&◌, ◌||◌, List, [], ◌∷◌, ◌++◌, map, Option, Some, None, option_map, is_some, Result, Ok, Err, nat_lt, int_le, if◌then◌else◌}
 use Rattle.std.specs.Int.{w32, cast_signed}
 use Rattle.std.specs.Str.{bytes_eq}
@@ -35,7 +35,7 @@ Equates = List ℕ → Option ℕ
 abbrev pub Labels : Type 0
 Labels = List ℕ → Option Label
 
--- of equates with one name the first holds
+-- of equates with one name, the first counts
 abbrev pub equates_of : List Equate → Equates
 equates_of [] name = None
 equates_of (e ∷ es) name = if bytes_eq e.name name then Some e.value else equates_of es name
@@ -46,7 +46,7 @@ no_labels name = None
 abbrev pub with_label : List ℕ → Label → Labels → Labels
 with_label name l ls asked = if bytes_eq name asked then Some l else ls asked
 
--- whether a name stands for anything
+-- whether a name is defined, by an equate or by a label
 abbrev pub is_known : Equates → Labels → List ℕ → Bool
 is_known es ls name = is_some (es name) || is_some (ls name)
 
@@ -55,7 +55,7 @@ abbrev pub is_earlier : ℕ → Option Label → Bool
 is_earlier line None = false
 is_earlier line (Some l) = nat_lt l.line line
 
--- whether a name was taken before a line
+-- whether a name is defined before a line, by an equate or by the label of an earlier line
 abbrev pub is_taken : Equates → Labels → ℕ → List ℕ → Bool
 is_taken es ls line name = is_some (es name) || is_earlier line (ls name)
 
@@ -77,7 +77,7 @@ integer es (number.Named name) = or_unknown (option_map pos (es name))
 abbrev pub address_of : Labels → List ℕ → Result ℕ Why
 address_of ls name = or_unknown (option_map (λ l. l.address) (ls name))
 
--- how far one address is from another, around 2^32 either way
+-- the distance from one address to another: their difference modulo 2^32, as a signed 32-bit number
 abbrev pub distance : ℕ → ℕ → ℤ
 distance from to = cast_signed w32 ((to + (2 ^ 32 - from)) % 2 ^ 32)
 
@@ -85,7 +85,7 @@ abbrev pub distance_or : Option ℕ → ℕ → Option Label → Result ℤ Why
 distance_or e at None = or_unknown (option_map pos e)
 distance_or e at (Some l) = Ok (distance at l.address)
 
--- where a label or an offset may stand
+-- the offset that a jump or branch names: the distance of a label, or a number
 abbrev pub target : Equates → Labels → ℕ → Number → Result ℤ Why
 target es ls at (number.Literal z) = Ok z
 target es ls at (number.Named name) = distance_or (es name) at (ls name)
@@ -96,14 +96,14 @@ is_within low high z = int_le low z && int_le z high
 abbrev pub demand : {X : Type 0} → Bool → X → Result X Why
 demand test x = if test then Ok x else Err why.Range
 
--- a number that fits 32 bits with a sign, or without one
+-- whether a number fits 32 bits, signed or unsigned
 abbrev pub is_word : ℤ → Bool
 is_word z = is_within (negsuc (2 ^ 31 - 1)) (pos (2 ^ 32 - 1)) z
 
 -- ---- instructions
 
--- The numbers that may be written for a form: those that its word has, but that the upper 20 bits of
--- the form Upper are written alone.
+-- The numbers that may be written for a form: its immediates; for `Upper`, the upper 20 bits alone,
+-- 0 to 0xfffff.
 abbrev pub allowed : Form → Ranges
 allowed form.Upper = to 32 1 1 (pos 0) (pos 0xfffff) 1
 allowed f = ranges f
@@ -111,7 +111,7 @@ allowed f = ranges f
 abbrev pub is_allowed : Ranges → ℤ → Bool
 is_allowed r z = is_within r.low r.high z && word_of z % r.step == 0
 
--- the number that the instruction then has
+-- the immediate that a written number gives
 abbrev pub placed : Form → ℤ → ℤ
 placed form.Upper z = cast_signed w32 (word_of z * 2 ^ 12 % 2 ^ 32)
 placed f z = z
@@ -119,7 +119,7 @@ placed f z = z
 abbrev pub immediate : Form → ℤ → Result ℤ Why
 immediate f z = demand (is_allowed (allowed f) z) (placed f z)
 
--- what an instruction's number stands for, by its form
+-- the value of an instruction's last operand, by its form
 abbrev pub wanted : Form → Equates → Labels → ℕ → Number → Result ℤ Why
 wanted form.Jump es ls at n = target es ls at n
 wanted form.Branch es ls at n = target es ls at n
@@ -135,7 +135,8 @@ instruction es ls at t =
 abbrev pub add_word : ℕ → ℕ → ℤ → ℕ
 add_word rd rs1 imm = encoded (instr op.Addi rd rs1 0 imm)
 
--- the upper part of a number that an ADDI of the lower 12 bits completes
+-- what LUI loads for n: n rounded to the nearest multiple of 2^12, so that an ADDI of -2048 to 2047
+-- completes it
 abbrev pub upper_part : ℕ → ℕ
 upper_part n = (n + 0x800) % 2 ^ 32 / 2 ^ 12 * 2 ^ 12
 
@@ -145,7 +146,7 @@ load_two rd n =
     encoded (instr op.Lui rd 0 0 (cast_signed w32 (upper_part n))) ∷
     add_word rd rd (distance (upper_part n) n) ∷ []
 
--- whether one ADDI is enough
+-- whether one ADDI is enough to load a number
 abbrev pub is_small : ℤ → Bool
 is_small z = is_within (negsuc 2047) (pos 2047) z || is_within (pos (2 ^ 32 - 2048)) (pos (2 ^ 32 - 1)) z
 
@@ -158,7 +159,8 @@ service_words n = add_word 17 0 (pos n) ∷ encoded (instr op.Ecall 0 0 0 (pos 0
 
 -- ---- lines
 
--- a label's line: its name was taken before, or its form is not that of a label
+-- a label's line has no words: `Twice` where its name was taken before, else `Operand` where it is
+-- malformed
 abbrev pub label_line : Bool → Bool → Result (List ℕ) Why
 label_line taken sound = if taken then Err why.Twice else (if sound then Ok [] else Err why.Operand)
 
@@ -182,13 +184,14 @@ words es ls line at (statement.LoadNumber rd n) = number_loaded es rd n
 words es ls line at (statement.LoadAddress rd name) = address_loaded ls rd name
 words es ls line at (statement.Service s) = Ok (service_words (service_number s))
 words es ls line at (statement.Faulty w n) = Err w
+words es ls line at (statement.FaultyLoad n) = Err why.Operand
 
--- how many words a number takes to load; a name that stands for nothing counts as one
+-- how many words a number takes to load; a name without a value counts one word
 abbrev pub number_size : Result ℤ Why → ℕ
 number_size (Ok z) = if is_small z then 1 else 2
 number_size (Err e) = 1
 
--- how many words a statement takes, invalid or not
+-- how many words a statement counts, invalid or not
 abbrev pub size : Equates → Statement → ℕ
 size es (statement.Word n) = 1
 size es (statement.Instruction t) = 1
@@ -196,13 +199,14 @@ size es (statement.LoadNumber rd n) = number_size (integer es n)
 size es (statement.LoadAddress rd name) = 2
 size es (statement.Service s) = 2
 size es (statement.Faulty w n) = n
+size es (statement.FaultyLoad n) = number_size (integer es n)
 size es s = 0
 
 -- the address after a statement
 unfoldable pub after : Equates → ℕ → Statement → ℕ
 after es at s = (at + 4 * size es s) % 2 ^ 32
 
--- the name that a label's line gives to its address
+-- the name that a well-formed label's line defines
 abbrev pub name_if : Bool → List ℕ → Option (List ℕ)
 name_if sound name = if sound then Some name else None
 
@@ -211,18 +215,21 @@ name_given (statement.Label name sound) = name_if sound name
 name_given (statement.Procedure name sound) = name_if sound name
 name_given s = None
 
+-- the labels with that of a line added, where its name is not yet defined
 abbrev pub given : Equates → ℕ → ℕ → Labels → Option (List ℕ) → Labels
 given es line at ls None = ls
-given es line at ls (Some name) = if is_known es ls name then ls else with_label name (record { line = line; address = at }) ls
+given es line at ls (Some name) =
+    if is_known es ls name then ls else with_label name (record { line = line; address = at }) ls
 
--- the labels after those that are there, of statements from a line and an address on
+-- `ls` with the labels of these statements added. The first statement is on `line`, at the address
+-- `at`.
 unfoldable pub labels_from : Equates → Labels → ℕ → ℕ → List Statement → Labels
 labels_from es ls line at [] = ls
 labels_from es ls line at (s ∷ ss) = labels_from es (given es line at ls (name_given s)) (line + 1) (after es at s) ss
 
 -- ---- the whole
 
--- the procedure that begins with a statement
+-- the procedure that a statement begins
 abbrev pub procedures : ℕ → Statement → List Procedure
 procedures at (statement.Procedure name sound) = record { name = name; address = at } ∷ []
 procedures at s = []
@@ -237,14 +244,15 @@ abbrev pub on_line : {X : Type 0} → ℕ → Result X Why → Result X Fault
 on_line line (Ok x) = Ok x
 on_line line (Err w) = Err (record { line = line; why = w })
 
--- what is in front, and then the words of statements from a line and an address on
+-- `front`, followed by the words and procedures of these statements. The first statement is on
+-- `line`, at the address `at`.
 unfoldable pub assembled_from : Equates → Labels → Assembled → ℕ → ℕ → List Statement → Result Assembled Fault
 assembled_from es ls front line at [] = Ok front
 assembled_from es ls front line at (s ∷ ss) =
     on_line line (words es ls line at s) >>= λ ws.
     assembled_from es ls (grown front ws (procedures at s)) (line + 1) (after es at s) ss
 
--- a text whose first word has a base address, with names for numbers
+-- the meaning of a text: its first word has the address `base`, and `names` are the equates
 unfoldable pub assembled : List ℕ → ℕ → List Equate → Result Assembled Fault
 assembled text base names =
     let statements = map statement_of (lines text) in
@@ -254,12 +262,12 @@ assembled text base names =
 
 -- ---- answers
 
--- an answer of the code, seen by a view, is the one that is meant
+-- the code's result, mapped by `view`, is exactly this one
 abbrev pub Gives : {X Y E : Type 0} → (X → Y) → Result X E → Result Y E → Type 0
 Gives view (Ok x) meant = Ok (view x) ≡ meant
 Gives view (Err e) meant = Err e ≡ meant
 
--- what `assemble` answers is what is meant, unless memory ran out
+-- the result of `assemble` is exactly this one, unless memory ran out
 abbrev pub IsAnswer : Result Assembled AsmError → Result Assembled Fault → Type 0
 IsAnswer (Ok a) meant = Ok a ≡ meant
 IsAnswer (Err error.NoMemory) meant = Unit {0}

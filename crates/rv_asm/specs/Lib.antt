@@ -2,17 +2,17 @@
 pub mod Lexing
 -- Integers, as they are written.
 pub mod Numbers
--- Registers, and the shapes that operands have.
+-- Registers, and the shapes of operands.
 pub mod Operands
--- What a line says.
+-- The statement of a line, in which names have no values yet.
 pub mod Statements
 -- From a line to its statement.
 pub mod Parsing
 -- What a text means.
 pub mod Assembly
--- What the code's types stand for.
+-- The values that the code's types stand for.
 pub mod Views
--- The text of an instruction is read back.
+-- Laws of the assembler.
 pub mod Laws
--- The words for what may be wrong with a line.
+-- The printed reasons.
 pub mod Words

@@ -5,7 +5,8 @@ use Rattle.std.specs.Char.{digit_value}
 use Rattle.std.specs.Str.Parse.{digits_value}
 use Rattle.wedge_base.specs.Texts.{is_name}
 
--- Numbers from here on count as this one: all of them are past every range.
+-- Larger literals count as this one. It is out of every range, so the code can hold each literal in
+-- 64 bits.
 abbrev pub past_all : ℕ
 past_all = 2 ^ 33
 
@@ -18,7 +19,7 @@ natural radix [] = None
 natural radix (d ∷ ds) =
     if list_all (is_digit radix) (d ∷ ds) then Some (min (digits_value radix (d ∷ ds)) past_all) else None
 
--- decimal digits, the first of several not 0
+-- decimal digits without leading zeros
 unfoldable pub decimal : List ℕ → Option ℕ
 decimal [] = None
 decimal (d ∷ []) = natural 10 (d ∷ [])
@@ -30,12 +31,14 @@ magnitude [] = None
 magnitude (c ∷ []) = decimal (c ∷ [])
 magnitude (c ∷ d ∷ ds) = if c == 48 && d == 120 then natural 16 ds else decimal (c ∷ d ∷ ds)
 
--- an integer, which may have a `-`
+-- an integer: a magnitude, with or without a `-` before it
 unfoldable pub literal : List ℕ → Option ℤ
 literal [] = None
-literal (c ∷ cs) = if c == 45 then option_map (λ n. pos 0 -ℤ pos n) (magnitude cs) else option_map pos (magnitude (c ∷ cs))
+literal (c ∷ cs) =
+    if c == 45 then option_map (λ n. pos 0 -ℤ pos n) (magnitude cs)
+    else option_map pos (magnitude (c ∷ cs))
 
--- what stands where an integer is wanted: a literal, or a name that says one
+-- an operand where an integer is expected: a literal, or the name of an equate or of a label
 pub data Number : Type 0 where
   Literal : ℤ → Number
   Named : List ℕ → Number

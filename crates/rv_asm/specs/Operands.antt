@@ -1,9 +1,9 @@
--- Registers, and the shapes that operands have. Chapter 25 of the RISC-V manual has the registers' names.
+-- Registers, and the shapes of operands. Chapter 25 of the RISC-V manual has the registers' names.
 use Rattle.std.specs.Prelude.{ℕ, ◌-◌, ◌==◌, Bool, List, [], ◌∷◌, length, position, Option, Some, None, option_and_then, codes, slice_index, take, nat_lt, if◌then◌else◌}
 use Rattle.std.specs.List.{before_first, after_first}
 use Rattle.std.specs.Str.{bytes_eq}
 use Rattle.rv_isa.specs.Text.{register_names}
-use Rattle.rv_asm.specs.Lexing.{operands, one, two, three}
+use Rattle.rv_asm.specs.Lexing.{operands, one, two, three, second}
 use Rattle.wedge_base.specs.Texts.{is_name}
 use Rattle.rv_asm.specs.Numbers.{Number, number, decimal}
 
@@ -22,7 +22,7 @@ named_register text = position (λ name. bytes_eq name text) register_names
 abbrev pub below : ℕ → ℕ → Option ℕ
 below limit n = if nat_lt n limit then Some n else None
 
--- a register's number, after an `x`
+-- a register's number, written after an `x`
 abbrev pub numbered_register : List ℕ → Option ℕ
 numbered_register [] = None
 numbered_register (c ∷ cs) = if c == 120 then decimal cs >>= below 32 else None
@@ -38,7 +38,7 @@ is_opening c = c == 40
 unfoldable pub closed_register : List ℕ → Option ℕ
 closed_register text = if slice_index text (length text - 1) == 41 then register (take (length text - 1) text) else None
 
--- `N(rs1)`: an offset, and the register to which it is added
+-- `N(rs1)`: an offset, and the base register to which it is added
 unfoldable pub based : List ℕ → Option (Number × ℕ)
 based text =
     number (before_first is_opening text) >>= λ offset.
@@ -47,6 +47,10 @@ based text =
 -- the shapes of operands
 unfoldable pub one_number : List ℕ → Option Number
 one_number text = one (operands text) >>= number
+
+-- the second operand where it is a number or a name, whatever the others are
+unfoldable pub second_number : List ℕ → Option Number
+second_number text = second (operands text) >>= number
 
 unfoldable pub register_number : List ℕ → Option (ℕ × Number)
 register_number text =

@@ -12,7 +12,7 @@ use Rattle.rv_asm.specs.Lexing.{first_word, following, content, operands, one}
 use Rattle.wedge_base.specs.Texts.{is_name}
 use Rattle.rv_asm.specs.Numbers.{Number}
 use Rattle.rv_asm.specs.Numbers as number
-use Rattle.rv_asm.specs.Operands.{◌>>=◌, or_else, one_number, register_number, register_base, register_label, two_registers, two_registers_number, three_registers}
+use Rattle.rv_asm.specs.Operands.{◌>>=◌, or_else, one_number, second_number, register_number, register_base, register_label, two_registers, two_registers_number, three_registers}
 use Rattle.rv_asm.specs.Statements.{Template, template, Statement}
 use Rattle.rv_asm.specs.Statements as statement
 use Rattle.wedge_base.specs.Services.{services, service_name}
@@ -23,7 +23,8 @@ use Rattle.rv_asm.specs.declared.mnemonics.Shorthand.TheVariants as short
 use Rattle.rv_asm.specs.declared.mnemonics.Head.{Head}
 use Rattle.rv_asm.specs.declared.mnemonics.Head.TheVariants as head
 
--- the first words that are no instruction's
+-- the directives and pseudoinstructions: `.word`, `.proc` and `svc`, and those of chapter 25 of the
+-- manual
 abbrev pub shorthands : List (List ℕ × Shorthand)
 shorthands =
     (codes ".word", short.Word) ∷
@@ -49,14 +50,14 @@ shorthand_named word = lookup (λ name. bytes_eq word name) shorthands
 unfoldable pub head_named : List ℕ → Option Head
 head_named word = or_else (option_map head.Machine (op_named word)) (option_map head.Short (shorthand_named word))
 
--- the service call of a name
+-- the service call that has a name
 abbrev pub service_named : List ℕ → Option Service
 service_named text = find (λ s. bytes_eq (service_name s) text) services
 
 abbrev pub zero : Number
 zero = number.Literal (pos 0)
 
--- what stands where there are no operands
+-- `x` where no operand is written
 abbrev pub bare : {X : Type 0} → X → List ℕ → Option X
 bare x [] = Some x
 bare x (c ∷ cs) = None
@@ -77,14 +78,14 @@ abbrev pub is_fence : Op → Bool
 is_fence op.Fence = true
 is_fence _ = false
 
--- an instruction of the table; `fence` alone orders everything
+-- an instruction of the table; `fence` without operands orders every access
 unfoldable pub machine : Op → List ℕ → Option Template
 machine o text =
     if is_fence o && length text == 0
     then Some (template o 0 0 0 (number.Literal (pos 255)))
     else with_form (form_of o) o text
 
--- the instruction that a shorthand is another word for
+-- the instruction that a pseudoinstruction stands for. Chapter 25 of the manual; `call` is one JAL
 unfoldable pub synonym : Shorthand → List ℕ → Option Template
 synonym short.Move text = two_registers text >>= λ p. Some (template op.Addi p.0 p.1 0 zero)
 synonym short.Jump text = one_number text >>= λ n. Some (template op.Jal 0 0 0 n)
@@ -95,7 +96,7 @@ synonym short.BranchNotZero text = register_number text >>= λ p. Some (template
 synonym short.Nothing text = bare (template op.Addi 0 0 0 zero) text
 synonym _ text = None
 
--- what a shorthand means
+-- the statement of a directive or pseudoinstruction
 unfoldable pub shorthand : Shorthand → List ℕ → Option Statement
 shorthand short.Word text = one_number text >>= λ n. Some (statement.Word n)
 shorthand short.Procedure text = one (operands text) >>= λ name. Some (statement.Procedure name (is_name name))
@@ -110,20 +111,30 @@ abbrev pub with_head : Head → List ℕ → Option Statement
 with_head (head.Machine o) text = machine o text >>= λ t. Some (statement.Instruction t)
 with_head (head.Short s) text = shorthand s text
 
--- how many words a line has whose operands are invalid
+-- how many words a line other than `li` counts whose operands are invalid
 abbrev pub words_at_fault : Head → ℕ
 words_at_fault (head.Short short.Procedure) = 0
 words_at_fault (head.Short short.LoadAddress) = 2
 words_at_fault (head.Short short.Service) = 2
 words_at_fault h = 1
 
-abbrev pub or_faulty : Head → Option Statement → Statement
-or_faulty h None = statement.Faulty why.Operand (words_at_fault h)
-or_faulty h (Some s) = s
+-- an `li` whose operands are invalid, by its second operand where that is a number
+abbrev pub faulty_load : Option Number → Statement
+faulty_load None = statement.Faulty why.Operand 1
+faulty_load (Some n) = statement.FaultyLoad n
+
+-- the statement of a line whose operands are invalid
+abbrev pub faulty_statement : Head → List ℕ → Statement
+faulty_statement (head.Short short.LoadNumber) text = faulty_load (second_number text)
+faulty_statement h text = statement.Faulty why.Operand (words_at_fault h)
+
+abbrev pub or_faulty : Head → List ℕ → Option Statement → Statement
+or_faulty h text None = faulty_statement h text
+or_faulty h text (Some s) = s
 
 abbrev pub headed : Option Head → List ℕ → Statement
 headed None text = statement.Faulty why.Mnemonic 1
-headed (Some h) text = or_faulty h (with_head h text)
+headed (Some h) text = or_faulty h text (with_head h text)
 
 -- a first word that ends in `:` makes a label
 unfoldable pub labelled : List ℕ → List ℕ → Statement

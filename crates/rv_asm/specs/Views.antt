@@ -1,4 +1,4 @@
--- What the code's types stand for.
+-- The values that the code's types stand for.
 use Rattle.std.specs.Prelude.{ℕ, List, [], ◌∷◌, Option}
 use Rattle.std.specs.HashMap.{get_by}
 use Rattle.std.specs.Str.{bytes_eq}
@@ -32,6 +32,7 @@ statement_view (code.LoadNumber rd n) = statement.LoadNumber rd.number (number_v
 statement_view (code.LoadAddress rd name) = statement.LoadAddress rd.number name.now
 statement_view (code.Service n) = statement.Service n
 statement_view (code.Faulty why words) = statement.Faulty why words
+statement_view (code.FaultyLoad n) = statement.FaultyLoad (number_view n)
 
 -- a map of names as a function of them
 abbrev pub equates_view : Equates → List ℕ → Option ℕ

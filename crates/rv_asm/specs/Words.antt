@@ -1,4 +1,4 @@
--- The words for what may be wrong with a line.
+-- The printed reasons.
 use Rattle.std.specs.Prelude.{ℕ, List, codes}
 use Rattle.rv_asm.specs.declared.fault.Why.{Why}
 use Rattle.rv_asm.specs.declared.fault.Why.TheVariants as why

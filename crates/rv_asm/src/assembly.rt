@@ -33,7 +33,7 @@ fn statements_of<'a>(alloc: Global, lines: &[&'a [u8]]) -> Result<Vec<Statement<
     Ok(statements)
 }
 
-/// The name that a label's line gives to its address.
+/// The name that a well-formed label's line defines.
 fn name_given<'a>(statement: &Statement<'a>) -> Option<&'a [u8]>
     ensures { option_map (λ n. n.now) result ≡ assembly.name_given (statement_view statement.now) }
 {
@@ -45,7 +45,7 @@ fn name_given<'a>(statement: &Statement<'a>) -> Option<&'a [u8]>
     }
 }
 
-/// Adds the label that a statement makes.
+/// Adds the label of a statement, where its name is not yet defined.
 fn note<'a>(
     labels: &mut Labels<'a>,
     equates: &Equates<'_>,
@@ -101,7 +101,7 @@ fn push_code(words: &mut Items<u32>, code: Code) -> Result<(), NoMemory>
     }
 }
 
-/// Adds the procedure that begins with a statement.
+/// Adds the procedure that a statement begins.
 fn push_procedure(
     alloc: Global,
     procedures: &mut Items<Procedure>,
@@ -149,8 +149,9 @@ fn emitted(
     Ok(front)
 }
 
-/// Assembles a text. Its first word has the address `base`; addresses are modulo 2^32. `names` are names for
-/// numbers; of two with one name the first holds. A fault is that of the least line that has one.
+/// Assembles a text. Its first word has the address `base`; addresses are modulo 2^32. `names` are
+/// the equates; of two with one name, the first counts. `Fault` is the first invalid line with its
+/// reason, `NoMemory` is out of memory, and there is no other error.
 #[tactic(auto, unfolding(crate::specs::Assembly::assembled))]
 pub fn assemble(
     alloc: Global,

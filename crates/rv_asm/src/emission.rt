@@ -55,7 +55,7 @@ fn target(
     }
 }
 
-/// What the number of an instruction stands for.
+/// The value of an instruction's last operand, by its form.
 fn wanted(
     form: Form,
     equates: &Equates<'_>,
@@ -109,7 +109,7 @@ fn load_number(rd: Register, z: i64) -> Code
     Code::Two(first, second)
 }
 
-/// Whether a name was taken before a line.
+/// Whether a name is defined before a line, by an equate or by the label of an earlier line.
 fn is_taken(equates: &Equates<'_>, labels: &Labels<'_>, line: usize, name: &[u8]) -> bool
     ensures { result
         ≡ assembly.is_taken (equates_view equates.now) (labels_view labels.now) line name.now }
@@ -123,7 +123,7 @@ fn is_taken(equates: &Equates<'_>, labels: &Labels<'_>, line: usize, name: &[u8]
     }
 }
 
-/// The line of a label.
+/// The line of a label, which has no words.
 fn label_line(taken: bool, sound: bool) -> Result<Code, Why>
     ensures { Gives code_view result (assembly.label_line taken sound) }
 {
@@ -201,10 +201,11 @@ pub(crate) fn words(
             Ok(Code::Two(add_word(17, 0, service_immediate(service)), call_word()))
         }
         Statement::Faulty { why, .. } => Err(why),
+        Statement::FaultyLoad { .. } => Err(Why::Operand),
     }
 }
 
-/// How many words a number takes to load.
+/// How many words a number takes to load; a name without a value counts one word.
 fn number_size(equates: &Equates<'_>, number: Number<'_>) -> u32
     ensures is { result ≡ assembly.number_size
         (assembly.integer (equates_view equates.now) (number_view number.entry)) }
@@ -216,7 +217,7 @@ fn number_size(equates: &Equates<'_>, number: Number<'_>) -> u32
     }
 }
 
-/// How many words a statement takes, invalid or not.
+/// How many words a statement counts, invalid or not.
 fn size(equates: &Equates<'_>, statement: &Statement<'_>) -> u32
     ensures is { result ≡ assembly.size (equates_view equates.now) (statement_view statement.now) }
     ensures small { result ≤ 255 }
@@ -224,7 +225,9 @@ fn size(equates: &Equates<'_>, statement: &Statement<'_>) -> u32
     match *statement {
         Statement::Blank | Statement::Label { .. } | Statement::Procedure { .. } => 0,
         Statement::Word(_) | Statement::Instruction(_) => 1,
-        Statement::LoadNumber { number, .. } => number_size(equates, number),
+        Statement::LoadNumber { number, .. } | Statement::FaultyLoad { number } => {
+            number_size(equates, number)
+        }
         Statement::LoadAddress { .. } | Statement::Service(_) => 2,
         Statement::Faulty { words, .. } => u32::from(words),
     }

@@ -25,7 +25,7 @@ pub(crate) fn word_of(z: i64) -> u32
     (z.cast_unsigned() % 0x1_0000_0000) as u32
 }
 
-/// How far one address is from another, around 2^32 either way.
+/// The distance from one address to another: their difference modulo 2^32, as a signed number.
 pub(crate) fn distance(from: u32, to: u32) -> i32
     ensures { result ≡ assembly.distance from to }
 {
@@ -62,7 +62,7 @@ pub(crate) fn call_word() -> u32
     })
 }
 
-/// The upper part of a number that an ADDI of the lower 12 bits completes.
+/// What LUI loads for a number: the nearest multiple of 2^12, so that an ADDI completes it.
 fn upper_part(n: u32) -> u32
     ensures is { result ≡ assembly.upper_part n }
     ensures low { negsuc 2047 ≤ℤ assembly.distance result n }

@@ -1,4 +1,4 @@
-//! Why a text is refused.
+//! Why a text is rejected.
 
 use std::alloc::{AllocError, AllocFailed};
 use wedge_base::NoMemory;
@@ -8,14 +8,15 @@ use wedge_base::NoMemory;
 pub enum Why {
     /// The first word of the line is not known.
     Mnemonic,
-    /// The operands have not the number, the shape or the registers that the first word asks for; or a name
-    /// has not the form of one, something stands behind a label's colon, or no service call has the name.
+    /// The operands are not of the number, shape or registers that the first word takes; or a name
+    /// is malformed, text follows a label's colon, or no service call has the name.
     Operand,
     /// An integer, or the distance of a label, is out of range.
     Range,
-    /// A name stands for nothing: no label has it, or no equate.
+    /// A name is not defined where it is used: by a label for `la`, by an equate for a number, by
+    /// either for a jump or a branch.
     Label,
-    /// A label's name was taken before, by a label or by an equate.
+    /// A label's name is that of an earlier label, or of an equate.
     Twice,
 }
 
@@ -23,7 +24,7 @@ impl Why {
     ghost use Rattle.std.specs.Prelude.{◌≡◌};
     ghost use Rattle.rv_asm.specs.Words as words;
 
-    /// The word for it.
+    /// The reason as it is printed.
     pub fn word(self) -> &'static str
         ensures { result.now ≡ words.word self }
     {
@@ -42,13 +43,16 @@ impl Why {
 pub struct Fault {
     /// The number of the line, from 1.
     pub line: usize,
+    /// What is wrong with it.
     pub why: Why,
 }
 
-/// Why there are no words.
+/// Why a text was not assembled.
 #[derive(Debug, Drop)]
 pub enum AsmError {
+    /// Out of memory.
     NoMemory,
+    /// The first invalid line.
     Fault(Fault),
 }
 

@@ -1,4 +1,4 @@
-//! What the names of a text stand for.
+//! The values of the names of a text.
 
 ghost use Rattle.std.specs.Prelude.{◌≡◌, option_map, IfOk, OnOk};
 ghost use Rattle.rv_asm.specs.Assembly as assembly;
@@ -9,7 +9,7 @@ use std::alloc::Global;
 use std::collections::HashMap;
 use wedge_base::NoMemory;
 
-/// Where a label stands.
+/// The line and the address of a label.
 #[derive(Clone, Copy, Debug, PartialEq, Eq)]
 pub(crate) struct Label {
     /// The number of its line.
@@ -30,7 +30,7 @@ pub(crate) struct Labels<'a> {
 }
 
 impl<'a> Equates<'a> {
-    /// The equates of a list. Of those with one name the first holds.
+    /// The equates of a list. Of those with one name, the first counts.
     pub fn new(alloc: Global, names: &'a [Equate]) -> Result<Equates<'a>, NoMemory>
         ensures { IfOk result (λ e. equates_view e ≡ assembly.equates_of names.now) }
     {

@@ -9,8 +9,8 @@ pub fn texts_are_read_back()
     ensures words { WordsAreReadBack }
 {}
 
-/// A line that is valid has as many words as it counts for where labels are placed: so a label is four
-/// bytes behind the base for each word before it.
+/// A valid line has as many words as it counts where the addresses of labels are computed: so a
+/// label is four bytes above the base for each word before it.
 pub fn words_are_counted()
     ensures { WordsAreCounted }
 {}

@@ -53,7 +53,7 @@ fn place_of_comment(line: &[u8]) -> Option<usize>
     line.iter().position(|c| *c == b'#')
 }
 
-/// What a line says: `#` begins a comment.
+/// A line without its comment, which begins with `#`, and trimmed.
 #[tactic(auto, unfolding(crate::specs::Lexing::content))]
 pub(crate) fn content(line: &[u8]) -> &[u8]
     ensures { result.now ≡ lexing.content line.now }
@@ -70,7 +70,7 @@ fn place_of_blank(text: &[u8]) -> Option<usize>
     text.iter().position(|c| is_blank(*c))
 }
 
-/// The first word of a text, and what follows it.
+/// The first word of a text, and the text after it.
 pub(crate) fn first_word(text: &[u8]) -> (&[u8], &[u8])
     ensures word { result.0.now ≡ lexing.first_word text.now }
     ensures rest { result.1.now ≡ lexing.following text.now }
@@ -117,6 +117,18 @@ pub(crate) fn two(text: &[u8]) -> Option<(&[u8], &[u8])>
         return None;
     }
     Some((trim(first), trim(rest)))
+}
+
+/// The second operand of a text that has two or more.
+#[tactic(auto, using(crate::proofs::Commas::second_none, crate::proofs::Commas::second_comma, crate::proofs::Commas::second_alone))]
+pub(crate) fn second(text: &[u8]) -> Option<&[u8]>
+    ensures { option_map (λ x. x.now) result ≡ lexing.second (lexing.operands text.now) }
+{
+    let (_, rest) = at_comma(text)?;
+    match at_comma(rest) {
+        Some((second, _)) => Some(trim(second)),
+        None => Some(trim(rest)),
+    }
 }
 
 /// The operands of a text that has three.

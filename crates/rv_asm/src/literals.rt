@@ -10,7 +10,7 @@ ghost use Rattle.rv_asm.specs.Views.{number_view};
 use crate::numbers::Number;
 use wedge_base::is_name;
 
-/// Numbers from here on count as this one: all of them are past every range.
+/// Larger literals count as this one, which is out of every range.
 const PAST_ALL: u64 = 0x2_0000_0000;
 
 fn all_digits(radix: u32, text: &[u8]) -> bool
@@ -61,7 +61,7 @@ fn natural(radix: u32, text: &[u8]) -> Option<u64>
     Some(number_read(u64::from(radix), text))
 }
 
-/// Decimal digits, the first of several not 0.
+/// Decimal digits without leading zeros.
 #[tactic(auto, unfolding(crate::specs::Numbers::decimal))]
 pub(crate) fn decimal(text: &[u8]) -> Option<u64>
     ensures is { result ≡ numbers.decimal text.now }
@@ -73,7 +73,7 @@ pub(crate) fn decimal(text: &[u8]) -> Option<u64>
     }
 }
 
-/// Decimal digits, or hexadecimal ones after `0x`.
+/// Decimal digits, or hexadecimal ones of either case after `0x`.
 #[tactic(auto, unfolding(crate::specs::Numbers::magnitude))]
 fn magnitude(text: &[u8]) -> Option<u64>
     ensures is { result ≡ numbers.magnitude text.now }
@@ -86,7 +86,7 @@ fn magnitude(text: &[u8]) -> Option<u64>
     }
 }
 
-/// An integer, which may have a `-`.
+/// An integer: a magnitude, with or without a `-` before it.
 #[tactic(auto, unfolding(crate::specs::Numbers::literal))]
 fn literal(text: &[u8]) -> Option<i64>
     ensures { result ≡ numbers.literal text.now }
@@ -104,7 +104,7 @@ fn literal(text: &[u8]) -> Option<i64>
     }
 }
 
-/// What stands where an integer is wanted.
+/// An operand where an integer is expected.
 #[tactic(auto, unfolding(crate::specs::Numbers::number))]
 pub(crate) fn number(text: &[u8]) -> Option<Number<'_>>
     ensures { option_map number_view result ≡ numbers.number text.now }

@@ -5,7 +5,7 @@ ghost use Rattle.rv_asm.specs.Parsing as parsing;
 
 use rv_isa::Op;
 
-/// A first word that is no instruction's.
+/// A directive or pseudoinstruction.
 #[derive(Clone, Copy, Debug, PartialEq, Eq)]
 pub(crate) enum Shorthand {
     Word,
@@ -22,7 +22,8 @@ pub(crate) enum Shorthand {
     Service,
 }
 
-/// What the first word of a line asks for.
+/// What the first word of a line is: the mnemonic of an instruction, or a directive or
+/// pseudoinstruction.
 #[derive(Clone, Copy, Debug, PartialEq, Eq)]
 pub(crate) enum Head {
     Machine(Op),
@@ -80,7 +81,7 @@ const OPS: [Op; 48] = [
     Op::Ebreak,
 ];
 
-/// The operation whose text begins with a word.
+/// The operation that has a mnemonic.
 fn op_named(word: &[u8]) -> Option<Op>
     ensures { result ≡ parsing.op_named word.now }
 {
@@ -109,7 +110,7 @@ fn shorthand_named(word: &[u8]) -> Option<Shorthand>
     }
 }
 
-/// What a first word asks for.
+/// What a first word is, if it is known.
 #[tactic(auto, unfolding(crate::specs::Parsing::head_named))]
 pub(crate) fn head_named(word: &[u8]) -> Option<Head>
     ensures { result ≡ parsing.head_named word.now }

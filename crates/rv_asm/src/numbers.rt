@@ -1,6 +1,6 @@
-//! What stands where an integer is wanted.
+//! Operands where an integer is expected.
 
-/// An integer, or a name that says one.
+/// An integer literal, or the name of an equate or of a label.
 #[derive(Clone, Copy, Debug)]
 pub(crate) enum Number<'a> {
     Literal(i64),

@@ -1,10 +1,10 @@
-//! The shapes that operands have.
+//! The shapes of operands.
 
 ghost use Rattle.std.specs.Prelude.{◌≡◌, ◌==◌, ◌<◌, option_map, position, IfSome};
 ghost use Rattle.rv_asm.specs.Operands as operands;
 ghost use Rattle.rv_asm.specs.Views.{number_view};
 
-use crate::lexing::{one, three, two};
+use crate::lexing::{one, second, three, two};
 use crate::literals::number;
 use crate::numbers::Number;
 use crate::registers::register;
@@ -28,7 +28,7 @@ fn closed_register(text: &[u8]) -> Option<u8>
     }
 }
 
-/// `N(rs1)`: an offset, and the register to which it is added.
+/// `N(rs1)`: an offset, and the base register to which it is added.
 #[tactic(auto, unfolding(crate::specs::Operands::based))]
 fn based(text: &[u8]) -> Option<(Number<'_>, u8)>
     ensures is { option_map (λ x. (number_view x.0, x.1)) result ≡ operands.based text.now }
@@ -46,6 +46,14 @@ pub(crate) fn one_number(text: &[u8]) -> Option<Number<'_>>
     ensures { option_map number_view result ≡ operands.one_number text.now }
 {
     number(one(text)?)
+}
+
+/// The second operand where it is a number or a name, whatever the others are.
+#[tactic(auto, unfolding(crate::specs::Operands::second_number))]
+pub(crate) fn second_number(text: &[u8]) -> Option<Number<'_>>
+    ensures { option_map number_view result ≡ operands.second_number text.now }
+{
+    number(second(text)?)
 }
 
 /// A register and a number.

@@ -12,8 +12,8 @@ use crate::lexing::{content, first_word, one};
 use crate::mnemonics::{Head, Shorthand, head_named};
 use crate::numbers::Number;
 use crate::operands::{
-    one_number, register_base, register_label, register_number, three_registers, two_registers,
-    two_registers_number,
+    one_number, register_base, register_label, register_number, second_number, three_registers,
+    two_registers, two_registers_number,
 };
 use crate::services::service_named;
 use crate::statements::Statement;
@@ -21,7 +21,7 @@ use crate::templates::{Register, Template};
 use rv_isa::{Form, Op};
 use wedge_base::is_name;
 
-/// The number of an operation that takes none from its text.
+/// The immediate of an operation that has none in its text.
 const ZERO: Number<'static> = Number::Literal(0);
 
 impl<'a> Template<'a> {
@@ -86,7 +86,7 @@ fn is_fence(op: Op) -> bool
     }
 }
 
-/// An instruction of the table; `fence` alone orders everything.
+/// An instruction of the table; `fence` without operands orders every access.
 #[tactic(auto, unfolding(crate::specs::Parsing::machine))]
 fn machine(op: Op, text: &[u8]) -> Option<Template<'_>>
     ensures { option_map template_view result ≡ parsing.machine op text.now }
@@ -97,7 +97,8 @@ fn machine(op: Op, text: &[u8]) -> Option<Template<'_>>
     with_form(op, text)
 }
 
-/// The instruction that a shorthand is another word for.
+/// The instruction that a pseudoinstruction stands for. Chapter 25 of the manual; `call` is one
+/// JAL.
 #[tactic(auto, unfolding(crate::specs::Parsing::synonym))]
 fn synonym(shorthand: Shorthand, text: &[u8]) -> Option<Template<'_>>
     ensures { option_map template_view result ≡ parsing.synonym shorthand text.now }
@@ -123,7 +124,7 @@ fn synonym(shorthand: Shorthand, text: &[u8]) -> Option<Template<'_>>
     }
 }
 
-/// What a shorthand means.
+/// The statement of a directive or pseudoinstruction.
 #[tactic(auto, unfolding(crate::specs::Parsing::shorthand))]
 fn shorthand(shorthand: Shorthand, text: &[u8]) -> Option<Statement<'_>>
     ensures { option_map statement_view result ≡ parsing.shorthand shorthand text.now }
@@ -153,7 +154,7 @@ fn shorthand(shorthand: Shorthand, text: &[u8]) -> Option<Statement<'_>>
     }
 }
 
-/// How many words a line has whose operands are invalid.
+/// How many words a line other than `li` counts whose operands are invalid.
 fn words_at_fault(head: Head) -> u8
     ensures { result ≡ parsing.words_at_fault head }
 {
@@ -164,7 +165,24 @@ fn words_at_fault(head: Head) -> u8
     }
 }
 
-/// What a line means whose first word asks for this.
+/// The statement of a line with this first word, whose operands are invalid.
+fn faulty_statement(head: Head, text: &[u8]) -> Statement<'_>
+    ensures { statement_view result ≡ parsing.faulty_statement head text.now }
+{
+    let why = Why::Operand;
+    match head {
+        Head::Short(Shorthand::LoadNumber) => match second_number(text) {
+            Some(number) => Statement::FaultyLoad { number },
+            None => Statement::Faulty { why, words: 1 },
+        },
+        _ => Statement::Faulty {
+            why,
+            words: words_at_fault(head),
+        },
+    }
+}
+
+/// The statement of a line with this first word, if its operands are valid.
 fn with_head(head: Head, text: &[u8]) -> Option<Statement<'_>>
     ensures { option_map statement_view result ≡ parsing.with_head head text.now }
 {
@@ -174,7 +192,7 @@ fn with_head(head: Head, text: &[u8]) -> Option<Statement<'_>>
     }
 }
 
-/// What a line means that makes no label.
+/// The statement of a line that is no label's.
 fn headed<'a>(word: &[u8], text: &'a [u8]) -> Statement<'a>
     ensures { statement_view result ≡ parsing.headed (parsing.head_named word.now) text.now }
 {
@@ -184,16 +202,13 @@ fn headed<'a>(word: &[u8], text: &'a [u8]) -> Statement<'a>
             words: 1,
         },
         Some(head) => match with_head(head, text) {
-            None => Statement::Faulty {
-                why: Why::Operand,
-                words: words_at_fault(head),
-            },
+            None => faulty_statement(head, text),
             Some(statement) => statement,
         },
     }
 }
 
-/// What a line means of this first word, and this after it.
+/// The statement of a line, by its first word and the text after it.
 #[tactic(auto, unfolding(crate::specs::Parsing::of_words, crate::specs::Parsing::labelled))]
 fn of_words<'a>(word: &'a [u8], text: &'a [u8]) -> Statement<'a>
     ensures { statement_view result ≡ parsing.of_words word.now text.now }

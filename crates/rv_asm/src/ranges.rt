@@ -1,4 +1,4 @@
-//! Which numbers an instruction may have.
+//! Which numbers may be written for an instruction.
 
 ghost use Rattle.std.specs.Prelude.{◌≡◌, ◌==◌, ◌-◌, ◌%◌, ◌≤◌, ◌≤ℤ◌, ◌^◌, ◌&&◌, pos, negsuc, int_le, IfOk};
 ghost use Rattle.rv_isa.specs.Numbers.{word_of};
@@ -9,28 +9,29 @@ use crate::encoding::word_of;
 use crate::fault::Why;
 use rv_isa::Form;
 
-/// Whether a number is between two others.
+/// Whether a number is from `low` to `high`.
 pub(crate) fn is_within(low: i64, high: i64, z: i64) -> bool
     ensures { result ≡ assembly.is_within low high z }
 {
     low <= z && z <= high
 }
 
-/// Whether a number fits 32 bits with a sign, or without one.
+/// Whether a number fits 32 bits, signed or unsigned.
 pub(crate) fn is_word(z: i64) -> bool
     ensures { result ≡ assembly.is_word z }
 {
     is_within(-0x8000_0000, 0xffff_ffff, z)
 }
 
-/// Whether one ADDI is enough.
+/// Whether one ADDI is enough to load a number.
 pub(crate) fn is_small(z: i64) -> bool
     ensures { result ≡ assembly.is_small z }
 {
     is_within(-2048, 2047, z) || is_within(0xffff_f800, 0xffff_ffff, z)
 }
 
-/// The least and the greatest number of a form, and the steps between them.
+/// The least and the greatest number that may be written for a form; each is a multiple of the third
+/// number.
 fn range(form: Form) -> (i64, i64, u32)
     ensures low { result.0 ≡ (assembly.allowed form).low }
     ensures high { result.1 ≡ (assembly.allowed form).high }
@@ -64,7 +65,7 @@ fn narrow(z: i64) -> i32
     z as i32
 }
 
-/// The number of an instruction, by its form.
+/// The immediate that a written number gives, by the form.
 #[tactic(auto, using(crate::proofs::Allowed::placed_plain, crate::proofs::Allowed::plain_low, crate::proofs::Allowed::plain_high, crate::proofs::Allowed::plain_step, crate::proofs::Allowed::least, crate::proofs::Allowed::greatest))]
 pub(crate) fn immediate(form: Form, z: i64) -> Result<i32, Why>
     ensures is { result ≡ assembly.immediate form z }

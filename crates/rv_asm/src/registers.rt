@@ -19,7 +19,7 @@ fn named_register(text: &[u8]) -> Option<u8>
     None
 }
 
-/// A register, by its number after an `x`.
+/// A register, by its number, written after an `x`.
 fn numbered_register(text: &[u8]) -> Option<u8>
     ensures is { result ≡ operands.numbered_register text.now }
     ensures fits { IfSome result (λ n. n < 32) }

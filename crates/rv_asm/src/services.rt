@@ -6,7 +6,7 @@ ghost use Rattle.wedge_base.specs.Services.{service_number};
 
 use wedge_base::{SERVICES, Service};
 
-/// The service call of a name.
+/// The service call that has a name.
 pub(crate) fn service_named(name: &[u8]) -> Option<Service>
     ensures { result ≡ service_named name.now }
 {

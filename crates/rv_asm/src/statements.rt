@@ -1,18 +1,18 @@
-//! What a line says.
+//! The statement of a line, in which names have no values yet.
 
 use crate::fault::Why;
 use crate::numbers::Number;
 use crate::templates::{Register, Template};
 use wedge_base::Service;
 
-/// What a line says.
+/// The statement of a line. A label's line is `sound` where it is well formed.
 #[derive(Clone, Copy, Debug)]
 pub(crate) enum Statement<'a> {
     /// Nothing.
     Blank,
-    /// The address of the next word gets a name, if the line is sound.
+    /// The address of the next word gets a name.
     Label { name: &'a [u8], sound: bool },
-    /// The address of the next word gets a name and begins a procedure, if the line is sound.
+    /// The address of the next word gets a name, and a procedure begins there.
     Procedure { name: &'a [u8], sound: bool },
     /// A word.
     Word(Number<'a>),
@@ -24,6 +24,9 @@ pub(crate) enum Statement<'a> {
     LoadAddress { rd: Register, label: &'a [u8] },
     /// A service call.
     Service(Service),
-    /// The line is invalid, and counts so many words.
+    /// The line is invalid whatever its names mean, for this reason, and counts this many words.
     Faulty { why: Why, words: u8 },
+    /// An `li` whose operands are invalid but whose second is a number: it counts the words that the
+    /// number takes.
+    FaultyLoad { number: Number<'a> },
 }

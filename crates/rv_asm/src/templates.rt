@@ -1,4 +1,4 @@
-//! An instruction whose number is not yet known.
+//! An instruction whose immediate is an operand that may be a name.
 
 ghost use Rattle.std.specs.Prelude.{◌<◌};
 ghost use Rattle.rv_isa.specs.Table.{form_of};
@@ -7,8 +7,8 @@ ghost use Rattle.rv_isa.specs.Ranges.{ranges};
 use crate::numbers::Number;
 use rv_isa::Op;
 
-/// An operation with its registers, and what stands for its number. An operand that the operation's
-/// form lacks is 0.
+/// An operation with its registers, and the operand that gives its immediate. An operand that the
+/// operation's form lacks is 0.
 #[derive(Clone, Copy, Debug)]
 pub(crate) struct Template<'a> {
     pub op: Op,

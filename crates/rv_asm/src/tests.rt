@@ -593,6 +593,31 @@ fn the_distance_of_a_label_has_a_range(rt: HostRuntime) -> Result<(), Fail> {
 }
 
 #[test]
+fn an_invalid_li_counts_by_its_number(rt: HostRuntime) -> Result<(), Fail> {
+    for two in [
+        "li a9, 5000",
+        "li 5, far",
+        "li a0, 5000, 1",
+        "li a9, 0x100000000",
+    ] {
+        let text = branch_over(&rt, 1021, two)?;
+        refuses(&rt, text.as_str(), 1, Why::Range)?;
+    }
+    for one in [
+        "li a9, 2047",
+        "li a9, one",
+        "li a9, nowhere",
+        "li a0, 5x",
+        "li 5000",
+        "li",
+    ] {
+        let text = branch_over(&rt, 1021, one)?;
+        refuses(&rt, text.as_str(), 1023, Why::Operand)?;
+    }
+    Ok(())
+}
+
+#[test]
 fn addresses_go_around(rt: HostRuntime) -> Result<(), Fail> {
     let names = equates(rt.alloc(), &[])?;
     let text = "j end\nnop\nend:\nla a0, end\n";

@@ -1,1 +1,2 @@
+-- What a finished load leaves, by its operation.
 pub mod Loads

@@ -1,4 +1,5 @@
--- What the operations give of two words: whole numbers modulo 2^32. Sections 2.4, 7.1 and 7.2 of the manual.
+-- The results of the operations on two words; a word is a number below 2^32. Sections 2.4, 7.1 and
+-- 7.2 of the manual.
 use Rattle.std.specs.Prelude.{ℕ, ◌+◌, ◌-◌, ◌*◌, ◌/◌, ◌%◌, ◌^◌, ◌==◌, Bool, ℤ, pos, negsuc, ◌*ℤ◌, nat_lt, int_lt, int_div, int_rem, if◌then◌else◌}
 use Rattle.rv_isa.specs.Numbers.{signed, word_of}
 
@@ -25,14 +26,14 @@ slt a b = one_if (int_lt (as_signed a) (as_signed b))
 abbrev pub sltu : ℕ → ℕ → ℕ
 sltu a b = one_if (nat_lt a b)
 
--- a shift's amount is the low five bits of its second word
+-- a shift is by the low five bits of the second word
 abbrev pub sll : ℕ → ℕ → ℕ
 sll a b = a * 2 ^ (b % 32) % 2 ^ 32
 
 abbrev pub srl : ℕ → ℕ → ℕ
 srl a b = a / 2 ^ (b % 32)
 
--- the quotient of a signed number by a whole one, rounded down
+-- the quotient of an integer by a natural number, rounded down
 abbrev pub floor_div : ℤ → ℕ → ℤ
 floor_div (pos n) d = pos (n / d)
 floor_div (negsuc n) d = negsuc (n / d)
@@ -53,7 +54,8 @@ mulhsu a b = as_word (floor_div (as_signed a *ℤ pos b) (2 ^ 32))
 abbrev pub mulhu : ℕ → ℕ → ℕ
 mulhu a b = a * b / 2 ^ 32
 
--- a quotient is rounded towards zero; by zero it has all bits one, and the remainder is the dividend
+-- A quotient is rounded towards zero. By zero, each bit of the quotient is 1, and the remainder is
+-- the dividend. -2^31 divided by -1 wraps to -2^31, with remainder 0.
 abbrev pub div : ℕ → ℕ → ℕ
 div a b = if b == 0 then 2 ^ 32 - 1 else as_word (int_div (as_signed a) (as_signed b))
 

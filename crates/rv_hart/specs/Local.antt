@@ -1,5 +1,5 @@
--- The local step of a hart: what an instruction makes of its registers and pc, or the one thing that it needs first.
--- RISC-V Unprivileged ISA manual, document 20191213, chapters 2 and 7.
+-- The local step of a hart: what an instruction does to its registers and pc, or the one thing that
+-- it needs first. RISC-V Unprivileged ISA manual, document 20191213, chapters 2 and 7.
 use Rattle.std.specs.Prelude.{ℕ, ◌≡◌, ◌⊎◌, ◌+◌, ◌*◌, ◌/◌, ◌%◌, ◌^◌, ◌==◌, Bool, true, false, not, List, Option, Some, None, pos, ◌+ℤ◌, int_lt, nat_lt, bit_and, bit_or, bit_xor, slice_index, slice_set, if◌then◌else◌}
 use Rattle.rv_isa.specs.Numbers.{signed}
 use Rattle.rv_isa.specs.declared.Op.{Op}
@@ -20,11 +20,11 @@ HartState = Hart
 abbrev pub reg : List ℕ → ℕ → ℕ
 reg regs n = if n == 0 then 0 else slice_index regs n
 
--- register 0 is never changed
+-- sets a register; register 0 is never changed
 abbrev pub put : List ℕ → ℕ → ℕ → List ℕ
 put regs n value = if n == 0 then regs else slice_set regs n value
 
--- the next hart, and what it needs
+-- the hart once its step has begun, and what the step still needs
 pub record Began : Type 0 where
   pub hart : HartState
   pub need : Need
@@ -32,44 +32,53 @@ pub record Began : Type 0 where
 abbrev pub next_pc : ℕ → ℕ
 next_pc pc = (pc + 4) % 2 ^ 32
 
--- a register is set
+-- the step is complete: rd is set, and pc advances by 4
 abbrev pub sets : Instr → HartState → ℕ → Began
 sets i h value = record { hart = record { pc = next_pc h.pc; regs = put h.regs i.rd value }; need = need.Done }
 
--- the next instruction comes, and no register is set
+-- the step is complete: pc advances by 4
 abbrev pub passes : HartState → Began
 passes h = record { hart = record h { pc = next_pc h.pc }; need = need.Done }
 
--- nothing is changed yet
+-- the step needs this first, and nothing is changed yet
 abbrev pub asks : HartState → Need → Began
 asks h n = record { hart = h; need = n }
 
--- to an address, with a link
+-- a jump: pc becomes the target, and rd the return address; where the target is no multiple of 4,
+-- nothing is changed
 abbrev pub goes : Instr → HartState → ℕ → Began
 goes i h target =
-    if target % 4 == 0 then record { hart = record { pc = target; regs = put h.regs i.rd (next_pc h.pc) }; need = need.Done }
+    if target % 4 == 0
+    then record { hart = record { pc = target; regs = put h.regs i.rd (next_pc h.pc) }; need = need.Done }
     else asks h need.JumpMisaligned
 
--- to an address, with no link
+-- a taken branch: the same without a return address
 abbrev pub turns : HartState → ℕ → Began
-turns h target = if target % 4 == 0 then record { hart = record h { pc = target }; need = need.Done } else asks h need.JumpMisaligned
+turns h target =
+    if target % 4 == 0 then record { hart = record h { pc = target }; need = need.Done }
+    else asks h need.JumpMisaligned
 
+-- a branch, whose offset is from its own pc
 abbrev pub branches : Instr → HartState → Bool → Began
 branches i h taken = if taken then turns h (alu.as_word (pos h.pc +ℤ i.imm)) else passes h
 
--- the operands
+-- the values of rs1 and of rs2
 abbrev pub a : Instr → HartState → ℕ
 a i h = reg h.regs i.rs1
 
 abbrev pub b : Instr → HartState → ℕ
 b i h = reg h.regs i.rs2
 
+-- rs1 plus the immediate, modulo 2^32: the address of a load or a store, or the target of JALR
+-- before its bit 0 is cleared
 abbrev pub address : Instr → HartState → ℕ
 address i h = alu.as_word (pos (reg h.regs i.rs1) +ℤ i.imm)
 
+-- the immediate as a word
 abbrev pub word : Instr → ℕ
 word i = alu.as_word i.imm
 
+-- the step of an instruction, one line an operation
 unfoldable pub local : Instr → HartState → Began
 local i h = elim i.op [
   | op.Lui ↦ sets i h (word i)
@@ -122,61 +131,43 @@ local i h = elim i.op [
   | op.Ebreak ↦ asks h need.Break
 ]
 
--- whether an operation only computes a value, for its destination
-abbrev pub computes : Op → Bool
-computes op.Jal = false
-computes op.Jalr = false
-computes op.Beq = false
-computes op.Bne = false
-computes op.Blt = false
-computes op.Bge = false
-computes op.Bltu = false
-computes op.Bgeu = false
-computes op.Lb = false
-computes op.Lh = false
-computes op.Lw = false
-computes op.Lbu = false
-computes op.Lhu = false
-computes op.Sb = false
-computes op.Sh = false
-computes op.Sw = false
-computes op.Fence = false
-computes op.Ecall = false
-computes op.Ebreak = false
-computes o = true
-
--- what is loaded or stored has 1, 2 or 4 bytes
+-- a load or a store is of 1, 2 or 4 bytes
 abbrev pub HasWidth : Need → Type 0
 HasWidth (need.Load address width is_signed) = (width ≡ 1) ⊎ (width ≡ 2) ⊎ (width ≡ 4)
 HasWidth (need.Store address width value) = (width ≡ 1) ⊎ (width ≡ 2) ⊎ (width ≡ 4)
 HasWidth n = Unit {0}
 
+-- whether a need is a load
 abbrev pub is_load : Need → Bool
 is_load (need.Load address width is_signed) = true
 is_load n = false
 
--- a loaded value of so many bytes, with its sign or without
+-- a loaded value of `width` bytes, extended to a word by its sign or by zeros
 abbrev pub extended : ℕ → Bool → ℕ → ℕ
 extended width is_signed value = if is_signed then alu.as_word (signed (8 * width) value) else value
 
--- the value that a load of these bytes gives
+-- the value that the load of an operation gives: the same, by the operation
 abbrev pub loaded_value : Op → ℕ → ℕ
 loaded_value op.Lb value = extended 1 true value
 loaded_value op.Lh value = extended 2 true value
 loaded_value o value = value
 
--- a load is done, with its value; a store is done
+-- the hart after a load: rd has the value, and pc advances by 4
 abbrev pub loaded : Instr → HartState → ℕ → HartState
 loaded i h value = record { pc = next_pc h.pc; regs = put h.regs i.rd value }
 
+-- the hart after a store: pc advances by 4
 abbrev pub stored : HartState → HartState
 stored h = record h { pc = next_pc h.pc }
 
--- the answer of a call: a value in a0, a code in a1, and some calls answer in a2 too
+-- the hart after a call: a0 has the value, a1 the code and, where the call gives one, a2 a further
+-- value; pc advances by 4
 abbrev pub answered_with : HartState → ℕ → ℕ → Option ℕ → HartState
 answered_with h value code None = record { pc = next_pc h.pc; regs = put (put h.regs 10 value) 11 code }
-answered_with h value code (Some more) = record { pc = next_pc h.pc; regs = put (put (put h.regs 10 value) 11 code) 12 more }
+answered_with h value code (Some more) =
+    record { pc = next_pc h.pc; regs = put (put (put h.regs 10 value) 11 code) 12 more }
 
+-- the same where the call gives no further value
 abbrev pub answered : HartState → ℕ → ℕ → HartState
 answered h value code = answered_with h value code None
 
@@ -187,7 +178,8 @@ is_reply_to (need.Store address width value) reply.Stored = true
 is_reply_to need.Call (reply.Answered value code more) = true
 is_reply_to n r = false
 
--- the step that was begun is made, with the reply to what it needed
+-- The hart after its step, with the reply to what the step needed. A reply of another kind changes
+-- nothing; `finish` requires that there is none.
 abbrev pub finished : Instr → HartState → Need → Reply → HartState
 finished i h (need.Load address width is_signed) (reply.Loaded value) = loaded i h (extended width is_signed value)
 finished i h (need.Store address width value) reply.Stored = stored h

@@ -1,9 +1,9 @@
-//! What the operations give of two words. Sections 2.4, 7.1 and 7.2 of the manual.
+//! The results of the operations on two words. Sections 2.4, 7.1 and 7.2 of the manual.
 
 ghost use Rattle.std.specs.Prelude.{◌≡◌, ◌^◌, pos, ◌+ℤ◌, ◌%◌};
 ghost use Rattle.rv_hart.specs.Alu as alu;
 
-/// A word plus a signed number.
+/// A word plus a signed number, modulo 2^32.
 #[inline(always)]
 pub fn offset(base: u32, by: i32) -> u32
     ensures { result ≡ alu.as_word (pos base +ℤ by) }
@@ -67,7 +67,8 @@ pub fn mulhu(a: u32, b: u32) -> u32
     (u64::from(a) * u64::from(b) >> 32) as u32
 }
 
-/// The quotient of signed words, towards zero; by zero, all bits are one.
+/// The quotient of signed words, rounded towards zero. By zero, each bit is 1; -2^31 by -1 is
+/// -2^31.
 #[inline(always)]
 pub fn div(a: u32, b: u32) -> u32
     ensures { result ≡ alu.div a b }
@@ -80,7 +81,7 @@ pub fn div(a: u32, b: u32) -> u32
         .cast_unsigned()
 }
 
-/// The quotient of two words; by zero, all bits are one.
+/// The quotient of two words; by zero, each bit is 1.
 #[inline(always)]
 pub fn divu(a: u32, b: u32) -> u32
     ensures { result ≡ alu.divu a b }
@@ -88,7 +89,8 @@ pub fn divu(a: u32, b: u32) -> u32
     if b == 0 { u32::MAX } else { a / b }
 }
 
-/// The remainder of signed words, with the sign of the first; by zero, it is the first.
+/// The remainder of signed words, with the sign of the first. By zero, it is the first; of -2^31 by
+/// -1 it is 0.
 #[inline(always)]
 pub fn rem(a: u32, b: u32) -> u32
     ensures { result ≡ alu.rem a b }

@@ -1,4 +1,4 @@
-//! The local step of a hart: what an instruction makes of its registers and pc. RISC-V Unprivileged
+//! The local step of a hart: what an instruction does to its registers and pc. RISC-V Unprivileged
 //! ISA manual, document 20191213, chapters 2 and 7.
 #![tactic(auto)]
 
@@ -14,20 +14,21 @@ ghost use Rattle.rv_hart.specs.Alu.{as_word};
 use alu::{div, divu, mulh, mulhsu, mulhu, offset, rem, remu, slt, sltu, sra};
 use rv_isa::{Instr, Op};
 
-/// What a hart needs before its step is made.
+/// What a hart needs before its step can be completed.
 #[derive(Clone, Copy, Debug, PartialEq, Eq)]
 pub enum Need {
-    /// Nothing: the step is made.
+    /// Nothing: the step is complete.
     Done,
-    /// The bytes at an address, least byte first; the address may be no multiple of the width.
+    /// A load of bytes, little-endian. The address need not be a multiple of the width.
     Load {
         address: u32,
         /// 1, 2 or 4 bytes.
         width: u8,
-        /// Whether the highest bit of a byte or a halfword is its sign.
+        /// Whether the value is extended by its sign.
         signed: bool,
     },
-    /// That the low bytes of a value be stored at an address, least byte first.
+    /// A store of the low bytes of a value, little-endian. The address need not be a multiple of
+    /// the width.
     Store {
         address: u32,
         /// 1, 2 or 4 bytes.
@@ -38,25 +39,25 @@ pub enum Need {
     Call,
     /// A debugger: EBREAK.
     Break,
-    /// A target that is a multiple of 4: that of this jump or taken branch is none.
+    /// The target of a jump or taken branch is no multiple of 4. Nothing is changed.
     JumpMisaligned,
 }
 
 /// The reply to what a hart needed.
 #[derive(Clone, Copy, Debug, PartialEq, Eq)]
 pub enum Reply {
-    /// The loaded bytes, as a number without sign.
+    /// The loaded bytes, as an unsigned number.
     Loaded(u32),
     /// The value is stored.
     Stored,
-    /// What a call answers in a0, a1 and, where it has one, a2.
+    /// What a call answers in a0, a1 and, where it gives a third value, a2.
     Answered { a0: u32, a1: u32, a2: Option<u32> },
 }
 
-/// A hart: its pc and its registers. Register 0 reads 0, whatever stands there.
+/// A hart: its pc and its registers. Register 0 reads 0, whatever `regs[0]` holds.
 #[derive(Clone, Copy, Debug, PartialEq, Eq)]
 pub struct Hart {
-    /// The address of the instruction.
+    /// The address of the instruction that is executed next.
     pub pc: u32,
     /// Registers x0 to x31.
     pub regs: [u32; 32],
@@ -118,7 +119,7 @@ impl Hart {
         Need::Done
     }
 
-    /// The step of a jump to a target, with a link.
+    /// The step of a jump to a target, with the return address in rd.
     #[inline(always)]
     fn jump(&mut self, instr: &Instr, target: u32) -> Need
         requires { HasRegisters instr.now }
@@ -176,8 +177,9 @@ impl Hart {
         offset(self.reg(instr.rs1), instr.imm)
     }
 
-    /// Begins the step of an instruction, by chapters 2 and 7 of the manual, and makes it where nothing
-    /// is needed for it. Where something is needed, nothing is changed, and `finish` makes the step.
+    /// Begins the step of an instruction, by chapters 2 and 7 of the manual, and completes it where
+    /// nothing is needed for it. Where something is needed, nothing is changed, and `finish`
+    /// completes the step.
     #[inline]
     #[tactic(auto, unfolding(crate::specs::Local::local))]
     pub fn begin(&mut self, instr: &Instr) -> Need
@@ -257,8 +259,8 @@ impl Hart {
         }
     }
 
-    /// Makes the step that was begun, with the reply to what it needed: a load sets its register, a
-    /// call's answer goes to a0, a1 and, where it has one, a2.
+    /// Completes the step that was begun, with the reply to what it needed: a load sets its
+    /// register, a call's answer goes to a0, a1 and, where it gives a third value, a2.
     #[inline(always)]
     #[tactic(auto, unfolding(crate::specs::Local::local))]
     pub fn finish(&mut self, instr: Instr, reply: Reply)
@@ -273,7 +275,7 @@ impl Hart {
         }
     }
 
-    /// A load is done.
+    /// Completes the step of a load: the register gets the value, extended as the operation does.
     #[inline(always)]
     fn load(&mut self, instr: Instr, value: u32)
         requires { HasRegisters instr }
@@ -283,7 +285,8 @@ impl Hart {
         self.advance();
     }
 
-    /// A call is answered.
+    /// Completes the step of a call: its answer goes to a0, a1 and, where it gives a third value,
+    /// a2.
     #[inline(never)]
     pub fn answer(&mut self, a0: u32, a1: u32, a2: Option<u32>)
         ensures { self.new ≡ answered_with self.old a0 a1 a2 }
@@ -321,7 +324,7 @@ fn wants_store(address: u32, width: u8, value: u32) -> Need
     }
 }
 
-/// The value that a load of these bytes gives: those of a signed load with their sign.
+/// The value that the load of an operation gives: LB and LH extend it by its sign.
 #[inline(always)]
 fn loaded_value(op: Op, value: u32) -> u32
     ensures { result ≡ loaded_value op value }
@@ -333,7 +336,7 @@ fn loaded_value(op: Op, value: u32) -> u32
     }
 }
 
-/// A number whose highest bit, of the weight `sign`, makes it negative.
+/// The word of a two's complement number whose sign bit has the weight `sign`.
 #[inline(always)]
 fn extended(number: u32, sign: u32) -> u32
     requires { sign < 2 ^ 31 }

@@ -3,14 +3,15 @@ use Rattle.std.specs.Prelude.{ℕ, ◌/◌, ◌%◌, ◌^◌, ◌==◌, Bool, �
 use Rattle.rv_isa.specs.declared.Op.{Op}
 use Rattle.rv_isa.specs.Table.{Row, rows}
 
--- whether a word of these fields has the row's fixed fields
+-- whether a word with these fields has the row's fixed fields
 abbrev pub fits : ℕ → ℕ → ℕ → ℕ → Row → Bool
 fits opcode funct3 funct7 word r =
     if r.mask == 0x7f then opcode == r.value
     else if r.mask == 0x707f then opcode == r.value % 2 ^ 7 && funct3 == r.value / 2 ^ 12
-    else if r.mask == 0xfe00707f then opcode == r.value % 2 ^ 7 && funct3 == r.value / 2 ^ 12 % 2 ^ 3 && funct7 == r.value / 2 ^ 25
+    else if r.mask == 0xfe00707f
+    then opcode == r.value % 2 ^ 7 && funct3 == r.value / 2 ^ 12 % 2 ^ 3 && funct7 == r.value / 2 ^ 25
     else opcode == r.value % 2 ^ 7 && word == r.value
 
--- the operation of a word of these fields
+-- the operation of a word with these fields
 abbrev pub op_at : ℕ → ℕ → ℕ → ℕ → Option Op
 op_at opcode funct3 funct7 word = option_map (λ r. r.op) (find (fits opcode funct3 funct7 word) rows)

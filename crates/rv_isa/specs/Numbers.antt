@@ -1,11 +1,11 @@
 -- Words, their fields, and signed numbers.
 use Rattle.std.specs.Prelude.{ℕ, ◌-◌, ◌/◌, ◌%◌, ◌^◌, ℤ, pos, negsuc, ◌-ℤ◌, nat_lt, if◌then◌else◌}
 
--- so many bits of a word, from a place on
+-- `width` bits of a word, from bit `low` up
 abbrev pub field : ℕ → ℕ → ℕ → ℕ
 field word low width = word / 2 ^ low % 2 ^ width
 
--- the number as a signed one of so many bits
+-- n read as a two's complement number of `width` bits
 abbrev pub signed : ℕ → ℕ → ℤ
 signed width n = if nat_lt n (2 ^ (width - 1)) then pos n else pos n -ℤ pos (2 ^ width)
 

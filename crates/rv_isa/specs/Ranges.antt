@@ -6,7 +6,8 @@ use Rattle.rv_isa.specs.declared.Form.TheVariants as form
 use Rattle.rv_isa.specs.declared.Instr.{Instr}
 use Rattle.rv_isa.specs.Table.{form_of}
 
--- registers below a limit, where 1 leaves register 0 alone, and an immediate from one number to another in steps
+-- the operands that a form allows: registers below a limit (a limit of 1 allows register 0 only),
+-- and an immediate from `low` to `high` that is a multiple of `step`
 pub record Ranges : Type 0 where
   pub rd : ℕ
   pub rs1 : ℕ

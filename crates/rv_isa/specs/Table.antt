@@ -1,5 +1,6 @@
 -- The instruction table of RV32I and the M extension: which words are instructions, and which ones.
--- RISC-V Unprivileged ISA manual, document 20191213: chapter 2 (RV32I), chapter 7 (M), chapter 24 (the listings).
+-- RISC-V Unprivileged ISA manual, document 20191213: chapter 2 (RV32I), chapter 7 (M), chapter 24
+-- (the listings).
 use Rattle.std.specs.Prelude.{ℕ, ◌+◌, ◌*◌, ◌/◌, ◌^◌, ◌<◌, ◌≡◌, ◌==◌, ℤ, pos, Bool, true, ◌&&◌, not, List, [], ◌∷◌, find, Option, Some, map, option_map, bit_and}
 use Rattle.std.specs.List.{list_all}
 use Rattle.rv_isa.specs.Numbers.{field, signed}
@@ -9,7 +10,7 @@ use Rattle.rv_isa.specs.declared.Form.{Form}
 use Rattle.rv_isa.specs.declared.Form.TheVariants as form
 use Rattle.rv_isa.specs.declared.Instr.{Instr}
 
--- a row: an operation, its form, which bits of its words are fixed, and what they are
+-- a row: an operation, its form, a mask of the bits that are fixed in its words, and their values
 pub record Row : Type 0 where
   pub op : Op
   pub form : Form
@@ -85,7 +86,7 @@ ops =
 abbrev pub rows : List Row
 rows = map row_for ops
 
--- the form of an operation: which operands it has, and where they stand
+-- the form of an operation: which operands it has, and in which bits of the word they are
 abbrev pub form_of : Op → Form
 form_of o = (row_for o).form
 
@@ -137,11 +138,11 @@ operands form.Shift o w = instr o (rd w) (rs1 w) 0 (pos (field w 20 5))
 operands form.Register o w = instr o (rd w) (rs1 w) (rs2 w) (pos 0)
 operands form.Whole o w = instr o 0 0 0 (pos 0)
 
--- the instruction that a row makes of a word
+-- the instruction of a word that has this row
 abbrev pub instr_at : ℕ → Row → Instr
 instr_at word r = operands (form_of r.op) r.op word
 
--- the instruction that a word is, if a row fits it
+-- the instruction that a word encodes, if the word has a row
 abbrev pub decode : ℕ → Option Instr
 decode word = option_map (instr_at word) (row_of word)
 
@@ -153,7 +154,7 @@ abbrev pub each_apart : List Row → Bool
 each_apart [] = true
 each_apart (r ∷ rs) = list_all (are_apart r) rs && each_apart rs
 
--- some word is the instruction
+-- some word decodes to the instruction
 pub record IsOfRow (i : Instr) : Type 0 where
   pub word : ℕ
   pub fits : word < 2 ^ 32

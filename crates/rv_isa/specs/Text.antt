@@ -20,7 +20,7 @@ register_names =
 abbrev pub register_name : ℕ → List ℕ
 register_name n = slice_index_or register_names n []
 
--- the word that a text begins with
+-- the mnemonic of an operation. Chapter 24 of the manual
 abbrev pub mnemonic : Op → List ℕ
 mnemonic op.Lui = codes "lui"
 mnemonic op.Auipc = codes "auipc"
@@ -75,16 +75,24 @@ mnemonic op.Ebreak = codes "ebreak"
 abbrev pub upper : Instr → ℕ
 upper i = word_of i.imm / 2 ^ 12
 
--- what stands after the mnemonic
+-- the operands as they are written after the mnemonic
 abbrev pub operand_text : Form → Instr → List ℕ
 operand_text form.Upper i = codes " " ++ register_name i.rd ++ codes ", 0x" ++ digits 16 false (upper i)
 operand_text form.Jump i = codes " " ++ register_name i.rd ++ codes ", " ++ signed_decimal i.imm
-operand_text form.Branch i = codes " " ++ register_name i.rs1 ++ codes ", " ++ register_name i.rs2 ++ codes ", " ++ signed_decimal i.imm
-operand_text form.Offset i = codes " " ++ register_name i.rd ++ codes ", " ++ signed_decimal i.imm ++ codes "(" ++ register_name i.rs1 ++ codes ")"
-operand_text form.Store i = codes " " ++ register_name i.rs2 ++ codes ", " ++ signed_decimal i.imm ++ codes "(" ++ register_name i.rs1 ++ codes ")"
-operand_text form.Immediate i = codes " " ++ register_name i.rd ++ codes ", " ++ register_name i.rs1 ++ codes ", " ++ signed_decimal i.imm
-operand_text form.Shift i = codes " " ++ register_name i.rd ++ codes ", " ++ register_name i.rs1 ++ codes ", " ++ signed_decimal i.imm
-operand_text form.Register i = codes " " ++ register_name i.rd ++ codes ", " ++ register_name i.rs1 ++ codes ", " ++ register_name i.rs2
+operand_text form.Branch i =
+    codes " " ++ register_name i.rs1 ++ codes ", " ++ register_name i.rs2 ++ codes ", " ++ signed_decimal i.imm
+operand_text form.Offset i =
+    codes " " ++ register_name i.rd ++ codes ", " ++
+    signed_decimal i.imm ++ codes "(" ++ register_name i.rs1 ++ codes ")"
+operand_text form.Store i =
+    codes " " ++ register_name i.rs2 ++ codes ", " ++
+    signed_decimal i.imm ++ codes "(" ++ register_name i.rs1 ++ codes ")"
+operand_text form.Immediate i =
+    codes " " ++ register_name i.rd ++ codes ", " ++ register_name i.rs1 ++ codes ", " ++ signed_decimal i.imm
+operand_text form.Shift i =
+    codes " " ++ register_name i.rd ++ codes ", " ++ register_name i.rs1 ++ codes ", " ++ signed_decimal i.imm
+operand_text form.Register i =
+    codes " " ++ register_name i.rd ++ codes ", " ++ register_name i.rs1 ++ codes ", " ++ register_name i.rs2
 operand_text form.Whole i = []
 
 abbrev pub text : Instr → List ℕ

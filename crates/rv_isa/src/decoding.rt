@@ -94,7 +94,7 @@ fn register_at(funct3: u32, funct7: u32) -> Option<Op>
     }
 }
 
-/// The operation that a whole word is.
+/// The operation of a word that is fixed as a whole: ECALL or EBREAK.
 fn whole_at(word: u32) -> Option<Op>
     ensures { (funct3 : ℕ) (funct7 : ℕ) → result ≡ op_at 0x73 funct3 funct7 word }
 {
@@ -105,7 +105,7 @@ fn whole_at(word: u32) -> Option<Op>
     }
 }
 
-/// The operation of a word of these fields.
+/// The operation of a word with these fields.
 fn op_at(opcode: u32, funct3: u32, funct7: u32, word: u32) -> Option<Op>
     ensures { result ≡ op_at opcode funct3 funct7 word }
 {
@@ -157,8 +157,8 @@ fn operands(op: Op, word: u32) -> Instr
     }
 }
 
-/// The instruction that a word is, or `None` exactly where no row of the table fits it. The listings
-/// of chapter 24 of the manual.
+/// The instruction that a word encodes, or `None` exactly where the word has no row of the table.
+/// The listings of chapter 24 of the manual.
 pub fn decode(word: u32) -> Option<Instr>
     ensures is { result ≡ decode word }
     ensures of_row { IfSome result IsOfRow }

@@ -63,7 +63,7 @@ fn fixed_fields(op: Op) -> u32
     }
 }
 
-/// The operands of an instruction, where they stand in its word.
+/// The operands of an instruction, each in its bits of the word.
 fn operand_bits(instr: Instr) -> u32
     requires { HasRegisters instr }
     ensures { result ≡ operand_bits (form_of instr.op) instr }

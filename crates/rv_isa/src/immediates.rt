@@ -1,10 +1,11 @@
-//! The fields of a word, and the immediates that are put together of them. Section 2.3 of the manual.
+//! The fields of a word, and the immediates that are put together from them. Section 2.3 of the
+//! manual.
 
 ghost use Rattle.std.specs.Prelude.{◌≡◌, ◌*◌, ◌^◌, ◌<◌, ◌≤◌, pos, ◌-ℤ◌, nat_lt, if◌then◌else◌};
 ghost use Rattle.rv_isa.specs.Numbers.{field};
 ghost use Rattle.rv_isa.specs.Table.{upper_imm, jump_imm, branch_imm, immediate, store_imm};
 
-/// So many bits of a word, from a place on.
+/// `width` bits of a word, from bit `low` up.
 pub fn field(word: u32, low: u32, width: u32) -> u32
     requires place { low < 32 }
     requires width { width < 32 }
@@ -14,7 +15,7 @@ pub fn field(word: u32, low: u32, width: u32) -> u32
     (word >> low) & ((1 << width) - 1)
 }
 
-/// A number whose highest bit, of the weight `sign`, makes it negative.
+/// A two's complement number whose sign bit has the weight `sign`.
 fn signed(number: u32, sign: u32) -> i32
     requires weight { sign ≤ 2 ^ 20 }
     requires fits { number < 2 * sign }

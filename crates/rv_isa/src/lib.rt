@@ -141,8 +141,9 @@ impl Op {
     }
 }
 
-/// Which operands an operation has, where they stand in its words, and how its text is written.
-/// Sections 2.2 and 2.3 of the manual; its I-type is the forms `Offset`, `Immediate` and `Shift`.
+/// Which operands an operation has, in which bits of its words they are, and how its text is
+/// written. Sections 2.2 and 2.3 of the manual; its I-type is the forms `Offset`, `Immediate` and
+/// `Shift`.
 #[derive(Clone, Copy, Debug, PartialEq, Eq)]
 pub enum Form {
     /// A destination and the upper 20 bits of a word.

@@ -51,7 +51,7 @@ pub fn register_name(n: u8) -> &'static str
 }
 
 impl Op {
-    /// The word that the operation's text begins with. Chapter 24 of the manual.
+    /// The mnemonic of the operation. Chapter 24 of the manual.
     pub fn mnemonic(self) -> &'static str
         ensures { result.now ≡ mnemonic self }
     {
@@ -127,7 +127,8 @@ fn with_number(alloc: Global, name: &str, rd: &str, n: i32) -> Result<String, Al
 /// A mnemonic, two registers and a number.
 fn with_two(alloc: Global, name: &str, a: &str, b: &str, n: i32) -> Result<String, AllocError>
     ensures { IfOk result (λ s. string_bytes s ≡
-        name.now ++ (codes " " ++ (a.now ++ (codes ", " ++ (b.now ++ (codes ", " ++ signed_decimal n)))))) }
+        name.now ++ (codes " " ++ (a.now ++ (codes ", " ++ (b.now ++ (codes ", "
+        ++ signed_decimal n)))))) }
 {
     format!(in alloc; "{name} {a}, {b}, {n}")
 }
@@ -135,7 +136,8 @@ fn with_two(alloc: Global, name: &str, a: &str, b: &str, n: i32) -> Result<Strin
 /// A mnemonic, a register, and a base register with an offset.
 fn with_base(alloc: Global, name: &str, a: &str, n: i32, base: &str) -> Result<String, AllocError>
     ensures { IfOk result (λ s. string_bytes s ≡
-        name.now ++ (codes " " ++ (a.now ++ (codes ", " ++ (signed_decimal n ++ (codes "(" ++ (base.now ++ codes ")"))))))) }
+        name.now ++ (codes " " ++ (a.now ++ (codes ", " ++ (signed_decimal n ++ (codes "("
+        ++ (base.now ++ codes ")"))))))) }
 {
     format!(in alloc; "{name} {a}, {n}({base})")
 }
