@@ -32,7 +32,8 @@ holds_copy offset n bytes = nat_le (offset + n) (length bytes)
 abbrev pub read_copy : ℕ → ℕ → List ℕ → Option (List ℕ)
 read_copy offset n bytes = if holds_copy offset n bytes then Some (slice_range bytes offset (offset + n)) else None
 
--- the copies with bytes written at an offset of the copy at a slot, whose bytes are given
+-- the copies after a store at an offset of the copy at a slot; the last argument is that copy's
+-- bytes
 abbrev pub stored_in : Copies → ℕ → ℕ → List ℕ → Option (List ℕ) → Copies
 stored_in copies slot offset new None = copies
 stored_in copies slot offset new (Some bytes) =

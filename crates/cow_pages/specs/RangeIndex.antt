@@ -3,7 +3,8 @@ use Rattle.std.specs.Prelude.{ℕ, ◌<◌, ◌≡◌, List, length, slice_set, 
 use Rattle.wedge_base.specs.Memory.{lies_in, range_at, write_range, write_at}
 use Rattle.wedge_base.specs.declared.image.MemoryRange.{MemoryRange}
 
--- the index of the first range in which so many bytes at an address lie: what is read and written there
+-- `r` is the index of the first range that holds `n` bytes at `address`, or none: `range_at` reads
+-- there and `write_at` writes there.
 pub record IsRangeIndex (rs : List MemoryRange) (address n : ℕ) (r : Option ℕ) : Type 0 where
   pub within : IfSome r (λ i. i < length rs)
   pub lies : IfSome r (λ i. (d : MemoryRange) → IsTrue (lies_in address n (slice_index_or rs i d)))

@@ -1,6 +1,6 @@
 //! Laws of pages.
 
-ghost use Rattle.std.specs.Prelude.{◌≡◌, ◌+◌, ◌%◌, ◌≤◌, ◌⊎◌, ℕ, List, length, IfOk, OnOk};
+ghost use Rattle.std.specs.Prelude.{◌≡◌, ◌+◌, ◌%◌, ◌≤◌, ◌⊎◌, ℕ, List, length, IfOk, OnOk, OnErr};
 ghost use Rattle.wedge_base.specs.Bytes.{written, bytes_of};
 ghost use Rattle.wedge_base.specs.Images.{page};
 ghost use Rattle.wedge_base.specs.Pages.{pages_of};
@@ -14,7 +14,8 @@ pub fn snaps_are_the_bytes()
     ensures { (b : List ℕ) → length b % page ≡ 0 → bytes_listed (pages_of b) ≡ b }
 {}
 
-/// A snapshot, and then a store into its source, which leaves the snapshot as it was.
+/// A snapshot, and then a store into its source, which leaves the snapshot as it was. When out of
+/// memory, the source is unchanged.
 pub fn store_after_snapshot(
     source: &mut Pages,
     offset: u32,
@@ -27,6 +28,7 @@ pub fn store_after_snapshot(
     ensures source { OnOk result (source.new ≡ written source.old offset (bytes_of width value)) }
     ensures len { length source.new ≡ length source.old }
     ensures snapshot { IfOk result (λ s. s ≡ source.old) }
+    ensures err { OnErr result (source.new ≡ source.old) }
 {
     let snapshot = source.snapshot()?;
     source.store(offset, width, value)?;

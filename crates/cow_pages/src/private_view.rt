@@ -173,7 +173,8 @@ impl PrivateView {
         requires width { (width ≡ 1) ⊎ (width ≡ 2) ⊎ (width ≡ 4) }
         requires aligned { place.offset % width ≡ 0 }
         ensures { result ≡ option_map (λ bytes. option_map number_of
-            (copies.read_copy place.offset width bytes)) (copies.copy_at self.now.copies place.slot) }
+            (copies.read_copy place.offset width bytes))
+            (copies.copy_at self.now.copies place.slot) }
     {
         if self.copies.is_empty() {
             return None;
@@ -270,8 +271,8 @@ fn store_at(
 ) -> Result<Option<bool>, NoMemory>
     requires width { (width ≡ 1) ⊎ (width ≡ 2) ⊎ (width ≡ 4) }
     requires aligned { offset % width ≡ 0 }
-    ensures found { let here = copies.copy_at all.old.entries slot
-        in IfOk result (λ o. o ≡ option_map (λ bytes. copies.holds_copy offset width bytes) here) }
+    ensures found { let here = copies.copy_at all.old.entries slot in IfOk result
+        (λ o. o ≡ option_map (λ bytes. copies.holds_copy offset width bytes) here) }
     ensures after { let new = copies.stored_copy all.old.entries slot offset (bytes_of width value)
         in OnOk result (all.new.entries ≡ new) }
     ensures ordered { IsOrdered nat_cmp all.new }

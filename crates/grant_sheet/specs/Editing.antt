@@ -1,5 +1,5 @@
--- What a draft with one grant more asks for, and what an actor made that made one thing more, by
--- look-ups in maps.
+-- What a draft asks for after a grant is added, and what an actor has made after it makes one thing
+-- more, by look-ups.
 use Rattle.std.specs.Prelude.{◌≡◌, ℕ, ◌+◌, true, Some}
 use Rattle.wedge_base.specs.Maps.{at, is_among}
 use Rattle.wedge_base.specs.Sheets.{Made, Draft, empty_draft, with_tag, with_fd, with_gate, made_tag, made_fd, made_gate}
@@ -55,7 +55,8 @@ pub record MadeFdMore (m : Made) (fd : ℕ) (bits : FdBits) (new : Made) : Type 
   pub gates : new.gates ≡ m.gates
   pub count : new.count ≡ m.count
 
--- the last gate that an actor made at an entry is this one, it is counted, and all else is as before
+-- the last gate that an actor made at an entry is this one, it is counted, and all else is as
+-- before
 pub record MadeGateMore (m : Made) (entry : ℕ) (gate : GateId) (new : Made) : Type 0 where
   pub there : at new.gates entry ≡ Some gate
   pub others : (k : ℕ) → (k ≡ entry → ⊥) → at new.gates k ≡ at m.gates k
@@ -65,8 +66,9 @@ pub record MadeGateMore (m : Made) (entry : ℕ) (gate : GateId) (new : Made) : 
 
 -- ---- the law
 
--- a draft with one grant more asks for exactly that grant at its place, and for all else as before;
--- an actor that made one thing more made exactly that at its place, and all else as before
+-- a draft to which a grant is added asks for exactly that grant at its key, and for all else as
+-- before; an actor that makes one thing more has made exactly that at its key, and all else as
+-- before
 pub record DraftsTakeOneGrant : Type 0 where
   pub tag : (d : Draft) (k : ℕ) (asked : Right) → HasTagMore d k asked (with_tag d k asked)
   pub fd : (d : Draft) (k : ℕ) (asked : FdBits) → HasFdMore d k asked (with_fd d k asked)

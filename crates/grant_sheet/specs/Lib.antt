@@ -10,8 +10,8 @@ pub mod Granting
 -- What a draft asks for, what an actor holds, and the first that is missing, by look-ups in
 -- maps.
 pub mod Missing
--- What a draft with one grant more asks for, and what an actor made that made one thing more,
--- by look-ups in maps.
+-- What a draft asks for after a grant is added, and what an actor has made after it makes one
+-- thing more, by look-ups.
 pub mod Editing
 -- The sheet with which the root of a run begins, by look-ups in what the image declares.
 pub mod RootSheets

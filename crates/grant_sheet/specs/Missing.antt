@@ -36,8 +36,8 @@ ComesBefore (item.Gate entry) (item.Tag tag r) = ⊥
 ComesBefore (item.Gate entry) (item.Fd fd b) = ⊥
 ComesBefore (item.Gate entry) (item.Gate other) = entry < other
 
--- the numbers of tags and descriptors and the entries of gates rise strictly, as in every draft of a
--- run
+-- the numbers of tags and descriptors and the entries of gates rise strictly, as in every draft of
+-- a run
 pub record IsSortedDraft (d : Draft) : Type 0 where
   pub tags : T (is_sorted nat_cmp d.tags)
   pub fds : T (is_sorted nat_cmp d.fds)
@@ -136,7 +136,8 @@ IsMissing s m d other = ⊥
 
 -- ---- the law
 
--- a draft has an excess exactly where something is missing, and the excess names what is missing first
+-- a draft has an excess exactly where something is missing, and the excess names what is missing
+-- first
 pub record ExcessNamesTheMissingGrant : Type 0 where
   pub none : (s : Sheet) (m : Made) (d : Draft) → IsSortedDraft d
       → (first_excess s m d ≡ None) ↔ IsAllHeld s m d

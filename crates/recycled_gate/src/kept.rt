@@ -16,11 +16,14 @@ pub struct Kept {
 }
 
 impl Model for Kept {
+    ghost use Rattle.std.specs.Prelude.{◌≡◌, true, None};
     ghost use Rattle.wedge_events.specs.Gates.{Kept as Plain};
 
     ghost Value = { Plain };
 
     ghost view = { λ k. record { entered = k.entered; kept = k.kept } };
+
+    ghost invariant = { λ k. k.entered ≡ true → k.kept ≡ None };
 }
 
 impl Kept {
@@ -44,7 +47,8 @@ impl Kept {
 
     /// Returns what is kept. While a run is in the gate, nothing is.
     pub fn kept(&self) -> Option<&SavedView>
-        ensures { option_copied result ≡ self.now.kept }
+        ensures is { option_copied result ≡ self.now.kept }
+        ensures nothing { self.now.entered ≡ true → self.now.kept ≡ None }
     {
         self.kept.as_ref()
     }

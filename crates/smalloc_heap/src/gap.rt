@@ -5,14 +5,14 @@ ghost use Rattle.wedge_base.specs.Blocks.{AreBlocks, block, first_fit, with_bloc
 
 use crate::block::Block;
 
-/// Where a block fits: its offset in bytes, and its place among the blocks.
+/// Where a block fits: its offset in bytes, and its index among the blocks.
 #[derive(Clone, Copy)]
 pub struct Gap {
     pub offset: u32,
     pub place: usize,
 }
 
-/// The first gap of so many bytes, in a room of so many, among blocks that stand by offset.
+/// The first gap of `size` bytes in a heap of `room` bytes, among blocks that are sorted by offset.
 pub fn first_gap(blocks: &[Block], room: u32, size: u64) -> Option<Gap>
     requires blocks { AreBlocks 0 room blocks.now }
     requires some { 0 < size }

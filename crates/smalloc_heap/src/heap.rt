@@ -9,7 +9,7 @@ use crate::gap::first_gap;
 use std::alloc::Global;
 use std::marker::Model;
 
-/// A tag's bytes as they are given out: how many they are, and the blocks that are taken, by offset.
+/// The heap of a tag: its size in bytes, and the blocks that are allocated in it, sorted by offset.
 #[derive(Debug, Drop)]
 pub struct Heap {
     room: u32,
@@ -53,8 +53,8 @@ impl Heap {
         self.blocks.as_slice()
     }
 
-    /// Takes a block of at least so many bytes, and gives its offset: the least multiple of 8 at
-    /// which the size, rounded up to a multiple of 8, is free. An error where there is none, and
+    /// Allocates a block of at least so many bytes, and returns its offset: the least multiple of 8
+    /// at which the size, rounded up to a multiple of 8, is free. An error where there is none, and
     /// when out of memory; the heap is then as it was.
     pub fn smalloc(&mut self, size: u32) -> Result<u32, SmallocFault>
         requires { 1 ≤ size }
@@ -66,7 +66,7 @@ impl Heap {
                   (blocks.block offset (blocks.rounded size)) self.old.blocks;
             }) }
 
-        // No multiple of 8 below it would do, and where it refuses no offset at all.
+        // At no lower multiple of 8 is the size free, and after `NoSpace` at no offset at all.
         ensures least { IfOk result (λ offset. blocks.IsFirstFit self.old.blocks self.old.room
             (blocks.rounded size) offset) }
         ensures no_space { IsErrOf result SmallocFault.NoSpace
@@ -87,8 +87,8 @@ impl Heap {
         Ok(gap.offset)
     }
 
-    /// Takes back the block that begins at an offset. It refuses where none does, and the heap is
-    /// then as it was.
+    /// Frees the block that begins at an offset. An error where none does; the heap is then as it
+    /// was.
     pub fn sfree(&mut self, offset: u32) -> Result<(), BadFree>
         ensures ok { OnOk result (self.new
             ≡ record self.old { blocks = blocks.without_block offset self.old.blocks }) }
@@ -102,7 +102,7 @@ impl Heap {
         Ok(())
     }
 
-    // The place of the block that begins at an offset, or the place at which it would stand.
+    // The index of the block that begins at an offset, or the index at which it would be inserted.
     fn place_of(&self, offset: u32) -> Result<usize, usize>
         ensures within { IfOk result (λ i. i < length self.now.blocks) }
         ensures removed { IfOk result (λ i. remove self.now.blocks i

@@ -85,7 +85,7 @@ right_of a tag = right_on a.sheet a.made tag
 abbrev pub bits_of : ActorState → ℕ → FdBits
 bits_of a fd = bits_on a.sheet a.made fd
 
--- what it made, its gates apart
+-- what it made, gates left out
 abbrev pub but_gates : Made → Made
 but_gates m = record m { gates = []; count = 0 }
 
@@ -138,7 +138,7 @@ wants a w = record a { phase = phase.Within w }
 abbrev pub spends : ActorState → ℕ → ActorState
 spends a n = record a { fuel = a.fuel - n }
 
--- ---- an actor as the code keeps it: its private memory stands beside it
+-- ---- an actor as the code keeps it: its private memory is kept beside it
 
 -- an actor but for its private memory, and whether it has stopped because it ran out of memory
 pub record ActorRecord : Type 0 where

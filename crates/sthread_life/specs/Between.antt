@@ -1,4 +1,5 @@
--- What holds of an actor between instructions, and of what it wants.
+-- What holds of an actor outside its instructions, of what it wants, and of the events that it
+-- takes.
 use Rattle.std.specs.Prelude.{◌≡◌, ℕ, ◌+◌, ◌<◌, ◌≤◌, true, List, length, Option, Some, None, IsSomeAnd}
 use Rattle.std.specs.List.{AllByRecursion}
 use Rattle.wedge_events.specs.Directories.{Directory}
@@ -34,7 +35,7 @@ use Rattle.sthread_life.specs.declared.phase.Phase.TheVariants as phase
 use Rattle.sthread_life.specs.Entrances.{Entrance}
 use Rattle.callgate.specs.declared.gate.Gate.{Gate}
 
--- between instructions
+-- not inside an instruction: it runs, its end is decided, or it has ended
 abbrev pub IsBetween : Phase → Type 0
 IsBetween phase.Running = Unit {0}
 IsBetween (phase.Within q) = ⊥
@@ -48,8 +49,9 @@ IsBetween (phase.OpeningFile o) = ⊥
 IsBetween (phase.Ending e) = Unit {0}
 IsBetween (phase.Ended e) = Unit {0}
 
--- What an actor started, the gates that it made, its fuel, and the fuel that it gave away and has
--- not got back are together at most the fuel of an image.
+-- The sum of the actors that an actor started, the gates that it made, its fuel, and the fuel that
+-- it gave away and has not got back. In every run it is at most `most_fuel`, the most that
+-- an image may have.
 abbrev pub funds : ℕ → ℕ → ℕ → Children → ℕ
 funds starts gates fuel unjoined = starts + gates + fuel + all_given unjoined
 
@@ -107,7 +109,7 @@ AsksPages hart = (1 ≤ reg hart.regs 10) × (reg hart.regs 10 ≤ most_pages)
 abbrev pub HoldsInSlots : Sheet → Made → Type 0
 HoldsInSlots sheet made = IsPlaced sheet × AllByRecursion (λ e. e.1 < slots) made.tags
 
--- a directory has and gives out places below a limit alone
+-- every slot of a directory is below a limit: those never used, and those released
 abbrev pub GivesBelow : ℕ → Directory → Type 0
 GivesBelow limit d = (d.places ≤ limit) × (d.unused ≤ limit) × AllByRecursion (λ p. p < limit) d.released
 
@@ -115,7 +117,9 @@ GivesBelow limit d = (d.places ≤ limit) × (d.unused ≤ limit) × AllByRecurs
 -- there, its close and the release of its slot; an aligned access inside the window of a slot, a
 -- block in a tag, one to be freed, and a copy of a tag; a number for a descriptor, and the opening,
 -- a read, an append and a close of its stream; a life for a child and the start of its next child
--- where it is ready for that, the join of a child, and its end. Each further call is one more case.
+-- where it is ready for that, the join of a child, and its end. P: it asks for 1 to 16 pages; R: it
+-- is ready to start a child; S: the name is its next child's; J: the number is of a child to be
+-- joined.
 abbrev pub WantFitsWhere : Type 0 → Type 0 → (List ℕ → Type 0) → (ℕ → Type 0) → Want → Type 0
 WantFitsWhere P R S J (want.Slots directory_ask.Claim) = P
 WantFitsWhere P R S J (want.Slots (directory_ask.Release slot)) = slot < slots
@@ -141,8 +145,9 @@ WantFitsWhere P R S J q = ⊥
 abbrev pub RunsIn : Option Gate → GateId → Type 0
 RunsIn run_of id = IsSomeAnd run_of (λ g. (g.kind ≡ gate_kind.Recycled) × (g.id ≡ id))
 
--- To enter a gate is wanted by who is about to enter one, for its next run; and to leave it, by its
--- run as it ends. Neither is within a call.
+-- An actor that is about to enter a gate wants to enter it, for its next run; the run of a gate
+-- wants to leave it as it ends. Neither want is kept in the phase `Within`: the first is that of
+-- the phase `Entering`, the second that of the phase `Ending`.
 abbrev pub IsAtGate : Phase → Type 0
 IsAtGate (phase.Entering entrance) = Unit {0}
 IsAtGate p = ⊥
@@ -163,6 +168,8 @@ abbrev pub NumberFits : Option ℕ → Type 0
 NumberFits None = Unit {0}
 NumberFits (Some fd) = fd < most_fds
 
+-- Which phases an actor may be in. P, R, S and J are as above; M: it may make a gate; E: it may
+-- enter this gate.
 abbrev pub PhaseFitsWhere : Type 0 → Type 0 → Type 0 → (Entrance → Type 0) → (List ℕ → Type 0) → (ℕ → Type 0) → Phase → Type 0
 PhaseFitsWhere P R M E S J phase.Running = Unit {0}
 PhaseFitsWhere P R M E S J (phase.Within w) = WantFitsWhere P R S J w

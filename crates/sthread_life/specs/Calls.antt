@@ -65,8 +65,8 @@ a7 a = reg a.hart.regs 17
 abbrev pub exit : ActorState → ActorState
 exit a = ends a (end_.Exited (a0 a))
 
--- ---- streams: a number that no descriptor has is refused at once, and anything else of a stream
--- is decided at its event
+-- ---- streams: of the tests of these calls the buffer, the fuel and a number of 1,024 or more are
+-- the actor's own, in this order; all else is decided at the event
 
 -- fd_read: descriptor, pointer, length
 abbrev pub fd_read : ActorState → ActorState
@@ -139,8 +139,8 @@ file_open i a = open_path i a (mode_asked (a2 a)) (path_in i a (a0 a) (a1 a))
 abbrev pub is_procedure : Image → ℕ → Bool
 is_procedure i address = begins_at i.procedures address
 
--- sthread_create: draft, entry, argument, fuel. Behind the denial come a name without room, too
--- little fuel, and the claim of a life.
+-- sthread_create: draft, entry, argument, fuel. After the denial are tested: that the name has room
+-- for one more part, and that the fuel is there. Then a life is claimed.
 abbrev pub create_allowed : ActorState → ActorState
 create_allowed a =
     if nat_le most_parts (length a.name) then refuses a code.Deep
@@ -198,7 +198,7 @@ sfree a = free_at a (slot_of (a0 a))
 abbrev pub most_drafts : ℕ
 most_drafts = 64
 
--- an actor with a new draft behind its others, and with this one in the place of a number's
+-- an actor with a new draft after its others, and with this one in place of the one of that number
 abbrev pub with_new_draft : ActorState → ActorState
 with_new_draft a = record a { drafts = a.drafts ++ empty_draft ∷ [] }
 
@@ -358,8 +358,8 @@ lent_asked ds n = if n == no_draft then Some None else option_map (λ d. Some d)
 abbrev pub entrance_of : ActorState → Gate → Option Draft → Entrance
 entrance_of a g lent = record { gate = g; sheet = lent_to g.sheet (sheet_lent a lent) }
 
--- cgate: entry, argument, lent. Behind the denial come a name without room, and less fuel than the
--- gate's.
+-- cgate: entry, argument, lent. After the denial are tested: that the name has room for one more
+-- part, and that the gate's fuel is there.
 abbrev pub enter_allowed : ActorState → Gate → Option Draft → ActorState
 enter_allowed a g lent =
     if nat_le most_parts (length a.name) then refuses a code.Deep

@@ -1,5 +1,5 @@
--- The children that an actor started and has not joined: the number of each, in order, with the
--- fuel with which it began.
+-- The actors that an actor began and has not joined: children, and the run of a gate for which it
+-- waits. Each by its number, in order, with the fuel with which it began.
 use Rattle.std.specs.Prelude.{ℕ, ◌+◌, Bool, not, List, [], ◌∷◌, ◌++◌, Option, Some, None, is_some}
 use Rattle.std.specs.BTreeMap.{insert_entry, is_at}
 use Rattle.std.specs.List.{filter}
@@ -9,11 +9,11 @@ use Rattle.std.specs.Ordering.{nat_cmp}
 abbrev pub Children : Type 0
 Children = List (ℕ × ℕ)
 
--- whether a number is the k-th start's
+-- whether two numbers are equal
 abbrev pub is_number : ℕ → ℕ → Bool
 is_number k n = is_at (nat_cmp k) n
 
--- the fuel with which a child began, if it is among them
+-- the fuel with which one began, if it is among them
 abbrev pub fuel_given : Children → ℕ → Option ℕ
 fuel_given cs k = lookup (is_number k) cs
 
@@ -25,7 +25,7 @@ abbrev pub least_child : Children → Option ℕ
 least_child [] = None
 least_child (c ∷ cs) = Some c.0
 
--- one more, in its place, and those without one
+-- one more, inserted by its number, and those without one
 abbrev pub with_child : Children → ℕ → ℕ → Children
 with_child cs k fuel = insert_entry nat_cmp cs k fuel
 

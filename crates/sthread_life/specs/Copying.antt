@@ -23,15 +23,15 @@ abbrev pub with_declared : Copies → ℕ → List TagEntry → Copies
 with_declared copies n [] = copies
 with_declared copies n (t ∷ ts) = with_declared (if is_copy_alone t.right then with_copy copies n (declared_segment n t).bytes else copies) (n + 1) ts
 
--- ---- a child
+-- ---- a child, and the runs of a gate
 
 -- the grants of copies of a sheet, in the order of the tags' numbers
 abbrev pub copy_grants : Map Grant → List CopyGrant
 copy_grants [] = []
 copy_grants (e ∷ es) = if is_copy e.1.right then record { tag = e.0; slot = e.1.slot } ∷ copy_grants es else copy_grants es
 
--- a child that is to be started: its private memory so far, and the grants of copies of which none
--- is made yet
+-- The memory with which a child, or the runs of a gate, are to begin, as it is prepared: the memory
+-- so far, and the grants of copies of which none is made yet.
 pub record Preparation : Type 0 where
   pub memory : PrivateMemory
   pub left : List CopyGrant
@@ -41,15 +41,16 @@ abbrev pub copied_from : Option (List ℕ) → ℕ → PrivateMemory → Private
 copied_from None slot m = m
 copied_from (Some bytes) slot m = record m { copies = with_copy m.copies slot bytes }
 
--- Where a starter has the right to a copy alone, the child's copy is made of its own one, if it has
--- one; the first grant of which it has more is to be made of the tag itself.
+-- Where the actor that prepares the memory has the right to a copy alone, the copy is made of its
+-- own one, if it has one. At the first tag on which it has a higher right this stops: that copy is
+-- to be made of the tag itself.
 abbrev pub prepared : Sheet → Made → Copies → PrivateMemory → List CopyGrant → Preparation
 prepared s made own m [] = record { memory = m; left = [] }
 prepared s made own m (g ∷ gs) =
     if is_copy_alone (right_on s made g.tag) then prepared s made own (copied_from (copy_at own g.slot) g.slot m) gs
     else record { memory = m; left = g ∷ gs }
 
--- the grants behind the first
+-- the grants after the first
 abbrev pub behind_first : List CopyGrant → List CopyGrant
 behind_first [] = []
 behind_first (g ∷ gs) = gs

@@ -1,4 +1,4 @@
--- The children that an actor started and has not joined.
+-- The actors that an actor began and has not joined.
 pub mod Children
 -- The private copies with which actors begin.
 pub mod Copying
@@ -18,7 +18,8 @@ pub mod Calls
 pub mod Local
 -- The actor's part of a shared event.
 pub mod Taking
--- What holds of an actor between instructions, and of what it wants.
+-- What holds of an actor outside its instructions, of what it wants, and of the events that it
+-- takes.
 pub mod Between
 -- What an actor at rest wants, for which run it waits, or how it has ended.
 pub mod Resting

@@ -15,7 +15,7 @@ use Rattle.sthread_life.specs.Actors.{ActorState, ends, spends}
 use Rattle.sthread_life.specs.Private.{loads, stores}
 use Rattle.sthread_life.specs.Calls.{serves, a7}
 
--- the step of the hart is made, or what it needs first is seen to
+-- the hart's step is made, or first what it needs: a load, a store or a call
 abbrev pub needed : Image → Instr → ActorState → Hart → Need → ActorState
 needed i ins a hart need.Done = record a { hart = hart }
 needed i ins a hart (need.Load address width is_signed) = loads i ins is_signed a address width
@@ -24,6 +24,7 @@ needed i ins a hart need.Call = serves i a (a7 a)
 needed i ins a hart need.Break = ends a end_.Break
 needed i ins a hart need.JumpMisaligned = ends a end_.JumpMisaligned
 
+-- an instruction, from what the hart makes of it alone
 abbrev pub proceeds : Image → Instr → ActorState → Began → ActorState
 proceeds i ins a b = needed i ins a b.hart b.need
 
@@ -37,6 +38,7 @@ abbrev pub fuelled : Image → ActorState → ℕ → ℕ → ActorState
 fuelled i a word zero = ends a end_.FuelOut
 fuelled i a word (suc n) = executed i (spends a 1) (decode word)
 
+-- a pc outside the text ends the actor, before fuel is checked
 abbrev pub fetched : Image → ActorState → Option ℕ → ActorState
 fetched i a None = ends a end_.FetchFault
 fetched i a (Some word) = fuelled i a word a.fuel
@@ -68,7 +70,7 @@ unfoldable pub run_local : Image → ℕ → ActorState → ActorState
 run_local i zero a = a
 run_local i (suc n) a = elim (is_running a.phase) [ true ↦ run_local i n (step i a) | false ↦ a ]
 
--- the actor at its next shared event, or ended: since each instruction takes a unit of fuel, one
--- more than it has is enough
+-- The actor at rest: at its next shared event, waiting for the run of a gate, or ended. Each
+-- instruction takes a unit of fuel, so one instruction more than it has fuel for is enough.
 unfoldable pub rest : Image → ActorState → ActorState
 rest i a = run_local i (a.fuel + 1) a

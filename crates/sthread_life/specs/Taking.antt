@@ -96,8 +96,8 @@ abbrev pub making_want : List CopyGrant → Option Want
 making_want [] = None
 making_want (g ∷ gs) = Some (want.Slot g.slot (slot_want.Snap g.tag))
 
--- an actor that opens a file asks for a number for its descriptor, and then opens the stream behind
--- it
+-- an actor that opens a file asks for a number for its descriptor, and then opens the stream of
+-- that descriptor
 abbrev pub opening_want : FileOpening → Option ℕ → Want
 opening_want o None = want.Fds directory_ask.Claim
 opening_want o (Some fd) = want.Fd fd (stream_ask.Open o.kind o.bytes)

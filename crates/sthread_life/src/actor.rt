@@ -1,4 +1,4 @@
-//! An actor: the root of a run, or a child that another started.
+//! An actor: the root, a child, or the run of a gate.
 
 ghost use Rattle.std.specs.Prelude.{◌≡◌, ◌≤◌, ◌++◌, ◌∷◌, [], length, IfOk, OnOk, OnErr, false};
 ghost use Rattle.std.specs.List.{AllByRecursion};
@@ -36,9 +36,9 @@ use wedge_events::{Ask, Live, Want};
 /// The register of the stack pointer.
 pub(crate) const SP: u8 = 2;
 
-/// An actor: its sheet, its registers, its fuel, the children that it has not joined, and what it is
-/// at. Its private memory stands beside it. Once it ran out of memory it has stopped, and takes no
-/// further part in a run.
+/// An actor: its sheet, its registers, its fuel, the actors that it began and has not joined, and
+/// what it is at. Its private memory is kept beside it. Once it ran out of memory it has stopped,
+/// and takes no further part in a run.
 #[derive(Debug, Drop)]
 pub struct Actor {
     pub(crate) alloc: Global,

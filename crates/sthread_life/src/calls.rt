@@ -16,13 +16,13 @@ use wedge_base::{End, NoMemory, Service};
 pub(crate) const A0: u8 = 10;
 /// The register of its second argument.
 pub(crate) const A1: u8 = 11;
-/// The register of its third argument: the length of a buffer.
+/// The register of its third argument.
 pub(crate) const A2: u8 = 12;
-/// The register of its fourth argument: the fuel of a child.
+/// The register of its fourth argument.
 pub(crate) const A3: u8 = 13;
-/// The register of its fifth argument: the kind of a gate.
+/// The register of its fifth argument.
 pub(crate) const A4: u8 = 14;
-/// The register of its number.
+/// The register of the call's number.
 const A7: u8 = 17;
 
 impl Actor {

@@ -37,7 +37,7 @@ impl Model for Entrance {
 
 impl Entrance {
     /// The entrance to a gate with this sheet for the run.
-    pub fn new(alloc: Global, gate: Arc<Gate>, sheet: Sheet) -> Result<Entrance, NoMemory>
+    pub(crate) fn new(alloc: Global, gate: Arc<Gate>, sheet: Sheet) -> Result<Entrance, NoMemory>
         ensures { IfOk result (λ e. e ≡ record { gate = arc_value gate; sheet = sheet }) }
     {
         let inside = Inside { gate, sheet };
@@ -47,14 +47,14 @@ impl Entrance {
     }
 
     /// Returns the gate.
-    pub fn gate(&self) -> &Gate
+    pub(crate) fn gate(&self) -> &Gate
         ensures { result.now ≡ self.now.gate }
     {
         &self.inside.gate
     }
 
     /// Consumes the entrance and returns the gate and the sheet of the run.
-    pub fn into_parts(self) -> (Arc<Gate>, Sheet)
+    pub(crate) fn into_parts(self) -> (Arc<Gate>, Sheet)
         ensures gate { arc_value result.0 ≡ self.gate }
         ensures sheet { result.1 ≡ self.sheet }
     {

@@ -49,7 +49,7 @@ impl Model for FileOpening {
 
 impl FileOpening {
     /// A file that is to be opened under a path, with bits.
-    pub fn new(
+    pub(crate) fn new(
         alloc: Global,
         path: PathText,
         file: &FileEntry,
@@ -70,7 +70,7 @@ impl FileOpening {
     }
 
     /// What its actor wants next.
-    pub fn want(&self) -> Result<Want, NoMemory>
+    pub(crate) fn want(&self) -> Result<Want, NoMemory>
         ensures { IfOk result (λ q. q ≡ opening_want self.now self.now.number) }
     {
         let inside = &*self.inside;
@@ -88,21 +88,21 @@ impl FileOpening {
     }
 
     /// A number is claimed for its descriptor.
-    pub fn set_number(&mut self, fd: FdNo)
+    pub(crate) fn set_number(&mut self, fd: FdNo)
         ensures { self.new ≡ record self.old { number = Some fd } }
     {
         self.inside.number = Some(fd);
     }
 
     /// The bits that are asked for.
-    pub fn bits(&self) -> FdBits
+    pub(crate) fn bits(&self) -> FdBits
         ensures { result ≡ self.now.bits }
     {
         self.inside.bits
     }
 
     /// Consumes it and returns the path.
-    pub fn into_path(self) -> PathText
+    pub(crate) fn into_path(self) -> PathText
         ensures { result ≡ self.path }
     {
         let FileOpening { inside } = self;

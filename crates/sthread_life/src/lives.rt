@@ -32,7 +32,8 @@ impl Lives {
         Lives { count: 1 }
     }
 
-    /// One more is to live, or an sthread ends.
+    /// Answers an ask: a claim counts one sthread more, or is answered `Full`; a release counts one
+    /// fewer.
     pub fn count(&mut self, ask: LivesAsk) -> LivesReply
         ensures reply { result ≡ lives_reply self.old ask }
         ensures after { self.new ≡ lives_next self.old ask }

@@ -38,7 +38,7 @@ pub enum Next {
 impl Actor {
     /// Makes the actor's local events up to its next shared event, and returns which it wants, its
     /// end, or the run of a gate for which it waits. An actor that runs out of memory has stopped:
-    /// from then on each call of it answers `NoMemory`.
+    /// from then on `local` and `take` answer `NoMemory`.
     #[inline(always)]
     pub fn local(
         &mut self,

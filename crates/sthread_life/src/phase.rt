@@ -22,7 +22,8 @@ pub enum Phase {
     Opening { slot: Slot, tag: TagNo },
     /// The tag that lived in a slot is closed, and it wants to release the slot.
     Releasing { slot: Slot },
-    /// It opens a file: it wants a number for the descriptor, and then to open the stream behind it.
+    /// It opens a file: it wants a number for the descriptor, and then to open the descriptor's
+    /// stream.
     OpeningFile(FileOpening),
     /// It is about to enter a gate.
     Entering(Entrance),

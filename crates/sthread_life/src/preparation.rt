@@ -1,4 +1,4 @@
-//! The private memory of a child that is to be started, as it is made.
+//! The memory with which a child, or the runs of a gate, are to begin, as it is prepared.
 
 ghost use Rattle.std.specs.Prelude.{◌≡◌, ◌∷◌, Some, None, OnOk, OnErr, IfOk, MatchOption, []};
 ghost use Rattle.cow_pages.specs.Copies.{with_copy};
@@ -12,7 +12,8 @@ use std::alloc::Global;
 use std::marker::Model;
 use wedge_base::{NoMemory, Slot};
 
-/// The private memory of a child so far, and the grants of copies of which none is made yet.
+/// The memory with which a child, or the runs of a gate, are to begin, as it is prepared: the
+/// memory so far, and the grants of copies of which none is made yet.
 #[derive(Debug, Drop)]
 pub struct Preparation {
     // Boxed, so that what an actor is at is no larger than what it wants.
@@ -41,7 +42,7 @@ impl Model for Preparation {
 
 impl Preparation {
     /// This memory, and grants of copies of which none is made yet.
-    pub fn new(
+    pub(crate) fn new(
         alloc: Global,
         memory: PrivateView,
         grants: Vec<CopyGrant>,
@@ -59,7 +60,7 @@ impl Preparation {
     }
 
     /// The first grant of which no copy is made yet.
-    pub fn next_grant(&self) -> Option<CopyGrant>
+    pub(crate) fn next_grant(&self) -> Option<CopyGrant>
         ensures { MatchOption result (self.now.left ≡ [])
             (λ g. self.now.left ≡ g ∷ copying.behind_first self.now.left) }
     {
@@ -72,7 +73,7 @@ impl Preparation {
     }
 
     /// Puts a copy at a slot, in place of the one that is there. When out of memory, all is as before.
-    pub fn put(&mut self, slot: Slot, pages: Pages) -> Result<(), NoMemory>
+    pub(crate) fn put(&mut self, slot: Slot, pages: Pages) -> Result<(), NoMemory>
         ensures ok { OnOk result (self.new ≡ record self.old
             { memory = copying.copied_from (Some pages) slot self.old.memory }) }
         ensures err { OnErr result (self.new ≡ self.old) }
@@ -80,9 +81,9 @@ impl Preparation {
         self.inside.memory.put_copy(slot, pages)
     }
 
-    /// Goes on to the grant behind the next one.
+    /// Goes on to the grant after the next one.
     #[tactic(auto, using(crate::proofs::Dropping::drop_next))]
-    pub fn advance(&mut self)
+    pub(crate) fn advance(&mut self)
         ensures { self.new ≡ record self.old { left = copying.behind_first self.old.left } }
     {
         if self.inside.next < self.inside.grants.len() {
@@ -91,7 +92,7 @@ impl Preparation {
     }
 
     /// Consumes the preparation and returns the memory.
-    pub fn into_memory(self) -> PrivateView
+    pub(crate) fn into_memory(self) -> PrivateView
         ensures { result ≡ self.memory }
     {
         let Preparation { inside } = self;
@@ -99,8 +100,9 @@ impl Preparation {
         memory
     }
 
-    /// A copy of a tag was made, or the tag lives no more: the next copies are made, up to the first that is to be made of a tag.
-    pub fn go_on(
+    /// A copy of a tag was made, or the tag lives no more: the next copies are made, up to the
+    /// first that is to be made of a tag.
+    pub(crate) fn go_on(
         &mut self,
         slot: Slot,
         pages: Option<Pages>,
@@ -119,9 +121,10 @@ impl Preparation {
         self.copy_own(sheet, made, own)
     }
 
-    /// Makes the copies that a starter makes of its own, up to the first that is to be made of a tag.
+    /// Makes the copies that the actor makes of its own, up to the first that is to be made of a
+    /// tag.
     #[tactic(auto, using(crate::proofs::SlotsHeld::behind_inside))]
-    pub fn copy_own(
+    pub(crate) fn copy_own(
         &mut self,
         sheet: &Sheet,
         made: &Made,

@@ -84,7 +84,8 @@ impl Actor {
         requires drafted { calls.a0 (whole self.old no_memory) < length self.old.drafts }
         requires allowed { sheets.first_excess self.old.sheet self.old.made
             (calls.draft_at self.old.drafts (calls.a0 (whole self.old no_memory))) ≡ None }
-        ensures { (m : PrivateMemory) → whole self.new m ≡ calls.create_allowed (whole self.old m) }
+        ensures { (m : PrivateMemory) → whole self.new m
+            ≡ calls.create_allowed (whole self.old m) }
     {
         if self.name.parts().len() >= MOST_PARTS {
             self.refuse(Code::Deep);
@@ -141,8 +142,8 @@ impl Actor {
     /// To start the child of its next number.
     fn child_want(&self) -> Result<Want, NoMemory>
         requires { MayStart (whole self.now no_memory) }
-        ensures { IfOk result (λ q. q
-            ≡ AWant.Start (child_name self.now.name (taking.next_start (whole self.now no_memory)))) }
+        ensures { IfOk result (λ q. q ≡ AWant.Start (child_name self.now.name
+            (taking.next_start (whole self.now no_memory)))) }
     {
         match self.name.child(self.alloc, self.starts + 1) {
             Ok(child) => Ok(Want::Start { child }),
@@ -325,7 +326,8 @@ fn leaving_want(
 ) -> Result<Want, NoMemory>
     ensures is { IfOk result (λ q. q
         ≡ taking.leaving_want gate.now.kind gate.now.id memory.now end) }
-    ensures fits { IfOk result (λ q. (a : ActorState) → a.run_of ≡ Some gate.now → WantFits a q) }
+    ensures fits { IfOk result (λ q. (a : ActorState)
+        → a.run_of ≡ Some gate.now → WantFits a q) }
 {
     match gate.kind {
         GateKind::Fresh => Ok(Want::Leave { end }),

@@ -23,8 +23,9 @@ use wedge_events::{
 };
 
 impl Actor {
-    /// What the event that it wanted makes of the actor; the child that it begins, with its private memory, where the event
-    /// is a start. An actor that runs out of memory has stopped: from then on each call of it answers `NoMemory`.
+    /// What the event that it wanted makes of the actor. Returns the actor that the event begins, a
+    /// child or the run of a gate, with its private memory. An actor that runs out of memory has
+    /// stopped: from then on `local` and `take` answer `NoMemory`.
     #[inline(always)]
     pub fn take(
         &mut self,

@@ -1,4 +1,4 @@
-//! The children that an actor has not joined.
+//! The actors that an actor began and has not joined.
 
 ghost use Rattle.std.specs.Prelude.{◌≡◌, ◌≤◌, ◌+◌, [], OnOk, OnErr, IfSome, IsSomeAnd, true};
 ghost use Rattle.sthread_life.specs.Children as children;
@@ -8,7 +8,8 @@ use std::collections::BTreeMap;
 use std::marker::Model;
 use wedge_base::NoMemory;
 
-/// The children that an actor started and has not joined, by number: the fuel with which each began.
+/// The actors that an actor began and has not joined, children and the run of a gate for which it
+/// waits, by number: the fuel with which each began.
 #[derive(Debug, Drop)]
 pub(crate) struct Children {
     fuel: BTreeMap<u32, u32>,

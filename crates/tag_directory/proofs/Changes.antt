@@ -25,14 +25,14 @@ released_tells unused x xs = rw (eq-eqb x x refl) (and_right (nat_lt x unused) f
 -- a place that was released is claimed
 pub kept_again : (places unused room x : ℕ) (xs : List ℕ) (table : List Bool) → IsKept places unused room (x ∷ xs) table → IsKept places unused room xs (set table x true)
 kept_again places unused room x xs table k =
-    let free : weight (get_or table x false) ≡ 0 = ap weight (k.told x ∙ released_tells unused x xs) in
+    let free : weight (get_or table x false) ≡ 0 = ap weight (k.claims x ∙ released_tells unused x xs) in
     let write : sum_by weight (set table x true) + weight (get_or table x false) ≡ sum_by weight table + 1 = sum_by-set weight table x true false (omega (arith, k.apart.0, k.sized)) in
     record {
       within = k.within;
       roomy = k.roomy;
       apart = k.apart.2;
       sized = length-set table x true ∙ k.sized;
-      told = λ p. told_again unused x p xs table k.sized k.apart.0 k.apart.1 (k.told p);
+      claims = λ p. told_again unused x p xs table k.sized k.apart.0 k.apart.1 (k.claims p);
       counted = omega (arith, write, free, k.counted);
     }
 
@@ -41,4 +41,4 @@ pub kept_pop : (places unused room more x : ℕ) (ys zs : List ℕ) (table : Lis
 kept_pop places unused room more x ys zs table k is roomy =
     let P : List ℕ → Type 0 = λ xs. IsKept places unused room xs table in
     let k' = kept_again places unused room x (reverse zs) table (subst P (ap reverse is ∙ reverse-append zs (x ∷ [])) k) in
-    record { within = k'.within; roomy = omega (arith, k'.roomy); apart = k'.apart; sized = k'.sized; told = k'.told; counted = k'.counted }
+    record { within = k'.within; roomy = omega (arith, k'.roomy); apart = k'.apart; sized = k'.sized; claims = k'.claims; counted = k'.counted }

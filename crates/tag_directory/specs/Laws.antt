@@ -5,12 +5,12 @@ use Rattle.wedge_events.specs.declared.cells.DirectoryAsk.{DirectoryAsk}
 use Rattle.wedge_events.specs.declared.cells.DirectoryReply.{DirectoryReply}
 use Rattle.wedge_events.specs.declared.cells.DirectoryReply.TheVariants as reply
 
--- the number that a reply gives out, before others
+-- the number in a reply, if it has one, before others
 abbrev pub with_number : DirectoryReply → List ℕ → List ℕ
 with_number (reply.Claimed place number) ns = number ∷ ns
 with_number r ns = ns
 
--- the numbers that a directory gives out as it is asked so, one ask after another
+-- the numbers in a directory's replies to these asks, one after another
 abbrev pub numbers_given : Directory → List DirectoryAsk → List ℕ
 numbers_given d [] = []
 numbers_given d (q ∷ qs) = with_number (directory_reply d q) (numbers_given (directory_next d q) qs)
@@ -20,23 +20,24 @@ abbrev pub from_on : ℕ → ℕ → List ℕ
 from_on n zero = []
 from_on n (suc k) = n ∷ from_on (n + 1) k
 
--- the numbers are those from the directory's next one on, in order: so none is given out twice
+-- the numbers count up from the directory's next one: so none is given twice
 abbrev pub NumbersAreGivenOnce : Type 0
 NumbersAreGivenOnce = (d : Directory) (asks : List DirectoryAsk) → numbers_given d asks ≡ from_on d.number (length (numbers_given d asks))
 
--- each place that is released was used, and stands once
+-- each slot that is released was used, and is listed once
 abbrev pub AreReleased : ℕ → List ℕ → Type 0
 AreReleased unused [] = Unit {0}
 AreReleased unused (p ∷ ps) = (nat_lt p unused ≡ true) × (is_among ps p ≡ false) × AreReleased unused ps
 
--- a claim gives a place that was free, which is claimed then, and of every other place it changes nothing
+-- a claim allocates a slot that was free, which is claimed then, and changes nothing of any other
+-- slot
 pub record IsClaimed (d : Directory) (c : Claim) : Type 0 where
   pub free : is_claimed d c.place ≡ false
   pub taken : is_claimed c.left c.place ≡ true
   pub others : (p : ℕ) → (c.place == p) ≡ false → is_claimed c.left p ≡ is_claimed d p
 
--- A directory begins with nothing released, each ask keeps its released places apart, and so each claim gives
--- a free place.
+-- A directory begins with nothing released, and each ask keeps its released slots distinct. So each
+-- claim allocates a free slot.
 pub record PlacesAreGivenApart : Type 0 where
   pub begins : (places claimed : ℕ) → AreReleased (directory places claimed).unused (directory places claimed).released
   pub keeps : (d : Directory) (q : DirectoryAsk) → AreReleased d.unused d.released → AreReleased (directory_next d q).unused (directory_next d q).released

@@ -1,4 +1,4 @@
-//! A directory of places.
+//! A directory of slots or of descriptors.
 
 ghost use Rattle.std.specs.Prelude.{◌≡◌, ◌+◌, ◌<◌, ◌≤◌, [], ◌∷◌, IfSome, IfNone, ◌↔◌, Err, None, true, false, IfOk, OnOk, OnErr};
 ghost use Rattle.wedge_events.specs.Directories as directories;
@@ -9,19 +9,19 @@ use std::alloc::Global;
 use std::marker::Model;
 use wedge_base::NoMemory;
 
-/// Gives out places and numbers. A place can be released, and is then given out again; a number is given
-/// out once.
+/// Allocates slots, or descriptors, each with a new number. A slot can be released, and is then
+/// allocated again; a number is given once.
 #[derive(Debug, Drop)]
 pub struct Directory {
-    /// How many places there are.
+    /// How many slots there are.
     places: u32,
     /// The next number.
     number: u32,
-    /// The least place never used.
+    /// The least slot never used.
     unused: u32,
-    /// The places released, the last one at the end. It has room for each place that is claimed.
+    /// The slots released, the last one at the end. It has room for each slot that is claimed.
     released: Vec<u32>,
-    /// Of each place once used, whether it is claimed.
+    /// Of each slot once used, whether it is claimed.
     claimed: Vec<bool>,
 }
 
@@ -37,7 +37,7 @@ impl Model for Directory {
     ghost invariant = { λ d. IsKept d.places d.unused (vec_capacity d.released) (reverse d.released.items) d.claimed.items };
 }
 
-/// A place that is given out, and its number.
+/// A slot that is allocated, and its number.
 #[derive(Clone, Copy, Debug, PartialEq, Eq)]
 pub struct Claimed {
     pub place: u32,
@@ -45,7 +45,8 @@ pub struct Claimed {
 }
 
 impl Directory {
-    /// A directory of so many places, of which the least are claimed, with the numbers from 0.
+    /// A directory of so many slots, of which the first `claimed` are claimed, with the numbers
+    /// from 0.
     pub fn new(alloc: Global, places: u32, claimed: u32) -> Result<Directory, NoMemory>
         requires { claimed ≤ places }
         ensures { IfOk result (λ d. d ≡ directories.directory places claimed) }
@@ -60,15 +61,15 @@ impl Directory {
         })
     }
 
-    /// Whether a place is claimed now.
+    /// Whether a slot is claimed now.
     pub fn is_claimed(&self, place: u32) -> bool
         ensures { result ≡ directories.is_claimed self.now place }
     {
         self.claimed.get(place as usize).copied().unwrap_or(false)
     }
 
-    /// Gives out the place released last, or the least place never used, with the next number. `Full`
-    /// exactly where no place is left, or no number below 4,294,967,295.
+    /// Allocates the slot released last, or else the least slot never used, with the next number.
+    /// `Full` exactly where no slot is free, or no number below 4,294,967,295 is left.
     pub fn claim(&mut self) -> Result<Claimed, ClaimFault>
         ensures ok { IfOk result (λ c. reply.Claimed c.place c.number
             ≡ directories.claim_reply self.old (directories.claim self.old)) }
@@ -103,7 +104,7 @@ impl Directory {
         }
     }
 
-    /// Claims the place released last, if one is released.
+    /// Claims the slot released last, if one is released.
     fn use_again(&mut self) -> Option<u32>
         ensures some { IfSome result (λ p. self.old
             ≡ record self.new { released = p ∷ self.new.released }) }
@@ -117,7 +118,7 @@ impl Directory {
         Some(place)
     }
 
-    /// Claims the least place never used, where none is released, and makes room for its release.
+    /// Claims the least slot never used, where none is released, and makes room for its release.
     fn use_first(&mut self) -> Result<u32, ClaimFault>
         requires { self.old.released ≡ [] }
         ensures ok { IfOk result (λ p. p ≡ self.old.unused) }
@@ -138,7 +139,7 @@ impl Directory {
         Ok(place)
     }
 
-    /// Takes back a place that is claimed. It takes no memory.
+    /// Releases a slot that is claimed. It takes no memory.
     pub fn release(&mut self, place: u32)
         requires { directories.is_claimed self.old place ≡ true }
         ensures { self.new ≡ directories.release self.old place }

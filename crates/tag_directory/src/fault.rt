@@ -1,12 +1,12 @@
-//! Why no place is given out.
+//! Why no slot is allocated.
 
 use std::alloc::{AllocError, AllocFailed};
 
-/// Why no place is given out.
+/// Why no slot is allocated.
 #[derive(Clone, Copy, Debug, PartialEq, Eq)]
 pub enum ClaimFault {
     NoMemory,
-    /// No place is left, or no number.
+    /// No slot is free, or no number is left.
     Full,
 }
 

@@ -1,4 +1,4 @@
-//! Directories: the cells that give out places, as slots and descriptors, each with a number of its own.
+//! The two directories: one allocates slots, each with a new tag number, the other descriptors.
 #![tactic(auto)]
 
 mod directory;

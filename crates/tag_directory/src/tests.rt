@@ -3,7 +3,7 @@ use std::process::Abort;
 use std::test::Fail;
 use wedge_events::{DirectoryAsk, DirectoryReply, Object};
 
-/// Claims the place and the number that are given.
+/// Claims a slot: the slot and the number that are expected.
 fn claims(rt: &impl Abort, directory: &mut Directory, place: u32, number: u32) {
     let claimed = directory.claim();
     assert!(rt;
@@ -18,7 +18,7 @@ fn is_full(rt: &impl Abort, directory: &mut Directory) {
     assert!(rt; matches!(directory.claim(), Err(ClaimFault::Full)));
 }
 
-/// Releases a place, which must be claimed.
+/// Releases a slot, which must be claimed.
 fn releases(rt: &impl Abort, directory: &mut Directory, place: u32) {
     let claimed = directory.is_claimed(place);
     assert!(rt; claimed, "place {place}");
@@ -28,7 +28,7 @@ fn releases(rt: &impl Abort, directory: &mut Directory, place: u32) {
     assert!(rt; !directory.is_claimed(place));
 }
 
-/// A directory runs to its end, and is filled again with the place released last first.
+/// A directory runs to its end, and is filled again with the slot released last first.
 #[test]
 fn last_released_is_claimed_first(rt: HostRuntime) -> Result<(), Fail> {
     let mut directory = Directory::new(rt.alloc(), 4, 1)?;
@@ -79,7 +79,8 @@ fn numbers_end(rt: HostRuntime) {
     is_full(&rt, &mut directory);
 }
 
-/// What a directory replies as a cell, in two copies. A release of a place that is not claimed changes nothing.
+/// What a directory replies as a cell, in two copies. A release of a slot that is not claimed
+/// changes nothing.
 #[test]
 fn asks_are_replied_to(rt: HostRuntime) -> Result<(), Fail> {
     let mut directory = Directory::new(rt.alloc(), 2, 0)?;

@@ -1,4 +1,5 @@
--- The cells that give out places, each with a number of its own: slots with tag numbers, and descriptors.
+-- The two directories: one allocates slots, each with a new tag number, the other descriptors. In
+-- the comments below, 'slot' means either.
 use Rattle.std.specs.Prelude.{ℕ, ◌+◌, ◌==◌, Bool, not, ◌&&◌, List, [], ◌∷◌, length, Option, Some, None, nat_lt, if◌then◌else◌}
 use Rattle.std.specs.List.{list_any}
 use Rattle.wedge_base.specs.Images.{Image, slots}
@@ -8,7 +9,7 @@ use Rattle.wedge_events.specs.declared.cells.DirectoryAsk.TheVariants as ask
 use Rattle.wedge_events.specs.declared.cells.DirectoryReply.{DirectoryReply}
 use Rattle.wedge_events.specs.declared.cells.DirectoryReply.TheVariants as reply
 
--- how many places there are, the next number, the least place never used, and the places released, the
+-- how many slots there are, the next number, the least slot never used, and the slots released, the
 -- last one first
 pub record Directory : Type 0 where
   pub places : ℕ
@@ -16,16 +17,16 @@ pub record Directory : Type 0 where
   pub unused : ℕ
   pub released : List ℕ
 
--- numbers end before this one
+-- tag numbers are 0 to 4,294,967,294
 abbrev pub no_number : ℕ
 no_number = 4294967295
 
--- a place that is claimed, and what it leaves of the directory
+-- a claim: the slot, and the directory after it
 pub record Claim : Type 0 where
   pub place : ℕ
   pub left : Directory
 
--- the place released last is claimed first, then the least place never used
+-- the slot released last is claimed first, then the least slot never used
 abbrev pub claim_from : Directory → List ℕ → Option Claim
 claim_from d [] = if nat_lt d.unused d.places then Some (record { place = d.unused; left = record d { number = d.number + 1; unused = d.unused + 1 } }) else None
 claim_from d (p ∷ ps) = Some (record { place = p; left = record d { number = d.number + 1; released = ps } })
@@ -41,15 +42,15 @@ abbrev pub claim_next : Directory → Option Claim → Directory
 claim_next d None = d
 claim_next d (Some c) = c.left
 
--- whether a place is among places
+-- whether a slot is in a list of slots
 abbrev pub is_among : List ℕ → ℕ → Bool
 is_among places place = list_any (λ p. p == place) places
 
--- whether a place is claimed now
+-- whether a slot is claimed now
 abbrev pub is_claimed : Directory → ℕ → Bool
 is_claimed d place = nat_lt place d.unused && not (is_among d.released place)
 
--- the release of a place that is not claimed changes nothing
+-- a claimed slot is put before those released earlier; the release of any other changes nothing
 abbrev pub release : Directory → ℕ → Directory
 release d place = if is_claimed d place then record d { released = place ∷ d.released } else d
 
@@ -61,7 +62,7 @@ abbrev pub directory_next : Directory → DirectoryAsk → Directory
 directory_next d ask.Claim = claim_next d (claim d)
 directory_next d (ask.Release place) = release d place
 
--- the least places are claimed, in order
+-- a directory of so many slots, of which so many are claimed: the least ones
 abbrev pub directory : ℕ → ℕ → Directory
 directory places claimed = record { places = places; number = claimed; unused = claimed; released = [] }
 

@@ -15,7 +15,7 @@ pub record Kept : Type 0 where
 abbrev pub gate_opening : Kept
 gate_opening = record { entered = false; kept = None }
 
--- an enter is given what is kept, or else what it brings
+-- Enter is answered with the memory that is kept, or else with the memory in the ask.
 abbrev pub gate_reply : Kept → GateAsk → GateReply
 gate_reply k (ask.Enter run memory) = reply.Entered (unwrap_or k.kept memory)
 gate_reply k (ask.Leave end memory) = reply.Left

@@ -1,4 +1,5 @@
--- The bytes of a tag by the history of its slot, and those of a stream by the history of its descriptor.
+-- The bytes of a tag by the history of its slot, and those of a stream by the history of its
+-- descriptor.
 use Rattle.std.specs.Prelude.{ℕ, ◌+◌, ◌*◌, ◌==◌, List, [], ◌∷◌, ◌++◌, length, Option, Some, None, option_map, if◌then◌else◌}
 use Rattle.wedge_base.specs.Bytes.{zeros, written, bytes_of}
 use Rattle.wedge_base.specs.Images.{page}
@@ -14,8 +15,8 @@ use Rattle.wedge_events.specs.declared.cells.StreamAsk.TheVariants as stream_ask
 use Rattle.wedge_events.specs.declared.cells.StreamReply.{StreamReply}
 use Rattle.wedge_events.specs.declared.cells.StreamReply.TheVariants as stream_reply
 
--- The bytes of a slot after one event of it: an opening begins with zeros, a closing ends them, a store
--- that took place replaces some, and nothing else changes any.
+-- The bytes of a slot after one event of it: an opening begins with zeros, a closing ends them, a
+-- store that took place replaces some, and nothing else changes any.
 abbrev pub bytes_by : Option (List ℕ) → SlotAsk → SlotReply → Option (List ℕ)
 bytes_by bytes (ask.Open tag pages) r = Some (zeros (pages * page))
 bytes_by bytes (ask.Close tag) reply.Closed = None
@@ -40,8 +41,9 @@ pub record Flow : Type 0 where
 abbrev pub flow : List ℕ → ℕ → Flow
 flow bytes taken = record { bytes = bytes; taken = taken }
 
--- The stream of a descriptor after one event of it: an opening begins it with its bytes, a read takes as
--- many as it was given, an append that took place adds some at the end, and nothing else changes any.
+-- The stream of a descriptor after one event of it: an opening begins it with its bytes, a read
+-- takes as many as it was given, an append that took place adds some at the end, and nothing else
+-- changes any.
 abbrev pub flow_by : Option Flow → StreamAsk → StreamReply → Option Flow
 flow_by f (stream_ask.Open kind bytes) r = Some (flow bytes 0)
 flow_by f (stream_ask.Read bits count) (stream_reply.Given bytes) = option_map (λ g. flow g.bytes (g.taken + length bytes)) f

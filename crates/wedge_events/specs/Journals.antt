@@ -35,11 +35,11 @@ asked (event.Join child end fuel) = ask.Join child
 asked (event.Enter run) = ask.Enter run
 asked (event.Leave end) = ask.Leave end
 
--- the turns that a journal's entries tell
+-- the turns of a journal's entries
 abbrev pub turns_of : List LogEntry → List Turn
 turns_of entries = map (λ e. record { actor = e.actor; event = e.event }) entries
 
--- turns taken one after another on one thread: an entry's stamp is its place, from 1
+-- entries of turns taken one after another, with stamps that count up from this one
 abbrev pub numbered : ℕ → List Turn → List LogEntry
 numbered stamp [] = []
 numbered stamp (t ∷ ts) = record { stamp = stamp; actor = t.actor; event = t.event } ∷ numbered (stamp + 1) ts

@@ -25,7 +25,8 @@ abbrev pub right_in : Option Live → Option Right
 right_in None = None
 right_in (Some l) = l.right
 
--- an access is checked by the pair: past the bytes, below the right that it wants, or done
+-- The reply to a load or store: Unmapped past the bytes; Denied where the right in the pair is
+-- below the one wanted; else `done`.
 abbrev pub checked : Segment → ℕ → Option Live → Right → SlotReply → SlotReply
 checked g offset live wants done =
     if not (nat_lt offset (length g.bytes)) then reply.Unmapped
@@ -112,8 +113,9 @@ IsPair (Some g) (Some l) = l.tag ≡ g.tag
 abbrev pub IsAligned : ℕ → ℕ → Type 0
 IsAligned offset width = ((width ≡ 1) ⊎ (width ≡ 2) ⊎ (width ≡ 4)) × (offset % width ≡ 0) × (offset < window)
 
--- an ask fits the slot: an aligned access inside the window, checked against what lives there; pages and
--- sizes that a tag may have
+-- Which asks fit: a load or store of 1, 2 or 4 bytes at a multiple of its width in the window, and
+-- the freeing of a block in the window, each with the pair of the tag that lives there, or without
+-- one where none does; a tag of 1 to 16 pages; a block of at least one byte; every close and copy.
 abbrev pub SlotFits : Option Segment → SlotAsk → Type 0
 SlotFits s (ask.Open tag pages) = (1 ≤ pages) × (pages ≤ most_pages)
 SlotFits s (ask.Close tag) = Unit {0}

@@ -26,7 +26,7 @@ most_fds = 1024
 abbrev pub opened : StreamKind → List ℕ → Stream
 opened kind bytes = record { kind = kind; bytes = bytes; position = 0; live = true }
 
--- the bit that closing takes
+-- the bit that a close needs: read on a source, append on an append stream
 abbrev pub closing_bit : StreamKind → FdBits
 closing_bit kind.Source = read_bit
 closing_bit kind.Append = append_bit

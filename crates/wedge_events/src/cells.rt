@@ -10,8 +10,9 @@ pub struct Live {
     pub right: Option<Right>,
 }
 
-/// What a slot is asked. An access and a release of a block carry the tag that lives there at that event,
-/// or none, with the asker's right on it; an offset is in bytes from the start of the window.
+/// What a slot is asked. A load, a store and the freeing of a block carry the tag that lives there
+/// at that event, or none, with the asker's right on it; an offset is in bytes from the start of
+/// the window.
 #[derive(Clone, Copy, Debug, PartialEq, Eq)]
 pub enum SlotAsk {
     /// To begin a tag of 1 to 16 pages there, with zero bytes and no blocks.
@@ -99,7 +100,7 @@ pub enum StreamReply {
     Given { bytes: Bytes },
     Appended,
     Closed,
-    /// No live stream stands behind the descriptor.
+    /// The descriptor has no live stream.
     NoSuch,
     /// The asker lacks these bits.
     Denied { wants: FdBits },
@@ -107,20 +108,20 @@ pub enum StreamReply {
     Bad,
 }
 
-/// What a directory is asked, which assigns places and numbers.
+/// What a directory is asked. It allocates slots or descriptors, each with a new number.
 #[derive(Clone, Copy, Debug, PartialEq, Eq)]
 pub enum DirectoryAsk {
-    /// To assign a place.
+    /// To allocate a slot or a descriptor.
     Claim,
-    /// To take a place back.
+    /// To release one.
     Release { place: u32 },
 }
 
 #[derive(Clone, Copy, Debug, PartialEq, Eq)]
 pub enum DirectoryReply {
-    /// The place, and a number that was never assigned before.
+    /// The slot or descriptor, and a number that was never given before.
     Claimed { place: u32, number: u32 },
-    /// No place is left, or no number.
+    /// None is free, or no number is left.
     Full,
     Released,
 }
