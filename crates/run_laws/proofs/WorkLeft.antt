@@ -127,7 +127,7 @@ record IsPaid (a b : ActorState) (units : ℕ) : Type 0 where
   opening : (slot tag : ℕ) → b.phase ≡ phase.Opening slot tag → 4 ≤ unit_work * units + phase_work a.phase
   releasing : (slot : ℕ) → b.phase ≡ phase.Releasing slot → 4 ≤ unit_work * units + phase_work a.phase
   file : (o : FileOpening) → b.phase ≡ phase.OpeningFile o → opening_work o.number ≤ unit_work * units + phase_work a.phase
-  entering : (x : Entrance) → b.phase ≡ phase.Entering x → 5 ≤ unit_work * units + phase_work a.phase
+  entering : (x : Entrance) → b.phase ≡ phase.Entering x → 4 ≤ unit_work * units + phase_work a.phase
   ending : (e : End) → b.phase ≡ phase.Ending e → 1 ≤ unit_work * units + phase_work a.phase
 
 paid_within : (f g : ℕ) (p : Phase) (q : Want) → p ≡ phase.Within q → HasPaid f g p → g < f
@@ -311,7 +311,7 @@ gate_snap_work i b p slot tag grant others g at left =
 record IsLess (i : Image) (b : ActorState) (e : Event) (n : ℕ) : Type 0 where
   less : tasks_of (takes i b e) + begun_tasks (begun i b e) < n
 
-started_tasks : (i : Image) (b : ActorState) (child : List ℕ) → tasks_of (takes i b (event.Start child)) + begun_tasks (begun i b (event.Start child)) ≤ 5 + length b.unjoined
+started_tasks : (i : Image) (b : ActorState) (child : List ℕ) → tasks_of (takes i b (event.Start child)) + begun_tasks (begun i b (event.Start child)) ≤ 3 + length b.unjoined
 unfolding takes
 started_tasks i b child = let h = count_with b.unjoined (next_start b) (reg b.hart.regs 13) in omega (arith, h)
 
@@ -353,7 +353,7 @@ file_work : (i : Image) (b : ActorState) (fd : ℕ) (q : StreamAsk) → phase_wo
 unfolding takes
 file_work i b fd q = opened_is (λ x. phase_work x.phase ≤ 2) b b.phase fd (omega arith) (λ o. omega arith)
 
-entered_tasks : (w : WorldState) (b : ActorState) (e : Event) → IsEntry w b e → tasks_of (takes w.image b e) + begun_tasks (begun w.image b e) ≤ 4 + length b.unjoined
+entered_tasks : (w : WorldState) (b : ActorState) (e : Event) → IsEntry w b e → tasks_of (takes w.image b e) + begun_tasks (begun w.image b e) ≤ 3 + length b.unjoined
 entered_tasks w b e y =
     let x = y.entrance in
     let h = count_with b.unjoined (next_start b) x.gate.fuel in
