@@ -19,7 +19,8 @@ use Rattle.elf_in.specs.Headers.{is_function}
 use Rattle.elf_in.specs.Symbols.{SymbolTable, name_at}
 use Rattle.stable_sort.specs.Sorting.{put, sorted_onto, sorted}
 use Rattle.stable_sort.specs.ByName.{procedure_before, procedure_order}
-use Rattle.elf_in.specs.Procedures.{begins_at, has_name, with_candidate, with_start, candidates, candidate, candidate_before, procedures_of, is_usable, is_in_text, text_start, entry_start}
+use Rattle.wedge_base.specs.Images.{begins_at, is_text_address}
+use Rattle.elf_in.specs.Procedures.{has_name, with_candidate, with_start, candidates, candidate, candidate_before, procedures_of, is_usable, text_start, entry_start}
 use Rattle.elf_in.specs.Laws.{Differ, Above, Ascend, AreProcedures}
 use Rattle.stable_sort.proofs.Sorted.{IsLow, Rises, rises_onto}
 
@@ -184,7 +185,7 @@ module _ (n : List ℕ) (lacks : (name : List ℕ) → is_usable name ≡ true �
   lack_filter : (base count : ℕ) (names : List ℕ) (ss : List Symbol) → Lack n (filter_map (candidate base count names) ss)
   lack_filter base count names [] = tt
   lack_filter base count names (s ∷ ss) =
-      let first = is_function s && is_in_text base count s.value in
+      let first = is_function s && is_text_address base count s.value in
       lack_at (record { address = s.value; name = name_at names s.name }) (filter_map (candidate base count names) ss)
       (first && is_usable (name_at names s.name))
       (λ h. (all_true first (is_usable (name_at names s.name)) h).1)

@@ -5,10 +5,10 @@ use Rattle.std.specs.Int.{w32, from_le_bytes}
 use Rattle.std.proofs.lemmas.List.{get_or-take, get_or-drop, get_or-append-add, get_or_append_left, length-append, length-take, length-drop, length-replicate}
 use Rattle.std.proofs.lemmas.Bool.Decides.{nat_tests}
 use Rattle.std.proofs.Math.Nat.{mul-suc}
-use Rattle.wedge_base.specs.Bytes.{zeros}
+use Rattle.wedge_base.specs.Bytes.{zeros, padded_to_words}
 use Rattle.elf_in.specs.declared.headers.ProgramHeader.{ProgramHeader}
 use Rattle.elf_in.specs.Fields.{word_at, table}
-use Rattle.elf_in.specs.Loads.{filled, loaded, words_of, text_words, range_of}
+use Rattle.elf_in.specs.Loads.{loaded, words_of, text_words, range_of}
 use Rattle.elf_in.specs.Laws.{load_byte, IsText, IsData}
 
 -- ---- zeros
@@ -67,13 +67,13 @@ length-loaded file h fits inside =
     let cut : length (take ((h.offset + h.file_size) - h.offset) (drop h.offset file)) ≡ h.file_size = omega (arith, length-take ((h.offset + h.file_size) - h.offset) (drop h.offset file), length-drop h.offset file) in
     length-append (slice_range file h.offset (h.offset + h.file_size)) (zeros (h.memory_size - h.file_size)) ∙ omega (arith, cut, length-zeros (h.memory_size - h.file_size))
 
--- ---- filled up
+-- ---- padded to words
 
-filled_at : (xs : List ℕ) (i : ℕ) → get_or (filled xs) i 0 ≡ get_or xs i 0
-filled_at xs i = zeros_after xs ((4 - length xs % 4) % 4) i
+padded_at : (xs : List ℕ) (i : ℕ) → get_or (padded_to_words xs) i 0 ≡ get_or xs i 0
+padded_at xs i = zeros_after xs ((4 - length xs % 4) % 4) i
 
-length-filled : (xs : List ℕ) → length (filled xs) ≡ length xs + (4 - length xs % 4) % 4
-length-filled xs = length-append xs (zeros ((4 - length xs % 4) % 4)) ∙ ap (λ n. length xs + n) (length-zeros ((4 - length xs % 4) % 4))
+length-padded : (xs : List ℕ) → length (padded_to_words xs) ≡ length xs + (4 - length xs % 4) % 4
+length-padded xs = length-append xs (zeros ((4 - length xs % 4) % 4)) ∙ ap (λ n. length xs + n) (length-zeros ((4 - length xs % 4) % 4))
 
 whole_words : (n : ℕ) → (n + (4 - n % 4) % 4) % 4 ≡ 0
 whole_words n = omega arith
@@ -88,11 +88,11 @@ data_law file h fits inside =
     let long : length all ≡ r + h.memory_size = length-append (zeros r) (loaded file h) ∙ omega (arith, length-zeros r, length-loaded file h fits inside) in
     record {
       begins = omega arith;
-      whole = ap (λ n. n % 4) (length-filled all) ∙ whole_words (length all);
-      long = omega (arith, length-filled all, long);
-      short = omega (arith, length-filled all, long);
-      before = λ i lt. filled_at all i ∙ zeros_first r (loaded file h) i lt;
-      each = λ k. filled_at all (r + k) ∙ zeros_before r (loaded file h) k ∙ loaded_at file h k;
+      whole = ap (λ n. n % 4) (length-padded all) ∙ whole_words (length all);
+      long = omega (arith, length-padded all, long);
+      short = omega (arith, length-padded all, long);
+      before = λ i lt. padded_at all i ∙ zeros_first r (loaded file h) i lt;
+      each = λ k. padded_at all (r + k) ∙ zeros_before r (loaded file h) k ∙ loaded_at file h k;
     }
 
 -- ---- text
@@ -121,15 +121,15 @@ word_of bytes at a b c d p q r s =
     let e3 : slice_index (slice_range bytes at (at + 4)) 3 ≡ d = four_at bytes at 3 (omega arith) ∙ s in
     λ i. e0 i + e1 i * 256 + e2 i * 65536 + e3 i * 16777216
 
-filled_load_at : (file : List ℕ) (h : ProgramHeader) (k : ℕ) → get_or (filled (loaded file h)) k 0 ≡ load_byte file h k
-filled_load_at file h k = filled_at (loaded file h) k ∙ loaded_at file h k
+padded_load_at : (file : List ℕ) (h : ProgramHeader) (k : ℕ) → get_or (padded_to_words (loaded file h)) k 0 ≡ load_byte file h k
+padded_load_at file h k = padded_at (loaded file h) k ∙ loaded_at file h k
 
 pub text_law : (file : List ℕ) (h : ProgramHeader) → h.file_size ≤ h.memory_size → h.offset + h.file_size ≤ length file → IsText file h (text_words file h)
 unfolding text_words words_of
 text_law file h fits inside =
-    let bytes = filled (loaded file h) in
+    let bytes = padded_to_words (loaded file h) in
     let size : length (loaded file h) ≡ h.memory_size = length-loaded file h fits inside in
-    let long : length bytes ≡ length (loaded file h) + (4 - length (loaded file h) % 4) % 4 = length-filled (loaded file h) in
+    let long : length bytes ≡ length (loaded file h) + (4 - length (loaded file h) % 4) % 4 = length-padded (loaded file h) in
     let count : length (table (word_at bytes) 4 (length bytes / 4) 0) ≡ length bytes / 4 = length-table (word_at bytes) 4 (length bytes / 4) 0 in
     record {
       long = omega (arith, size, long, count);
@@ -137,12 +137,12 @@ text_law file h fits inside =
       each = λ j lt.
           table_at (word_at bytes) 4 (length bytes / 4) 0 j (omega (arith, lt, count))
           ∙ ap (word_at bytes) (zero-add (4 * j))
-          ∙ word_of bytes (4 * j) _ _ _ _ (ap (λ n. get_or bytes n 0) (add-zero (4 * j)) ∙ filled_load_at file h (4 * j)) (filled_load_at file h (4 * j + 1)) (filled_load_at file h (4 * j + 2)) (filled_load_at file h (4 * j + 3));
+          ∙ word_of bytes (4 * j) _ _ _ _ (ap (λ n. get_or bytes n 0) (add-zero (4 * j)) ∙ padded_load_at file h (4 * j)) (padded_load_at file h (4 * j + 1)) (padded_load_at file h (4 * j + 2)) (padded_load_at file h (4 * j + 3));
     }
 
 -- the bytes of the text are four for each of its words
-pub length-text : (file : List ℕ) (h : ProgramHeader) → length (filled (zeros 0 ++ loaded file h)) ≡ 4 * length (text_words file h)
+pub length-text : (file : List ℕ) (h : ProgramHeader) → length (padded_to_words (zeros 0 ++ loaded file h)) ≡ 4 * length (text_words file h)
 unfolding zeros text_words words_of
 length-text file h =
-    let bytes = filled (loaded file h) in
-    omega (arith, length-filled (loaded file h), length-table (word_at bytes) 4 (length bytes / 4) 0)
+    let bytes = padded_to_words (loaded file h) in
+    omega (arith, length-padded (loaded file h), length-table (word_at bytes) 4 (length bytes / 4) 0)

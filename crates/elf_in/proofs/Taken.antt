@@ -11,7 +11,8 @@ use Rattle.std.specs.Str.{bytes_eq}
 use Rattle.std.specs.BTreeMap.{is_at}
 use Rattle.wedge_base.specs.declared.image.Procedure.{Procedure}
 use Rattle.elf_in.specs.declared.procedures.Candidate.{Candidate}
-use Rattle.elf_in.specs.Procedures.{begins_at, has_name, with_candidate}
+use Rattle.wedge_base.specs.Images.{begins_at}
+use Rattle.elf_in.specs.Procedures.{has_name, with_candidate}
 
 abbrev pub begun : List ℕ → ℕ → Procedure
 begun name address = record { name = name; address = address }

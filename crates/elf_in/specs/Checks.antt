@@ -1,4 +1,4 @@
--- The checks of an ELF file's headers, in order.
+-- The checks of an ELF32 file's headers (System V ABI), in order.
 use Rattle.std.specs.Prelude.{ℕ, ◌+◌, ◌*◌, ◌%◌, ◌^◌, ◌==◌, Bool, ◌&&◌, ◌||◌, List, [], ◌∷◌, length, slice_index, find, count_by, Option, Some, None, Result, Ok, nat_le, nat_lt, if◌then◌else◌}
 use Rattle.elf_in.specs.Fields.{half_at, word_at, lies_in, table}
 use Rattle.elf_in.specs.Steps.{reject, ◌>>=◌, demand, passed}
@@ -8,7 +8,7 @@ use Rattle.elf_in.specs.declared.fault.Why.TheVariants.{Magic, Class, Kind, Trun
 use Rattle.elf_in.specs.declared.headers.ProgramHeader.{ProgramHeader}
 use Rattle.elf_in.specs.declared.headers.SectionHeader.{SectionHeader}
 
--- the most bytes of a file, and the bytes of its header
+-- the most bytes of a file, and the bytes of its header (Elf32_Ehdr)
 abbrev pub most_bytes : ℕ
 most_bytes = 16777216
 
@@ -19,7 +19,8 @@ header_size = 52
 abbrev pub magic : ℕ
 magic = 0x464c457f
 
--- the size of the file, and its first bytes: 32 bits, little-endian, version 1
+-- the size of the file, and its first bytes (e_ident): 32 bits, little-endian, version 1
+-- (ELFCLASS32, ELFDATA2LSB, EV_CURRENT)
 unfoldable pub identity_check : List ℕ → Result (Unit {0}) Fault
 identity_check file =
     demand (nat_le (length file) most_bytes) most_bytes Limit (
@@ -29,8 +30,8 @@ identity_check file =
     demand (slice_index file 5 == 1) 5 Class (
     demand (slice_index file 6 == 1) 6 Class passed)))))
 
--- an executable file, for RISC-V, without compressed instructions, whose headers have the sizes of
--- ELF32
+-- an executable file (ET_EXEC), for RISC-V (EM_RISCV), without compressed instructions
+-- (EF_RISCV_RVC), whose headers have the sizes of ELF32
 unfoldable pub kind_check : List ℕ → Result (Unit {0}) Fault
 kind_check file =
     demand (half_at file 16 == 2) 16 Kind (

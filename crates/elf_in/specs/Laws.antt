@@ -3,7 +3,8 @@ use Rattle.std.specs.Prelude.{◌≡◌, ℕ, true, false, ◌+◌, ◌*◌, ◌
 use Rattle.std.specs.Int.{w32, from_le_bytes}
 use Rattle.wedge_base.specs.declared.image.Procedure.{Procedure}
 use Rattle.stable_sort.specs.ByName.{procedure_before}
-use Rattle.elf_in.specs.Procedures.{begins_at, has_name}
+use Rattle.wedge_base.specs.Images.{begins_at}
+use Rattle.elf_in.specs.Procedures.{has_name}
 use Rattle.std.specs.List.{AllByRecursion}
 use Rattle.elf_in.specs.Program.{Program}
 use Rattle.elf_in.specs.Headers.{is_data}
@@ -41,7 +42,7 @@ abbrev pub Differ : List Procedure → Type 0
 Differ [] = Unit {0}
 Differ (p ∷ ps) = (begins_at ps p.address ≡ false) × (has_name ps p.name ≡ false) × Differ ps
 
--- a procedure's name is below those of others
+-- a procedure comes before each of others, by name
 abbrev pub Above : Procedure → List Procedure → Type 0
 Above p [] = Unit {0}
 Above p (q ∷ qs) = (procedure_before p q ≡ true) × Above p qs

@@ -1,15 +1,11 @@
 -- The memory of loads: the words of the text, and ranges of data.
 use Rattle.std.specs.Prelude.{ℕ, ◌+◌, ◌-◌, ◌/◌, ◌%◌, Bool, List, ◌++◌, length, filter, map, slice_range, nat_lt}
-use Rattle.wedge_base.specs.Bytes.{zeros}
+use Rattle.wedge_base.specs.Bytes.{zeros, padded_to_words}
 use Rattle.wedge_base.specs.declared.image.MemoryRange.{MemoryRange}
 use Rattle.elf_in.specs.Fields.{word_at, table}
 use Rattle.elf_in.specs.Headers.{is_data}
 use Rattle.stable_sort.specs.Sorting.{sorted}
 use Rattle.elf_in.specs.declared.headers.ProgramHeader.{ProgramHeader}
-
--- bytes, and zeros up to a multiple of four
-abbrev pub filled : List ℕ → List ℕ
-filled bytes = bytes ++ zeros ((4 - length bytes % 4) % 4)
 
 -- the bytes of a load: those of the file, and zeros up to its size in memory
 unfoldable pub loaded : List ℕ → ProgramHeader → List ℕ
@@ -21,7 +17,7 @@ unfoldable pub words_of : List ℕ → List ℕ
 words_of bytes = table (word_at bytes) 4 (length bytes / 4) 0
 
 unfoldable pub text_words : List ℕ → ProgramHeader → List ℕ
-text_words file text = words_of (filled (loaded file text))
+text_words file text = words_of (padded_to_words (loaded file text))
 
 -- where the range of a load begins: at the multiple of four at its address or below
 abbrev pub base_of : ProgramHeader → ℕ
@@ -31,7 +27,7 @@ base_of h = h.address - h.address % 4
 unfoldable pub range_of : List ℕ → ProgramHeader → MemoryRange
 range_of file h = record {
   base = base_of h;
-  bytes = filled (zeros (h.address % 4) ++ loaded file h);
+  bytes = padded_to_words (zeros (h.address % 4) ++ loaded file h);
 }
 
 abbrev pub load_before : ProgramHeader → ProgramHeader → Bool

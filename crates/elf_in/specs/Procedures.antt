@@ -1,9 +1,10 @@
 -- The procedures of an ELF file: its function symbols in the text.
-use Rattle.std.specs.Prelude.{ℕ, ◌+◌, ◌*◌, ◌%◌, ◌==◌, Bool, ◌&&◌, ◌||◌, not, List, [], ◌∷◌, ◌++◌, codes, fold, Option, Some, None, nat_le, nat_lt, if◌then◌else◌}
+use Rattle.std.specs.Prelude.{ℕ, Bool, ◌&&◌, ◌||◌, not, List, [], ◌∷◌, ◌++◌, codes, fold, Option, Some, None, if◌then◌else◌}
 use Rattle.std.specs.List.{list_any, filter_map}
 use Rattle.std.specs.Ordering.{nat_cmp, then_cmp, on, is_lt}
 use Rattle.std.specs.Cmp.Lexicographic.{slice_cmp}
 use Rattle.std.specs.Str.{bytes_eq}
+use Rattle.wedge_base.specs.Images.{is_text_address, begins_at}
 use Rattle.wedge_base.specs.Texts.{is_name}
 use Rattle.wedge_base.specs.declared.image.Procedure.{Procedure}
 use Rattle.elf_in.specs.Headers.{is_function}
@@ -28,15 +29,10 @@ is_usable name = is_name name && not (bytes_eq name text_start) && not (bytes_eq
 abbrev pub usable : List ℕ → Option (List ℕ)
 usable name = if is_usable name then Some name else None
 
--- whether an address is that of an instruction of the text, of so many words from a base on
-abbrev pub is_in_text : ℕ → ℕ → ℕ → Bool
-is_in_text base count address =
-    address % 4 == 0 && nat_le base address && nat_lt address (base + 4 * count)
-
 -- a function of the text with a usable name
 abbrev pub candidate : ℕ → ℕ → List ℕ → Symbol → Option Candidate
 candidate base count names s =
-    if is_function s && is_in_text base count s.value && is_usable (name_at names s.name)
+    if is_function s && is_text_address base count s.value && is_usable (name_at names s.name)
     then Some (record { address = s.value; name = name_at names s.name })
     else None
 
@@ -45,10 +41,7 @@ abbrev pub candidate_before : Candidate → Candidate → Bool
 candidate_before a b =
     is_lt (then_cmp (on (λ c. c.address) nat_cmp) (on (λ c. c.name) (slice_cmp nat_cmp)) a b)
 
--- whether a procedure begins at an address, or has a name
-abbrev pub begins_at : List Procedure → ℕ → Bool
-begins_at ps address = list_any (λ p. p.address == address) ps
-
+-- whether one of the procedures has a name
 abbrev pub has_name : List Procedure → List ℕ → Bool
 has_name ps name = list_any (λ p. bytes_eq p.name name) ps
 

@@ -1,4 +1,4 @@
--- The symbols of an ELF file, and their names.
+-- The symbols of an ELF32 file (System V ABI), and their names.
 use Rattle.std.specs.Prelude.{ℕ, ◌+◌, ◌/◌, ◌%◌, ◌==◌, Bool, ◌&&◌, ◌||◌, not, List, [], ◌∷◌, drop, find, slice_get, slice_range, Option, Some, None, Result, Ok, if◌then◌else◌}
 use Rattle.std.specs.List.{list_any, list_all}
 use Rattle.elf_in.specs.Fields.{lies_in, table}
@@ -9,7 +9,7 @@ use Rattle.elf_in.specs.declared.fault.Why.TheVariants.{Truncated, Symbols}
 use Rattle.elf_in.specs.declared.headers.SectionHeader.{SectionHeader}
 use Rattle.elf_in.specs.declared.headers.Symbol.{Symbol}
 
--- symbols, and the bytes of the table that has their names
+-- symbols, and the bytes of the string table that has their names
 pub record SymbolTable : Type 0 where
   pub symbols : List Symbol
   pub names : List ℕ
@@ -30,15 +30,15 @@ until_zero (b ∷ bs) = if b == 0 then [] else b ∷ until_zero bs
 abbrev pub name_at : List ℕ → ℕ → List ℕ
 name_at names offset = until_zero (drop offset names)
 
--- the name of a function begins and ends inside the table of names
+-- the name of a function begins and ends inside the string table
 abbrev pub is_named : List ℕ → Symbol → Bool
 is_named names s = not (is_function s) || ends_inside names s.name
 
--- a symbol table has type 2, a table of names type 3
+-- a symbol table has type 2 (SHT_SYMTAB), a string table type 3 (SHT_STRTAB)
 abbrev pub is_symbol_table : SectionHeader → Bool
 is_symbol_table s = s.kind == 2
 
--- the bytes of the table of names, for a symbol table whose header is at an offset
+-- the bytes of the string table, for a symbol table whose header is at an offset
 unfoldable pub names_of : List ℕ → ℕ → Option SectionHeader → Result (List ℕ) Fault
 names_of file at None = reject at Symbols
 names_of file at (Some s) =

@@ -1,7 +1,7 @@
 //! The memory of loads.
 
 ghost use Rattle.std.specs.Prelude.{◌≡◌, ◌++◌, ◌+◌, ◌*◌, ◌^◌, ◌≤◌, length, filter, IfOk};
-ghost use Rattle.wedge_base.specs.Bytes.{zeros};
+ghost use Rattle.wedge_base.specs.Bytes.{zeros, padded_to_words};
 ghost use Rattle.elf_in.specs.Headers.{is_data as is_data_header};
 ghost use Rattle.elf_in.specs.Loads as loads;
 
@@ -24,7 +24,7 @@ fn with_zeros(mut bytes: Vec<u8>, count: usize) -> Result<Vec<u8>, NoMemory>
     Ok(bytes)
 }
 
-/// The bytes of a load after so many zeros, filled up to a multiple of four.
+/// The bytes of a load after so many zeros, with zeros up to a multiple of four.
 #[tactic(auto, unfolding(crate::specs::Loads::loaded))]
 fn loaded(
     alloc: Global,
@@ -34,7 +34,7 @@ fn loaded(
 ) -> Result<Vec<u8>, NoMemory>
     requires { before ≤ 3 }
     ensures { IfOk result (λ v.
-        v.items ≡ loads.filled (zeros before ++ loads.loaded file.now header.now)) }
+        v.items ≡ padded_to_words (zeros before ++ loads.loaded file.now header.now)) }
 {
     let bytes = part(file, header.offset, header.file_size);
     let mut all = with_zeros(Vec::new(alloc), before)?;
@@ -45,11 +45,11 @@ fn loaded(
     with_zeros(all, (4 - len % 4) % 4)
 }
 
-/// How many bytes a load has after so many zeros, filled up to a multiple of four.
+/// How many bytes a load has after so many zeros, with zeros up to a multiple of four.
 #[tactic(auto, unfolding(crate::specs::Loads::loaded, wedge_base::specs::Bytes::zeros))]
 pub(crate) fn memory_len(file: &[u8], header: &ProgramHeader, before: usize) -> usize
     requires { before ≤ 3 }
-    ensures { result ≡ length (loads.filled (zeros before ++ loads.loaded file.now header.now)) }
+    ensures { result ≡ length (padded_to_words (zeros before ++ loads.loaded file.now header.now)) }
 {
     let bytes = part(file, header.offset, header.file_size);
     let rest = header.memory_size.saturating_sub(header.file_size);

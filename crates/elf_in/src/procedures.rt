@@ -5,6 +5,7 @@ ghost use Rattle.std.specs.List.{filter_map};
 ghost use Rattle.std.specs.Ordering.{nat_cmp};
 ghost use Rattle.std.specs.Cmp.Lexicographic.{slice_cmp};
 ghost use Rattle.std.specs.BTreeSet.{contains, contains_by};
+ghost use Rattle.wedge_base.specs.Images as images;
 ghost use Rattle.elf_in.specs.Procedures as defined;
 ghost use Rattle.elf_in.specs.Symbols as symbols;
 ghost use Rattle.elf_in.specs.Views.{symbols_view};
@@ -15,7 +16,7 @@ use stable_sort::{Sortable, sort};
 use std::alloc::Global;
 use std::cmp::Ordering;
 use std::collections::BTreeSet;
-use wedge_base::{Bytes, NoMemory, Procedure, is_name};
+use wedge_base::{Bytes, NoMemory, Procedure, begins_at, is_name};
 
 /// The names that may be added for the base of the text and for the entry.
 const TEXT_START: &str = "text.start";
@@ -60,7 +61,7 @@ fn is_usable(name: &[u8]) -> bool
 
 /// Whether an address is that of an instruction of the text.
 fn is_in_text(text: TextSpan, address: u32) -> bool
-    ensures { result ≡ defined.is_in_text text.base text.count address }
+    ensures { result ≡ images.is_text_address text.base text.count address }
 {
     address % 4 == 0 && text.base <= address && (((address - text.base) / 4) as usize) < text.count
 }
@@ -155,13 +156,6 @@ fn taken(alloc: Global, candidates: &[Candidate]) -> Result<Vec<Procedure>, NoMe
         })?;
     }
     Ok(procedures)
-}
-
-/// Whether a procedure begins at an address.
-fn begins_at(procedures: &[Procedure], address: u32) -> bool
-    ensures { result ≡ defined.begins_at procedures.now address }
-{
-    procedures.iter().any(|p| p.address == address)
 }
 
 /// Adds a procedure of a given name at an address where none begins.

@@ -1,13 +1,13 @@
 -- The text of a canonical root's parts, and then of those that a path adds to them, is canonical.
 use Rattle.std.proofs.Common.{◌≡◌, ℕ, zero, suc, ◌-◌, ◌==◌, Bool, true, false, not, ◌&&◌, ◌||◌, List, [], ◌∷◌, ◌++◌, length, filter, take, if◌then◌else◌, refl, ap, sym, subst, ◌∙◌}
 use Rattle.std.specs.Prelude.{nat_lt}
-use Rattle.std.specs.List.{list_all, slice_split}
+use Rattle.std.specs.List.{list_all, onto_first}
 use Rattle.std.proofs.lemmas.Bool.{and_parts, and_from}
 use Rattle.std.proofs.lemmas.List.Folds.{list_all-append}
 use Rattle.wedge_base.specs.Names.{same}
 use Rattle.wedge_base.specs.Texts.{is_printed}
-use Rattle.wedge_base.specs.Paths.{onto, pieces, parts_of, after_slashes, text_of, walked, is_path, is_part, is_canonical}
-use Rattle.file_tree.proofs.Pieces.{AreParts, pieces-joined, slice_split-slash}
+use Rattle.wedge_base.specs.Paths.{pieces, parts_of, after_slashes, text_of, walked, is_path, is_part, is_canonical}
+use Rattle.file_tree.proofs.Pieces.{AreParts, pieces-joined}
 use Rattle.file_tree.proofs.Walks.{AreParts-resolved}
 
 -- each part passes a test
@@ -98,11 +98,11 @@ EachKept-from test (p ∷ ps) h = ((λ e k u. h.0), EachKept-from test ps h.1)
 
 -- ---- the pieces of printed texts
 
-printed-onto : (b : ℕ) (ps : List (List ℕ)) → is_printed b ≡ true → Each are_printed ps → Each are_printed (onto b ps)
+printed-onto : (b : ℕ) (ps : List (List ℕ)) → is_printed b ≡ true → Each are_printed ps → Each are_printed (onto_first b ps)
 printed-onto b [] h k = (and_from (is_printed b) true h refl, tt)
 printed-onto b (p ∷ ps) h k = (and_from (is_printed b) (list_all is_printed p) h k.0, k.1)
 
-printed-if : (b : ℕ) (t : Bool) (ps : List (List ℕ)) → is_printed b ≡ true → Each are_printed ps → Each are_printed (if t then [] ∷ ps else onto b ps)
+printed-if : (b : ℕ) (t : Bool) (ps : List (List ℕ)) → is_printed b ≡ true → Each are_printed ps → Each are_printed (if t then [] ∷ ps else onto_first b ps)
 printed-if b true ps h k = (refl, k)
 printed-if b false ps h k = printed-onto b ps h k
 
@@ -137,12 +137,10 @@ unfolding is_canonical
 AreCanonical-parts_of [] h = absurd cc
 AreCanonical-parts_of (b ∷ []) h = subst AreCanonical (sym (parts_of-slash b [] h)) (tt, tt)
 AreCanonical-parts_of (b ∷ c ∷ cs) h =
-    let split = slice_split (λ x. x == 47) (c ∷ cs) in
-    let all = and_parts (b == 47 && list_all is_printed (c ∷ cs)) (list_all is_part split) h in
+    let all = and_parts (b == 47 && list_all is_printed (c ∷ cs)) (list_all is_part (pieces (c ∷ cs))) h in
     let front = and_parts (b == 47) (list_all is_printed (c ∷ cs)) all.0 in
-    let are : list_all is_part (pieces (c ∷ cs)) ≡ true = ap (λ ps. list_all is_part ps) (sym (slice_split-slash (c ∷ cs))) ∙ all.1 in
     subst AreCanonical (sym (parts_of-slash b (c ∷ cs) front.0)) (
-      Each-filter is_part is_filled (pieces (c ∷ cs)) (Each-from_list_all is_part (pieces (c ∷ cs)) are),
+      Each-filter is_part is_filled (pieces (c ∷ cs)) (Each-from_list_all is_part (pieces (c ∷ cs)) all.1),
       Each-filter are_printed is_filled (pieces (c ∷ cs)) (printed-pieces (c ∷ cs) front.1),
     )
 
@@ -158,8 +156,8 @@ is_canonical-text_of [] k h = refl
 is_canonical-text_of ([] ∷ ps) k h = let e : true ≡ false = k.0.0 in absurd cc
 is_canonical-text_of ((c ∷ cs) ∷ ps) k h =
     let text = (c ∷ cs) ++ after_slashes ps in
-    let split : slice_split (λ x. x == 47) text ≡ (c ∷ cs) ∷ ps = slice_split-slash text ∙ pieces-joined (c ∷ cs) ps k.0.1 k.1 in
-    and_from (list_all is_printed text) (list_all is_part (slice_split (λ x. x == 47) text))
+    let split : pieces text ≡ (c ∷ cs) ∷ ps = pieces-joined (c ∷ cs) ps k.0.1 k.1 in
+    and_from (list_all is_printed text) (list_all is_part (pieces text))
     (printed-after_slashes ((c ∷ cs) ∷ ps) h.1)
     (ap (λ qs. list_all is_part qs) split ∙ list_all-from_Each is_part ((c ∷ cs) ∷ ps) h.0)
 

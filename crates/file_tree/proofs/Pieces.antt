@@ -1,17 +1,8 @@
 -- The pieces of a text between its slashes, and the parts of a text that parts make.
 use Rattle.std.proofs.Common.{◌≡◌, ℕ, ◌==◌, Bool, true, false, not, List, [], ◌∷◌, ◌++◌, filter, if◌then◌else◌, refl, ap, ◌∙◌}
-use Rattle.std.specs.List.{slice_split, onto_first}
+use Rattle.std.specs.List.{onto_first}
 use Rattle.wedge_base.specs.Names.{same}
-use Rattle.wedge_base.specs.Paths.{onto, pieces, parts_of, after_slashes, text_of}
-
-onto_first-is : (b : ℕ) (ps : List (List ℕ)) → onto_first b ps ≡ onto b ps
-onto_first-is b [] = refl
-onto_first-is b (p ∷ ps) = refl
-
--- the pieces are what a split at the slashes gives
-pub slice_split-slash : (bs : List ℕ) → slice_split (λ b. b == 47) bs ≡ pieces bs
-slice_split-slash [] = refl
-slice_split-slash (b ∷ bs) = rw (slice_split-slash bs, onto_first-is)
+use Rattle.wedge_base.specs.Paths.{pieces, parts_of, after_slashes, text_of}
 
 -- no byte is a slash
 abbrev pub HasNoSlash : List ℕ → Type 0
@@ -28,11 +19,11 @@ abbrev pub AreParts : List (List ℕ) → Type 0
 AreParts [] = Unit {0}
 AreParts (p ∷ ps) = ((same p [] ≡ false) × HasNoSlash p) × AreParts ps
 
-ArePieces-onto : (b : ℕ) (ps : List (List ℕ)) → (b == 47) ≡ false → ArePieces ps → ArePieces (onto b ps)
+ArePieces-onto : (b : ℕ) (ps : List (List ℕ)) → (b == 47) ≡ false → ArePieces ps → ArePieces (onto_first b ps)
 ArePieces-onto b [] h k = ((h, tt), tt)
 ArePieces-onto b (p ∷ ps) h k = ((h, k.0), k.1)
 
-ArePieces-if : (b : ℕ) (t : Bool) (ps : List (List ℕ)) → (b == 47) ≡ t → ArePieces ps → ArePieces (if t then [] ∷ ps else onto b ps)
+ArePieces-if : (b : ℕ) (t : Bool) (ps : List (List ℕ)) → (b == 47) ≡ t → ArePieces ps → ArePieces (if t then [] ∷ ps else onto_first b ps)
 ArePieces-if b true ps h k = (tt, k)
 ArePieces-if b false ps h k = ArePieces-onto b ps h k
 

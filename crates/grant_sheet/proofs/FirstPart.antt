@@ -1,7 +1,8 @@
 -- The first part of a path is what is before its first slash, behind those that it begins with.
 use Rattle.std.proofs.Common.{◌≡◌, ℕ, zero, suc, ◌==◌, ◌<◌, length, Bool, true, false, not, List, [], ◌∷◌, take, drop, filter, if◌then◌else◌, refl, sym, ap, subst, ◌∙◌, arith}
+use Rattle.std.specs.List.{onto_first}
 use Rattle.wedge_base.specs.Names.{same}
-use Rattle.wedge_base.specs.Paths.{onto, pieces, parts_of}
+use Rattle.wedge_base.specs.Paths.{pieces, parts_of}
 use Rattle.grant_sheet.specs.Paths.{slashes_before, part_length}
 
 abbrev kept : List (List ℕ) → List (List ℕ)
@@ -16,9 +17,9 @@ abbrev IsHead : List ℕ → List (List ℕ) → ℕ → Type 0
 IsHead bs ps n = ps ≡ take n bs ∷ after (drop n bs)
 
 head_if : (b : ℕ) (bs : List ℕ) (t : Bool) → IsHead bs (pieces bs) (part_length bs)
-    → IsHead (b ∷ bs) (if t then [] ∷ pieces bs else onto b (pieces bs)) (if t then 0 else suc (part_length bs))
+    → IsHead (b ∷ bs) (if t then [] ∷ pieces bs else onto_first b (pieces bs)) (if t then 0 else suc (part_length bs))
 head_if b bs true rest = refl
-head_if b bs false rest = ap (onto b) rest
+head_if b bs false rest = ap (onto_first b) rest
 
 pieces_head : (bs : List ℕ) → IsHead bs (pieces bs) (part_length bs)
 pieces_head [] = refl

@@ -26,7 +26,7 @@ tail_of f fs name bytes none found =
       | inr other ↦ in_tail f fs name other ∙ found
     ]
 
--- of files whose names differ each tells its bytes
+-- of files whose names differ each exposes its bytes
 pub exposed_of_differ : (files : List MemFile) → IsTrue (names_differ files) → (k : ℕ) (d : MemFile) → k < length files → IsExposed files (get_or files k d)
 exposed_of_differ [] h k d in_range = absurd (omega arith)
 exposed_of_differ (f ∷ fs) h zero d in_range = at_head f fs (string_bytes f.name) refl

@@ -14,7 +14,7 @@ grown_by-take (Some w) bytes i n = ap Some (append_assoc w (take i bytes) (take 
 pub came : (buf exposed : List ℕ) (at n : ℕ) → n ≤ length buf → take n buf ≡ take n (drop at exposed) → n ≤ length exposed - at
 came buf exposed at n short same = omega (arith, ap length same, length-take n buf, length-take n (drop at exposed), length-drop at exposed)
 
--- bytes that go on past a place are more than those before it
+-- bytes that go on past a limit are more than the limit
 pub past : (buf exposed : List ℕ) (at n limit : ℕ) → n ≤ length buf → take n buf ≡ take n (drop at exposed) → at ≤ limit → limit - at < n → limit < length exposed
 past buf exposed at n limit short same low more = omega (arith, came buf exposed at n short same)
 
@@ -26,7 +26,7 @@ all_of bytes exposed n first none = first ∙ take_all n exposed (grind (arith, 
 pub first_more : (bytes buf exposed : List ℕ) (at n : ℕ) → bytes ≡ take at exposed → take n buf ≡ take n (drop at exposed) → bytes ++ take n buf ≡ take (at + n) exposed
 first_more bytes buf exposed at n first same = ap (λ (b : List ℕ). b ++ take n buf) first ∙ ap (λ (b : List ℕ). take at exposed ++ b) same ∙ sym (take-add at n exposed)
 
--- a slice from a place on
+-- a slice from an index on
 pub rest_from : (bytes : List ℕ) (i : ℕ) → take (length bytes - i) (drop i bytes) ≡ drop i bytes
 rest_from bytes i = take_all (length bytes - i) (drop i bytes) (omega (arith, length-drop i bytes))
 

@@ -1,4 +1,4 @@
--- How a count of faults stands after an answer.
+-- A device's count of faults before and after a call.
 use Rattle.std.specs.Prelude.{◌≡◌, ℕ, ◌<◌, Result, MatchResult}
 use Rattle.host_io.specs.declared.errors.Failed.{Failed}
 use Rattle.host_io.specs.declared.errors.ReadFault.{ReadFault}
@@ -8,7 +8,8 @@ use Rattle.host_io.specs.declared.errors.ReadFault.TheVariants as read
 abbrev pub Counts : {T : Type 0} → Result T Failed → ℕ → ℕ → Type 0
 Counts result before after = MatchResult result (λ _. after ≡ before) (λ _. before < after)
 
--- a fault of reading came of a rise; no other answer did
+-- of the errors of a whole read, `Fault` comes with a rise of the count, and the others leave it as
+-- it was
 abbrev pub ReadCounts : ReadFault → ℕ → ℕ → Type 0
 ReadCounts read.NoMemory before after = after ≡ before
 ReadCounts read.Fault before after = before < after

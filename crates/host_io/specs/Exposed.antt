@@ -1,4 +1,4 @@
--- Bytes outside the program: some devices tell what they hold, others do not.
+-- Bytes outside the program: some devices expose what they hold to contracts, others do not.
 use Rattle.std.specs.Prelude.{◌≡◌, ℕ, List, ◌++◌, Option, Some, option_map}
 
 -- a fact of the bytes that are exposed, if any are

@@ -6,8 +6,8 @@ use Rattle.std.specs.String.{string_bytes}
 use Rattle.host_io.specs.declared.errors.Failed.{Failed}
 use Rattle.host_io.specs.declared.mem_file.MemFile.{MemFile}
 
--- what is known of files in memory: the numbers of the calls that are to fail, from 1, how many calls
--- there have been, and how many of them have failed
+-- what is known of files in memory: the files, the numbers of the calls that are to fail, from 1,
+-- how many calls there have been, and how many of them have failed
 pub record MemoryFiles : Type 0 where
   pub files : List MemFile
   pub fails : List ℕ
@@ -39,8 +39,8 @@ IsExposed files f = bytes_named files (string_bytes f.name) ≡ Some f.bytes.ite
 abbrev pub after_read : MemoryFiles → Bool → MemoryFiles
 after_read m failed = record m { calls = min (m.calls + 1) last_call; faults = if failed then m.faults + 1 else m.faults }
 
--- what is known of a sink in memory: the bytes that it has taken, for how many it has room in all, and
--- of its calls the same as of files
+-- what is known of a sink in memory: the bytes that it has taken, for how many it has room in all,
+-- and of its calls the same as of files
 pub record MemorySink : Type 0 where
   pub bytes : List ℕ
   pub room : ℕ

@@ -15,13 +15,13 @@ pub trait Files {
     /// names.
     ghost faults: { Self → List ℕ → ℕ };
 
-    /// Reads bytes of a file from a place on, counted in bytes from 0, to the front of a buffer, and
-    /// answers how many came. None in a buffer that has room means that the file ends there. `Failed`: the
-    /// file could not be read.
+    /// Reads bytes of a file from an offset on to the front of a buffer, and answers how many came.
+    /// None in a buffer that has room means that the file ends there. `Failed`: the file could not
+    /// be read.
     fn read(&mut self, name: &str, at: u64, buf: &mut [u8]) -> Result<usize, Failed>
         ensures within { IfOk result (λ n. n ≤ length buf.new) }
 
-        // Where the bytes are exposed, those from the place on came, and some of them if any are there.
+        // Where the bytes are exposed, those from the offset on came, and some if any are there.
         ensures bytes { IfOk result (λ n. WhereExposed (content self.old name.now)
             (λ exposed. take n buf.new ≡ take n (drop at exposed))) }
         ensures some { IfOk result (λ n. WhereExposed (content self.old name.now)

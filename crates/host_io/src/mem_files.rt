@@ -34,8 +34,8 @@ fn find_file<'a>(files: &'a [MemFile], name: &str) -> Option<&'a MemFile>
     files.iter().find(|file| file.name.as_str() == name)
 }
 
-/// Copies bytes from a place on to the front of a buffer: as many as are there and have room. Answers how
-/// many.
+/// Copies bytes from an offset on to the front of a buffer: as many as are there and have room.
+/// Answers how many.
 fn copy_from(bytes: &[u8], at: u64, buf: &mut [u8]) -> usize
     ensures count { result ≡ min (length buf.new) (length bytes.now - at) }
     ensures copied { take result buf.new ≡ take result (drop at bytes.now) }

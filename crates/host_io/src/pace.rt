@@ -1,4 +1,4 @@
-//! The pace of a run on threads.
+//! The pace of a run on threads. There are no threads yet, so nothing calls it.
 
 use wedge_base::ActorName;
 

@@ -10,8 +10,8 @@ use std::fs::File;
 use std::io::{self, Read, Seek, SeekFrom};
 use std::rt;
 
-/// A file that was opened: its name, unless there was no memory for that, and the place of the byte that
-/// will be read next.
+/// A file that was opened: its name, unless memory ran out for that, and the offset of the byte
+/// that will be read next.
 #[derive(Drop)]
 struct Opened<F> {
     name: Option<String>,
@@ -52,7 +52,7 @@ impl<'a, R: rt::Files> RealFiles<'a, R> {
         }
     }
 
-    /// Opens a file, to be read from a place on.
+    /// Opens a file, to be read from an offset on.
     fn open_at(&self, name: &str, at: u64) -> io::Result<Opened<R::File>> {
         let mut file = File::open(self.rt, name)?;
         if at > 0 {

@@ -6,7 +6,7 @@ ghost use Rattle.host_io.specs.Counts.{Counts};
 
 use crate::errors::Failed;
 
-/// A place outside the program that takes bytes in order.
+/// A device outside the program that takes bytes in order.
 pub trait Sink {
     /// The bytes that it has taken, where they are exposed.
     ghost written: { Self → Option (List ℕ) };

@@ -19,7 +19,7 @@ fn empty_piece(alloc: Global) -> Result<Vec<u8>, AllocError>
     vec![in alloc; 0; PIECE]
 }
 
-/// All bytes of a file, of which there may be at most so many. A longer file is refused as it is
+/// All bytes of a file, of which there may be at most `limit`. A longer file is rejected as it is
 /// read: no read begins past the limit.
 pub fn read_whole<F: Files>(
     alloc: Global,
@@ -55,8 +55,8 @@ pub fn read_whole<F: Files>(
     }
 }
 
-/// Writes all bytes. Of none the sink is not asked at all. After a fault it has taken those before
-/// some place.
+/// Writes all bytes. Of none the sink is not asked at all. After a fault it has taken a prefix of
+/// them.
 pub fn write_whole<S: Sink>(sink: &mut S, bytes: &[u8]) -> Result<(), WriteFault>
     ensures ok { OnOk result (S.written sink.new ≡ grown_by (S.written sink.old) bytes.now) }
     ensures part { OnErr result ((n : ℕ) × (n < length bytes.now)

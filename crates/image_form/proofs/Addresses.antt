@@ -3,9 +3,11 @@ use Rattle.std.proofs.Common.{◌≡◌, ◌⊎◌, inl, inr, ℕ, suc, ◌+◌,
 use Rattle.std.proofs.lemmas.Bool.Decides.{nat_tests}
 use Rattle.std.proofs.lemmas.List.Elements.{All-from_recursion}
 use Rattle.std.specs.List.{AllByRecursion}
-use Rattle.wedge_base.specs.Images.{Image, in_text, text_byte, read_text}
+use Rattle.std.specs.Ordering.{nat_cmp, is_eq}
+use Rattle.wedge_base.specs.Images.{Image, in_text, text_byte, read_text, begins_at}
 use Rattle.wedge_base.specs.declared.image.Procedure.{Procedure}
-use Rattle.image_form.specs.Rules.{is_among, addresses, begins_at}
+use Rattle.wedge_base.specs.Maps.{is_among}
+use Rattle.image_form.specs.Rules.{addresses}
 use Rattle.image_form.specs.Address.{better, greatest_from}
 
 pub read_next : (i : Image) (address size k : ℕ) → k < size → read_text i (address + k) (size - k) ≡ text_byte i (address + k) ∷ read_text i (address + (k + 1)) (size - (k + 1))
@@ -49,7 +51,7 @@ first_among a ns n h = grind (arith, nat_tests)
 later_among : (a : ℕ) (ns : List ℕ) (n : ℕ) → is_among ns n ≡ true → is_among (a ∷ ns) n ≡ true
 later_among a ns n h = grind (arith, nat_tests)
 
-either : (a n : ℕ) (b : Bool) → (eqb a n || b) ≡ true → (a ≡ n) ⊎ (b ≡ true)
+either : (a n : ℕ) (b : Bool) → (is_eq (nat_cmp n a) || b) ≡ true → (a ≡ n) ⊎ (b ≡ true)
 either a n b h = grind (arith, nat_tests)
 
 pub greatest_is : (best address : ℕ) (ns : List ℕ) → (greatest_from best address ns ≡ best) ⊎ (is_among ns (greatest_from best address ns) ≡ true)
@@ -72,9 +74,12 @@ among_covered best address (a ∷ ns) n h le =
       | inr later ↦ among_covered (better best address a) address ns n later le
     ]
 
+same_test : (a n : ℕ) → is_eq (nat_cmp n a) ≡ eqb a n
+same_test a n = grind (arith, nat_tests)
+
 begins_among : (ps : List Procedure) (address : ℕ) → is_among (addresses ps) address ≡ begins_at ps address
 begins_among [] address = refl
-begins_among (p ∷ ps) address = ap (λ (b : Bool). eqb p.address address || b) (begins_among ps address)
+begins_among (p ∷ ps) address = (λ i. same_test p.address address i || begins_among ps address i)
 
 -- where a procedure begins at a positive address that is not above, the greatest is a procedure's
 pub greatest_begins : (ps : List Procedure) (address n : ℕ) → begins_at ps n ≡ true → 0 < n → n ≤ address → begins_at ps (greatest_from 0 address (addresses ps)) ≡ true

@@ -8,8 +8,10 @@ use Rattle.image_form.specs.declared.fault.Why.TheVariants.{Range, Overlap, Limi
 use Rattle.wedge_base.specs.Texts.{is_name}
 use Rattle.image_form.specs.Forms.{is_below}
 use Rattle.image_form.specs.Encoding.{number, string, content, table, procedure, range}
-use Rattle.image_form.specs.Rules.{high_end, most_procedures, most_ranges, most_range_bytes, is_among, addresses, begins_at, end_of, is_off_text, IsProcedure, AreProcedures, IsRange, AreRanges}
-use Rattle.image_form.specs.Reading.{◌>>=◌, demand, last_of, bytes_at, number_at, checked_at, is_base, is_word_count, words_at, is_address, address_at, procedure_at, procedures_at, is_range_length, range_length_at, range_at, ranges_at}
+use Rattle.wedge_base.specs.Images.{begins_at, is_text_address}
+use Rattle.wedge_base.specs.Maps.{is_among}
+use Rattle.image_form.specs.Rules.{high_end, most_procedures, most_ranges, most_range_bytes, addresses, end_of, is_off_text, IsProcedure, AreProcedures, IsRange, AreRanges}
+use Rattle.image_form.specs.Reading.{◌>>=◌, demand, last_of, bytes_at, number_at, checked_at, is_base, is_word_count, words_at, address_at, procedure_at, procedures_at, is_range_length, range_length_at, range_at, ranges_at}
 use Rattle.image_form.proofs.Form.{IsForm, seq, ended, demanded, placed, tested, reworded}
 use Rattle.image_form.proofs.FieldForms.{bytes_form, number_form, checked_form, key_form}
 use Rattle.image_form.proofs.TableForms.{table_form, list_form, scan_there, scan_back, plain_there, plain_back}
@@ -42,9 +44,9 @@ IsNew front p = not (is_among (addresses front) p.address) ≡ true
 abbrev IsNext : ℕ → ℕ → List Procedure → Procedure → Type 0
 IsNext base count front p = (is_below (last_of (λ x. x.name) [] front) p.name ≡ true) × (IsNew front p × IsProcedure base count p)
 
-address_form : (base count : ℕ) (front : List Procedure) (total : ℕ) → IsForm (address_at base count front total) number (λ n. (not (is_among (addresses front) n) ≡ true) × ((is_address base count n ≡ true) × (n < 2 ^ 32)))
+address_form : (base count : ℕ) (front : List Procedure) (total : ℕ) → IsForm (address_at base count front total) number (λ n. (not (is_among (addresses front) n) ≡ true) × ((is_text_address base count n ≡ true) × (n < 2 ^ 32)))
 unfolding address_at
-address_form base count front total = tested (λ n. not (is_among (addresses front) n)) Overlap total (checked_form (is_address base count) Range total)
+address_form base count front total = tested (λ n. not (is_among (addresses front) n)) Overlap total (checked_form (is_text_address base count) Range total)
 
 procedure_form : (base count total : ℕ) → base + 4 * count ≤ high_end → (front : List Procedure) → IsForm (procedure_at base count total front) procedure (IsNext base count front)
 unfolding procedure_at

@@ -90,7 +90,7 @@ module _ {Y : Type 0} where
     again = λ y rest g. rw g.0 ((form g.0).again y rest g.1);
   }
 
-  -- a reader that names the place at which it begins
+  -- a reader that takes the offset at which it begins
   pub placed : {encode : Y → List ℕ} {Good : Y → Type 0} (read : ℕ → List ℕ → Read Y) (total : ℕ)
       → ((at : ℕ) → IsForm (read at) encode Good) → IsForm (λ bytes. read (place total bytes) bytes) encode Good
   placed {encode} read total form = record {
@@ -111,7 +111,7 @@ module _ {Y : Type 0} where
         ap (λ w. read (w ++ rest)) (sym (there y good).0) ∙ form.again y rest good;
   }
 
-  -- what is read also passes a test, which names the place at which it begins
+  -- what is read also passes a test, whose fault has the offset at which it begins
   pub tested : {read : List ℕ → Read Y} {encode : Y → List ℕ} {Good : Y → Type 0} (test : Y → Bool) (why : Why) (total : ℕ)
       → IsForm read encode Good → IsForm (λ bytes. read bytes >>= λ x rest. demand (test x) (place total bytes) why (Ok (x, rest))) encode (λ x. (test x ≡ true) × Good x)
   tested {read} {encode} {Good} test why total form =

@@ -5,7 +5,7 @@ use Rattle.std.specs.List.{AllByRecursion}
 use Rattle.std.proofs.lemmas.Bool.{eqb-true}
 use Rattle.std.proofs.lemmas.Bool.Decides.{nat_tests}
 use Rattle.std.proofs.lemmas.List.{append-nil, nil_from_length}
-use Rattle.wedge_base.specs.Images.{Image, page, most_pages}
+use Rattle.wedge_base.specs.Images.{Image, page, most_pages, begins_at}
 use Rattle.wedge_base.specs.declared.image.Procedure.{Procedure}
 use Rattle.wedge_base.specs.declared.image.TagEntry.{TagEntry}
 use Rattle.wedge_base.specs.declared.image.FdEntry.{FdEntry}
@@ -20,7 +20,7 @@ use Rattle.image_form.specs.declared.fault.ImageError.{ImageError}
 use Rattle.wedge_base.specs.Texts.{is_name}
 use Rattle.image_form.specs.Forms.{is_path, is_root, is_below, ascend}
 use Rattle.image_form.specs.Encoding.{most_bytes, magic, version, number, table, right_code, tag, kind_code, bits_code, fd, file, encoding}
-use Rattle.image_form.specs.Rules.{most_fuel, most_tags, most_declared_fds, most_files, begins_at, may_hold, IsText, IsProcedure, AreProcedures, AreRanges, IsTag, AreTags, IsFd, AreFds, IsFile, AreFiles, IsImage, Encodes}
+use Rattle.image_form.specs.Rules.{most_fuel, most_tags, most_declared_fds, most_files, may_hold, IsText, IsProcedure, AreProcedures, AreRanges, IsTag, AreTags, IsFd, AreFds, IsFile, AreFiles, IsImage, Encodes}
 use Rattle.image_form.specs.Reading.{◌>>=◌, Read, last_of, checked_at, table_at, right_of, right_at, is_page_count, tag_at, tags_at, kind_of, kind_at, bits_of, bits_at, fd_at, fds_at, file_at, files_at, header_at, is_base, image_at, reading, place, Gives}
 use Rattle.image_form.proofs.Form.{IsBytes, bind_ok, demand_ok, ok_is, IsForm, seq, ended, reworded}
 use Rattle.image_form.proofs.FieldForms.{number_form, checked_form, formed_form, key_form, content_form}
@@ -85,7 +85,7 @@ code_back false false = refl
 bits_back : (b : FdBits) → b ≡ bits_of (bits_code b)
 bits_back b = code_back b.read b.append
 
--- a number of a few, that stands for something
+-- a code: one of a few numbers, each of which encodes a value
 coded_form : {X : Type 0} (of : ℕ → X) (code : X → ℕ) (most total : ℕ) → most < 2 ^ 32 → ((n : ℕ) → n ≤ most → code (of n) ≡ n) → ((x : X) → code x ≤ most) → ((x : X) → x ≡ of (code x))
     → IsForm (λ bytes. checked_at (λ n. leb n most) Range total bytes >>= λ n rest. Ok (of n, rest)) (λ x. number (code x)) (λ x. Unit {0})
 coded_form of code most total few again small back =
@@ -114,7 +114,7 @@ page_count_there n h = grind (arith, nat_tests)
 page_count_back : (n : ℕ) → 1 ≤ n → n ≤ most_pages → is_page_count n ≡ true
 page_count_back n a b = grind (arith, nat_tests)
 
--- the text of an entry stands after those before it
+-- the name or path of an entry is above that of the one before it
 abbrev IsAfter : {X : Type 0} → (X → List ℕ) → List X → X → Type 0
 IsAfter key front x = is_below (last_of key [] front) (key x) ≡ true
 

@@ -23,7 +23,7 @@ module _ {X : Type 0} (encode : X → List ℕ) (fits : X → Type 0) (xs : List
   whole : length (table encode xs) ≡ 4 + length (flat_map encode xs)
   whole = omega (arith, length-append (number (length xs)) (flat_map encode xs), number_long (length xs))
 
-  -- what the entries from a place on take
+  -- how many bytes the entries from an index on take
   need_next : (k : ℕ) (x : X) → k < length xs → x ≡ get_or xs k x → length (flat_map encode (drop k xs)) ≡ length (encode x) + length (flat_map encode (drop (k + 1) xs))
   need_next k x lt is =
       let split : drop k xs ≡ x ∷ drop (k + 1) xs = rw (add-one, drop-cons xs k x lt, ← is) refl in

@@ -9,8 +9,10 @@ use Rattle.wedge_base.specs.declared.image.MemoryRange.{MemoryRange}
 use Rattle.image_form.specs.Forms.{is_below, ascend_from, is_path, is_root}
 use Rattle.wedge_base.specs.Paths.{is_canonical}
 use Rattle.wedge_base.specs.Texts.{is_name, starts_name, continues_name}
-use Rattle.image_form.specs.Rules.{high_end, low_end, most_range_bytes, is_among, addresses, differ_from, end_of, is_off_text, lie_apart}
-use Rattle.image_form.specs.Reading.{last_of, is_base, is_word_count, is_address, is_range_length}
+use Rattle.wedge_base.specs.Maps.{is_among}
+use Rattle.image_form.specs.Rules.{high_end, low_end, most_range_bytes, addresses, differ_from, end_of, is_off_text, lie_apart}
+use Rattle.wedge_base.specs.Images.{is_text_address}
+use Rattle.image_form.specs.Reading.{last_of, is_base, is_word_count, is_range_length}
 use Rattle.image_form.proofs.Lasts.{last_of-push}
 use Rattle.image_form.proofs.TableForms.{Each, IsScan, both}
 
@@ -72,10 +74,10 @@ word_count_there base n h = grind (arith, nat_tests)
 pub word_count_back : (base n : ℕ) → 1 ≤ n → base + 4 * n ≤ high_end → is_word_count base n ≡ true
 word_count_back base n a b = grind (arith, nat_tests)
 
-pub address_there : (base count n : ℕ) → is_address base count n ≡ true → (n % 4 ≡ 0) × (base ≤ n) × (n < base + 4 * count)
+pub address_there : (base count n : ℕ) → is_text_address base count n ≡ true → (n % 4 ≡ 0) × (base ≤ n) × (n < base + 4 * count)
 address_there base count n h = grind (arith, nat_tests)
 
-pub address_back : (base count n : ℕ) → n % 4 ≡ 0 → base ≤ n → n < base + 4 * count → is_address base count n ≡ true
+pub address_back : (base count n : ℕ) → n % 4 ≡ 0 → base ≤ n → n < base + 4 * count → is_text_address base count n ≡ true
 address_back base count n a b c = grind (arith, nat_tests)
 
 pub range_length_there : (base n : ℕ) → is_range_length base n ≡ true → (n % 4 ≡ 0) × (1 ≤ n) × (base + n ≤ high_end)

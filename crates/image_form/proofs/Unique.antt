@@ -15,7 +15,7 @@ use Rattle.image_form.proofs.FieldForms.{bytes_form, short_form, number_form, co
 use Rattle.image_form.proofs.ImageForm.{right_form, kind_form, bits_form, entry_small}
 use Rattle.image_form.proofs.Scans.{name_short, path_short, root_short}
 
--- A encoding of what fits, if it begins as that of what is good, tells the same.
+-- An encoding of what fits that begins as that of what is good encodes the same.
 pub record IsUnique {X : Type 0} (encode : X → List ℕ) (Fit Good : X → Type 0) (Same : X → X → Type 0) : Type 0 where
   pub unique : (y x : X) (r s : List ℕ) → Fit y → Good x → encode y ++ r ≡ encode x ++ s → Same y x × (r ≡ s)
 
@@ -82,7 +82,7 @@ table_unique {X} {s} one = record {
 same_length : (ys xs r q : List ℕ) → length ys ≡ length xs → ys ++ r ≡ xs ++ q → (ys ≡ xs) × (r ≡ q)
 same_length ys xs r q long e = (from_form (bytes_form 0 (length xs))).unique ys xs r q long refl e
 
--- a text that is told as shorter than it is is no text of those that are short
+-- a string that is encoded with a shorter length than its own differs from those that are short
 string_unique : IsUnique string (λ t. Unit {0}) (λ t. length t < 65535) (λ y x. y ≡ x)
 unfolding string
 string_unique = record {

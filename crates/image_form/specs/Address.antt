@@ -1,7 +1,7 @@
 -- What an image has at an address.
 use Rattle.std.specs.Prelude.{ℕ, List, [], ◌∷◌, Option, Some, None, nat_le, max, if◌then◌else◌}
-use Rattle.wedge_base.specs.Images.{Image}
-use Rattle.image_form.specs.Rules.{begins_at, addresses}
+use Rattle.wedge_base.specs.Images.{Image, begins_at}
+use Rattle.image_form.specs.Rules.{addresses}
 
 -- the address, if a procedure begins there
 abbrev pub proc_at : Image → ℕ → Option ℕ

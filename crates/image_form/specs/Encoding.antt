@@ -29,8 +29,8 @@ version = 1
 unfoldable pub number : ℕ → List ℕ
 number n = to_le_bytes w32 n
 
--- The bytes of a text after their length in two bytes. A text of more than 65,535 bytes, which no
--- rule allows, is written with the length 65,535.
+-- The bytes of a string after their length in two bytes. A string of more than 65,535 bytes, which
+-- no rule allows, is written with the length 65,535.
 unfoldable pub string : List ℕ → List ℕ
 string text = to_le_bytes w16 (min (length text) 65535) ++ text
 

@@ -1,4 +1,4 @@
--- The form of a path, and the order of texts.
+-- The form of a path, and the order of strings.
 use Rattle.std.specs.Prelude.{ℕ, Bool, true, ◌&&◌, List, [], ◌∷◌, length, nat_le}
 use Rattle.std.specs.Ordering.{nat_cmp, is_lt}
 use Rattle.std.specs.Cmp.Lexicographic.{slice_cmp}
@@ -12,15 +12,15 @@ is_path text = nat_le 2 (length text) && nat_le (length text) 255 && is_canonica
 unfoldable pub is_root : List ℕ → Bool
 is_root text = nat_le 1 (length text) && nat_le (length text) 255 && is_canonical text
 
--- whether the first text stands before the second in byte order
+-- whether the first string is before the second, in byte order
 unfoldable pub is_below : List ℕ → List ℕ → Bool
 is_below a b = is_lt (slice_cmp nat_cmp a b)
 
--- whether each text stands after the one before it, and the first after a text that is given
+-- whether each string is after the one before it, and the first after a given one
 abbrev pub ascend_from : List ℕ → List (List ℕ) → Bool
 ascend_from before [] = true
 ascend_from before (t ∷ ts) = is_below before t && ascend_from t ts
 
--- strictly ascending texts, none of them empty
+-- strictly ascending strings, none of them empty
 abbrev pub ascend : List (List ℕ) → Bool
 ascend ts = ascend_from [] ts

@@ -3,7 +3,7 @@ use Rattle.std.specs.Prelude.{◌≡◌, ℕ, zero, suc, ◌+◌, ◌-◌, ◌*�
 use Rattle.std.specs.List.{sum_by}
 use Rattle.std.specs.Option.{option_map_or}
 use Rattle.std.specs.Int.{w16, w32, from_le_bytes}
-use Rattle.wedge_base.specs.Images.{Image, page, most_pages}
+use Rattle.wedge_base.specs.Images.{Image, is_text_address, begins_at, page, most_pages}
 use Rattle.wedge_base.specs.declared.image.Procedure.{Procedure}
 use Rattle.wedge_base.specs.declared.image.MemoryRange.{MemoryRange}
 use Rattle.wedge_base.specs.declared.image.TagEntry.{TagEntry}
@@ -22,7 +22,8 @@ use Rattle.image_form.specs.declared.fault.ImageError.TheVariants as error
 use Rattle.image_form.specs.Encoding.{most_bytes, magic, version}
 use Rattle.wedge_base.specs.Texts.{is_name}
 use Rattle.image_form.specs.Forms.{is_path, is_root, is_below}
-use Rattle.image_form.specs.Rules.{most_fuel, low_end, high_end, most_procedures, most_ranges, most_range_bytes, most_tags, most_declared_fds, most_files, is_among, addresses, begins_at, end_of, is_off_text, may_hold}
+use Rattle.wedge_base.specs.Maps.{is_among}
+use Rattle.image_form.specs.Rules.{most_fuel, low_end, high_end, most_procedures, most_ranges, most_range_bytes, most_tags, most_declared_fds, most_files, addresses, end_of, is_off_text, may_hold}
 
 -- ---- what reading gives
 
@@ -30,6 +31,7 @@ use Rattle.image_form.specs.Rules.{most_fuel, low_end, high_end, most_procedures
 abbrev pub Read : Type 0 → Type 0
 Read X = Result (X × List ℕ) Fault
 
+-- a fault at an offset
 abbrev pub refuse : {X : Type 0} → ℕ → Why → Result X Fault
 refuse at why = Err (record { at = at; why = why })
 
@@ -43,7 +45,7 @@ abbrev pub ◌>>=◌ : {X Y : Type 0} → Read X → (X → List ℕ → Result 
 abbrev pub demand : {Y : Type 0} → Bool → ℕ → Why → Result Y Fault → Result Y Fault
 demand test at why next = if test then next else refuse at why
 
--- where bytes begin that go to the end of a file of so many bytes
+-- the offset of the unread bytes in a file of `total` bytes
 abbrev pub place : ℕ → List ℕ → ℕ
 place total rest = total - length rest
 
@@ -59,7 +61,7 @@ Gives view (Err e) read = Fails e read
 
 -- ---- fields
 
--- so many bytes
+-- the next n bytes, or `truncated` at their offset
 unfoldable pub bytes_at : ℕ → ℕ → List ℕ → Read (List ℕ)
 bytes_at total n bytes = demand (nat_le n (length bytes)) (place total bytes) Truncated (Ok (take n bytes, drop n bytes))
 
@@ -80,11 +82,11 @@ limited_at most = checked_at (λ n. nat_le n most) Limit
 unfoldable pub string_at : ℕ → List ℕ → Read (List ℕ)
 string_at total bytes = short_at total bytes >>= λ n rest. bytes_at total n rest
 
--- a text of a form
+-- a string of a form
 unfoldable pub formed_at : (List ℕ → Bool) → ℕ → List ℕ → Read (List ℕ)
 formed_at form total bytes = string_at total bytes >>= λ text rest. demand (form text) (place total bytes) Range (Ok (text, rest))
 
--- a text of a form that stands after the one before it
+-- a string of a form that is above the one before it, in byte order
 unfoldable pub key_at : (List ℕ → Bool) → List ℕ → ℕ → List ℕ → Read (List ℕ)
 key_at form before total bytes = formed_at form total bytes >>= λ text rest. demand (is_below before text) (place total bytes) Order (Ok (text, rest))
 
@@ -94,7 +96,7 @@ content_at test total bytes = checked_at test Range total bytes >>= λ n rest. b
 
 -- ---- tables
 
--- so many entries, each read in the light of those before it
+-- n entries; how one is read depends on those before it
 unfoldable pub entries_at : {X : Type 0} → (List X → List ℕ → Read X) → ℕ → List X → List ℕ → Read (List X)
 entries_at entry zero front bytes = Ok ([], bytes)
 entries_at entry (suc n) front bytes =
@@ -121,12 +123,9 @@ is_word_count base n = nat_le 1 n && nat_le (base + 4 * n) high_end
 unfoldable pub words_at : ℕ → ℕ → List ℕ → Read (List ℕ)
 words_at base total bytes = checked_at (is_word_count base) Range total bytes >>= λ n rest. entries_at (λ front. number_at total) n [] rest
 
-abbrev pub is_address : ℕ → ℕ → ℕ → Bool
-is_address base count n = n % 4 == 0 && nat_le base n && nat_lt n (base + 4 * count)
-
 unfoldable pub address_at : ℕ → ℕ → List Procedure → ℕ → List ℕ → Read ℕ
 address_at base count front total bytes =
-    checked_at (is_address base count) Range total bytes >>= λ n rest.
+    checked_at (is_text_address base count) Range total bytes >>= λ n rest.
     demand (not (is_among (addresses front) n)) (place total bytes) Overlap (Ok (n, rest))
 
 unfoldable pub procedure_at : ℕ → ℕ → ℕ → List Procedure → List ℕ → Read Procedure

@@ -1,7 +1,8 @@
 -- What an image is: the rules that its parts meet.
 use Rattle.std.specs.Prelude.{◌≡◌, ℕ, ◌+◌, ◌*◌, ◌%◌, ◌^◌, ◌<◌, ◌≤◌, Bool, true, ◌==◌, ◌&&◌, ◌||◌, not, List, [], ◌∷◌, ◌++◌, length, map, IsTrue, nat_le}
-use Rattle.std.specs.List.{AllByRecursion, list_any, sum_by}
-use Rattle.wedge_base.specs.Images.{Image, page, most_pages}
+use Rattle.std.specs.List.{AllByRecursion, sum_by}
+use Rattle.wedge_base.specs.Images.{Image, begins_at, page, most_pages}
+use Rattle.wedge_base.specs.Maps.{is_among}
 use Rattle.wedge_base.specs.declared.image.Procedure.{Procedure}
 use Rattle.wedge_base.specs.declared.image.MemoryRange.{MemoryRange}
 use Rattle.wedge_base.specs.declared.image.TagEntry.{TagEntry}
@@ -18,7 +19,7 @@ use Rattle.image_form.specs.Forms.{is_path, is_root, ascend}
 abbrev pub most_fuel : ℕ
 most_fuel = 16777216
 
--- text and data lie from the low end up to the high end, which is no longer theirs
+-- text and data lie in [low_end, high_end)
 abbrev pub low_end : ℕ
 low_end = 0x10000
 
@@ -46,7 +47,7 @@ most_files = 1024
 
 -- ---- the text and its procedures
 
--- words from a base on
+-- a text: its words, the first at the base
 pub record IsText (base : ℕ) (words : List ℕ) : Type 0 where
   pub base_aligned : base % 4 ≡ 0
   pub base_low : low_end ≤ base
@@ -55,28 +56,20 @@ pub record IsText (base : ℕ) (words : List ℕ) : Type 0 where
   pub end_high : base + 4 * length words ≤ high_end
   pub words_fit : AllByRecursion (λ w. w < 2 ^ 32) words
 
--- a procedure of the text that has so many words from a base on
+-- a procedure of a text that has so many words, the first at the base
 pub record IsProcedure (base count : ℕ) (p : Procedure) : Type 0 where
   pub named : IsTrue (is_name p.name)
   pub aligned : p.address % 4 ≡ 0
   pub above : base ≤ p.address
   pub below : p.address < base + 4 * count
 
--- whether a number is among numbers
-abbrev pub is_among : List ℕ → ℕ → Bool
-is_among ns n = list_any (λ m. m == n) ns
-
--- whether no number stands among those before it, nor among those that are given
+-- whether each number differs from those before it, and from those that are given
 abbrev pub differ_from : List ℕ → List ℕ → Bool
 differ_from before [] = true
 differ_from before (n ∷ ns) = not (is_among before n) && differ_from (before ++ n ∷ []) ns
 
 abbrev pub addresses : List Procedure → List ℕ
 addresses ps = map (λ p. p.address) ps
-
--- whether one of the procedures begins at an address
-abbrev pub begins_at : List Procedure → ℕ → Bool
-begins_at ps address = list_any (λ p. p.address == address) ps
 
 pub record AreProcedures (base count : ℕ) (ps : List Procedure) : Type 0 where
   pub not_too_many : length ps ≤ most_procedures
@@ -97,7 +90,7 @@ pub record IsRange (r : MemoryRange) : Type 0 where
 abbrev pub end_of : MemoryRange → ℕ
 end_of r = r.base + length r.bytes
 
--- whether so many bytes from an address on share none with the text
+-- whether n bytes at an address share none with the text, which has `count` words at `base`
 abbrev pub is_off_text : ℕ → ℕ → ℕ → ℕ → Bool
 is_off_text base count address n = nat_le (address + n) base || nat_le (base + 4 * count) address
 

@@ -35,7 +35,7 @@ image_of p = record {
   root = p.root;
 }
 
--- the same, where the parts are lent
+-- the same, where the parts are borrowed
 abbrev pub lent_image : LentParts → Image
 lent_image p = record {
   fuel = p.fuel;

@@ -1,9 +1,9 @@
-//! Why an image is refused.
+//! Why an image is rejected.
 
 use std::alloc::{AllocError, AllocFailed};
 use wedge_base::NoMemory;
 
-/// What is wrong at a place of an image's bytes.
+/// What is wrong at an offset of an image's bytes.
 #[derive(Clone, Copy, Debug, PartialEq, Eq)]
 pub enum Why {
     /// The bytes don't begin with `WEDG`.
@@ -12,11 +12,11 @@ pub enum Why {
     Version,
     /// A field, or the bytes after a length, go past the end.
     Truncated,
-    /// A byte stands after the last field.
+    /// A byte follows the last field.
     Trailing,
-    /// A name or a path doesn't stand after the one before it.
+    /// A name or a path that is not above the one before it, in byte order.
     Order,
-    /// A value, or the form of a text, that its field doesn't allow.
+    /// A value, or the form of a string, that its field doesn't allow.
     Range,
     /// Two procedures at one address, data that begins before the data in front of it ends, or that
     /// shares memory with the text.
@@ -49,7 +49,7 @@ impl Why {
 /// The first thing that is wrong with an image, by the order of its fields.
 #[derive(Clone, Copy, Debug, PartialEq, Eq)]
 pub struct Fault {
-    /// How many bytes stand before the place.
+    /// The offset in the bytes.
     pub at: usize,
     pub why: Why,
 }

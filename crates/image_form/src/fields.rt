@@ -69,7 +69,7 @@ pub(crate) fn limited(most: u32, total: usize, bytes: &[u8]) -> Result<(u32, &[u
     Ok((number, rest))
 }
 
-/// A text.
+/// A string.
 #[tactic(auto, unfolding(crate::specs::Reading::string_at))]
 fn string(total: usize, bytes: &[u8]) -> Result<(&[u8], &[u8]), ImageError>
     ensures { Gives (λ x. (x.0.now, x.1.now)) result (reading.string_at total bytes.now) }
@@ -78,7 +78,7 @@ fn string(total: usize, bytes: &[u8]) -> Result<(&[u8], &[u8]), ImageError>
     take(total, usize::from(count), rest)
 }
 
-/// A name that stands after the one before it.
+/// A name that is above the one before it, in byte order.
 #[tactic(auto, unfolding(crate::specs::Reading::formed_at, crate::specs::Reading::key_at))]
 pub(crate) fn name_after<'a>(
     before: &[u8],
@@ -98,7 +98,7 @@ pub(crate) fn name_after<'a>(
     Ok((name, rest))
 }
 
-/// A canonical path that stands after the one before it.
+/// A canonical path that is above the one before it, in byte order.
 #[tactic(auto, unfolding(crate::specs::Reading::formed_at, crate::specs::Reading::key_at))]
 pub(crate) fn path_after<'a>(
     before: &[u8],

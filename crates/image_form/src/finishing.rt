@@ -14,7 +14,7 @@ use crate::reading::{MOST_BYTES, image_parts};
 use crate::writing::encoding;
 use std::alloc::Global;
 
-/// Judges parts by the bytes that would be written of them.
+/// Checks parts by the bytes that would be written of them.
 fn check_parts(alloc: Global, parts: &ImageParts) -> Result<(), ImageError>
     ensures exact { Gives (λ _. image_of parts.now) result
         (reading (encoded.encoding (image_of parts.now))) }
@@ -31,8 +31,8 @@ fn check_parts(alloc: Global, parts: &ImageParts) -> Result<(), ImageError>
     Ok(())
 }
 
-/// The image whose parts are given, or the first fault of the bytes that would be written of them. Its
-/// place is the one in those bytes.
+/// The image whose parts are given, or the first fault of the bytes that would be written of them:
+/// its offset is one in those bytes.
 pub fn finish_image(alloc: Global, parts: ImageParts) -> Result<Image, ImageError>
     // What is made, or which fault comes first.
     ensures exact { Gives (λ i. i) result (reading (encoded.encoding (image_of parts))) }

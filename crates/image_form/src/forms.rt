@@ -1,4 +1,4 @@
-//! The form of paths, and the order of texts.
+//! The form of paths, and the order of strings.
 
 ghost use Rattle.std.specs.Prelude.{◌≡◌};
 ghost use Rattle.image_form.specs.Forms as forms;
@@ -8,7 +8,7 @@ use wedge_base::is_canonical;
 /// The most bytes of a path.
 const MOST_PATH_BYTES: usize = 255;
 
-/// Whether a text is a canonical path of at least one part.
+/// Whether a string is a canonical path of at least one part.
 #[tactic(auto, unfolding(crate::specs::Forms::is_path))]
 pub(crate) fn is_path(text: &[u8]) -> bool
     ensures { result ≡ forms.is_path text.now }
@@ -16,7 +16,7 @@ pub(crate) fn is_path(text: &[u8]) -> bool
     2 <= text.len() && text.len() <= MOST_PATH_BYTES && is_canonical(text)
 }
 
-/// Whether a text is a root directory.
+/// Whether a string is a root directory.
 #[tactic(auto, unfolding(crate::specs::Forms::is_root))]
 pub(crate) fn is_root(text: &[u8]) -> bool
     ensures { result ≡ forms.is_root text.now }
@@ -24,7 +24,7 @@ pub(crate) fn is_root(text: &[u8]) -> bool
     1 <= text.len() && text.len() <= MOST_PATH_BYTES && is_canonical(text)
 }
 
-/// Whether the first text stands before the second in byte order.
+/// Whether the first string is before the second, in byte order.
 #[tactic(auto, unfolding(crate::specs::Forms::is_below))]
 pub(crate) fn is_below(a: &[u8], b: &[u8]) -> bool
     ensures { result ≡ forms.is_below a.now b.now }

@@ -12,6 +12,7 @@ use std::alloc::Global;
 use std::marker::Model;
 use wedge_base::{
     Bytes, FdEntry, FileEntry, Items, MemoryRange, NoMemory, Pristine, Procedure, TagEntry,
+    begins_at,
 };
 
 /// An image that meets every rule of its form.
@@ -88,7 +89,7 @@ impl Image {
         }
     }
 
-    /// The fuel with which the root starts, in instructions.
+    /// The fuel with which the root starts, in units.
     pub fn fuel(&self) -> u32
         ensures is { result ≡ self.now.fuel }
         ensures valid { IsImage self.now }
@@ -136,7 +137,7 @@ impl Image {
         self.pristine.ranges.as_slice()
     }
 
-    /// Borrows the declared tags, each at the place that is its number.
+    /// Borrows the declared tags: a tag's number is its index.
     pub fn tags(&self) -> &[TagEntry]
         ensures is { result.now ≡ self.now.tags }
         ensures valid { IsImage self.now }
@@ -144,7 +145,7 @@ impl Image {
         self.tags.as_slice()
     }
 
-    /// Borrows the declared descriptors, each at the place that is its number.
+    /// Borrows the declared descriptors: a descriptor's number is its index.
     pub fn fds(&self) -> &[FdEntry]
         ensures is { result.now ≡ self.now.fds }
         ensures valid { IsImage self.now }
@@ -289,19 +290,12 @@ impl Image {
     pub fn proc_of(&self, address: u32) -> u32
         requires { images.in_text self.now address 1 ≡ true }
         ensures is { result ≡ proc_of self.now address }
-        ensures begins { rules.begins_at self.now.procedures result ≡ true }
+        ensures begins { images.begins_at self.now.procedures result ≡ true }
         ensures not_above { result ≤ address }
         ensures greatest { All (λ a. a ≤ address → a ≤ result) (addresses self.now.procedures) }
     {
         greatest_not_above(self.procedures(), address)
     }
-}
-
-/// Whether one of the procedures begins at an address.
-pub(crate) fn begins_at(procedures: &[Procedure], address: u32) -> bool
-    ensures { result ≡ rules.begins_at procedures.now address }
-{
-    procedures.iter().any(|p| p.address == address)
 }
 
 /// The greatest address of a procedure that is not above an address, or 0.

@@ -5,7 +5,7 @@ use wedge_base::{Bytes, FdEntry, FileEntry, Items, MemoryRange, Procedure, TagEn
 /// The parts that an image is made of, in the order of its form. They need meet no rule.
 #[derive(Debug, Drop)]
 pub struct ImageParts {
-    /// The fuel with which the root starts, in instructions.
+    /// The fuel with which the root starts, in units.
     pub fuel: u32,
     /// The address of the text's first word.
     pub base: u32,
@@ -23,7 +23,7 @@ pub struct ImageParts {
     pub root: Bytes,
 }
 
-/// The parts of an image, lent.
+/// The parts of an image, borrowed.
 #[derive(Clone, Copy)]
 pub(crate) struct LentParts<'a> {
     pub fuel: u32,

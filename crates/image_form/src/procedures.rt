@@ -3,23 +3,23 @@
 ghost use Rattle.std.specs.Prelude.{◌≡◌, ◌+◌, ◌*◌, ◌≤◌, ◌%◌, ◌==◌, ◌&&◌, ℕ, [], length, nat_le, nat_lt};
 ghost use Rattle.std.specs.Ordering.{nat_cmp};
 ghost use Rattle.std.specs.BTreeSet.{contains};
-ghost use Rattle.image_form.specs.Rules.{is_among, addresses, most_procedures};
-ghost use Rattle.image_form.specs.Rules as rules;
+ghost use Rattle.wedge_base.specs.Images as images;
+ghost use Rattle.wedge_base.specs.Maps.{is_among};
+ghost use Rattle.image_form.specs.Rules.{addresses, most_procedures};
 ghost use Rattle.image_form.specs.declared.fault.Why.TheVariants as why;
 ghost use Rattle.image_form.specs.Reading as reading;
 ghost use Rattle.image_form.specs.Reading.{Gives, last_of};
 
 use crate::fault::{ImageError, Why};
 use crate::fields::{limited, name_after, number, refused};
-use crate::image::begins_at;
 use std::alloc::Global;
 use std::collections::BTreeSet;
-use wedge_base::{Bytes, Procedure};
+use wedge_base::{Bytes, Procedure, begins_at};
 
 /// The most procedures of an image.
 const MOST_PROCEDURES: u32 = 4096;
 
-/// Where the text lies: so many words from a base on.
+/// The base of the text, and how many words it has.
 #[derive(Clone, Copy)]
 pub(crate) struct TextSpan {
     pub base: u32,
@@ -39,7 +39,7 @@ fn last_name(front: &[Procedure]) -> &[u8]
 
 /// Whether a procedure may begin at an address.
 fn is_address(text: TextSpan, address: u32) -> bool
-    ensures { result ≡ reading.is_address text.base text.count address }
+    ensures { result ≡ images.is_text_address text.base text.count address }
 {
     address % 4 == 0 && text.base <= address && address < text.base + 4 * text.count
 }
@@ -121,7 +121,7 @@ pub(crate) fn entry<'a>(
     bytes: &'a [u8],
 ) -> Result<(u32, &'a [u8]), ImageError>
     ensures { Gives (λ x. (x.0, x.1.now)) result
-        (reading.checked_at (rules.begins_at procedures.now) why.Range total bytes.now) }
+        (reading.checked_at (images.begins_at procedures.now) why.Range total bytes.now) }
 {
     let (entry, rest) = number(total, bytes)?;
     if !begins_at(procedures, entry) {

@@ -30,7 +30,7 @@ pub(crate) const MAGIC: u32 = 0x47444557;
 /// The one version of the form.
 pub(crate) const VERSION: u32 = 1;
 
-/// The most fuel of an image, in instructions.
+/// The most fuel of an image, in units.
 const MOST_FUEL: u32 = 16777216;
 
 /// The most bytes of an image's file.
@@ -136,8 +136,8 @@ pub(crate) fn image_parts(alloc: Global, bytes: &[u8]) -> Result<ImageParts, Ima
     all_parts(alloc, bytes)
 }
 
-/// The image that the bytes are, or the first fault by the order of the fields. The bytes of a file of
-/// more than 16,777,216 bytes are not looked at.
+/// The image that the bytes are, or the first fault by the order of the fields. The bytes of a file
+/// of more than 16,777,216 bytes are not looked at.
 pub fn read_image(alloc: Global, bytes: &[u8]) -> Result<Image, ImageError>
     // What is read, or which fault comes first.
     ensures exact { Gives (λ i. i) result (reading.reading bytes.now) }

@@ -14,7 +14,7 @@ fn push_number(bytes: &mut Vec<u8>, number: u32) -> Result<(), NoMemory> {
     Ok(())
 }
 
-/// A text of two characters and four digits, with its length.
+/// A string of two characters and four digits, with its length.
 fn push_text(bytes: &mut Vec<u8>, start: &[u8; 2], number: u16) -> Result<(), NoMemory> {
     bytes.extend_from_slice(&[6, 0])?;
     bytes.extend_from_slice(start)?;
@@ -24,8 +24,9 @@ fn push_text(bytes: &mut Vec<u8>, start: &[u8; 2], number: u16) -> Result<(), No
     Ok(())
 }
 
-/// An image of so many words and procedures, each of one word, with so many files. The numbers before
-/// the words are those of `SMALL`. The last procedure has the address of the one whose place is given.
+/// An image of so many words and procedures, each of one word, with so many files. The numbers
+/// before the words are those of `SMALL`. The last procedure has the address of the one at index
+/// `last`.
 fn image(alloc: Global, procedures: u16, last: u16, files: u16) -> Result<Vec<u8>, NoMemory> {
     let mut bytes = Vec::from_slice(alloc, &SMALL[..16])?;
     push_number(&mut bytes, u32::from(procedures))?;

@@ -33,10 +33,10 @@ pub(crate) static SMALL: [u8; 69] = [
     0, 0, 0, 0, 0, 0, 0, 0, 0, 0, 0, 0, 0, 1, 0, 0x2f,
 ];
 
-/// What stands in place of a field of `SMALL`, and the fault of such a file.
+/// The bytes that are put for a field of `SMALL`, and the fault of such a file.
 type Case = (&'static [u8], Option<(usize, Why)>);
 
-/// The bytes of `SMALL` from one place to another, and what may stand there.
+/// The bytes of `SMALL` from one offset to another, and what is put for them.
 struct Field {
     start: usize,
     end: usize,
@@ -332,7 +332,7 @@ static ROOT_AND_END: [Field; 3] = [
     },
 ];
 
-/// The fault of what was refused.
+/// The fault for which an image was rejected, if it was.
 fn fault_in(answer: Result<Image, ImageError>) -> Result<Option<(usize, Why)>, NoMemory> {
     match answer {
         Ok(_) => Ok(None),
@@ -345,7 +345,7 @@ pub(crate) fn fault_of(alloc: Global, bytes: &[u8]) -> Result<Option<(usize, Why
     fault_in(read_image(alloc, bytes))
 }
 
-/// `SMALL` with other bytes in place of a field.
+/// `SMALL` with other bytes for a field.
 fn edited(alloc: Global, field: &Field, bytes: &[u8]) -> Result<Vec<u8>, NoMemory> {
     let mut file = Vec::new(alloc);
     for byte in SMALL.iter().take(field.start) {
@@ -387,7 +387,7 @@ fn prefix_fault(alloc: Global, length: usize) -> Result<Option<(usize, Why)>, No
     }
 }
 
-/// The last start of a field that is no later than a place.
+/// The last start of a field that is at or before an offset.
 fn last_start(place: usize) -> usize {
     let mut at = 0;
     for start in &STARTS {
@@ -495,7 +495,7 @@ fn finish_fault(alloc: Global, parts: ImageParts) -> Result<Option<(usize, Why)>
     fault_in(finish_image(alloc, parts))
 }
 
-/// An image that is no refusal.
+/// The image that was accepted.
 fn accepted(answer: Result<Image, ImageError>) -> Result<Image, Fail> {
     match answer {
         Ok(image) => Ok(image),

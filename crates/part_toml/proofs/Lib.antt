@@ -4,7 +4,7 @@ pub mod Large
 pub mod Least
 -- Values of an array, seen as tables.
 pub mod Lists
--- Equates of entries with their places, an entry at a time.
+-- Equates of numbered entries, an entry at a time.
 pub mod Placed
--- Faults of the code, and the refusals that they tell.
+-- Errors of the code, and the faults that they report.
 pub mod Told

@@ -1,4 +1,4 @@
--- Equates of entries with their places, an entry at a time.
+-- Equates of numbered entries, an entry at a time.
 use Rattle.std.proofs.Common.{◌≡◌, ℕ, ◌+◌, ◌%◌, ◌^◌, ◌<◌, ◌≤◌, List, [], ◌∷◌, ◌++◌, length, get_or, drop, ap, sym, ◌∙◌, append_assoc, append-nil}
 use Rattle.std.proofs.lemmas.List.{drop_more, drop_all}
 use Rattle.rv_asm.specs.declared.assembled.Equate.{Equate}

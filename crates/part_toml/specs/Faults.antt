@@ -14,17 +14,17 @@ use Rattle.part_toml.specs.declared.keys.Field.{Field}
 use Rattle.part_toml.specs.Keys.{name_of, fields, prefix}
 use Rattle.part_toml.specs.Values.{at, has, passes, fits, tables_at}
 
--- why a partition is refused
+-- why a partition is rejected
 pub data Refusal : Type 0 where
   -- the text is no TOML document
   Toml : Refusal
-  -- a key that is missing, that is unknown, or that gives the content another time
+  -- a key that is missing or unknown, or `hex` where content is given twice, or not at all in data
   Key : List ℕ → Refusal
   -- a value that its key can't have
   Kind : List ℕ → Refusal
   -- the assembler's: a line, and what is wrong with it
   Asm : ℕ → AsmWhy → Refusal
-  -- the image's: a place in the bytes that would be written, and what is wrong there
+  -- the image's: an offset in the bytes that would be written, and what is wrong there
   Image : ℕ → ImageWhy → Refusal
 
 -- ---- the least of names in byte order
@@ -56,8 +56,8 @@ is_known fs n = list_any (λ f. bytes_eq (name_of f.key) n) fs
 abbrev pub unknown : List Field → Members → List (List ℕ)
 unknown fs ms = filter (λ n. not (is_known fs n)) (keys ms)
 
--- whether the keys `text` and `hex` are at odds with what a table wants: data have one of them, and the
--- others at most one
+-- whether a table has not the keys of content that it may have: data have one of `text` and `hex`,
+-- and the others at most one
 abbrev pub is_content_wrong : Part → Bool → Bool → Bool
 is_content_wrong part.Top text hex = false
 is_content_wrong part.Joined text hex = false

@@ -1,5 +1,5 @@
--- What a partition means that a program is joined to, in place of its text and its data: the image of both, or the
--- first refusal.
+-- What a partition means that is linked with an ELF file's program, which gives the text, the data,
+-- the procedures and the entry: the image of both, or the first fault.
 use Rattle.std.specs.Prelude.{◌≡◌, ℕ, List, Option, Some, None, Result, Err}
 use Rattle.toml.specs.Data.{Members}
 use Rattle.toml.specs.Parse.{parse_document}

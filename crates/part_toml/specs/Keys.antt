@@ -57,7 +57,7 @@ name_of key.Path = codes "path"
 name_of key.Owner = codes "owner"
 name_of key.Mode = codes "mode"
 
--- what stands before a key's name in a refusal
+-- the prefix of a key's name in a fault
 abbrev pub prefix : Part → List ℕ
 prefix part.Top = []
 prefix part.Joined = []

@@ -10,7 +10,7 @@ pub mod Parts
 pub mod Orders
 -- What a partition means.
 pub mod Partition
--- What a partition means that a program is joined to, in place of its text and its data.
+-- What a partition means that is linked with an ELF file's program.
 pub mod Joining
 -- What the code's types stand for.
 pub mod Views

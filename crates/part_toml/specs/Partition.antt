@@ -1,4 +1,4 @@
--- What a partition means: its image, or the first refusal.
+-- What a partition means: its image, or the first fault.
 use Rattle.std.specs.Prelude.{◌≡◌, ℕ, List, map, Option, Some, None, Result, Ok, Err}
 use Rattle.toml.specs.Data.{Members}
 use Rattle.toml.specs.Parse.{parse_document}
@@ -41,17 +41,18 @@ abbrev pub by_image : Result Image ImageFault → Result Image Refusal
 by_image (Ok i) = Ok i
 by_image (Err f) = Err (ImageRefusal f.at f.why)
 
--- the address of the entry; where there is none, no line of the text is to blame
+-- the address of the entry; where there is none, the fault is at line 0: no line of the text has it
 abbrev pub or_no_label : Option ℕ → Result ℕ Refusal
 or_no_label (Some address) = Ok address
 or_no_label None = Err (Asm 0 why.Label)
 
 -- ---- the whole
 
--- the text, and the base of its first word
+-- the address of the first word: 65536 where the partition gives none
 abbrev pub base_at : Members → ℕ
 base_at ms = number_at key.Base 65536 ms
 
+-- the assembled text, or the assembler's fault
 unfoldable pub text_of : Members → Result Assembled Refusal
 text_of ms = by_assembler (asm.assembled (text_at key.Text ms) (base_at ms) (equates (tags ms) (fds ms) (ranges ms)))
 
@@ -87,7 +88,7 @@ partition text = or_no_toml (parse_document text)
 
 -- ---- answers
 
--- a fault of the code reports what is refused, unless memory ran out
+-- an error of the code reports the fault that is found, unless memory ran out
 abbrev pub Reports : PartFault → Option Refusal → Type 0
 Reports fault.NoMemory found = Unit {0}
 Reports fault.Toml found = found ≡ Some Toml

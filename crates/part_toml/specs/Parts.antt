@@ -1,8 +1,9 @@
 -- The parts of an image that the tables of a partition name.
-use Rattle.std.specs.Prelude.{ℕ, ◌+◌, ◌-◌, ◌*◌, ◌%◌, ◌^◌, Bool, false, List, [], ◌∷◌, ◌++◌, map, length, replicate, codes, Option, None, option_map, unwrap_or, nat_lt, find, if◌then◌else◌}
+use Rattle.std.specs.Prelude.{ℕ, ◌+◌, ◌%◌, ◌^◌, Bool, false, List, [], ◌∷◌, ◌++◌, map, codes, Option, None, option_map, unwrap_or, nat_lt, find, if◌then◌else◌}
 use Rattle.std.specs.Str.{bytes_eq}
 use Rattle.toml.specs.Data.{Members}
-use Rattle.wedge_base.specs.Images.{windows_base, window}
+use Rattle.wedge_base.specs.Bytes.{padded_to_words}
+use Rattle.wedge_base.specs.Images.{address_of as address_in_window}
 use Rattle.wedge_base.specs.declared.image.Procedure.{Procedure}
 use Rattle.wedge_base.specs.declared.image.TagEntry.{TagEntry}
 use Rattle.wedge_base.specs.declared.image.FdEntry.{FdEntry}
@@ -22,16 +23,12 @@ use Rattle.stable_sort.specs.ByName.{tag_before, fd_before, file_before}
 abbrev pub content_at : Members → List ℕ
 content_at ms = if has key.Text ms then text_at key.Text ms else bytes_of (text_at key.Hex ms)
 
--- bytes, and zeros up to a multiple of four
-abbrev pub filled : List ℕ → List ℕ
-filled bytes = bytes ++ replicate ((4 - length bytes % 4) % 4) 0
-
 -- the kind of the stream that a table names
 abbrev pub stream_at : Members → StreamKind
 stream_at ms = unwrap_or (stream_named (text_at key.Kind ms)) stream.Source
 
 abbrev pub range_of : Members → NamedRange
-range_of ms = record { name = text_at key.Name ms; range = record { base = number_at key.Base 0 ms; bytes = filled (content_at ms) } }
+range_of ms = record { name = text_at key.Name ms; range = record { base = number_at key.Base 0 ms; bytes = padded_to_words (content_at ms) } }
 
 abbrev pub tag_of : Members → TagEntry
 tag_of ms = record {
@@ -80,14 +77,14 @@ files ms = sorted file_before (map file_of (tables_at key.File ms))
 abbrev pub equate : List ℕ → List ℕ → ℕ → Equate
 equate prefix name value = record { name = prefix ++ name; value = value }
 
--- entries with their places from a number on; places are counted modulo 2^32
+-- an equate for each entry, numbered from n on (modulo 2^32)
 abbrev pub placed : {X : Type 0} → (ℕ → X → Equate) → ℕ → List X → List Equate
 placed f n [] = []
 placed f n (x ∷ xs) = f n x ∷ placed f ((n + 1) % 2 ^ 32) xs
 
--- the address of the tag at a place, modulo 2^32
+-- the address of the tag at an index, in the slot of that number (modulo 2^32)
 abbrev pub tag_address : ℕ → ℕ
-tag_address n = (windows_base + window * n) % 2 ^ 32
+tag_address n = address_in_window n 0 % 2 ^ 32
 
 abbrev pub tag_equate : ℕ → TagEntry → Equate
 tag_equate n t = equate (codes "tag_") t.name n

@@ -13,7 +13,7 @@ use Rattle.part_toml.specs.declared.keys.Kind.TheVariants as kind
 use Rattle.part_toml.specs.declared.keys.Key.{Key}
 use Rattle.part_toml.specs.Keys.{name_of}
 
--- ---- numbers and words
+-- ---- numbers and names
 
 -- an integer that fits 32 bits
 abbrev pub small : ℤ → Option ℕ
@@ -23,7 +23,7 @@ small (negsuc n) = None
 abbrev pub number_of : Data → Option ℕ
 number_of d = option_and_then small (as_integer d)
 
--- the right that a word names, of which "none" names that there is none
+-- the right that a string names: "none" names that there is none
 abbrev pub right_named : List ℕ → Option (Option Right)
 right_named w =
     if bytes_eq w (codes "none") then Some None else

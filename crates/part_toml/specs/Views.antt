@@ -17,7 +17,7 @@ pub record AreEntries (e : Entries) (ms : Members) : Type 0 where
   pub fds : e.fds.items ≡ fds ms
   pub files : e.files.items ≡ files ms
 
--- what the assembler and the image's rules refuse, as a fault of a partition
+-- the faults of the assembler and of an image, as faults of a partition
 abbrev pub by_assembler : AsmError → PartFault
 by_assembler asm.NoMemory = fault.NoMemory
 by_assembler (asm.Fault f) = fault.Asm f.line f.why

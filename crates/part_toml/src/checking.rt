@@ -18,7 +18,7 @@ use std::cmp::Ordering;
 use toml::Table;
 use wedge_base::{Bytes, Items, NoMemory};
 
-/// How two texts stand in byte order.
+/// How two strings compare in byte order.
 #[tactic(auto, unfolding(image_form::specs::Forms::is_below))]
 fn byte_order(a: &[u8], b: &[u8]) -> Ordering
     ensures { is_lt result ≡ forms.is_below a.now b.now }
@@ -26,7 +26,7 @@ fn byte_order(a: &[u8], b: &[u8]) -> Ordering
     a.cmp(b)
 }
 
-/// Whether the first text stands before the second in byte order.
+/// Whether the first string is before the second, in byte order.
 fn is_below(a: &[u8], b: &[u8]) -> bool
     ensures { result ≡ forms.is_below a.now b.now }
 {
@@ -91,7 +91,8 @@ fn least_unknown<'a>(first: Option<&'a str>, fields: &[Field], table: &'a Table)
     best
 }
 
-/// Whether the keys `text` and `hex` are at odds with what a table wants.
+/// Whether a table has not the keys of content that it may have: data have one of `text` and `hex`,
+/// and the others at most one.
 fn is_content_wrong(part: Part, text: bool, hex: bool) -> bool
     ensures { result ≡ faults.is_content_wrong part text hex }
 {
@@ -102,7 +103,8 @@ fn is_content_wrong(part: Part, text: bool, hex: bool) -> bool
     }
 }
 
-/// The least name of a key that is missing or unknown, or of content that is doubled.
+/// The least name of a key that is missing or unknown, or `hex` where content is given twice, or
+/// not at all in data.
 fn first_key_fault<'a>(part: Part, table: &'a Table) -> Option<&'a str>
     ensures { option_copied result ≡ faults.first_key_fault part (table_view table.now) }
 {
@@ -144,7 +146,7 @@ fn full_name(alloc: Global, part: Part, name: &str) -> Result<Bytes, NoMemory>
     Ok(Items::new(full))
 }
 
-/// Refuses a table that is invalid: its keys first, and then their values.
+/// Rejects a table that is invalid: its keys first, and then their values.
 #[tactic(auto, unfolding(crate::specs::Faults::table_fault))]
 fn check_table(alloc: Global, part: Part, table: &Table) -> Result<(), PartFault>
     ensures { Finds result (faults.table_fault part (table_view table.now)) }
@@ -160,7 +162,7 @@ fn check_table(alloc: Global, part: Part, table: &Table) -> Result<(), PartFault
     Ok(())
 }
 
-/// Refuses the first of some tables that is invalid.
+/// Rejects the first of some tables that is invalid.
 fn check_all(alloc: Global, part: Part, tables: &[&Table]) -> Result<(), PartFault>
     ensures { Finds result (faults.tables_fault part (map (λ t. table_view t.now) tables.now)) }
 {
@@ -170,7 +172,7 @@ fn check_all(alloc: Global, part: Part, tables: &[&Table]) -> Result<(), PartFau
     Ok(())
 }
 
-/// Refuses the tables of an array.
+/// Rejects the first table of an array that is invalid.
 fn check_array(alloc: Global, part: Part, top: &Table, key: Key) -> Result<(), PartFault>
     ensures { Finds result (faults.tables_fault part (values.tables_at key (table_view top.now))) }
 {
@@ -178,7 +180,7 @@ fn check_array(alloc: Global, part: Part, top: &Table, key: Key) -> Result<(), P
     check_all(alloc, part, &tables)
 }
 
-/// Refuses a document whose top table, of a kind, or one of whose other tables, is invalid.
+/// Rejects a document whose top table, of a kind, or one of whose other tables, is invalid.
 #[tactic(auto, unfolding(crate::specs::Faults::document_fault))]
 pub(crate) fn check_document(alloc: Global, part: Part, top: &Table) -> Result<(), PartFault>
     ensures { Finds result (faults.document_fault part (table_view top.now)) }

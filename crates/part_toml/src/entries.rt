@@ -2,6 +2,7 @@
 
 ghost use Rattle.std.specs.Prelude.{◌≡◌, map, IfOk};
 ghost use Rattle.toml.specs.View.{table_view};
+ghost use Rattle.wedge_base.specs.Bytes.{padded_to_words};
 ghost use Rattle.part_toml.specs.Parts as parts;
 ghost use Rattle.part_toml.specs.Values as values;
 ghost use Rattle.part_toml.specs.Views.{AreEntries};
@@ -78,7 +79,7 @@ pub(crate) fn copy_at(alloc: Global, table: &Table, key: Key) -> Result<Bytes, N
     Bytes::from_slice(alloc, text_at(table, key).as_bytes())
 }
 
-/// The bytes that a table gives, as a text or in hexadecimal digits.
+/// The bytes that a table gives, as a string or in hexadecimal digits.
 fn content_at(alloc: Global, table: &Table) -> Result<Bytes, NoMemory>
     ensures { IfOk result (λ b. b ≡ parts.content_at (table_view table.now)) }
 {
@@ -90,8 +91,9 @@ fn content_at(alloc: Global, table: &Table) -> Result<Bytes, NoMemory>
 }
 
 /// Bytes, and zeros up to a multiple of four.
-fn filled(bytes: Bytes) -> Result<Bytes, NoMemory>
-    ensures { IfOk result (λ b. b ≡ parts.filled bytes) }
+#[tactic(auto, unfolding(wedge_base::specs::Bytes::zeros))]
+fn pad_to_words(bytes: Bytes) -> Result<Bytes, NoMemory>
+    ensures { IfOk result (λ b. b ≡ padded_to_words bytes) }
 {
     let mut bytes = bytes.into_vec();
     let len = bytes.len();
@@ -144,7 +146,7 @@ impl Entry for NamedRange {
     fn read(alloc: Global, table: &Table) -> Result<NamedRange, NoMemory> {
         let name = copy_at(alloc, table, Key::Name)?;
         let content = content_at(alloc, table)?;
-        let bytes = filled(content)?;
+        let bytes = pad_to_words(content)?;
         let base = number_at(table, Key::Base, 0);
         Ok(NamedRange {
             name,

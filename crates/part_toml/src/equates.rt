@@ -6,7 +6,7 @@ ghost use Rattle.part_toml.specs.Parts as parts;
 use crate::entries::NamedRange;
 use rv_asm::Equate;
 use std::alloc::Global;
-use wedge_base::{FdEntry, Items, NoMemory, TagEntry};
+use wedge_base::{FdEntry, Items, NoMemory, TagEntry, WINDOW, WINDOWS_BASE};
 
 /// Adds an equate, whose name is a prefix and a name.
 fn push(
@@ -26,11 +26,11 @@ fn push(
     Ok(())
 }
 
-/// The address of the tag at a place, modulo 2^32.
+/// The address of the tag at an index, in the slot of that number (modulo 2^32).
 fn tag_address(place: u32) -> u32
     ensures { result ≡ parts.tag_address place }
 {
-    0x4000_0000_u32.wrapping_add(0x1_0000_u32.wrapping_mul(place))
+    WINDOWS_BASE.wrapping_add(place.wrapping_mul(WINDOW))
 }
 
 /// Adds the numbers of tags.

@@ -1,4 +1,4 @@
-//! Why a partition is refused.
+//! Why a partition is rejected.
 
 use image_form::ImageError;
 use rv_asm::AsmError;
@@ -20,15 +20,15 @@ pub enum PartFault {
     Kind {
         name: Bytes,
     },
-    /// The assembler refuses a line of the text; or, at line 0, the entry is no procedure.
+    /// The assembler rejects a line of the text; or, at line 0, the entry is no procedure.
     Asm {
         /// The number of the line, from 1, or 0.
         line: usize,
         why: rv_asm::Why,
     },
-    /// The image is refused at a place of the bytes that would be written of it.
+    /// The image is rejected at an offset of the bytes that would be written of it.
     Image {
-        /// How many bytes stand before the place.
+        /// The offset in those bytes.
         at: usize,
         why: image_form::Why,
     },

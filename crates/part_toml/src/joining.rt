@@ -72,9 +72,9 @@ fn read_table(alloc: Global, top: &Table, program: &ElfProgram<'_>) -> Result<Im
     Ok(finish_image(alloc, parts)?)
 }
 
-/// Reads a partition that a program is joined to, in place of its text and its data. Its keys are
-/// those of any partition but `text`, `base`, `entry` and `data`. The faults come in the order of
-/// `read_partition`.
+/// Reads a partition that is linked with an ELF file's program, which gives the text, the data, the
+/// procedures and the entry. Its keys are those of any partition but `text`, `base`, `entry` and
+/// `data`. The faults come in the order of `read_partition`.
 #[tactic(auto, unfolding(crate::specs::Joining::partition_with))]
 pub fn read_partition_with(
     alloc: Global,

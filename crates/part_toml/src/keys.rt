@@ -48,11 +48,11 @@ pub(crate) enum Kind {
     Text,
     /// Pairs of lower-case hexadecimal digits.
     Hex,
-    /// The word of a right.
+    /// The name of a right.
     Right,
-    /// The word of a stream's kind.
+    /// The name of a stream's kind.
     Stream,
-    /// The word of the bits of a descriptor.
+    /// The name of the bits of a descriptor.
     Bits,
     /// An array of tables.
     Tables,
@@ -280,7 +280,7 @@ impl Part {
         }
     }
 
-    /// What stands before a key's name in a refusal.
+    /// The prefix of a key's name in a fault.
     pub fn prefix(self) -> &'static str
         ensures { result.now ≡ keys.prefix self }
     {

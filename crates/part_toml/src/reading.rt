@@ -130,7 +130,7 @@ fn read_table(alloc: Global, top: &Table) -> Result<Image, PartFault>
 /// tables, then the assembler's fault, then the image's.
 #[tactic(auto, unfolding(crate::specs::Partition::partition))]
 pub fn read_partition(alloc: Global, text: &str) -> Result<Image, PartFault>
-    // The image that the partition means, or why it is refused first.
+    // The image that the partition means, or the first fault.
     ensures exact { IsAnswer result (partition.partition text.now) }
 {
     match toml::table_from_str(alloc, text) {

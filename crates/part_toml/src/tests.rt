@@ -6,7 +6,7 @@ use std::alloc::Global;
 use std::process::Abort;
 use std::test::Fail;
 
-/// A partition whose tables and procedures stand in no order.
+/// A partition whose tables and procedures are in no order.
 static GOOD: &str = "\
 fuel = 1000
 user = 7
@@ -114,7 +114,7 @@ root = \"/\"
 text = \".proc main\\nret\\n\"
 ";
 
-/// What is in `GOOD`, what is put in its place, and what is then reported.
+/// What is in `GOOD`, what is put for it, and what is then reported.
 type Case = (&'static str, &'static str, &'static str);
 
 static KEYS: [Case; 38] = [
@@ -312,7 +312,7 @@ fn line_of(alloc: Global, fault: &PartFault) -> Result<String, Fail> {
     Ok(line)
 }
 
-/// What is reported of a text.
+/// What is reported of a string.
 fn reported(alloc: Global, text: &str) -> Result<String, Fail> {
     match read_partition(alloc, text) {
         Ok(_) => Ok(String::from_str(alloc, "fine")?),

@@ -25,7 +25,7 @@ pub(crate) fn number_of(value: &Value) -> Option<u32>
     small(n)
 }
 
-/// The right that a word names.
+/// The right that a string names.
 pub(crate) fn right_named(word: &str) -> Option<Option<Right>>
     ensures { result ≡ values.right_named word.now }
 {
@@ -38,7 +38,7 @@ pub(crate) fn right_named(word: &str) -> Option<Option<Right>>
     }
 }
 
-/// The kind of stream that a word names.
+/// The kind of stream that a string names.
 pub(crate) fn stream_named(word: &str) -> Option<StreamKind>
     ensures { result ≡ values.stream_named word.now }
 {
@@ -49,7 +49,7 @@ pub(crate) fn stream_named(word: &str) -> Option<StreamKind>
     }
 }
 
-/// The bits that a word names.
+/// The bits that a string names.
 pub(crate) fn bits_named(word: &str) -> Option<FdBits>
     ensures { result ≡ values.bits_named word.now }
 {
@@ -75,7 +75,7 @@ fn are_digits(text: &[u8]) -> bool
     text.iter().all(|c| is_digit(*c))
 }
 
-/// Whether a text is pairs of lower-case hexadecimal digits.
+/// Whether a string is pairs of lower-case hexadecimal digits.
 fn is_hex(text: &[u8]) -> bool
     ensures { result ≡ values.is_hex text.now }
 {

@@ -10,7 +10,7 @@ use Rattle.wedge_base.specs.Images.{Image, fetch, in_text}
 use Rattle.rv_isa.specs.declared.Instr.{Instr}
 use Rattle.rv_isa.specs.Table.{decode, IsOfRow, HasRegisters}
 
--- inside the text the word is at its place
+-- inside the text the word is at its index
 pub fetch_inside : (i : Image) (pc : ℕ) → i.base ≤ pc → pc + 4 ≤ i.base + 4 * length i.words → fetch i pc ≡ slice_get i.words ((pc - i.base) / 4)
 fetch_inside i pc low high = grind arith
 
@@ -27,7 +27,7 @@ registers_at (w ∷ ws) zero law fit = of_word (decode w) refl
     of_word (Some i) e = law i (record { word = w; fits = fit.0; is = e })
 registers_at (w ∷ ws) (suc k) law fit = registers_at ws k law fit.1
 
--- at an offset that is not past the last word stands the decoded word
+-- at an offset that is not past the last word there is the decoded word
 pub at_offset : (i : Image) (pc base last : ℕ) (code : List (Option Instr)) (d : Option Instr) → IsImage i → pc < 2 ^ 32 → base ≡ i.base → last + 4 ≡ 4 * length i.words
     → code ≡ map decode i.words → (pc + (4294967296 - base)) % 4294967296 ≤ last
     → Some (get_or code ((pc + (4294967296 - base)) % 4294967296 / 4) d) ≡ option_map decode (fetch i pc)

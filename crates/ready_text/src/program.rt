@@ -14,8 +14,8 @@ use std::alloc::Global;
 use std::marker::Model;
 use wedge_base::{MemoryRange, NoMemory};
 
-/// An image, with each word of its text decoded once, and its data ranges in pages, which the actors of a run share until they
-/// store to them. Contracts see it as the image.
+/// An image, with each word of its text decoded once, and its data ranges in pages, which the
+/// actors of a run share until they store to them. Contracts see it as the image.
 #[derive(Drop)]
 pub struct Program<'a> {
     image: &'a Image,

@@ -1,4 +1,4 @@
--- The entries of an image by name or by path, in byte order, and that these orders are orders: one way, and in chains.
+-- The entries of an image by name or by path, in byte order, and that these are strict weak orders.
 use Rattle.std.specs.Prelude.{ℕ, Bool, List}
 use Rattle.std.specs.Cmp.{IsStrictWeakOrder}
 use Rattle.std.specs.Cmp.Lexicographic.{nat_list_cmp_total}

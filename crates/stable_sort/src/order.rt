@@ -1,6 +1,6 @@
 //! Sorting what has an order.
 
-ghost use Rattle.std.specs.Prelude.{◌≡◌, OnOk};
+ghost use Rattle.std.specs.Prelude.{◌≡◌, OnOk, OnErr};
 ghost use Rattle.stable_sort.specs.Sorting as sorting;
 
 use std::cmp::Ordering;
@@ -22,9 +22,11 @@ pub trait Sortable {
 }
 
 /// Sorts items; of two neither of which comes before the other, the one that was first stays first.
-/// After `NoMemory` they may be in any order.
+/// After `NoMemory` they are as they were.
 pub fn sort<T: Sortable + Drop>(items: &mut Vec<T>) -> Result<(), NoMemory>
-    ensures { OnOk result (items.new.items ≡ sorting.sorted T.comes_before items.old.items) }
+    ensures sorted { OnOk result
+        (items.new.items ≡ sorting.sorted T.comes_before items.old.items) }
+    ensures unchanged { OnErr result (items.new.items ≡ items.old.items) }
 {
     items.sort_by(|a, b| a.compare(b))?;
     Ok(())

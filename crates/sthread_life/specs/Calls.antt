@@ -1,6 +1,6 @@
 -- The service calls: what the actor itself decides, up to the event that a call wants.
 use Rattle.std.specs.Prelude.{ℕ, ◌+◌, ◌==◌, Bool, true, false, not, ◌&&◌, nat_lt, nat_le, List, [], ◌∷◌, ◌++◌, length, slice_get, slice_set, find, Option, Some, None, is_none, unwrap_or, if◌then◌else◌, option_map}
-use Rattle.wedge_base.specs.Images.{Image, most_pages, slot_of}
+use Rattle.wedge_base.specs.Images.{Image, most_pages, slot_of, begins_at}
 use Rattle.wedge_base.specs.Maps.{has}
 use Rattle.wedge_base.specs.Paths.{resolve}
 use Rattle.wedge_base.specs.Rights.{at_least, read_bit, append_bit}
@@ -30,7 +30,6 @@ use Rattle.wedge_events.specs.declared.events.Want.TheVariants as want
 use Rattle.wedge_events.specs.declared.cells.StreamAsk.TheVariants as stream_ask
 use Rattle.callgate.specs.declared.gate.Gate.{Gate}
 use Rattle.cow_pages.specs.PrivateMemory.{PrivateMemory}
-use Rattle.image_form.specs.Rules.{begins_at}
 use Rattle.rv_hart.specs.Local.{reg}
 use Rattle.sthread_life.specs.Actors.{ActorState, pristine, right_of, bits_of, slot_held, answers, refuses, denies, ends, wants, spends, gate_held}
 use Rattle.sthread_life.specs.Children.{is_child}

@@ -1,9 +1,13 @@
 -- Bytes, and numbers in bytes.
-use Rattle.std.specs.Prelude.{ℕ, zero, suc, ◌+◌, ◌*◌, ◌/◌, ◌%◌, List, [], ◌∷◌, ◌++◌, length, take, drop, replicate}
+use Rattle.std.specs.Prelude.{ℕ, zero, suc, ◌+◌, ◌-◌, ◌*◌, ◌/◌, ◌%◌, List, [], ◌∷◌, ◌++◌, length, take, drop, replicate}
 
 -- bytes that are all zero
 unfoldable pub zeros : ℕ → List ℕ
 zeros n = replicate n 0
+
+-- bytes, and zeros up to a multiple of four
+abbrev pub padded_to_words : List ℕ → List ℕ
+padded_to_words bytes = bytes ++ zeros ((4 - length bytes % 4) % 4)
 
 -- the little-endian number in bytes
 abbrev pub number_of : List ℕ → ℕ

@@ -1,5 +1,6 @@
 -- The plain record of an image, and the layout of the address space.
 use Rattle.std.specs.Prelude.{ℕ, zero, suc, ◌+◌, ◌-◌, ◌*◌, ◌/◌, ◌%◌, ◌^◌, ◌==◌, Bool, ◌&&◌, List, [], ◌∷◌, length, find, slice_get, slice_index, Option, Some, None, option_map, unwrap_or, nat_le, nat_lt, if◌then◌else◌}
+use Rattle.std.specs.List.{list_any}
 use Rattle.wedge_base.specs.declared.address.Place.{Place}
 use Rattle.wedge_base.specs.declared.image.Procedure.{Procedure}
 use Rattle.wedge_base.specs.declared.image.MemoryRange.{MemoryRange}
@@ -37,11 +38,20 @@ abbrev pub read_text : Image → ℕ → ℕ → List ℕ
 read_text i address zero = []
 read_text i address (suc n) = text_byte i address ∷ read_text i (address + 1) n
 
+-- whether an address is that of a word of a text, which has `count` words, the first at `base`
+abbrev pub is_text_address : ℕ → ℕ → ℕ → Bool
+is_text_address base count address =
+    address % 4 == 0 && nat_le base address && nat_lt address (base + 4 * count)
+
+-- whether one of the procedures begins at an address
+abbrev pub begins_at : List Procedure → ℕ → Bool
+begins_at ps address = list_any (λ p. p.address == address) ps
+
 -- the name of the procedure at an address, or nothing
 abbrev pub procedure_name : Image → ℕ → List ℕ
 procedure_name i address = unwrap_or (option_map (λ p. p.name) (find (λ p. p.address == address) i.procedures)) []
 
--- where private memory begins, and how many bytes it has: stack and heap
+-- where the private range (stack and heap) begins, and how many bytes it has
 abbrev pub private_base : ℕ
 private_base = 0x20000000
 
@@ -65,7 +75,7 @@ most_pages = 16
 abbrev pub windows_base : ℕ
 windows_base = 0x40000000
 
--- the window in which an address lies
+-- the slot in whose window an address lies, and the offset in it
 abbrev pub slot_of : ℕ → Option Place
 slot_of address =
     if nat_le windows_base address && nat_lt address (windows_base + slots * window)

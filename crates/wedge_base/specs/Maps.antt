@@ -20,7 +20,7 @@ has m k = is_some (at m k)
 abbrev pub with : {X : Type 0} → Map X → ℕ → X → Map X
 with m k v = put_key nat_cmp k v m
 
--- how many entries there are then
+-- how many entries there are after a value is put at a key
 abbrev pub length_with : {X : Type 0} → Map X → ℕ → ℕ
 length_with m k = if has m k then length m else length m + 1
 
@@ -37,7 +37,7 @@ AreJoined first second m = (k : ℕ) → at m k ≡ option_or (at first k) (at s
 abbrev pub keys : {X : Type 0} → Map X → List ℕ
 keys m = map (λ e. e.0) m
 
--- numbers in order, with one more, each once
+-- ascending numbers with one more in its place, unless it is there
 abbrev pub with_number : List ℕ → ℕ → List ℕ
 with_number [] k = k ∷ []
 with_number (n ∷ ns) k = by_order (nat_cmp k n) (k ∷ n ∷ ns) (n ∷ ns) (n ∷ with_number ns k)
@@ -47,7 +47,7 @@ abbrev pub is_among : List ℕ → ℕ → Bool
 is_among [] k = false
 is_among (n ∷ ns) k = is_eq (nat_cmp k n) || is_among ns k
 
--- numbers rise strictly, from one on
+-- the numbers ascend strictly, and the first is at least a given one
 abbrev pub AreRising : ℕ → List ℕ → Type 0
 AreRising low [] = Unit {0}
 AreRising low (n ∷ ns) = (low ≤ n) × AreRising (n + 1) ns

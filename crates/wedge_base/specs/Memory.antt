@@ -1,4 +1,4 @@
--- Ranges of memory, in which private memory and an image's data lie.
+-- Ranges of memory: the private range and an image's data.
 use Rattle.std.specs.Prelude.{ℕ, ◌+◌, ◌-◌, Bool, ◌&&◌, List, [], ◌∷◌, length, find, slice_range, Option, nat_le, if◌then◌else◌}
 use Rattle.wedge_base.specs.Bytes.{written}
 use Rattle.wedge_base.specs.declared.image.MemoryRange.{MemoryRange}

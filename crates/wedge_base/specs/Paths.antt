@@ -4,21 +4,15 @@ use Rattle.std.specs.List.{list_all, slice_split}
 use Rattle.wedge_base.specs.Names.{same}
 use Rattle.wedge_base.specs.Texts.{is_printed}
 
--- a byte put before the first piece
-abbrev pub onto : ℕ → List (List ℕ) → List (List ℕ)
-onto b [] = (b ∷ []) ∷ []
-onto b (p ∷ ps) = (b ∷ p) ∷ ps
-
 -- the pieces between the slashes
 abbrev pub pieces : List ℕ → List (List ℕ)
-pieces [] = [] ∷ []
-pieces (b ∷ bs) = if b == 47 then [] ∷ pieces bs else onto b (pieces bs)
+pieces path = slice_split (λ b. b == 47) path
 
 -- the parts of a canonical path
 abbrev pub parts_of : List ℕ → List (List ℕ)
 parts_of path = filter (λ p. not (same p [])) (pieces path)
 
--- the text of parts, each after a slash
+-- the string of parts, a slash before each
 abbrev pub after_slashes : List (List ℕ) → List ℕ
 after_slashes [] = []
 after_slashes (p ∷ ps) = 47 ∷ p ++ after_slashes ps
@@ -27,7 +21,8 @@ abbrev pub text_of : List (List ℕ) → List ℕ
 text_of [] = 47 ∷ []
 text_of (p ∷ ps) = after_slashes (p ∷ ps)
 
--- the parts kept so far, and those of the next piece: nothing for an empty one or `.`, one less for `..`
+-- the parts after walking the pieces: an empty one and `.` add none, `..` drops the last, if any,
+-- and any other is added
 abbrev pub walked : List (List ℕ) → List (List ℕ) → List (List ℕ)
 walked kept [] = kept
 walked kept (p ∷ ps) =
@@ -35,12 +30,12 @@ walked kept (p ∷ ps) =
     else if same p (46 ∷ 46 ∷ []) then walked (take (length kept - 1) kept) ps
     else walked (kept ++ p ∷ []) ps
 
--- 1 to 256 bytes that are printed, the first a slash
+-- what a program passes as a path: 1 to 256 printed bytes, the first a slash
 abbrev pub is_path : List ℕ → Bool
 is_path [] = false
 is_path (b ∷ bs) = (b == 47) && nat_lt (length bs) 256 && list_all is_printed bs
 
--- the path under a root that a text names, if it is the text of a path
+-- the path under a root that a string names, if it may be passed as a path
 abbrev pub resolve : List ℕ → List ℕ → Option (List ℕ)
 resolve root path = if is_path path then Some (text_of (parts_of root ++ walked [] (pieces path))) else None
 
@@ -65,4 +60,4 @@ is_part (c ∷ d ∷ e ∷ rest) = true
 unfoldable pub is_canonical : List ℕ → Bool
 is_canonical [] = false
 is_canonical (c ∷ []) = c == 47
-is_canonical (c ∷ d ∷ cs) = c == 47 && list_all is_printed (d ∷ cs) && list_all is_part (slice_split (λ b. b == 47) (d ∷ cs))
+is_canonical (c ∷ d ∷ cs) = c == 47 && list_all is_printed (d ∷ cs) && list_all is_part (pieces (d ∷ cs))

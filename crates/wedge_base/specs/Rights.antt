@@ -4,7 +4,7 @@ use Rattle.wedge_base.specs.declared.rights.Right.{Right}
 use Rattle.wedge_base.specs.declared.rights.Right.TheVariants as right
 use Rattle.wedge_base.specs.declared.rights.FdBits.{FdBits}
 
--- Cow < Read < ReadWrite, and no right is below Cow
+-- Cow < Read < ReadWrite: Cow is the lowest
 abbrev pub rank : Right → ℕ
 rank right.Cow = 1
 rank right.Read = 2

@@ -1,5 +1,5 @@
--- Sheets and drafts: what an actor holds, what a draft asks for, and the first part of it that its creator
--- may not grant.
+-- Sheets and drafts: what an actor holds, what a draft asks for, and the first part of it that its
+-- creator may not grant.
 use Rattle.std.specs.Prelude.{ℕ, ◌+◌, ◌==◌, Bool, true, false, not, ◌&&◌, ◌||◌, List, [], ◌∷◌, ◌++◌, length, map, find, filter_map, Option, Some, None, is_some, is_none, unwrap_or, option_map, nat_le, if◌then◌else◌}
 use Rattle.std.specs.Option.{option_or}
 use Rattle.std.specs.List.{list_any}
@@ -52,7 +52,8 @@ empty_draft = record { tags = []; fds = []; gates = []; user = None; root = None
 
 -- ---- the sheet with which the root of a run begins
 
--- grants from a tag's number on, with one on that tag where there is a right, in the slot of its number
+-- the grants on the tags above n, and one on tag n where the root has a right on it: a declared tag
+-- is in the slot of its own number
 abbrev pub with_grant : ℕ → Option Right → Map Grant → Map Grant
 with_grant n None gs = gs
 with_grant n (Some r) gs = (n, record { right = r; slot = n }) ∷ gs
@@ -124,8 +125,8 @@ abbrev pub may_be_root : Sheet → Option (List ℕ) → Bool
 may_be_root s None = true
 may_be_root s (Some root) = same root s.root || ((s.user == 0) && under s.root root)
 
--- ---- the first part of a draft that it may not grant: tags by number, descriptors by number, gates
--- by entry, user, root
+-- ---- the first part of a draft that it may not grant: tags by number, descriptors by number,
+-- gates by entry, user, root
 
 abbrev pub tag_item : ℕ × Right → Item
 tag_item e = item.Tag e.0 e.1
@@ -140,12 +141,14 @@ items d = map tag_item d.tags ++ map fd_item d.fds ++ map item.Gate d.gates
 abbrev pub item_excess : Sheet → Made → List Item → Option Item
 item_excess s m is = find (λ i. not (may_grant s m i)) is
 
+-- the user that it may not give, or else the root directory
 abbrev pub user_excess : Sheet → Draft → Option Denial
 user_excess s d =
     if not (may_be_user s d.user) then Some denial.User
     else if not (may_be_root s d.root) then Some denial.Root
     else None
 
+-- the first of all that it may not give
 abbrev pub first_excess : Sheet → Made → Draft → Option Denial
 first_excess s m d =
     option_or (option_map denial.Grant (item_excess s m (items d))) (user_excess s d)

@@ -1,11 +1,11 @@
-//! Out of memory, and a name that is full.
+//! Out of memory, and a name that has the most parts.
 
 ghost use Rattle.std.specs.Prelude.{◌≡◌};
 
 use std::alloc::{AllocError, AllocFailed};
 
-/// Out of memory. It is the one answer that a call may give in place of any other; unless the call says
-/// otherwise, everything is then as it was before.
+/// Out of memory. It is the one answer that a call may give in place of any other; unless the call
+/// says otherwise, everything is then as it was before.
 #[derive(Clone, Copy, Debug, PartialEq, Eq)]
 pub struct NoMemory;
 

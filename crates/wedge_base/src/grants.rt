@@ -48,7 +48,8 @@ impl GateId {
 /// Whether a gate keeps its memory from one run to the next.
 #[derive(Clone, Copy, Debug, PartialEq, Eq)]
 pub enum GateKind {
-    /// Each run begins with the image's data and zeroed private memory.
+    /// Each run begins with the memory that the gate was made with: the image's data, a zeroed
+    /// private range, and the copies of its Cow grants.
     Fresh,
     /// Each run but the first begins with the memory that the run before left.
     Recycled,

@@ -1,5 +1,8 @@
 //! The parts of an image.
 
+ghost use Rattle.std.specs.Prelude.{◌≡◌};
+ghost use Rattle.wedge_base.specs.Images as images;
+
 use crate::items::{Bytes, Items};
 use crate::rights::{FdBits, Right, StreamKind};
 
@@ -9,6 +12,13 @@ pub struct Procedure {
     pub name: Bytes,
     /// The address of its first instruction.
     pub address: u32,
+}
+
+/// Whether one of the procedures begins at an address.
+pub fn begins_at(procedures: &[Procedure], address: u32) -> bool
+    ensures { result ≡ images.begins_at procedures.now address }
+{
+    procedures.iter().any(|p| p.address == address)
 }
 
 /// A range of memory: the address at which it begins, and its bytes.

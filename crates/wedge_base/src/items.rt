@@ -12,7 +12,7 @@ pub struct Items<T> {
     items: Vec<T>,
 }
 
-/// Bytes: of memory, of a stream, or of a text such as a name.
+/// Bytes: of memory, of a stream, or of a string such as a name.
 pub type Bytes = Items<u8>;
 
 impl<T> Model for Items<T> {

@@ -1,5 +1,5 @@
-//! The words that every crate of wedge shares: bytes, names, pages, rights, sheets, images, and what a run
-//! reports. The definitions in `specs/` say what they mean.
+//! The types that every crate of wedge uses: bytes, names, pages, rights, sheets, images, and what
+//! a run reports. The definitions in `specs/` say what they mean.
 #![tactic(auto)]
 
 mod address;
@@ -23,7 +23,7 @@ mod texts;
 pub use address::{Place, address_of, slot_of};
 pub use errors::{NameFault, NoMemory};
 pub use grants::{GateId, GateKind, Item};
-pub use image::{FdEntry, FileEntry, MemoryRange, Pristine, Procedure, TagEntry};
+pub use image::{FdEntry, FileEntry, MemoryRange, Pristine, Procedure, TagEntry, begins_at};
 pub use items::{Bytes, Items};
 pub use limits::{
     MOST_BUFFER, MOST_FDS, MOST_LIVES, MOST_PAGES, MOST_PARTS, PAGE, PRIVATE_BASE, PRIVATE_SIZE,

@@ -12,9 +12,9 @@ pub const WINDOWS_BASE: u32 = 0x4000_0000;
 pub const WINDOWS_END: u32 = 0x5000_0000;
 /// Bytes of a window.
 pub const WINDOW: u32 = 0x1_0000;
-/// Where private memory begins, as an address: stack and heap.
+/// Where the private range (stack and heap) begins, as an address.
 pub const PRIVATE_BASE: u32 = 0x2000_0000;
-/// Bytes of private memory: stack and heap.
+/// Bytes of the private range.
 pub const PRIVATE_SIZE: u32 = 0x2_0000;
 /// How many descriptors there are.
 pub const MOST_FDS: u32 = 1024;

@@ -2,7 +2,7 @@
 
 use std::marker::Model;
 
-/// The number of a tag. Declared tags are numbered by their places, from 0.
+/// The number of a tag. Declared tags are numbered by their indices, from 0.
 #[derive(Clone, Copy, Debug, PartialEq, Eq)]
 pub struct TagNo(pub u32);
 
@@ -16,7 +16,7 @@ impl Model for TagNo {
     ghost inverse = { λ n. record { 0 = n } };
 }
 
-/// The number of a descriptor. Declared descriptors are numbered by their places, from 0.
+/// The number of a descriptor. Declared descriptors are numbered by their indices, from 0.
 #[derive(Clone, Copy, Debug, PartialEq, Eq)]
 pub struct FdNo(pub u32);
 
@@ -30,7 +30,8 @@ impl Model for FdNo {
     ghost inverse = { λ n. record { 0 = n } };
 }
 
-/// A slot, below 4,096: the place of a tag's window in the address space.
+/// The number of a slot: the index of a window in the address space. The slots of a run are below
+/// 4,096.
 #[derive(Clone, Copy, Debug, PartialEq, Eq)]
 pub struct Slot(pub u32);
 
@@ -44,7 +45,7 @@ impl Model for Slot {
     ghost inverse = { λ n. record { 0 = n } };
 }
 
-/// The place of an entry in its journal, from 1.
+/// The position of an entry in its journal, from 1.
 #[derive(Clone, Copy, Debug, PartialEq, Eq)]
 pub struct Stamp(pub u64);
 

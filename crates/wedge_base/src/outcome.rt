@@ -35,7 +35,7 @@ pub struct ActorLine {
 #[derive(Clone, Debug, Drop)]
 pub struct StreamLine {
     pub number: FdNo,
-    /// The name under which it was declared.
+    /// The name under which it was declared, or the path of the file that was opened.
     pub label: Bytes,
     pub bytes: Bytes,
 }

@@ -1,7 +1,7 @@
 //! Canonical paths.
 
 ghost use Rattle.std.specs.Prelude.{◌≡◌, ◌==◌, true, IfOk};
-ghost use Rattle.std.specs.List.{list_all, slice_split};
+ghost use Rattle.std.specs.List.{list_all};
 ghost use Rattle.wedge_base.specs.Paths as paths;
 
 use crate::errors::NoMemory;
@@ -9,8 +9,8 @@ use crate::items::Bytes;
 use crate::texts::are_printed;
 use std::marker::Model;
 
-/// A canonical path of any length: `/` alone, or parts that each begin with `/`, none of them empty, `.` or
-/// `..`. What a program passes to a call is bytes, from which a path is resolved.
+/// A canonical path of any length: `/` alone, or parts with a `/` before each, none of them empty,
+/// `.` or `..`. What a program passes to a call is bytes, from which a path is resolved.
 #[derive(Clone, Debug, Drop)]
 pub struct PathText {
     text: Bytes,
@@ -28,7 +28,7 @@ impl Model for PathText {
 }
 
 impl PathText {
-    /// The path that a canonical text is.
+    /// The path whose string is given, which is canonical.
     pub fn new(text: Bytes) -> PathText
         requires { paths.is_canonical text ≡ true }
         ensures { result ≡ text }
@@ -36,7 +36,7 @@ impl PathText {
         PathText { text }
     }
 
-    /// Returns the text.
+    /// Borrows its string.
     pub fn as_slice(&self) -> &[u8]
         ensures is { result.now ≡ self.now }
         ensures canonical { paths.is_canonical self.now ≡ true }
@@ -54,7 +54,7 @@ impl PathText {
     }
 }
 
-/// Whether a text is a canonical path.
+/// Whether a string is a canonical path.
 #[tactic(auto, unfolding(crate::specs::Paths::is_canonical))]
 pub fn is_canonical(text: &[u8]) -> bool
     ensures { result ≡ paths.is_canonical text.now }
@@ -66,14 +66,14 @@ pub fn is_canonical(text: &[u8]) -> bool
     }
 }
 
-/// Whether what stands between the slashes of a text are parts of a canonical path.
+/// Whether the pieces between the slashes of a string are parts of a canonical path.
 fn are_parts(text: &[u8]) -> bool
-    ensures { result ≡ list_all paths.is_part (slice_split (λ b. b == 47) text.now) }
+    ensures { result ≡ list_all paths.is_part (paths.pieces text.now) }
 {
     text.split(|c| *c == b'/').all(|part| is_part(part))
 }
 
-/// Whether a text is a part of a canonical path.
+/// Whether a string is a part of a canonical path.
 fn is_part(part: &[u8]) -> bool
     ensures { result ≡ paths.is_part part.now }
 {

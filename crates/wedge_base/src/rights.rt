@@ -23,7 +23,7 @@ pub struct FdBits {
     pub append: bool,
 }
 
-/// A right on a tag, and the slot in which the tag lives.
+/// A right on a tag, and the slot in which that tag was opened.
 #[derive(Clone, Copy, Debug, PartialEq, Eq)]
 pub struct Grant {
     pub right: Right,

@@ -1,7 +1,7 @@
 use super::*;
 use std::test::Fail;
 
-/// Places of the address space, worked out by hand.
+/// Addresses and their slots, worked out by hand.
 #[test]
 fn windows_begin_and_end_where_they_should(rt: HostRuntime) -> Result<(), Fail> {
     for (address, slot, offset) in [

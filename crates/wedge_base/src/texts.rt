@@ -22,7 +22,7 @@ fn all_continue_name(text: &[u8]) -> bool
     text.iter().all(|c| continues_name(*c))
 }
 
-/// Whether a text is a name: 1 to 64 letters, digits, `_` and `.`, the first a letter or `_`.
+/// Whether a string is a name: 1 to 64 letters, digits, `_` and `.`, the first a letter or `_`.
 #[tactic(auto, unfolding(crate::specs::Texts::is_name))]
 pub fn is_name(text: &[u8]) -> bool
     ensures { result ≡ texts.is_name text.now }

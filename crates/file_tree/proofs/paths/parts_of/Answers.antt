@@ -3,7 +3,6 @@ use Rattle.std.proofs.lemmas.Iterator.Consumers.{map_from_collect, YieldsList-fr
 use Rattle.std.proofs.lemmas.Iterator.Splits.{YieldsList-from_slice_split}
 use Rattle.std.proofs.lemmas.Result.{IfOk-at_ok}
 use Rattle.wedge_base.specs.Names.{same}
-use Rattle.file_tree.proofs.Pieces.{slice_split-slash}
 use Rattle.file_tree.proofs.paths.parts_of.Goals as goal
 
 pub returns : goal.returns
@@ -13,4 +12,3 @@ returns c =
     (YieldsList-from_filter _ (λ p. not (same p []))
     (YieldsList-at c.filter.ensures.source (YieldsList-from_slice_split _ (λ b. eqb b 47) c.args.root.now c.split.ensures.rest c.split.ensures.done c.split.ensures.closure (λ x b q k. search (rules, tests))))
     c.filter.ensures.closure (λ x b q k. search (rules, tests))))
-    ∙ ap (filter (λ p. not (same p []))) (slice_split-slash c.args.root.now)

@@ -2,11 +2,9 @@ use Rattle.std.proofs.Common.{rules, tests, eqb, ◌∙◌}
 use Rattle.std.proofs.lemmas.Iterator.Consumers.{map_from_collect}
 use Rattle.std.proofs.lemmas.Iterator.Splits.{YieldsList-from_slice_split}
 use Rattle.std.proofs.lemmas.Result.{IfOk-at_ok}
-use Rattle.file_tree.proofs.Pieces.{slice_split-slash}
 use Rattle.file_tree.proofs.paths.pieces_of.Goals as goal
 
 pub returns : goal.returns
 returns c =
     IfOk-at_ok _ c.in_ok-pieces.was (
     map_from_collect _ c.collect.ensures.ran (YieldsList-from_slice_split _ (λ b. eqb b 47) c.args.path.now c.split.ensures.rest c.split.ensures.done c.split.ensures.closure (λ x b q k. search (rules, tests))))
-    ∙ slice_split-slash c.args.path.now

@@ -1,7 +1,8 @@
 use Rattle.std.proofs.Common.{◌≡◌, ℕ, []}
 use Rattle.std.specs.Ordering.{nat_cmp}
 use Rattle.std.specs.BTreeSet.{contains}
-use Rattle.image_form.specs.Rules.{is_among, addresses}
+use Rattle.wedge_base.specs.Maps.{is_among}
+use Rattle.image_form.specs.Rules.{addresses}
 use Rattle.image_form.specs.Reading.{procedure_at, entries_at}
 use Rattle.image_form.proofs.Loop.{SoFar}
 use Rattle.image_form.proofs.procedures.procedure_list.Given as goal

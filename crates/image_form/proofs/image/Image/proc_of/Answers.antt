@@ -1,5 +1,6 @@
 use Rattle.std.proofs.Common.{◌≡◌, ◌<◌, ◌≤◌, All, ap, sym, subst, ◌∙◌, arith}
-use Rattle.image_form.specs.Rules.{addresses, begins_at}
+use Rattle.wedge_base.specs.Images.{begins_at}
+use Rattle.image_form.specs.Rules.{addresses}
 use Rattle.image_form.specs.Address.{greatest_from}
 use Rattle.image_form.proofs.Addresses.{greatest_bounded, greatest_covers, greatest_begins, base_not_above}
 use Rattle.image_form.proofs.image.Image.proc_of.Goals as goal
