@@ -4,7 +4,7 @@ use Rattle.std.specs.List.{list_any, position_or_len}
 use Rattle.std.proofs.lemmas.Bool.{lt-ltb, le-ltb, eqb-true, eq-eqb}
 use Rattle.std.proofs.lemmas.List.{map-append}
 use Rattle.std.proofs.lemmas.List.Folds.{list_any-append, position_or_len_push}
-use Rattle.cb_analyze.specs.FirstSeen.{with_element, with_elements, without_repeats, AreDistinct, IsFirstSeen}
+use Rattle.cb_analyze.specs.FirstSeen.{with_element, with_elements, without_repeats, AreAllDifferent, IsFirstSeen}
 
 or_false : (b : Bool) → (b || false) ≡ b
 or_false true = refl
@@ -52,20 +52,20 @@ module _ {X : Type 0} (same : X → X → Bool) (exact : (a b : X) → same a b 
       ∙ ap (λ b. b || list_any (same k) xs) (any_with_element k seen x)
       ∙ or_assoc (list_any (same k) seen) (same k x) (list_any (same k) xs)
 
-  distinct_push : (xs : List X) (k : X) → AreDistinct same xs → list_any (same k) xs ≡ false → AreDistinct same (xs ++ k ∷ [])
+  distinct_push : (xs : List X) (k : X) → AreAllDifferent same xs → list_any (same k) xs ≡ false → AreAllDifferent same (xs ++ k ∷ [])
   distinct_push [] k a h = (refl, tt)
   distinct_push (x ∷ xs) k a h =
       let n = neither (same k x) (list_any (same k) xs) h in
       (list_any-append (same x) xs (k ∷ []) ∙ ap (λ b. b || (same x k || false)) a.0 ∙ ap (λ b. b || false) (flip k x n.0), distinct_push xs k a.1 n.1)
 
-  with_element_distinct : (seen : List X) (x : X) → AreDistinct same seen → AreDistinct same (with_element same seen x)
+  with_element_distinct : (seen : List X) (x : X) → AreAllDifferent same seen → AreAllDifferent same (with_element same seen x)
   with_element_distinct seen x a = by_there (list_any (same x) seen) refl
     where
-      by_there : (t : Bool) → list_any (same x) seen ≡ t → AreDistinct same (cond t seen (seen ++ x ∷ []))
+      by_there : (t : Bool) → list_any (same x) seen ≡ t → AreAllDifferent same (cond t seen (seen ++ x ∷ []))
       by_there true e = a
       by_there false e = distinct_push seen x a e
 
-  pub with_elements_distinct : (seen xs : List X) → AreDistinct same seen → AreDistinct same (with_elements same seen xs)
+  pub with_elements_distinct : (seen xs : List X) → AreAllDifferent same seen → AreAllDifferent same (with_elements same seen xs)
   with_elements_distinct seen [] a = a
   with_elements_distinct seen (x ∷ xs) a = with_elements_distinct (with_element same seen x) xs (with_element_distinct seen x a)
 

@@ -3,7 +3,7 @@ use Rattle.std.proofs.Common.{◌≡◌, Bool, true, false, cond, ◌||◌, List
 use Rattle.std.specs.List.{list_any}
 use Rattle.std.specs.Map.{lookup}
 use Rattle.indexmap.specs.IndexMap.{insert_entry}
-use Rattle.cb_analyze.specs.FirstSeen.{with_element, AreDistinct}
+use Rattle.cb_analyze.specs.FirstSeen.{with_element, AreAllDifferent}
 use Rattle.cb_analyze.proofs.FirstSeen.{flip, neither}
 
 module _ {X : Type 0} (same : X → X → Bool) (exact : (a b : X) → same a b ≡ true → a ≡ b) (itself : (a : X) → same a a ≡ true) where
@@ -26,7 +26,7 @@ module _ {X : Type 0} (same : X → X → Bool) (exact : (a b : X) → same a b 
         by_there false = refl
 
     -- a value set at one key of a table
-    pub insert_table : (hs : List X) → AreDistinct same hs → insert_entry same (table_by F hs) k (G k) ≡ table_by G (with_element same hs k)
+    pub insert_table : (hs : List X) → AreAllDifferent same hs → insert_entry same (table_by F hs) k (G k) ≡ table_by G (with_element same hs k)
     insert_table [] a = refl
     insert_table (h ∷ t) a = by_key (same k h) refl (insert_table t a.1)
       where

@@ -13,7 +13,7 @@ use Rattle.cb_analyze.specs.declared.grants.ItemGrant.{ItemGrant}
 use Rattle.cb_analyze.specs.declared.fitting.Fitting.{Fitting}
 use Rattle.cb_analyze.specs.declared.sheets.HolderKey.{HolderKey}
 use Rattle.cb_analyze.specs.contracts.sheets.HolderKeyPartialEq.TheImpl.{eq-value}
-use Rattle.cb_analyze.specs.FirstSeen.{with_element, with_elements, AreDistinct}
+use Rattle.cb_analyze.specs.FirstSeen.{with_element, with_elements, AreAllDifferent}
 use Rattle.cb_analyze.specs.Grants.{permits, option_permits, permits_all, lowest}
 use Rattle.cb_analyze.specs.Sheets.{Holder, Holding, holder_of, same_holder, is_use_of, uses_of, holders_of, sheets_of, grant_on, permits_record}
 use Rattle.cb_analyze.specs.Fitting.{fitting_of, with_use, lowest_fitting}
@@ -68,7 +68,7 @@ fits_of rs h = fitting_of (uses_of h rs)
 abbrev pub table_of : List TraceRecord → Table
 table_of rs = table_by same_holder same_is same_itself (fits_of rs) (holders_of rs)
 
-pub apart : (rs : List TraceRecord) → AreDistinct same_holder (holders_of rs)
+pub apart : (rs : List TraceRecord) → AreAllDifferent same_holder (holders_of rs)
 apart rs = with_elements_distinct same_holder same_is same_itself [] (map holder_of rs) tt
 
 absent : (done : List TraceRecord) (k : Holder) → list_any (same_holder k) (holders_of done) ≡ false → fits_of done k ≡ fitting_of []

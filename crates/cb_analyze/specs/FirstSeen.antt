@@ -15,13 +15,13 @@ module _ {X : Type 0} (same : X → X → Bool) where
   without_repeats xs = with_elements [] xs
 
   -- no two are the same
-  abbrev pub AreDistinct : List X → Type 0
-  AreDistinct [] = Unit {0}
-  AreDistinct (x ∷ xs) = (list_any (same x) xs ≡ false) × AreDistinct xs
+  abbrev pub AreAllDifferent : List X → Type 0
+  AreAllDifferent [] = Unit {0}
+  AreAllDifferent (x ∷ xs) = (list_any (same x) xs ≡ false) × AreAllDifferent xs
 
 -- the elements of a list, each once, in the order of their first occurrences
 pub record IsFirstSeen {X : Type 0} (same : X → X → Bool) (xs ys : List X) : Type 0 where
-  pub once : AreDistinct same ys
+  pub once : AreAllDifferent same ys
   pub members : (a : X) → list_any (same a) ys ≡ list_any (same a) xs
   -- the first of two in one list is the first of them in the other
   pub order : (a b : X)

@@ -9,7 +9,7 @@ use Rattle.std.specs.Ordering.{nat_cmp, is_eq, match_ordering}
 use Rattle.std.specs.declared.cmp.Ordering.{Ordering}
 use Rattle.std.specs.declared.cmp.Ordering.TheVariants.{Less, Equal, Greater}
 use Rattle.std.proofs.lemmas.Map.Steps.{set_value_same}
-use Rattle.wedge_base.specs.Bytes.{written}
+use Rattle.wedge_base.specs.Bytes.{overwrite}
 use Rattle.cow_pages.specs.Copies.{Copies, copy_at, with_copy, without_copy, holds_copy, stored_in, stored_copy}
 
 -- ---- where all slots are greater
@@ -58,14 +58,14 @@ set_is k (c ∷ cs) bytes new h there = by_order (nat_cmp k c.0) refl there (set
     by_order Greater e found others = ap (λ ds. c ∷ ds) (others found)
 
 pub stored_is : (cs : Copies) (k offset : ℕ) (bytes now after : List ℕ) (held : Bool) → IsStrictlySortedBy nat_cmp (keys_of cs) → copy_at cs k ≡ Some now → held ≡ holds_copy offset (length bytes) now
-    → (held ≡ true → after ≡ written now offset bytes) → (held ≡ false → after ≡ now) → set_value (is_at (nat_cmp k)) cs after ≡ stored_copy cs k offset bytes
+    → (held ≡ true → after ≡ overwrite now offset bytes) → (held ≡ false → after ≡ now) → set_value (is_at (nat_cmp k)) cs after ≡ stored_copy cs k offset bytes
 stored_is cs k offset bytes now after true h there holds writes stays =
     ap (set_value (is_at (nat_cmp k)) cs) (writes refl)
-    ∙ set_is k cs now (written now offset bytes) h there
-    ∙ ap (λ (b : Bool). if b then with_copy cs k (written now offset bytes) else cs) holds
+    ∙ set_is k cs now (overwrite now offset bytes) h there
+    ∙ ap (λ (b : Bool). if b then with_copy cs k (overwrite now offset bytes) else cs) holds
     ∙ ap (stored_in cs k offset bytes) (sym there)
 stored_is cs k offset bytes now after false h there holds writes stays =
     ap (set_value (is_at (nat_cmp k)) cs) (stays refl)
     ∙ set_value_same (is_at (nat_cmp k)) cs now there
-    ∙ ap (λ (b : Bool). if b then with_copy cs k (written now offset bytes) else cs) holds
+    ∙ ap (λ (b : Bool). if b then with_copy cs k (overwrite now offset bytes) else cs) holds
     ∙ ap (stored_in cs k offset bytes) (sym there)

@@ -4,7 +4,7 @@ use Rattle.std.specs.List.{concat}
 use Rattle.std.proofs.lemmas.List.{append_assoc, length-append, take-append-le, drop-append-le, length-drop, length-take}
 use Rattle.std.proofs.Math.Seq.{take-append-add, drop-append-add}
 use Rattle.std.proofs.lemmas.Nat.{div-add-mod'}
-use Rattle.wedge_base.specs.Bytes.{written, bytes_of}
+use Rattle.wedge_base.specs.Bytes.{overwrite, bytes_of}
 use Rattle.wedge_base.specs.Images.{page}
 use Rattle.cow_pages.specs.SharedPages.{HaveLength}
 
@@ -49,21 +49,21 @@ read_page n (p ∷ ps) (suc i) a w d h l b =
     rw e (ap (take w) (drop_past p (concat ps) n (i * n + a) h.0) ∙ read_page n ps i a w d h.1 (omega arith) b)
 
 -- written in the first list
-pub written_first : (p q : List ℕ) (a : ℕ) (new : List ℕ) → a + length new ≤ length p → written (p ++ q) a new ≡ written p a new ++ q
+pub written_first : (p q : List ℕ) (a : ℕ) (new : List ℕ) → a + length new ≤ length p → overwrite (p ++ q) a new ≡ overwrite p a new ++ q
 written_first p q a new h =
     let t = take-append-le a p q (omega arith) in
     let d = drop-append-le (a + length new) p q h in
     rw (t, d) (sym (append_assoc (take a p ++ new) (drop (a + length new) p) q))
 
 -- written past the first list
-written_past : (p q : List ℕ) (n k : ℕ) (new : List ℕ) → length p ≡ n → written (p ++ q) (n + k) new ≡ p ++ written q k new
+written_past : (p q : List ℕ) (n k : ℕ) (new : List ℕ) → length p ≡ n → overwrite (p ++ q) (n + k) new ≡ p ++ overwrite q k new
 written_past p q n k new e =
     let t = take_past p q n k e in
     let s : n + k + length new ≡ n + (k + length new) = omega arith in
     let d : drop (n + k + length new) (p ++ q) ≡ drop (k + length new) q = rw s (drop_past p q n (k + length new) e) in
     rw (t, d) (ap (λ (z : List ℕ). z ++ drop (k + length new) q) (append_assoc p (take k q) new) ∙ append_assoc p (take k q ++ new) (drop (k + length new) q))
 
-pub write_page : (n : ℕ) (ps : List (List ℕ)) (i a : ℕ) (new : List ℕ) (d : List ℕ) → HaveLength n ps → i < length ps → a + length new ≤ n → written (concat ps) (i * n + a) new ≡ concat (set ps i (written (get_or ps i d) a new))
+pub write_page : (n : ℕ) (ps : List (List ℕ)) (i a : ℕ) (new : List ℕ) (d : List ℕ) → HaveLength n ps → i < length ps → a + length new ≤ n → overwrite (concat ps) (i * n + a) new ≡ concat (set ps i (overwrite (get_or ps i d) a new))
 write_page n [] i a new d h l b = absurd (omega arith)
 write_page n (p ∷ ps) zero a new d h l b =
     let e : zero * n + a ≡ a = omega arith in
@@ -73,7 +73,7 @@ write_page n (p ∷ ps) (suc i) a new d h l b =
     rw e (written_past p (concat ps) n (i * n + a) new h.0 ∙ ap (λ (z : List ℕ). p ++ z) (write_page n ps i a new d h.1 (omega arith) b))
 
 -- what is written keeps the length
-pub length-written : (p : List ℕ) (a : ℕ) (new : List ℕ) → a + length new ≤ length p → length (written p a new) ≡ length p
+pub length-written : (p : List ℕ) (a : ℕ) (new : List ℕ) → a + length new ≤ length p → length (overwrite p a new) ≡ length p
 length-written p a new h = omega (arith, length-append (take a p ++ new) (drop (a + length new) p), length-append (take a p) new, length-take a p, length-drop (a + length new) p)
 
 pub length-bytes_of : (k n : ℕ) → length (bytes_of k n) ≡ k
@@ -103,13 +103,13 @@ read_at_offset ps offset width d h l b =
     let e : take width (drop (offset / page * page + offset % page) (concat ps)) ≡ take width (drop offset (concat ps)) = ap (λ (k : ℕ). take width (drop k (concat ps))) (div-add-mod' offset page) in
     rw (w, v) (sym e ∙ read_page page ps (offset / page) (offset % page) width d h l b)
 
-pub write_at_offset : (ps : List (List ℕ)) (offset : ℕ) (new d : List ℕ) → HaveLength page ps → offset / page < length ps → offset % page + length new ≤ page → written (concat ps) offset new ≡ concat (set ps (offset / page) (written (get_or ps (offset / page) d) (offset % page) new))
+pub write_at_offset : (ps : List (List ℕ)) (offset : ℕ) (new d : List ℕ) → HaveLength page ps → offset / page < length ps → offset % page + length new ≤ page → overwrite (concat ps) offset new ≡ concat (set ps (offset / page) (overwrite (get_or ps (offset / page) d) (offset % page) new))
 write_at_offset ps offset new d h l b =
-    let e : written (concat ps) (offset / page * page + offset % page) new ≡ written (concat ps) offset new = ap (λ (k : ℕ). written (concat ps) k new) (div-add-mod' offset page) in
+    let e : overwrite (concat ps) (offset / page * page + offset % page) new ≡ overwrite (concat ps) offset new = ap (λ (k : ℕ). overwrite (concat ps) k new) (div-add-mod' offset page) in
     sym e ∙ write_page page ps (offset / page) (offset % page) new d h l b
 
-pub still_whole : (p : List ℕ) (offset width value n : ℕ) → offset + width ≤ n → length p ≡ n → length (written p offset (bytes_of width value)) ≡ n
+pub still_whole : (p : List ℕ) (offset width value n : ℕ) → offset + width ≤ n → length p ≡ n → length (overwrite p offset (bytes_of width value)) ≡ n
 still_whole p offset width value n h l = let k = length-bytes_of width value in length-written p offset (bytes_of width value) (omega arith) ∙ l
 
-pub kept_whole : (p : List ℕ) (offset : ℕ) (new : List ℕ) (n : ℕ) → offset + length new ≤ n → length p ≡ n → length (written p offset new) ≡ n
+pub kept_whole : (p : List ℕ) (offset : ℕ) (new : List ℕ) (n : ℕ) → offset + length new ≤ n → length p ≡ n → length (overwrite p offset new) ≡ n
 kept_whole p offset new n h l = length-written p offset new (omega arith) ∙ l

@@ -2,7 +2,7 @@
 use Rattle.std.proofs.Common.{◌≡◌, ℕ, ◌+◌, ◌-◌, ◌≤◌, IsTrue, List, length, take, drop, sym, ap, ◌∙◌, subst, arith, slice_range, leb}
 use Rattle.std.proofs.lemmas.List.{length-take, take-append-drop, take_at}
 use Rattle.std.proofs.lemmas.Bool.{and_parts, leb-true}
-use Rattle.wedge_base.specs.Bytes.{written}
+use Rattle.wedge_base.specs.Bytes.{overwrite}
 use Rattle.wedge_base.specs.Memory.{lies_in, read_range, write_range}
 use Rattle.wedge_base.specs.declared.image.MemoryRange.{MemoryRange}
 use Rattle.cow_pages.proofs.PageOffsets.{part_of_first, written_first, length-written}
@@ -15,14 +15,14 @@ read_front xs size a n h l =
     rw few (ap (λ (z : List ℕ). take n (drop a z)) (sym (take-append-drop size xs)) ∙ part_of_first (take size xs) (drop size xs) a n (omega arith))
 
 -- what is written in the front
-pub write_front : (xs : List ℕ) (size a : ℕ) (new : List ℕ) → size ≤ length xs → a + length new ≤ size → take size (written xs a new) ≡ written (take size xs) a new
+pub write_front : (xs : List ℕ) (size a : ℕ) (new : List ℕ) → size ≤ length xs → a + length new ≤ size → take size (overwrite xs a new) ≡ overwrite (take size xs) a new
 write_front xs size a new h l =
     let front = length-take size xs in
     let fits : a + length new ≤ length (take size xs) = omega arith in
-    let kept : length (written (take size xs) a new) ≡ size = length-written (take size xs) a new fits ∙ omega arith in
-    ap (λ (z : List ℕ). take size (written z a new)) (sym (take-append-drop size xs))
+    let kept : length (overwrite (take size xs) a new) ≡ size = length-written (take size xs) a new fits ∙ omega arith in
+    ap (λ (z : List ℕ). take size (overwrite z a new)) (sym (take-append-drop size xs))
     ∙ ap (take size) (written_first (take size xs) (drop size xs) a new fits)
-    ∙ take_at (written (take size xs) a new) (drop size xs) size kept
+    ∙ take_at (overwrite (take size xs) a new) (drop size xs) size kept
 
 pub lies_parts : (address n : ℕ) (r : MemoryRange) → IsTrue (lies_in address n r) → (r.base ≤ address) × (address + n ≤ r.base + length r.bytes)
 lies_parts address n r h =
@@ -43,7 +43,7 @@ pub read_range_front : (base size : ℕ) (xs : List ℕ) (address n : ℕ) (r : 
 read_range_front base size xs address n r e l h =
     read_front xs size (address - base) n l (lies_inside base size xs address n r e l h) ∙ ap (λ (q : MemoryRange). read_range q address n) e
 
-pub write_range_front : (base size : ℕ) (xs : List ℕ) (address : ℕ) (new after : List ℕ) (r : MemoryRange) → front base size xs ≡ r → size ≤ length xs → IsTrue (lies_in address (length new) r) → after ≡ written xs (address - base) new → front base size after ≡ write_range address new r
+pub write_range_front : (base size : ℕ) (xs : List ℕ) (address : ℕ) (new after : List ℕ) (r : MemoryRange) → front base size xs ≡ r → size ≤ length xs → IsTrue (lies_in address (length new) r) → after ≡ overwrite xs (address - base) new → front base size after ≡ write_range address new r
 write_range_front base size xs address new after r e l h w =
     ap (front base size) w
     ∙ ap (λ (b : List ℕ). record { base = base; bytes = b }) (write_front xs size (address - base) new l (lies_inside base size xs address (length new) r e l h))

@@ -4,7 +4,7 @@ use Rattle.std.specs.Arc.{arc_value}
 use Rattle.std.specs.declared.sync.Arc.{Arc}
 use Rattle.std.specs.List.{concat, AllZip}
 use Rattle.std.proofs.lemmas.List.{length-map, map-set, set-get_or, get_or-map}
-use Rattle.wedge_base.specs.Bytes.{written}
+use Rattle.wedge_base.specs.Bytes.{overwrite}
 use Rattle.wedge_base.specs.Images.{page}
 use Rattle.cow_pages.specs.SharedPages.{HaveLength, contents, bytes_in}
 use Rattle.cow_pages.proofs.PageOffsets.{length-concat, length-get_or, HaveLength-set, read_at_offset, write_at_offset}
@@ -25,10 +25,10 @@ module _ {Z : Type 0} where
       ∙ ap (λ (p : List ℕ). slice_range p (offset % page) (offset % page + width)) (content_at ps (offset / page) a l e)
 
   -- what a write in a page makes of the whole
-  pub write_shared : (ps : List (Arc (List ℕ) Z)) (offset : ℕ) (new : List ℕ) (a b : Arc (List ℕ) Z) → HaveLength page (contents ps) → offset / page < length ps → offset % page + length new ≤ page → a ≡ get_or ps (offset / page) a → arc_value b ≡ written (arc_value a) (offset % page) new → bytes_in (set ps (offset / page) b) ≡ written (bytes_in ps) offset new
+  pub write_shared : (ps : List (Arc (List ℕ) Z)) (offset : ℕ) (new : List ℕ) (a b : Arc (List ℕ) Z) → HaveLength page (contents ps) → offset / page < length ps → offset % page + length new ≤ page → a ≡ get_or ps (offset / page) a → arc_value b ≡ overwrite (arc_value a) (offset % page) new → bytes_in (set ps (offset / page) b) ≡ overwrite (bytes_in ps) offset new
   write_shared ps offset new a b h l w e v =
       let n : length (contents ps) ≡ length ps = length-map ps arc_value in
-      ap concat (map-set arc_value ps (offset / page) b ∙ ap (set (contents ps) (offset / page)) (v ∙ ap (λ (p : List ℕ). written p (offset % page) new) (sym (content_at ps (offset / page) a l e))))
+      ap concat (map-set arc_value ps (offset / page) b ∙ ap (set (contents ps) (offset / page)) (v ∙ ap (λ (p : List ℕ). overwrite p (offset % page) new) (sym (content_at ps (offset / page) a l e))))
       ∙ sym (write_at_offset (contents ps) offset new (arc_value a) h (omega arith) w)
 
   -- another pointer to the same content

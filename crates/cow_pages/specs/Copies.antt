@@ -4,7 +4,7 @@ use Rattle.std.specs.BTreeMap.{insert_entry, is_at}
 use Rattle.std.specs.List.{filter}
 use Rattle.std.specs.Map.{lookup}
 use Rattle.std.specs.Ordering.{nat_cmp}
-use Rattle.wedge_base.specs.Bytes.{written}
+use Rattle.wedge_base.specs.Bytes.{overwrite}
 
 abbrev pub Copies : Type 0
 Copies = List (ℕ × List ℕ)
@@ -37,7 +37,7 @@ read_copy offset n bytes = if holds_copy offset n bytes then Some (slice_range b
 abbrev pub stored_in : Copies → ℕ → ℕ → List ℕ → Option (List ℕ) → Copies
 stored_in copies slot offset new None = copies
 stored_in copies slot offset new (Some bytes) =
-    if holds_copy offset (length new) bytes then with_copy copies slot (written bytes offset new) else copies
+    if holds_copy offset (length new) bytes then with_copy copies slot (overwrite bytes offset new) else copies
 
 -- the copies with bytes written at an offset of the copy at a slot, if it has bytes there
 abbrev pub stored_copy : Copies → ℕ → ℕ → List ℕ → Copies

@@ -1,7 +1,7 @@
 //! Laws of pages.
 
 ghost use Rattle.std.specs.Prelude.{◌≡◌, ◌+◌, ◌%◌, ◌≤◌, ◌⊎◌, ℕ, List, length, IfOk, OnOk, OnErr};
-ghost use Rattle.wedge_base.specs.Bytes.{written, bytes_of};
+ghost use Rattle.wedge_base.specs.Bytes.{overwrite, bytes_of};
 ghost use Rattle.wedge_base.specs.Images.{page};
 ghost use Rattle.wedge_base.specs.Pages.{pages_of};
 ghost use Rattle.cow_pages.specs.Listed.{bytes_listed};
@@ -25,7 +25,8 @@ pub fn store_after_snapshot(
     requires width { (width ≡ 1) ⊎ (width ≡ 2) ⊎ (width ≡ 4) }
     requires aligned { offset % width ≡ 0 }
     requires inside { offset + width ≤ length source.old }
-    ensures source { OnOk result (source.new ≡ written source.old offset (bytes_of width value)) }
+    ensures source { OnOk result (source.new
+        ≡ overwrite source.old offset (bytes_of width value)) }
     ensures len { length source.new ≡ length source.old }
     ensures snapshot { IfOk result (λ s. s ≡ source.old) }
     ensures err { OnErr result (source.new ≡ source.old) }
@@ -45,7 +46,7 @@ pub fn store_into_snapshot(
     requires width { (width ≡ 1) ⊎ (width ≡ 2) ⊎ (width ≡ 4) }
     requires aligned { offset % width ≡ 0 }
     requires inside { offset + width ≤ length source.now }
-    ensures { IfOk result (λ s. s ≡ written source.now offset (bytes_of width value)) }
+    ensures { IfOk result (λ s. s ≡ overwrite source.now offset (bytes_of width value)) }
 {
     let mut snapshot = source.snapshot()?;
     snapshot.store(offset, width, value)?;

@@ -103,7 +103,8 @@ impl PagedRange {
         requires width { (width ≡ 1) ⊎ (width ≡ 2) ⊎ (width ≡ 4) }
         requires aligned { address % width ≡ 0 }
         requires lies { IsTrue (lies_in address width self.old) }
-        ensures ok { OnOk result (self.new ≡ write_range address (bytes_of width value) self.old) }
+        ensures ok { OnOk result (self.new
+            ≡ write_range address (bytes_of width value) self.old) }
         ensures base { self.new.base ≡ self.old.base }
         ensures len { length self.new.bytes ≡ length self.old.bytes }
         ensures err { OnErr result (self.new ≡ self.old) }

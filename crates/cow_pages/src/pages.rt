@@ -2,7 +2,7 @@
 
 ghost use Rattle.std.specs.Prelude.{◌≡◌, ◌+◌, ◌*◌, ◌/◌, ◌%◌, ◌<◌, ◌≤◌, ◌^◌, ◌⊎◌, length, slice_range, IfOk, OnOk, OnErr};
 ghost use Rattle.std.specs.Arc.{arc_value};
-ghost use Rattle.wedge_base.specs.Bytes.{written, number_of, bytes_of, zeros};
+ghost use Rattle.wedge_base.specs.Bytes.{overwrite, number_of, bytes_of, zeros};
 ghost use Rattle.wedge_base.specs.Images.{page};
 ghost use Rattle.wedge_base.specs.Pages.{pages_of};
 ghost use Rattle.cow_pages.specs.Listed.{bytes_listed};
@@ -90,7 +90,7 @@ impl Pages {
         requires width { (width ≡ 1) ⊎ (width ≡ 2) ⊎ (width ≡ 4) }
         requires aligned { offset % width ≡ 0 }
         requires inside { offset + width ≤ length self.old }
-        ensures ok { OnOk result (self.new ≡ written self.old offset (bytes_of width value)) }
+        ensures ok { OnOk result (self.new ≡ overwrite self.old offset (bytes_of width value)) }
         ensures len { length self.new ≡ length self.old }
         ensures err { OnErr result (self.new ≡ self.old) }
     {
@@ -112,7 +112,7 @@ impl Pages {
     /// Writes bytes over those from an offset on. When out of memory, nothing is changed.
     pub fn write(&mut self, offset: u32, new: &[u8]) -> Result<(), NoMemory>
         requires { offset + length new.now ≤ length self.old }
-        ensures ok { OnOk result (self.new ≡ written self.old offset new.now) }
+        ensures ok { OnOk result (self.new ≡ overwrite self.old offset new.now) }
         ensures len { length self.new ≡ length self.old }
         ensures err { OnErr result (self.new ≡ self.old) }
     {
@@ -203,7 +203,7 @@ fn write_pieces(pages: &mut [Arc<Page>], start: usize, new: &[u8]) -> Result<(),
     requires inside { start + length new.now ≤ length (bytes_in pages.old) }
     requires small { start + length new.now < 2 ^ 44 }
     ensures whole { HaveLength page (contents pages.new) }
-    ensures ok { OnOk result (bytes_in pages.new ≡ written (bytes_in pages.old) start new.now) }
+    ensures ok { OnOk result (bytes_in pages.new ≡ overwrite (bytes_in pages.old) start new.now) }
 {
     let mut done = 0;
     while done < new.len() {
@@ -221,7 +221,7 @@ fn write_piece(pages: &mut [Arc<Page>], start: usize, new: &[u8]) -> Result<(), 
     requires one_page { start % page + length new.now ≤ page }
     requires inside { start / page < length pages.old }
     ensures whole { HaveLength page (contents pages.new) }
-    ensures ok { OnOk result (bytes_in pages.new ≡ written (bytes_in pages.old) start new.now) }
+    ensures ok { OnOk result (bytes_in pages.new ≡ overwrite (bytes_in pages.old) start new.now) }
     ensures err { OnErr result (contents pages.new ≡ contents pages.old) }
 {
     write_in_page(&mut pages[start / PAGE_BYTES], start % PAGE_BYTES, new)
@@ -234,7 +234,7 @@ fn write_in_page(shared: &mut Arc<Page>, offset: usize, new: &[u8]) -> Result<()
     requires whole { length (arc_value shared.old) ≡ page }
     ensures whole { length (arc_value shared.new) ≡ page }
     ensures ok { OnOk result (arc_value shared.new
-        ≡ written (arc_value shared.old) offset new.now) }
+        ≡ overwrite (arc_value shared.old) offset new.now) }
     ensures err { OnErr result (arc_value shared.new ≡ arc_value shared.old) }
 {
     let own = Arc::make_mut(shared)?;
@@ -256,7 +256,7 @@ fn write_number(
     requires whole { length (arc_value shared.old) ≡ page }
     ensures whole { length (arc_value shared.new) ≡ page }
     ensures ok { let new = bytes_of width value
-        in OnOk result (arc_value shared.new ≡ written (arc_value shared.old) offset new) }
+        in OnOk result (arc_value shared.new ≡ overwrite (arc_value shared.old) offset new) }
     ensures err { OnErr result (arc_value shared.new ≡ arc_value shared.old) }
 {
     let own = Arc::make_mut(shared)?;

@@ -3,7 +3,7 @@
 ghost use Rattle.std.specs.Prelude.{◌≡◌, ◌%◌, ◌<◌, ◌≤◌, ◌^◌, ◌⊎◌, length, None, true, false, is_some, IfOk, OnOk, OnErr, option_map};
 ghost use Rattle.std.specs.BTreeMap.{IsOrdered};
 ghost use Rattle.std.specs.Ordering.{nat_cmp};
-ghost use Rattle.wedge_base.specs.Bytes.{written, number_of, bytes_of};
+ghost use Rattle.wedge_base.specs.Bytes.{overwrite, number_of, bytes_of};
 ghost use Rattle.wedge_base.specs.Images.{windows_base};
 ghost use Rattle.wedge_base.specs.Memory.{range_at, read_range, write_at};
 ghost use Rattle.cow_pages.specs.Below.{AreBelow};
@@ -292,7 +292,7 @@ fn store_in(pages: &mut Pages, offset: u32, width: u8, value: u32) -> Result<boo
     requires aligned { offset % width ≡ 0 }
     ensures holds { IfOk result (λ b. b ≡ copies.holds_copy offset width pages.old) }
     ensures written { let new = bytes_of width value
-        in IfOk result (λ b. b ≡ true → pages.new ≡ written pages.old offset new) }
+        in IfOk result (λ b. b ≡ true → pages.new ≡ overwrite pages.old offset new) }
     ensures unwritten { IfOk result (λ b. b ≡ false → pages.new ≡ pages.old) }
     ensures err { OnErr result (pages.new ≡ pages.old) }
 {

@@ -17,11 +17,11 @@ use Rattle.elf_in.specs.declared.procedures.Candidate.{Candidate}
 use Rattle.elf_in.specs.declared.headers.Symbol.{Symbol}
 use Rattle.elf_in.specs.Headers.{is_function}
 use Rattle.elf_in.specs.Symbols.{SymbolTable, name_at}
-use Rattle.stable_sort.specs.Sorting.{put, sorted_onto, sorted}
+use Rattle.stable_sort.specs.Sorting.{insert_sorted, sorted_onto, sorted}
 use Rattle.stable_sort.specs.ByName.{procedure_before, procedure_order}
 use Rattle.wedge_base.specs.Images.{begins_at, is_text_address}
 use Rattle.elf_in.specs.Procedures.{has_name, with_candidate, with_start, candidates, candidate, candidate_before, procedures_of, is_usable, text_start, entry_start}
-use Rattle.elf_in.specs.Laws.{Differ, Above, Ascend, AreProcedures}
+use Rattle.elf_in.specs.Laws.{Differ, Above, Ascend, AreElfProcedures}
 use Rattle.stable_sort.proofs.Sorted.{IsLow, Rises, rises_onto}
 
 -- ---- tests
@@ -61,11 +61,11 @@ other_text a b h = same_test a b (bytes_eq b a) refl h
 -- ---- tests of sorted lists
 
 module _ {X : Type 0} (lt : X → X → Bool) (p : X → Bool) where
-  any_put_at : (x y : X) (ys : List X) (b : Bool) → list_any p (put lt x ys) ≡ (p x || list_any p ys) → list_any p (cond b (x ∷ y ∷ ys) (y ∷ put lt x ys)) ≡ (p x || (p y || list_any p ys))
+  any_put_at : (x y : X) (ys : List X) (b : Bool) → list_any p (insert_sorted lt x ys) ≡ (p x || list_any p ys) → list_any p (cond b (x ∷ y ∷ ys) (y ∷ insert_sorted lt x ys)) ≡ (p x || (p y || list_any p ys))
   any_put_at x y ys true h = refl
   any_put_at x y ys false h = ap (λ b. p y || b) h ∙ swap_or (p y) (p x) (list_any p ys)
 
-  any_put : (x : X) (ys : List X) → list_any p (put lt x ys) ≡ (p x || list_any p ys)
+  any_put : (x : X) (ys : List X) → list_any p (insert_sorted lt x ys) ≡ (p x || list_any p ys)
   any_put x [] = refl
   any_put x (y ∷ ys) = any_put_at x y ys (lt x y) (any_put x ys)
 
@@ -76,7 +76,7 @@ module _ {X : Type 0} (lt : X → X → Bool) (p : X → Bool) where
   any_onto : (done xs : List X) → list_any p (sorted_onto lt done xs) ≡ (list_any p done || list_any p xs)
   any_onto done [] = none_or (list_any p done)
   any_onto done (x ∷ xs) =
-      any_onto (put lt x done) xs
+      any_onto (insert_sorted lt x done) xs
       ∙ ap (λ b. b || list_any p xs) (any_put x done)
       ∙ regroup_or (p x) (list_any p done) (list_any p xs)
 
@@ -118,8 +118,8 @@ Apart done [] = Unit {0}
 Apart done (x ∷ xs) = (begins_at done x.address ≡ false) × (has_name done x.name ≡ false) × Apart done xs
 
 module _ (lt : Procedure → Procedure → Bool) where
-  differ_put_at : (x y : Procedure) (ys : List Procedure) (b : Bool) → Differ (y ∷ ys) → begins_at (y ∷ ys) x.address ≡ false → has_name (y ∷ ys) x.name ≡ false → Differ (put lt x ys)
-      → Differ (cond b (x ∷ y ∷ ys) (y ∷ put lt x ys))
+  differ_put_at : (x y : Procedure) (ys : List Procedure) (b : Bool) → Differ (y ∷ ys) → begins_at (y ∷ ys) x.address ≡ false → has_name (y ∷ ys) x.name ≡ false → Differ (insert_sorted lt x ys)
+      → Differ (cond b (x ∷ y ∷ ys) (y ∷ insert_sorted lt x ys))
   differ_put_at x y ys true d a n rest = (a, n, d)
   differ_put_at x y ys false d a n rest =
       let e = neither (eqb y.address x.address) (begins_at ys x.address) a in
@@ -129,14 +129,14 @@ module _ (lt : Procedure → Procedure → Bool) where
         rest,
       )
 
-  differ_put : (x : Procedure) (ys : List Procedure) → Differ ys → begins_at ys x.address ≡ false → has_name ys x.name ≡ false → Differ (put lt x ys)
+  differ_put : (x : Procedure) (ys : List Procedure) → Differ ys → begins_at ys x.address ≡ false → has_name ys x.name ≡ false → Differ (insert_sorted lt x ys)
   differ_put x [] d a n = (refl, refl, tt)
   differ_put x (y ∷ ys) d a n =
       let e = neither (eqb y.address x.address) (begins_at ys x.address) a in
       let f = neither (bytes_eq y.name x.name) (has_name ys x.name) n in
       differ_put_at x y ys (lt x y) d a n (differ_put x ys d.2 e.1 f.1)
 
-  apart_put : (x : Procedure) (done xs : List Procedure) → Apart done xs → begins_at xs x.address ≡ false → has_name xs x.name ≡ false → Apart (put lt x done) xs
+  apart_put : (x : Procedure) (done xs : List Procedure) → Apart done xs → begins_at xs x.address ≡ false → has_name xs x.name ≡ false → Apart (insert_sorted lt x done) xs
   apart_put x done [] h a n = tt
   apart_put x done (z ∷ zs) h a n =
       let e = neither (eqb z.address x.address) (begins_at zs x.address) a in
@@ -148,7 +148,7 @@ module _ (lt : Procedure → Procedure → Bool) where
 
   differ_onto : (done xs : List Procedure) → Differ done → Differ xs → Apart done xs → Differ (sorted_onto lt done xs)
   differ_onto done [] d e h = d
-  differ_onto done (x ∷ xs) d e h = differ_onto (put lt x done) xs (differ_put x done d h.0 h.1) e.2 (apart_put x done xs h.2 e.0 e.1)
+  differ_onto done (x ∷ xs) d e h = differ_onto (insert_sorted lt x done) xs (differ_put x done d h.0 h.1) e.2 (apart_put x done xs h.2 e.0 e.1)
 
   nothing_apart : (xs : List Procedure) → Apart [] xs
   nothing_apart [] = tt
@@ -191,17 +191,17 @@ module _ (n : List ℕ) (lacks : (name : List ℕ) → is_usable name ≡ true �
       (λ h. (all_true first (is_usable (name_at names s.name)) h).1)
       (lack_filter base count names ss)
 
-  lack_put_at : (lt : Candidate → Candidate → Bool) (c d : Candidate) (ds : List Candidate) (b : Bool) → bytes_eq c.name n ≡ false → Lack n (d ∷ ds) → Lack n (put lt c ds) → Lack n (cond b (c ∷ d ∷ ds) (d ∷ put lt c ds))
+  lack_put_at : (lt : Candidate → Candidate → Bool) (c d : Candidate) (ds : List Candidate) (b : Bool) → bytes_eq c.name n ≡ false → Lack n (d ∷ ds) → Lack n (insert_sorted lt c ds) → Lack n (cond b (c ∷ d ∷ ds) (d ∷ insert_sorted lt c ds))
   lack_put_at lt c d ds true h l rest = (h, l)
   lack_put_at lt c d ds false h l rest = (l.0, rest)
 
-  lack_put : (lt : Candidate → Candidate → Bool) (c : Candidate) (ds : List Candidate) → bytes_eq c.name n ≡ false → Lack n ds → Lack n (put lt c ds)
+  lack_put : (lt : Candidate → Candidate → Bool) (c : Candidate) (ds : List Candidate) → bytes_eq c.name n ≡ false → Lack n ds → Lack n (insert_sorted lt c ds)
   lack_put lt c [] h l = (h, tt)
   lack_put lt c (d ∷ ds) h l = lack_put_at lt c d ds (lt c d) h l (lack_put lt c ds h l.1)
 
   lack_onto : (lt : Candidate → Candidate → Bool) (done cs : List Candidate) → Lack n done → Lack n cs → Lack n (sorted_onto lt done cs)
   lack_onto lt done [] l m = l
-  lack_onto lt done (c ∷ cs) l m = lack_onto lt (put lt c done) cs (lack_put lt c done m.0 l) m.1
+  lack_onto lt done (c ∷ cs) l m = lack_onto lt (insert_sorted lt c done) cs (lack_put lt c done m.0 l) m.1
 
   lack_named_at : (ps : List Procedure) (c : Candidate) (b : Bool) → has_name ps n ≡ false → bytes_eq c.name n ≡ false → has_name (cond b ps (ps ++ record { name = c.name; address = c.address } ∷ [])) n ≡ false
   lack_named_at ps c true h e = h
@@ -256,7 +256,7 @@ ascend_of (p ∷ ps) u d = (above_of p ps u.0 d.1, ascend_of ps u.1 d.2)
 
 -- ---- the whole
 
-pub procedures_law : (base count entry : ℕ) (t : SymbolTable) → AreProcedures base entry (procedures_of base count entry t)
+pub procedures_law : (base count entry : ℕ) (t : SymbolTable) → AreElfProcedures base entry (procedures_of base count entry t)
 unfolding procedures_of
 procedures_law base count entry t =
     let found = fold with_candidate [] (candidates base count t) in

@@ -8,8 +8,8 @@ use Rattle.std.proofs.Math.Nat.{mul-suc}
 use Rattle.wedge_base.specs.Bytes.{zeros, padded_to_words}
 use Rattle.elf_in.specs.declared.headers.ProgramHeader.{ProgramHeader}
 use Rattle.elf_in.specs.Fields.{word_at, table}
-use Rattle.elf_in.specs.Loads.{loaded, words_of, text_words, range_of}
-use Rattle.elf_in.specs.Laws.{load_byte, IsText, IsData}
+use Rattle.elf_in.specs.Loads.{bytes_of_load, words_of, text_words, range_of}
+use Rattle.elf_in.specs.Laws.{load_byte, IsTextOfLoad, IsData}
 
 -- ---- zeros
 
@@ -54,15 +54,15 @@ part_at file o s k false h =
 size_of_range : (o s : ℕ) → (o + s) - o ≡ s
 size_of_range o s = omega arith
 
-loaded_at : (file : List ℕ) (h : ProgramHeader) (k : ℕ) → get_or (loaded file h) k 0 ≡ load_byte file h k
-unfolding loaded
+loaded_at : (file : List ℕ) (h : ProgramHeader) (k : ℕ) → get_or (bytes_of_load file h) k 0 ≡ load_byte file h k
+unfolding bytes_of_load
 loaded_at file h k =
     zeros_after (slice_range file h.offset (h.offset + h.file_size)) (h.memory_size - h.file_size) k
     ∙ ap (λ n. get_or (take n (drop h.offset file)) k 0) (size_of_range h.offset h.file_size)
     ∙ part_at file h.offset h.file_size k (nat_lt k h.file_size) refl
 
-length-loaded : (file : List ℕ) (h : ProgramHeader) → h.file_size ≤ h.memory_size → h.offset + h.file_size ≤ length file → length (loaded file h) ≡ h.memory_size
-unfolding loaded
+length-loaded : (file : List ℕ) (h : ProgramHeader) → h.file_size ≤ h.memory_size → h.offset + h.file_size ≤ length file → length (bytes_of_load file h) ≡ h.memory_size
+unfolding bytes_of_load
 length-loaded file h fits inside =
     let cut : length (take ((h.offset + h.file_size) - h.offset) (drop h.offset file)) ≡ h.file_size = omega (arith, length-take ((h.offset + h.file_size) - h.offset) (drop h.offset file), length-drop h.offset file) in
     length-append (slice_range file h.offset (h.offset + h.file_size)) (zeros (h.memory_size - h.file_size)) ∙ omega (arith, cut, length-zeros (h.memory_size - h.file_size))
@@ -84,15 +84,15 @@ pub data_law : (file : List ℕ) (h : ProgramHeader) → h.file_size ≤ h.memor
 unfolding range_of
 data_law file h fits inside =
     let r = h.address % 4 in
-    let all = zeros r ++ loaded file h in
-    let long : length all ≡ r + h.memory_size = length-append (zeros r) (loaded file h) ∙ omega (arith, length-zeros r, length-loaded file h fits inside) in
+    let all = zeros r ++ bytes_of_load file h in
+    let long : length all ≡ r + h.memory_size = length-append (zeros r) (bytes_of_load file h) ∙ omega (arith, length-zeros r, length-loaded file h fits inside) in
     record {
       begins = omega arith;
       whole = ap (λ n. n % 4) (length-padded all) ∙ whole_words (length all);
       long = omega (arith, length-padded all, long);
       short = omega (arith, length-padded all, long);
-      before = λ i lt. padded_at all i ∙ zeros_first r (loaded file h) i lt;
-      each = λ k. padded_at all (r + k) ∙ zeros_before r (loaded file h) k ∙ loaded_at file h k;
+      before = λ i lt. padded_at all i ∙ zeros_first r (bytes_of_load file h) i lt;
+      each = λ k. padded_at all (r + k) ∙ zeros_before r (bytes_of_load file h) k ∙ loaded_at file h k;
     }
 
 -- ---- text
@@ -121,15 +121,15 @@ word_of bytes at a b c d p q r s =
     let e3 : slice_index (slice_range bytes at (at + 4)) 3 ≡ d = four_at bytes at 3 (omega arith) ∙ s in
     λ i. e0 i + e1 i * 256 + e2 i * 65536 + e3 i * 16777216
 
-padded_load_at : (file : List ℕ) (h : ProgramHeader) (k : ℕ) → get_or (padded_to_words (loaded file h)) k 0 ≡ load_byte file h k
-padded_load_at file h k = padded_at (loaded file h) k ∙ loaded_at file h k
+padded_load_at : (file : List ℕ) (h : ProgramHeader) (k : ℕ) → get_or (padded_to_words (bytes_of_load file h)) k 0 ≡ load_byte file h k
+padded_load_at file h k = padded_at (bytes_of_load file h) k ∙ loaded_at file h k
 
-pub text_law : (file : List ℕ) (h : ProgramHeader) → h.file_size ≤ h.memory_size → h.offset + h.file_size ≤ length file → IsText file h (text_words file h)
+pub text_law : (file : List ℕ) (h : ProgramHeader) → h.file_size ≤ h.memory_size → h.offset + h.file_size ≤ length file → IsTextOfLoad file h (text_words file h)
 unfolding text_words words_of
 text_law file h fits inside =
-    let bytes = padded_to_words (loaded file h) in
-    let size : length (loaded file h) ≡ h.memory_size = length-loaded file h fits inside in
-    let long : length bytes ≡ length (loaded file h) + (4 - length (loaded file h) % 4) % 4 = length-padded (loaded file h) in
+    let bytes = padded_to_words (bytes_of_load file h) in
+    let size : length (bytes_of_load file h) ≡ h.memory_size = length-loaded file h fits inside in
+    let long : length bytes ≡ length (bytes_of_load file h) + (4 - length (bytes_of_load file h) % 4) % 4 = length-padded (bytes_of_load file h) in
     let count : length (table (word_at bytes) 4 (length bytes / 4) 0) ≡ length bytes / 4 = length-table (word_at bytes) 4 (length bytes / 4) 0 in
     record {
       long = omega (arith, size, long, count);
@@ -141,8 +141,8 @@ text_law file h fits inside =
     }
 
 -- the bytes of the text are four for each of its words
-pub length-text : (file : List ℕ) (h : ProgramHeader) → length (padded_to_words (zeros 0 ++ loaded file h)) ≡ 4 * length (text_words file h)
+pub length-text : (file : List ℕ) (h : ProgramHeader) → length (padded_to_words (zeros 0 ++ bytes_of_load file h)) ≡ 4 * length (text_words file h)
 unfolding zeros text_words words_of
 length-text file h =
-    let bytes = padded_to_words (loaded file h) in
-    omega (arith, length-padded (loaded file h), length-table (word_at bytes) 4 (length bytes / 4) 0)
+    let bytes = padded_to_words (bytes_of_load file h) in
+    omega (arith, length-padded (bytes_of_load file h), length-table (word_at bytes) 4 (length bytes / 4) 0)

@@ -6,7 +6,7 @@ use Rattle.std.proofs.lemmas.List.Sums.{sum_by-cons}
 use Rattle.elf_in.specs.declared.headers.ProgramHeader.{ProgramHeader}
 use Rattle.elf_in.specs.declared.program.ElfProgram.TheInside.{Inside}
 use Rattle.elf_in.specs.Loads.{range_of, text_words}
-use Rattle.elf_in.specs.Program.{Program, size_of, Leaves}
+use Rattle.elf_in.specs.Program.{Program, size_of, IsRoomLeft}
 use Rattle.elf_in.specs.Views.{program_view}
 
 -- the bytes of the ranges of loads
@@ -36,5 +36,5 @@ pub range_bytes-end : (file : List ℕ) (hs : List ProgramHeader) (i : ℕ) → 
 range_bytes-end file hs i le = ap (range_bytes file) (drop_all i hs le)
 
 -- there is no room
-pub none_left : (room size : ℕ) (r : Option ℕ) → r ≡ None → room < size → Leaves room size r
+pub none_left : (room size : ℕ) (r : Option ℕ) → r ≡ None → room < size → IsRoomLeft room size r
 none_left room size r none short = rw none short

@@ -8,7 +8,7 @@ use Rattle.elf_in.specs.Procedures.{has_name}
 use Rattle.std.specs.List.{AllByRecursion}
 use Rattle.elf_in.specs.Program.{Program}
 use Rattle.elf_in.specs.Headers.{is_data}
-use Rattle.elf_in.specs.Checks.{program_headers, text_of}
+use Rattle.elf_in.specs.Checks.{program_headers, text_header}
 use Rattle.elf_in.specs.Loads.{range_of, ranges_of}
 use Rattle.elf_in.specs.declared.headers.ProgramHeader.{ProgramHeader}
 
@@ -23,7 +23,7 @@ load_word file h k = from_le_bytes w32 (
     load_byte file h k ∷ load_byte file h (k + 1) ∷ load_byte file h (k + 2) ∷ load_byte file h (k + 3) ∷ [])
 
 -- a load's bytes, from its address on in whole words
-pub record IsText (file : List ℕ) (h : ProgramHeader) (words : List ℕ) : Type 0 where
+pub record IsTextOfLoad (file : List ℕ) (h : ProgramHeader) (words : List ℕ) : Type 0 where
   pub long : h.memory_size ≤ 4 * length words
   pub short : 4 * length words < h.memory_size + 4
   pub each : (j : ℕ) → j < length words → slice_index words j ≡ load_word file h (4 * j)
@@ -54,7 +54,7 @@ Ascend (p ∷ ps) = Above p ps × Ascend ps
 
 -- procedures of their own addresses, in the order of their names, one at the base and one at the
 -- entry
-pub record AreProcedures (base entry : ℕ) (ps : List Procedure) : Type 0 where
+pub record AreElfProcedures (base entry : ℕ) (ps : List Procedure) : Type 0 where
   pub differ : Differ ps
   pub ascend : Ascend ps
   pub at_base : begins_at ps base ≡ true
@@ -70,8 +70,8 @@ pub record KeepsLoads (file : List ℕ) (p : Program) : Type 0 where
   pub headers : List ProgramHeader
   pub read : program_headers file ≡ Ok headers
   pub text : ProgramHeader
-  pub found : text_of file headers ≡ Ok text
+  pub found : text_header file headers ≡ Ok text
   pub base : p.base ≡ text.address
-  pub words : IsText file text p.words
+  pub words : IsTextOfLoad file text p.words
   pub ranges : p.ranges ≡ ranges_of file headers
   pub data_kept : AllByRecursion (KeepsData file) headers

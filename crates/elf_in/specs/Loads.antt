@@ -8,8 +8,8 @@ use Rattle.stable_sort.specs.Sorting.{sorted}
 use Rattle.elf_in.specs.declared.headers.ProgramHeader.{ProgramHeader}
 
 -- the bytes of a load: those of the file, and zeros up to its size in memory
-unfoldable pub loaded : List ℕ → ProgramHeader → List ℕ
-loaded file h =
+unfoldable pub bytes_of_load : List ℕ → ProgramHeader → List ℕ
+bytes_of_load file h =
     slice_range file h.offset (h.offset + h.file_size) ++ zeros (h.memory_size - h.file_size)
 
 -- the words that bytes are
@@ -17,7 +17,7 @@ unfoldable pub words_of : List ℕ → List ℕ
 words_of bytes = table (word_at bytes) 4 (length bytes / 4) 0
 
 unfoldable pub text_words : List ℕ → ProgramHeader → List ℕ
-text_words file text = words_of (padded_to_words (loaded file text))
+text_words file text = words_of (padded_to_words (bytes_of_load file text))
 
 -- where the range of a load begins: at the multiple of four at its address or below
 abbrev pub base_of : ProgramHeader → ℕ
@@ -27,7 +27,7 @@ base_of h = h.address - h.address % 4
 unfoldable pub range_of : List ℕ → ProgramHeader → MemoryRange
 range_of file h = record {
   base = base_of h;
-  bytes = padded_to_words (zeros (h.address % 4) ++ loaded file h);
+  bytes = padded_to_words (zeros (h.address % 4) ++ bytes_of_load file h);
 }
 
 abbrev pub load_before : ProgramHeader → ProgramHeader → Bool

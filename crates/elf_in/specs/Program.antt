@@ -16,6 +16,6 @@ abbrev pub size_of : Program → ℕ
 size_of p = 4 * length p.words + sum_by (λ r. length r.bytes) p.ranges
 
 -- what so many bytes leave of so much room, if there is room for them
-abbrev pub Leaves : ℕ → ℕ → Option ℕ → Type 0
-Leaves room size None = room < size
-Leaves room size (Some left) = left + size ≡ room
+abbrev pub IsRoomLeft : ℕ → ℕ → Option ℕ → Type 0
+IsRoomLeft room size None = room < size
+IsRoomLeft room size (Some left) = left + size ≡ room

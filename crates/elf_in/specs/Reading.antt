@@ -2,7 +2,7 @@
 use Rattle.std.specs.Prelude.{ℕ, List, length, Result, Ok}
 use Rattle.elf_in.specs.Fields.{word_at}
 use Rattle.elf_in.specs.Steps.{◌>>=◌}
-use Rattle.elf_in.specs.Checks.{identity_check, kind_check, program_headers, loads_check, text_of, section_headers}
+use Rattle.elf_in.specs.Checks.{identity_check, kind_check, program_headers, loads_check, text_header, section_headers}
 use Rattle.elf_in.specs.Symbols.{SymbolTable, symbol_table}
 use Rattle.elf_in.specs.Loads.{text_words, ranges_of}
 use Rattle.elf_in.specs.Procedures.{procedures_of}
@@ -21,13 +21,13 @@ program_of file headers text symbols = record {
 }
 
 -- the program of a file, or its first fault by the order of the checks
-unfoldable pub reading : List ℕ → Result Program Fault
-reading file =
+unfoldable pub elf_program : List ℕ → Result Program Fault
+elf_program file =
     identity_check file >>= λ u.
     kind_check file >>= λ u.
     program_headers file >>= λ headers.
     loads_check file headers >>= λ u.
-    text_of file headers >>= λ text.
+    text_header file headers >>= λ text.
     section_headers file >>= λ sections.
     symbol_table file sections >>= λ symbols.
     Ok (program_of file headers text symbols)

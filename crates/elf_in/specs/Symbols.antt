@@ -1,8 +1,8 @@
 -- The symbols of an ELF32 file (System V ABI), and their names.
 use Rattle.std.specs.Prelude.{ℕ, ◌+◌, ◌/◌, ◌%◌, ◌==◌, Bool, ◌&&◌, ◌||◌, not, List, [], ◌∷◌, drop, find, slice_get, slice_range, Option, Some, None, Result, Ok, if◌then◌else◌}
 use Rattle.std.specs.List.{list_any, list_all}
-use Rattle.elf_in.specs.Fields.{lies_in, table}
-use Rattle.elf_in.specs.Steps.{reject, ◌>>=◌, demand}
+use Rattle.elf_in.specs.Fields.{is_in_file, table}
+use Rattle.elf_in.specs.Steps.{reject, ◌>>=◌, check_that}
 use Rattle.elf_in.specs.Headers.{symbol_at, is_function}
 use Rattle.elf_in.specs.declared.fault.Fault.{Fault}
 use Rattle.elf_in.specs.declared.fault.Why.TheVariants.{Truncated, Symbols}
@@ -39,24 +39,24 @@ abbrev pub is_symbol_table : SectionHeader → Bool
 is_symbol_table s = s.kind == 2
 
 -- the bytes of the string table, for a symbol table whose header is at an offset
-unfoldable pub names_of : List ℕ → ℕ → Option SectionHeader → Result (List ℕ) Fault
-names_of file at None = reject at Symbols
-names_of file at (Some s) =
-    demand (s.kind == 3 && lies_in file s.offset s.size) at Symbols (
+unfoldable pub string_table : List ℕ → ℕ → Option SectionHeader → Result (List ℕ) Fault
+string_table file at None = reject at Symbols
+string_table file at (Some s) =
+    check_that (s.kind == 3 && is_in_file file s.offset s.size) at Symbols (
     Ok (slice_range file s.offset (s.offset + s.size)))
 
 -- symbols whose functions all have names
-unfoldable pub named : ℕ → List ℕ → List Symbol → Result SymbolTable Fault
-named at names symbols =
-    demand (list_all (is_named names) symbols) at Symbols (
+unfoldable pub named_symbols : ℕ → List ℕ → List Symbol → Result SymbolTable Fault
+named_symbols at names symbols =
+    check_that (list_all (is_named names) symbols) at Symbols (
     Ok (record { symbols = symbols; names = names }))
 
 unfoldable pub symbols_in : List ℕ → List SectionHeader → SectionHeader → Result SymbolTable Fault
 symbols_in file sections s =
-    demand (lies_in file s.offset s.size) s.at Truncated (
-    demand (s.size % 16 == 0) s.at Symbols (
-    names_of file s.at (slice_get sections s.link) >>= λ names.
-    named s.at names (table (symbol_at file) 16 (s.size / 16) s.offset)))
+    check_that (is_in_file file s.offset s.size) s.at Truncated (
+    check_that (s.size % 16 == 0) s.at Symbols (
+    string_table file s.at (slice_get sections s.link) >>= λ names.
+    named_symbols s.at names (table (symbol_at file) 16 (s.size / 16) s.offset)))
 
 unfoldable pub symbols_of : List ℕ → List SectionHeader → Option SectionHeader
     → Result SymbolTable Fault

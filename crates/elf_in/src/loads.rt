@@ -25,7 +25,7 @@ fn with_zeros(mut bytes: Vec<u8>, count: usize) -> Result<Vec<u8>, NoMemory>
 }
 
 /// The bytes of a load after so many zeros, with zeros up to a multiple of four.
-#[tactic(auto, unfolding(crate::specs::Loads::loaded))]
+#[tactic(auto, unfolding(crate::specs::Loads::bytes_of_load))]
 fn loaded(
     alloc: Global,
     file: &[u8],
@@ -34,7 +34,7 @@ fn loaded(
 ) -> Result<Vec<u8>, NoMemory>
     requires { before ≤ 3 }
     ensures { IfOk result (λ v.
-        v.items ≡ padded_to_words (zeros before ++ loads.loaded file.now header.now)) }
+        v.items ≡ padded_to_words (zeros before ++ loads.bytes_of_load file.now header.now)) }
 {
     let bytes = part(file, header.offset, header.file_size);
     let mut all = with_zeros(Vec::new(alloc), before)?;
@@ -46,10 +46,11 @@ fn loaded(
 }
 
 /// How many bytes a load has after so many zeros, with zeros up to a multiple of four.
-#[tactic(auto, unfolding(crate::specs::Loads::loaded, wedge_base::specs::Bytes::zeros))]
+#[tactic(auto, unfolding(crate::specs::Loads::bytes_of_load, wedge_base::specs::Bytes::zeros))]
 pub(crate) fn memory_len(file: &[u8], header: &ProgramHeader, before: usize) -> usize
     requires { before ≤ 3 }
-    ensures { result ≡ length (padded_to_words (zeros before ++ loads.loaded file.now header.now)) }
+    ensures { result
+        ≡ length (padded_to_words (zeros before ++ loads.bytes_of_load file.now header.now)) }
 {
     let bytes = part(file, header.offset, header.file_size);
     let rest = header.memory_size.saturating_sub(header.file_size);

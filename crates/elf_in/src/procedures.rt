@@ -81,7 +81,8 @@ fn candidate_of(
     names: &[u8],
     symbol: &Symbol,
 ) -> Result<Option<Candidate>, NoMemory>
-    ensures { IfOk result (λ c. c ≡ defined.candidate text.base text.count names.now symbol.now) }
+    ensures { IfOk result
+        (λ c. c ≡ defined.candidate text.base text.count names.now symbol.now) }
 {
     if !is_function(symbol) || !is_in_text(text, symbol.value) {
         return Ok(None);

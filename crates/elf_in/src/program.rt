@@ -1,7 +1,7 @@
 //! What an ELF file gives.
 
 ghost use Rattle.std.specs.Prelude.{◌≡◌, ◌≤◌, ◌↔◌, IfOk, IsTrue};
-ghost use Rattle.elf_in.specs.Program.{size_of, Leaves};
+ghost use Rattle.elf_in.specs.Program.{size_of, IsRoomLeft};
 
 use crate::headers::ProgramHeader;
 use crate::loads::{memory_len, range_len, range_of, text_words};
@@ -60,7 +60,7 @@ impl ElfProgram<'_> {
     /// What the bytes of the text and the data leave of so much room, or nothing where they need
     /// more.
     fn room_left(&self, room: usize) -> Option<usize>
-        ensures { Leaves room (size_of self.now) result }
+        ensures { IsRoomLeft room (size_of self.now) result }
     {
         let mut left = room.checked_sub(memory_len(self.file, &self.text, 0))?;
         for header in &self.data {

@@ -6,6 +6,6 @@ use Rattle.wedge_events.specs.declared.events.CellName.{CellName}
 use Rattle.wedge_events.specs.declared.events.CellName.TheVariants as cell
 
 -- what the image declares is opened
-abbrev pub opening : Image → CellName → Option Stream
-opening i (cell.Fd fd) = stream_opening i fd
-opening i name = None
+abbrev pub initial_stream : Image → CellName → Option Stream
+initial_stream i (cell.Fd fd) = stream_opening i fd
+initial_stream i name = None

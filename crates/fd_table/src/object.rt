@@ -12,7 +12,7 @@ use wedge_events::{Object, StreamAsk, StreamReply};
 impl Object for Stream {
     ghost use Rattle.std.specs.Prelude.{◌≡◌, IfOk, OnErr};
     ghost use Rattle.wedge_events.specs.Streams.{stream_reply, stream_next, StreamFits};
-    ghost use Rattle.fd_table.specs.Openings.{opening};
+    ghost use Rattle.fd_table.specs.Openings.{initial_stream};
 
     type Ask = StreamAsk;
 
@@ -22,7 +22,7 @@ impl Object for Stream {
 
     ghost next = { stream_next };
 
-    ghost opening = { opening };
+    ghost opening = { initial_stream };
 
     ghost fits = { λ _ s q. StreamFits s q };
 

@@ -46,7 +46,7 @@ impl Model for Opened {
 impl Opened {
     /// A live stream that begins with these bytes.
     pub fn new(kind: StreamKind, bytes: Vec<u8>) -> Opened
-        ensures { result ≡ streams.opened kind bytes.items }
+        ensures { result ≡ streams.new_stream kind bytes.items }
     {
         Opened {
             kind,
@@ -115,7 +115,7 @@ impl Opened {
     /// Goes on by so many bytes.
     pub fn go_on(&mut self, count: usize)
         requires { self.old.position + count ≤ length self.old.bytes }
-        ensures { self.new ≡ streams.moved count self.old }
+        ensures { self.new ≡ streams.with_bytes_read count self.old }
     {
         self.position += count;
     }
@@ -124,7 +124,7 @@ impl Opened {
     pub fn append(&mut self, bits: FdBits, bytes: &[u8]) -> Result<(), StreamFault>
         ensures ok { OnOk result (streams.stream_reply (Some self.old) (ask.Append bits bytes.now)
             ≡ reply.Appended) }
-        ensures next { OnOk result (self.new ≡ streams.grown bytes.now self.old) }
+        ensures next { OnOk result (self.new ≡ streams.with_more_bytes bytes.now self.old) }
         ensures fault { IfErr result (λ e. e ≢ StreamFault.NoMemory
             → reply_of e ≡ Some (streams.stream_reply (Some self.old)
             (ask.Append bits bytes.now))) }
@@ -151,7 +151,7 @@ impl Opened {
     pub fn close(&mut self, bits: FdBits) -> Result<(), StreamFault>
         ensures ok { OnOk result (streams.stream_reply (Some self.old) (ask.Close bits)
             ≡ reply.Closed) }
-        ensures next { OnOk result (self.new ≡ streams.closed self.old) }
+        ensures next { OnOk result (self.new ≡ streams.closed_stream self.old) }
         ensures fault { IfErr result (λ e. reply_of e
             ≡ Some (streams.stream_reply (Some self.old) (ask.Close bits))) }
         ensures err { OnErr result (self.new ≡ self.old) }

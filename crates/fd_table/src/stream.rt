@@ -38,7 +38,7 @@ impl Stream {
 
     /// A live source with these bytes.
     pub fn source(alloc: Global, bytes: &[u8]) -> Result<Stream, NoMemory>
-        ensures { IfOk result (λ s. s ≡ Some (streams.opened kind.Source bytes.now)) }
+        ensures { IfOk result (λ s. s ≡ Some (streams.new_stream kind.Source bytes.now)) }
     {
         let bytes = Vec::from_slice(alloc, bytes)?;
         let opened = Opened::new(StreamKind::Source, bytes);
@@ -49,7 +49,7 @@ impl Stream {
 
     /// A live append stream with no bytes.
     pub fn append_only(alloc: Global) -> Stream
-        ensures { result ≡ Some (streams.opened kind.Append []) }
+        ensures { result ≡ Some (streams.new_stream kind.Append []) }
     {
         let opened = Opened::new(StreamKind::Append, Vec::new(alloc));
         Stream {
@@ -125,7 +125,7 @@ impl Stream {
 
     /// Begins a live stream with a copy of these bytes, whatever was there.
     pub(crate) fn begin(&mut self, kind: StreamKind, bytes: &Bytes) -> Result<(), NoMemory>
-        ensures next { OnOk result (self.new ≡ Some (streams.opened kind bytes.now)) }
+        ensures next { OnOk result (self.new ≡ Some (streams.new_stream kind bytes.now)) }
         ensures err { OnErr result (self.new ≡ self.old) }
     {
         let bytes = bytes.copy()?.into_vec();
@@ -153,7 +153,8 @@ impl Stream {
     pub(crate) fn give(&mut self, bits: FdBits, count: usize) -> Result<Bytes, StreamFault>
         ensures ok { let q = ask.Read bits count
             in IfOk result (λ b. streams.stream_reply self.old q ≡ reply.Given b) }
-        ensures next { OnOk result (self.new ≡ streams.stream_next self.old (ask.Read bits count)) }
+        ensures next { OnOk result (self.new
+            ≡ streams.stream_next self.old (ask.Read bits count)) }
         ensures fault { let q = ask.Read bits count
             in let reply = streams.stream_reply self.old q
             in IfErr result (λ e. e ≢ StreamFault.NoMemory → reply_of e ≡ Some reply) }
@@ -178,7 +179,8 @@ impl Stream {
         ensures first { let q = ask.Read bits count
             in IfOk result (λ r. streams.stream_reply self.old q ≡ reply.Given r.0) }
         ensures second { IfOk result (λ r. r.1 ≡ r.0) }
-        ensures next { OnOk result (self.new ≡ streams.stream_next self.old (ask.Read bits count)) }
+        ensures next { OnOk result (self.new
+            ≡ streams.stream_next self.old (ask.Read bits count)) }
         ensures fault { let q = ask.Read bits count
             in let reply = streams.stream_reply self.old q
             in IfErr result (λ e. e ≢ StreamFault.NoMemory → reply_of e ≡ Some reply) }

@@ -6,7 +6,7 @@ use Rattle.std.proofs.lemmas.Bool.{and_parts, and_from}
 use Rattle.std.proofs.lemmas.List.Folds.{list_all-append}
 use Rattle.wedge_base.specs.Names.{same}
 use Rattle.wedge_base.specs.Texts.{is_printed}
-use Rattle.wedge_base.specs.Paths.{pieces, parts_of, after_slashes, text_of, walked, is_path, is_part, is_canonical}
+use Rattle.wedge_base.specs.Paths.{pieces, parts_of, after_slashes, text_of, resolve_parts, is_path, is_part, is_canonical}
 use Rattle.file_tree.proofs.Pieces.{AreParts, pieces-joined}
 use Rattle.file_tree.proofs.Walks.{AreParts-resolved}
 
@@ -60,14 +60,14 @@ EachKept test (p ∷ ps) = (same p [] ≡ false → same p (46 ∷ []) ≡ false
 
 -- what a piece makes of the parts kept, whatever it is compared with
 Each-step : (test : List ℕ → Bool) (kept : List (List ℕ)) (p : List ℕ) (ps : List (List ℕ)) (empty here up : Bool) → (empty ≡ false → here ≡ false → up ≡ false → test p ≡ true) → Each test kept
-    → ((others : List (List ℕ)) → Each test others → Each test (walked others ps))
-    → Each test (if empty || here then walked kept ps else if up then walked (take (length kept - 1) kept) ps else walked (kept ++ p ∷ []) ps)
+    → ((others : List (List ℕ)) → Each test others → Each test (resolve_parts others ps))
+    → Each test (if empty || here then resolve_parts kept ps else if up then resolve_parts (take (length kept - 1) kept) ps else resolve_parts (kept ++ p ∷ []) ps)
 Each-step test kept p ps true here up passes h more = more kept h
 Each-step test kept p ps false true up passes h more = more kept h
 Each-step test kept p ps false false true passes h more = more (take (length kept - 1) kept) (Each-take test (length kept - 1) kept h)
 Each-step test kept p ps false false false passes h more = more (kept ++ p ∷ []) (Each-append test kept (p ∷ []) h (passes refl refl refl, tt))
 
-Each-walked : (test : List ℕ → Bool) (kept ps : List (List ℕ)) → Each test kept → EachKept test ps → Each test (walked kept ps)
+Each-walked : (test : List ℕ → Bool) (kept ps : List (List ℕ)) → Each test kept → EachKept test ps → Each test (resolve_parts kept ps)
 Each-walked test kept [] h k = h
 Each-walked test kept (p ∷ ps) h k =
     Each-step test kept p ps (same p []) (same p (46 ∷ [])) (same p (46 ∷ 46 ∷ [])) k.0 h (λ others o. Each-walked test others ps o k.1)
@@ -162,10 +162,10 @@ is_canonical-text_of ((c ∷ cs) ∷ ps) k h =
     (ap (λ qs. list_all is_part qs) split ∙ list_all-from_Each is_part ((c ∷ cs) ∷ ps) h.0)
 
 -- what is put after a canonical root is canonical
-pub canonical_resolved : (root path : List ℕ) → is_canonical root ≡ true → is_path path ≡ true → is_canonical (text_of (parts_of root ++ walked [] (pieces path))) ≡ true
+pub canonical_resolved : (root path : List ℕ) → is_canonical root ≡ true → is_path path ≡ true → is_canonical (text_of (parts_of root ++ resolve_parts [] (pieces path))) ≡ true
 canonical_resolved root path h k =
     let is = AreCanonical-parts_of root h in
-    let added = walked [] (pieces path) in
+    let added = resolve_parts [] (pieces path) in
     is_canonical-text_of (parts_of root ++ added) (AreParts-resolved root path) (
       Each-append is_part (parts_of root) added is.0 (Each-walked is_part [] (pieces path) tt (EachKept-is_part (pieces path))),
       Each-append are_printed (parts_of root) added is.1 (Each-walked are_printed [] (pieces path) tt (EachKept-from are_printed (pieces path) (printed-path path k))),

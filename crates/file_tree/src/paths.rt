@@ -31,7 +31,7 @@ pub fn resolve(alloc: Global, root: &PathText, path: &[u8]) -> Result<PathText, 
 /// The text of the parts of a root and those that a path adds to them.
 fn under_root(alloc: Global, root: &[u8], path: &[u8]) -> Result<Bytes, NoMemory>
     ensures { IfOk result (λ t. t ≡ paths.text_of
-        (paths.parts_of root.now ++ paths.walked [] (paths.pieces path.now))) }
+        (paths.parts_of root.now ++ paths.resolve_parts [] (paths.pieces path.now))) }
 {
     let mut parts = parts_of(alloc, root)?;
     let added = walked(alloc, path)?;
@@ -80,7 +80,7 @@ fn parts_of(alloc: Global, root: &[u8]) -> Result<Vec<&[u8]>, NoMemory>
 /// The parts that a path adds to its root.
 fn walked(alloc: Global, path: &[u8]) -> Result<Vec<&[u8]>, NoMemory>
     ensures { IfOk result (λ v. map (λ p. p.now) v.items
-        ≡ paths.walked [] (paths.pieces path.now)) }
+        ≡ paths.resolve_parts [] (paths.pieces path.now)) }
 {
     let pieces = pieces_of(alloc, path)?;
     let mut kept: Vec<&[u8]> = Vec::new(alloc);

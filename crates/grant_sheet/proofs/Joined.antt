@@ -5,7 +5,7 @@ use Rattle.std.specs.Ordering.{nat_cmp, eq_by_cmp}
 use Rattle.std.specs.Cmp.{nat_cmp_total}
 use Rattle.std.specs.FinMap.Entries.{find-put}
 use Rattle.std.proofs.lemmas.Bool.Decides.{nat_tests}
-use Rattle.wedge_base.specs.Maps.{Map, at, has, with, joined}
+use Rattle.wedge_base.specs.Maps.{Map, at, has, with, map_union}
 
 module _ {X : Type 0} where
   or_none : (o : Option X) → o ≡ option_or o None
@@ -44,6 +44,6 @@ module _ {X : Type 0} where
       ap (λ o. option_or o (at es k)) (find-put nat_cmp nat_cmp_total k e.0 e.1 m) ∙ absent m e k (at es k) (eq_by_cmp nat_cmp k e.0) refl h
 
   -- the first map's value, else the second's
-  pub at_joined : (m es : Map X) (k : ℕ) → at (joined m es) k ≡ option_or (at m k) (at es k)
+  pub at_joined : (m es : Map X) (k : ℕ) → at (map_union m es) k ≡ option_or (at m k) (at es k)
   at_joined m [] k = or_none (at m k)
   at_joined m (e ∷ es) k = at_joined (if has m e.0 then m else with m e.0 e.1) es k ∙ step m e es k (has m e.0) refl

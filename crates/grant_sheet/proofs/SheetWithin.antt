@@ -13,7 +13,7 @@ use Rattle.wedge_base.specs.Maps.{Map, at}
 use Rattle.wedge_base.specs.Names.{same}
 use Rattle.wedge_base.specs.Paths.{under}
 use Rattle.wedge_base.specs.Rights.{at_least, bits_within, no_bits}
-use Rattle.wedge_base.specs.Sheets.{Sheet, Made, Draft, right_on, bits_on, bits_in, gate_at, slot_on, may_grant, may_be_user, may_be_root, tag_item, fd_item, first_excess, tag_granted, gate_granted, granted}
+use Rattle.wedge_base.specs.Sheets.{Sheet, Made, Draft, right_on, bits_on, bits_in, gate_at, slot_on, may_grant, may_be_user, may_be_root, tag_item, fd_item, first_excess, tag_granted, gate_granted, sheet_of_draft}
 use Rattle.wedge_base.specs.declared.grants.GateId.{GateId}
 use Rattle.wedge_base.specs.declared.grants.Item.TheVariants as item
 use Rattle.wedge_base.specs.declared.rights.Right.{Right}
@@ -104,7 +104,7 @@ module _ (s : Sheet) (m : Made) where
   second_all P [] ys all = all
   second_all P (x ∷ xs) ys all = second_all P xs ys (All-tail P x (xs ++ ys) all)
 
-  pub granted_within : (d : Draft) → IsDraftWithin s m d → IsWithin s m (granted s m d)
+  pub granted_within : (d : Draft) → IsDraftWithin s m d → IsWithin s m (sheet_of_draft s m d)
   granted_within d within =
       let tags_fds = first_all (MayGrant s m) (map tag_item d.tags ++ map fd_item d.fds) (map item.Gate d.gates) within.items in
       let tags = first_all (MayGrant s m) (map tag_item d.tags) (map fd_item d.fds) tags_fds in
@@ -119,5 +119,5 @@ module _ (s : Sheet) (m : Made) where
       }
 
 -- the sheet of a draft without excess is within what its creator holds
-pub sheet_within : (s : Sheet) (m : Made) (d : Draft) → first_excess s m d ≡ None → IsWithin s m (granted s m d)
+pub sheet_within : (s : Sheet) (m : Made) (d : Draft) → first_excess s m d ≡ None → IsWithin s m (sheet_of_draft s m d)
 sheet_within s m d e = granted_within s m d (subst (λ o. MatchOption o (IsDraftWithin s m d) (IsExcess s m d)) e (excess_means s m d))

@@ -107,7 +107,8 @@ impl Draft {
     /// and has no right on the tag. On an error nothing changes.
     pub fn put_tag(&mut self, tag: TagNo, right: Right) -> Result<(), DraftFault>
         ensures ok { OnOk result (self.new ≡ sheets.with_tag self.old tag right) }
-        ensures full { (result ≡ Err DraftFault.Full) ↔ (sheets.takes_tag self.old tag ≡ false) }
+        ensures full { (result ≡ Err DraftFault.Full)
+            ↔ (sheets.takes_tag self.old tag ≡ false) }
         ensures err { OnErr result (self.new ≡ self.old) }
     {
         if !self.tags.contains_key(tag.0) && self.is_full() {
@@ -121,7 +122,8 @@ impl Draft {
     /// is full and has no bits on the descriptor. On an error nothing changes.
     pub fn put_fd(&mut self, fd: FdNo, bits: FdBits) -> Result<(), DraftFault>
         ensures ok { OnOk result (self.new ≡ sheets.with_fd self.old fd bits) }
-        ensures full { (result ≡ Err DraftFault.Full) ↔ (sheets.takes_fd self.old fd ≡ false) }
+        ensures full { (result ≡ Err DraftFault.Full)
+            ↔ (sheets.takes_fd self.old fd ≡ false) }
         ensures err { OnErr result (self.new ≡ self.old) }
     {
         if !self.fds.contains_key(fd.0) && self.is_full() {
@@ -136,7 +138,8 @@ impl Draft {
     #[tactic(auto, using(crate::proofs::Keys::keys_with, crate::proofs::Keys::among_keys))]
     pub fn put_gate(&mut self, entry: u32) -> Result<(), DraftFault>
         ensures ok { OnOk result (self.new ≡ sheets.with_gate self.old entry) }
-        ensures full { (result ≡ Err DraftFault.Full) ↔ (sheets.takes_gate self.old entry ≡ false) }
+        ensures full { (result ≡ Err DraftFault.Full)
+            ↔ (sheets.takes_gate self.old entry ≡ false) }
         ensures err { OnErr result (self.new ≡ self.old) }
     {
         if !self.gates.contains_key(entry) && self.is_full() {

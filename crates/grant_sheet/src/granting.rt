@@ -20,7 +20,7 @@ use wedge_base::{GateId, Grant, NoMemory, PathText, Right, Slot, TagNo};
 #[tactic(auto, using(crate::proofs::SheetWithin::sheet_within))]
 pub fn sheet_of(alloc: Global, sheet: &Sheet, made: &Made, draft: &Draft) -> Result<Sheet, NoMemory>
     requires { sheets.first_excess sheet.now made.now draft.now ≡ None }
-    ensures sheet { IfOk result (λ s. s ≡ sheets.granted sheet.now made.now draft.now) }
+    ensures sheet { IfOk result (λ s. s ≡ sheets.sheet_of_draft sheet.now made.now draft.now) }
     ensures within { IfOk result (IsWithin sheet.now made.now) }
 {
     Ok(Sheet::new(

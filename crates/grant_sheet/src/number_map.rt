@@ -124,7 +124,7 @@ impl<V: Copy> NumberMap<V> {
     pub fn joined(&self, alloc: Global, other: &NumberMap<V>) -> Result<NumberMap<V>, NoMemory>
     where
         V: Drop,
-        ensures map { IfOk result (λ m. m ≡ maps.joined self.now other.now) }
+        ensures map { IfOk result (λ m. m ≡ maps.map_union self.now other.now) }
         ensures values { IfOk result (maps.AreJoined self.now other.now) }
     {
         let mut map = self.copy(alloc)?;

@@ -32,5 +32,6 @@ pub trait Files {
         ensures rises { (other : List ℕ) → faults self.old other ≤ faults self.new other }
 
         // A read changes no file, whether it fails or not.
-        ensures content { (other : List ℕ) → content self.new other ≡ content self.old other };
+        ensures content { (other : List ℕ) → content self.new other
+            ≡ content self.old other };
 }

@@ -39,7 +39,8 @@ pub fn read_whole<F: Files>(
         (λ _. F.faults files.new name.now ≡ F.faults files.old name.now)
         (λ e. ReadCounts e (F.faults files.old name.now) (F.faults files.new name.now)) }
     ensures rises { (other : List ℕ) → F.faults files.old other ≤ F.faults files.new other }
-    ensures content { (other : List ℕ) → F.content files.new other ≡ F.content files.old other }
+    ensures content { (other : List ℕ) → F.content files.new other
+        ≡ F.content files.old other }
 {
     let mut bytes = Vec::new(alloc);
     let mut piece = empty_piece(alloc)?;

@@ -8,7 +8,7 @@ use Rattle.std.proofs.lemmas.List.{length-take, take-append-drop, take_at, drop_
 use Rattle.std.proofs.lemmas.Nat.{le_bytes_2, le_bytes_4, from_le_bytes-to_le_bytes_2, from_le_bytes-to_le_bytes_4}
 use Rattle.image_form.specs.declared.fault.Why.{Why}
 use Rattle.image_form.specs.declared.fault.Why.TheVariants.{Truncated, Range, Order}
-use Rattle.image_form.specs.Encoding.{number, string, content}
+use Rattle.image_form.specs.Encoding.{encode_number, encode_string, encode_content}
 use Rattle.image_form.specs.Forms.{is_below}
 use Rattle.image_form.specs.Reading.{◌>>=◌, Read, place, bytes_at, number_at, short_at, checked_at, string_at, formed_at, key_at, content_at}
 use Rattle.image_form.proofs.Form.{IsBytes, IsBytes-drop, IsBytes-take, bind_ok, ok_is, demand_ok, Takes, IsForm, seq, reworded, tested}
@@ -83,8 +83,8 @@ wide_form w limit wide total = record { takes = took; again = repeated }
         ap (λ r. r >>= decoded w) (taken_again total (byte_len w) (to_le_bytes w n) rest (wide.len n))
         ∙ ap (λ m. Ok (m, rest)) (wide.again n lt)
 
-pub number_form : (total : ℕ) → IsForm (number_at total) number (λ n. n < 2 ^ 32)
-unfolding number_at number
+pub number_form : (total : ℕ) → IsForm (number_at total) encode_number (λ n. n < 2 ^ 32)
+unfolding number_at encode_number
 number_form total = wide_form w32 (2 ^ 32) wide32 total
 
 pub short_form : (total : ℕ) → IsForm (short_at total) (to_le_bytes w16) (λ n. n < 2 ^ 16)
@@ -92,33 +92,33 @@ unfolding short_at
 short_form total = wide_form w16 (2 ^ 16) wide16 total
 
 -- a number that passes a test
-pub checked_form : (test : ℕ → Bool) (why : Why) (total : ℕ) → IsForm (checked_at test why total) number (λ n. (test n ≡ true) × (n < 2 ^ 32))
+pub checked_form : (test : ℕ → Bool) (why : Why) (total : ℕ) → IsForm (checked_at test why total) encode_number (λ n. (test n ≡ true) × (n < 2 ^ 32))
 unfolding checked_at
 checked_form test why total = tested test why total (number_form total)
 
 -- ---- texts
 
-string_form : (total : ℕ) → IsForm (string_at total) string (λ t. length t < 2 ^ 16)
-unfolding string_at string
+string_form : (total : ℕ) → IsForm (string_at total) encode_string (λ t. length t < 2 ^ 16)
+unfolding string_at encode_string
 string_form total =
-    reworded string (λ t. length t < 2 ^ 16)
+    reworded encode_string (λ t. length t < 2 ^ 16)
     (seq _ _ _ (λ t. length t) (short_form total) (λ n small. bytes_form total n) (λ n t small long. long))
     (λ t good. let short : length t ≡ min (length t) 65535 = omega (arith, good.0) in (ap (λ n. to_le_bytes w16 n ++ t) short, good.0))
     (λ t small. (small, refl))
 
-pub formed_form : (form : List ℕ → Bool) (total : ℕ) → IsForm (formed_at form total) string (λ t. (form t ≡ true) × (length t < 2 ^ 16))
+pub formed_form : (form : List ℕ → Bool) (total : ℕ) → IsForm (formed_at form total) encode_string (λ t. (form t ≡ true) × (length t < 2 ^ 16))
 unfolding formed_at
 formed_form form total = tested form Range total (string_form total)
 
-pub key_form : (form : List ℕ → Bool) (before : List ℕ) (total : ℕ) → IsForm (key_at form before total) string (λ t. (is_below before t ≡ true) × ((form t ≡ true) × (length t < 2 ^ 16)))
+pub key_form : (form : List ℕ → Bool) (before : List ℕ) (total : ℕ) → IsForm (key_at form before total) encode_string (λ t. (is_below before t ≡ true) × ((form t ≡ true) × (length t < 2 ^ 16)))
 unfolding key_at
 key_form form before total = tested (is_below before) Order total (formed_form form total)
 
 -- bytes after a length that passes a test
-pub content_form : (test : ℕ → Bool) (total : ℕ) → IsForm (content_at test total) content (λ t. (test (length t) ≡ true) × (length t < 2 ^ 32))
-unfolding content_at content
+pub content_form : (test : ℕ → Bool) (total : ℕ) → IsForm (content_at test total) encode_content (λ t. (test (length t) ≡ true) × (length t < 2 ^ 32))
+unfolding content_at encode_content
 content_form test total =
-    reworded content (λ t. (test (length t) ≡ true) × (length t < 2 ^ 32))
+    reworded encode_content (λ t. (test (length t) ≡ true) × (length t < 2 ^ 32))
     (seq _ _ _ (λ t. length t) (checked_form test Range total) (λ n good. bytes_form total n) (λ n t good long. long))
     (λ t good. (refl, good.0))
     (λ t rule. (rule, refl))

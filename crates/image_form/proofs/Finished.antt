@@ -7,7 +7,7 @@ use Rattle.image_form.specs.declared.fault.Why.TheVariants.{Limit}
 use Rattle.image_form.specs.Encoding.{most_bytes, encoding}
 use Rattle.image_form.specs.Fitting.{PartsFit}
 use Rattle.image_form.specs.Rules.{IsImage, Encodes}
-use Rattle.image_form.specs.Reading.{refuse, Fails, reading}
+use Rattle.image_form.specs.Reading.{refuse, IsImageError, reading}
 use Rattle.image_form.proofs.ImageForm.{is_read}
 use Rattle.image_form.proofs.Unique.{same_encoding}
 
@@ -21,5 +21,5 @@ too_long bytes long =
 pub parts_obey : (p r : Image) (bytes : List ℕ) → PartsFit p → bytes ≡ encoding p → Encodes r bytes → IsImage p
 parts_obey p r bytes fit e encodes = subst IsImage (sym (same_encoding p r fit encodes.valid (sym e ∙ encodes.encoded))) encodes.valid
 
-pub no_fault : (p : Image) (e : ImageError) → Fails e (reading (encoding p)) → IsImage p → Fails {Y = Image} e (Ok p)
-no_fault p e h is = subst (Fails e) (is_read p is) h
+pub no_fault : (p : Image) (e : ImageError) → IsImageError e (reading (encoding p)) → IsImage p → IsImageError {Y = Image} e (Ok p)
+no_fault p e h is = subst (IsImageError e) (is_read p is) h

@@ -18,10 +18,10 @@ use Rattle.wedge_base.specs.declared.rights.StreamKind.TheVariants as kind
 use Rattle.image_form.specs.declared.fault.Why.TheVariants.{Magic, Version, Range, Limit, Trailing}
 use Rattle.image_form.specs.declared.fault.ImageError.{ImageError}
 use Rattle.wedge_base.specs.Texts.{is_name}
-use Rattle.image_form.specs.Forms.{is_path, is_root, is_below, ascend}
-use Rattle.image_form.specs.Encoding.{most_bytes, magic, version, number, table, right_code, tag, kind_code, bits_code, fd, file, encoding}
+use Rattle.image_form.specs.Forms.{is_entry_path, is_root, is_below, ascend}
+use Rattle.image_form.specs.Encoding.{most_bytes, magic, version, encode_number, encode_table, right_code, encode_tag, kind_code, bits_code, encode_fd, encode_file, encoding}
 use Rattle.image_form.specs.Rules.{most_fuel, most_tags, most_declared_fds, most_files, may_hold, IsText, IsProcedure, AreProcedures, AreRanges, IsTag, AreTags, IsFd, AreFds, IsFile, AreFiles, IsImage, Encodes}
-use Rattle.image_form.specs.Reading.{◌>>=◌, Read, last_of, checked_at, table_at, right_of, right_at, is_page_count, tag_at, tags_at, kind_of, kind_at, bits_of, bits_at, fd_at, fds_at, file_at, files_at, header_at, is_base, image_at, reading, place, Gives}
+use Rattle.image_form.specs.Reading.{◌>>=◌, Read, last_of, checked_at, table_at, right_from_code, right_at, is_page_count, tag_at, tags_at, kind_from_code, kind_at, bits_from_code, bits_at, fd_at, fds_at, file_entry_at, files_at, header_at, is_base, image_at, reading, place, IsImageAnswer}
 use Rattle.image_form.proofs.Form.{IsBytes, bind_ok, demand_ok, ok_is, IsForm, seq, ended, reworded}
 use Rattle.image_form.proofs.FieldForms.{number_form, checked_form, formed_form, key_form, content_form}
 use Rattle.image_form.proofs.TableForms.{table_form, either, scan_there, scan_back, plain_there, plain_back}
@@ -30,7 +30,7 @@ use Rattle.image_form.proofs.EntryForms.{words_form, procedures_form, ranges_for
 
 -- ---- codes
 
-right_again : (n : ℕ) → n ≤ 3 → right_code (right_of n) ≡ n
+right_again : (n : ℕ) → n ≤ 3 → right_code (right_from_code n) ≡ n
 right_again zero h = refl
 right_again (suc zero) h = refl
 right_again (suc (suc zero)) h = refl
@@ -42,13 +42,13 @@ right_small (Some right.Cow) = omega arith
 right_small (Some right.Read) = omega arith
 right_small (Some right.ReadWrite) = omega arith
 
-right_back : (r : Option Right) → r ≡ right_of (right_code r)
+right_back : (r : Option Right) → r ≡ right_from_code (right_code r)
 right_back None = refl
 right_back (Some right.Cow) = refl
 right_back (Some right.Read) = refl
 right_back (Some right.ReadWrite) = refl
 
-kind_again : (n : ℕ) → n ≤ 1 → kind_code (kind_of n) ≡ n
+kind_again : (n : ℕ) → n ≤ 1 → kind_code (kind_from_code n) ≡ n
 kind_again zero h = refl
 kind_again (suc n) h = omega arith
 
@@ -56,11 +56,11 @@ kind_small : (k : StreamKind) → kind_code k ≤ 1
 kind_small kind.Source = omega arith
 kind_small kind.Append = omega arith
 
-kind_back : (k : StreamKind) → k ≡ kind_of (kind_code k)
+kind_back : (k : StreamKind) → k ≡ kind_from_code (kind_code k)
 kind_back kind.Source = refl
 kind_back kind.Append = refl
 
-bits_again : (n : ℕ) → n ≤ 3 → bits_code (bits_of n) ≡ n
+bits_again : (n : ℕ) → n ≤ 3 → bits_code (bits_from_code n) ≡ n
 bits_again zero h = refl
 bits_again (suc zero) h = refl
 bits_again (suc (suc zero)) h = refl
@@ -76,35 +76,35 @@ small_code false false = omega arith
 bits_small : (b : FdBits) → bits_code b ≤ 3
 bits_small b = small_code b.read b.append
 
-code_back : (r a : Bool) → record { read = r; append = a } ≡ bits_of (cond r 1 0 + cond a 2 0)
+code_back : (r a : Bool) → record { read = r; append = a } ≡ bits_from_code (cond r 1 0 + cond a 2 0)
 code_back true true = refl
 code_back true false = refl
 code_back false true = refl
 code_back false false = refl
 
-bits_back : (b : FdBits) → b ≡ bits_of (bits_code b)
+bits_back : (b : FdBits) → b ≡ bits_from_code (bits_code b)
 bits_back b = code_back b.read b.append
 
 -- a code: one of a few numbers, each of which encodes a value
 coded_form : {X : Type 0} (of : ℕ → X) (code : X → ℕ) (most total : ℕ) → most < 2 ^ 32 → ((n : ℕ) → n ≤ most → code (of n) ≡ n) → ((x : X) → code x ≤ most) → ((x : X) → x ≡ of (code x))
-    → IsForm (λ bytes. checked_at (λ n. leb n most) Range total bytes >>= λ n rest. Ok (of n, rest)) (λ x. number (code x)) (λ x. Unit {0})
+    → IsForm (λ bytes. checked_at (λ n. leb n most) Range total bytes >>= λ n rest. Ok (of n, rest)) (λ x. encode_number (code x)) (λ x. Unit {0})
 coded_form of code most total few again small back =
-    reworded (λ x. number (code x)) (λ x. Unit {0})
+    reworded (λ x. encode_number (code x)) (λ x. Unit {0})
     (seq _ _ _ code (checked_form (λ n. leb n most) Range total) (λ n good. ended (of n)) (λ n x good e. ap code e ∙ again n (leb_there n most good.0)))
-    (λ x good. (append-nil (number (code x)), tt))
+    (λ x good. (append-nil (encode_number (code x)), tt))
     (λ x u. ((leb_back (code x) most (small x), omega (arith, small x, few)), back x))
 
-pub right_form : (total : ℕ) → IsForm (right_at total) (λ r. number (right_code r)) (λ r. Unit {0})
+pub right_form : (total : ℕ) → IsForm (right_at total) (λ r. encode_number (right_code r)) (λ r. Unit {0})
 unfolding right_at
-right_form total = coded_form right_of right_code 3 total (omega arith) right_again right_small right_back
+right_form total = coded_form right_from_code right_code 3 total (omega arith) right_again right_small right_back
 
-pub kind_form : (total : ℕ) → IsForm (kind_at total) (λ k. number (kind_code k)) (λ k. Unit {0})
+pub kind_form : (total : ℕ) → IsForm (kind_at total) (λ k. encode_number (kind_code k)) (λ k. Unit {0})
 unfolding kind_at
-kind_form total = coded_form kind_of kind_code 1 total (omega arith) kind_again kind_small kind_back
+kind_form total = coded_form kind_from_code kind_code 1 total (omega arith) kind_again kind_small kind_back
 
-pub bits_form : (total : ℕ) → IsForm (bits_at total) (λ b. number (bits_code b)) (λ b. Unit {0})
+pub bits_form : (total : ℕ) → IsForm (bits_at total) (λ b. encode_number (bits_code b)) (λ b. Unit {0})
 unfolding bits_at
-bits_form total = coded_form bits_of bits_code 3 total (omega arith) bits_again bits_small bits_back
+bits_form total = coded_form bits_from_code bits_code 3 total (omega arith) bits_again bits_small bits_back
 
 -- ---- entries
 
@@ -118,10 +118,10 @@ page_count_back n a b = grind (arith, nat_tests)
 abbrev IsAfter : {X : Type 0} → (X → List ℕ) → List X → X → Type 0
 IsAfter key front x = is_below (last_of key [] front) (key x) ≡ true
 
-tag_form : (total : ℕ) (front : List TagEntry) → IsForm (tag_at total front) tag (λ t. IsAfter (λ x. x.name) front t × IsTag t)
+tag_form : (total : ℕ) (front : List TagEntry) → IsForm (tag_at total front) encode_tag (λ t. IsAfter (λ x. x.name) front t × IsTag t)
 unfolding tag_at
 tag_form total front =
-    reworded tag (λ t. IsAfter (λ x. x.name) front t × IsTag t)
+    reworded encode_tag (λ t. IsAfter (λ x. x.name) front t × IsTag t)
     (seq _ _ _ (λ t. t.name) (key_form is_name (last_of (λ x. x.name) [] front) total)
     (λ name g. seq _ _ _ (λ t. t.pages) (checked_form is_page_count Range total)
     (λ pages h. seq _ _ _ (λ t. t.right) (right_form total)
@@ -143,10 +143,10 @@ tag_form total front =
       ),
     ))
 
-fd_form : (total : ℕ) (front : List FdEntry) → IsForm (fd_at total front) fd (λ f. IsAfter (λ x. x.name) front f × IsFd f)
+fd_form : (total : ℕ) (front : List FdEntry) → IsForm (fd_at total front) encode_fd (λ f. IsAfter (λ x. x.name) front f × IsFd f)
 unfolding fd_at
 fd_form total front =
-    reworded fd (λ f. IsAfter (λ x. x.name) front f × IsFd f)
+    reworded encode_fd (λ f. IsAfter (λ x. x.name) front f × IsFd f)
     (seq _ _ _ (λ f. f.name) (key_form is_name (last_of (λ x. x.name) [] front) total)
     (λ name g. seq _ _ _ (λ f. f.kind) (kind_form total)
     (λ kind h. seq _ _ _ (λ f. f.bits) (bits_form total)
@@ -161,11 +161,11 @@ fd_form total front =
     let is = rule.1 in
     ((rule.0, (is.named, omega (arith, name_short f.name is.named))), (tt, (tt, ((is.content_suits, is.length_fits), refl)))))
 
-file_form : (total : ℕ) (front : List FileEntry) → IsForm (file_at total front) file (λ f. IsAfter (λ x. x.path) front f × IsFile f)
-unfolding file_at
+file_form : (total : ℕ) (front : List FileEntry) → IsForm (file_entry_at total front) encode_file (λ f. IsAfter (λ x. x.path) front f × IsFile f)
+unfolding file_entry_at
 file_form total front =
-    reworded file (λ f. IsAfter (λ x. x.path) front f × IsFile f)
-    (seq _ _ _ (λ f. f.path) (key_form is_path (last_of (λ x. x.path) [] front) total)
+    reworded encode_file (λ f. IsAfter (λ x. x.path) front f × IsFile f)
+    (seq _ _ _ (λ f. f.path) (key_form is_entry_path (last_of (λ x. x.path) [] front) total)
     (λ path g. seq _ _ _ (λ f. f.owner) (number_form total)
     (λ owner s. seq _ _ _ (λ f. f.mode) (checked_form (λ n. leb n 15) Range total)
     (λ mode m. seq _ _ _ (λ f. f.kind) (kind_form total)
@@ -190,40 +190,40 @@ file_form total front =
 -- entries in the order of their texts
 keyed_form : {X : Type 0} (key : X → List ℕ) (entry : List X → List ℕ → Read X) (encode : X → List ℕ) (Rule : X → Type 0) (most total : ℕ) → most < 2 ^ 32
     → ((front : List X) → IsForm (entry front) encode (λ x. IsAfter key front x × Rule x))
-    → IsForm (table_at most entry total) (table encode) (λ xs. (length xs ≤ most) × (AllByRecursion Rule xs × (ascend (map key xs) ≡ true)))
+    → IsForm (table_at most entry total) (encode_table encode) (λ xs. (length xs ≤ most) × (AllByRecursion Rule xs × (ascend (map key xs) ≡ true)))
 keyed_form key entry encode Rule most total few form =
-    reworded (table encode) (λ xs. (length xs ≤ most) × (AllByRecursion Rule xs × (ascend (map key xs) ≡ true)))
+    reworded (encode_table encode) (λ xs. (length xs ≤ most) × (AllByRecursion Rule xs × (ascend (map key xs) ≡ true)))
     (table_form entry encode (λ front x. IsAfter key front x × Rule x) form most total few)
     (λ xs good.
     let a = scan_there (names_scan key) (λ f x. Rule x) [] xs good.1 in
     (refl, (good.0, (plain_there Rule [] xs a.1, a.0))))
     (λ xs rule. (rule.0, scan_back (names_scan key) (λ f x. Rule x) [] xs rule.1.1 (plain_back Rule [] xs rule.1.0)))
 
-tags_form : (total : ℕ) → IsForm (tags_at total) (table tag) AreTags
+tags_form : (total : ℕ) → IsForm (tags_at total) (encode_table encode_tag) AreTags
 unfolding tags_at
 tags_form total =
-    reworded (table tag) AreTags (keyed_form (λ (t : TagEntry). t.name) (tag_at total) tag IsTag most_tags total (omega arith) (tag_form total))
+    reworded (encode_table encode_tag) AreTags (keyed_form (λ (t : TagEntry). t.name) (tag_at total) encode_tag IsTag most_tags total (omega arith) (tag_form total))
     (λ ts g. (refl, record { not_too_many = g.0; each = g.1.0; names_ascend = g.1.1 }))
     (λ ts r. (r.not_too_many, (r.each, r.names_ascend)))
 
-fds_form : (total : ℕ) → IsForm (fds_at total) (table fd) AreFds
+fds_form : (total : ℕ) → IsForm (fds_at total) (encode_table encode_fd) AreFds
 unfolding fds_at
 fds_form total =
-    reworded (table fd) AreFds (keyed_form (λ (f : FdEntry). f.name) (fd_at total) fd IsFd most_declared_fds total (omega arith) (fd_form total))
+    reworded (encode_table encode_fd) AreFds (keyed_form (λ (f : FdEntry). f.name) (fd_at total) encode_fd IsFd most_declared_fds total (omega arith) (fd_form total))
     (λ fs g. (refl, record { not_too_many = g.0; each = g.1.0; names_ascend = g.1.1 }))
     (λ fs r. (r.not_too_many, (r.each, r.names_ascend)))
 
-files_form : (total : ℕ) → IsForm (files_at total) (table file) AreFiles
+files_form : (total : ℕ) → IsForm (files_at total) (encode_table encode_file) AreFiles
 unfolding files_at
 files_form total =
-    reworded (table file) AreFiles (keyed_form (λ (f : FileEntry). f.path) (file_at total) file IsFile most_files total (omega arith) (file_form total))
+    reworded (encode_table encode_file) AreFiles (keyed_form (λ (f : FileEntry). f.path) (file_entry_at total) encode_file IsFile most_files total (omega arith) (file_form total))
     (λ fs g. (refl, record { not_too_many = g.0; each = g.1.0; paths_ascend = g.1.1 }))
     (λ fs r. (r.not_too_many, (r.each, r.paths_ascend)))
 
 -- ---- the whole
 
 abbrev header : ℕ → List ℕ
-header fuel = number magic ++ (number version ++ number fuel)
+header fuel = encode_number magic ++ (encode_number version ++ encode_number fuel)
 
 header_form : (total : ℕ) → IsForm (header_at total) header (λ fuel. fuel ≤ most_fuel)
 unfolding header_at
@@ -258,8 +258,8 @@ pub record MeetsRules (i : Image) : Type 0 where
   pub user_fits : i.user < 2 ^ 32
   pub root_canonical : is_root i.root ≡ true
 
-after_header : (fuel : ℕ) (rest : List ℕ) → header fuel ++ rest ≡ number magic ++ (number version ++ (number fuel ++ rest))
-after_header fuel rest = append_assoc (number magic) (number version ++ number fuel) rest ∙ ap (λ x. number magic ++ x) (append_assoc (number version) (number fuel) rest)
+after_header : (fuel : ℕ) (rest : List ℕ) → header fuel ++ rest ≡ encode_number magic ++ (encode_number version ++ (encode_number fuel ++ rest))
+after_header fuel rest = append_assoc (encode_number magic) (encode_number version ++ encode_number fuel) rest ∙ ap (λ x. encode_number magic ++ x) (append_assoc (encode_number version) (encode_number fuel) rest)
 
 pub image_form : (total : ℕ) → IsForm (image_at total) encoding MeetsRules
 unfolding image_at encoding
@@ -380,9 +380,9 @@ is_read i is =
     let whole : image_at total (encoding i) ≡ Ok (i, []) = ap (image_at total) (sym (append-nil (encoding i))) ∙ (image_form total).again i [] (meets i is) in
     rw (leb_back total most_bytes is.small, whole) refl
 
-pub is_given : {X : Type 0} (view : X → Image) (bytes : List ℕ) (r : Result X ImageError) → IsBytes bytes → Gives view r (reading bytes) → IfOk r (λ x. Encodes (view x) bytes)
+pub is_given : {X : Type 0} (view : X → Image) (bytes : List ℕ) (r : Result X ImageError) → IsBytes bytes → IsImageAnswer view r (reading bytes) → IfOk r (λ x. Encodes (view x) bytes)
 is_given view bytes (Ok x) fits given = is_found bytes (view x) fits given
 is_given view bytes (Err e) fits given = tt
 
-pub is_only : {X : Type 0} (view : X → Image) (bytes : List ℕ) (r : Result X ImageError) → Gives view r (reading bytes) → (i : Image) → Encodes i bytes → Gives view r (Ok i)
-is_only view bytes r given i encodes = subst (λ read. Gives view r read) (ap reading encodes.encoded ∙ is_read i encodes.valid) given
+pub is_only : {X : Type 0} (view : X → Image) (bytes : List ℕ) (r : Result X ImageError) → IsImageAnswer view r (reading bytes) → (i : Image) → Encodes i bytes → IsImageAnswer view r (Ok i)
+is_only view bytes r given i encodes = subst (λ read. IsImageAnswer view r read) (ap reading encodes.encoded ∙ is_read i encodes.valid) given

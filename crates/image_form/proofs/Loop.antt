@@ -3,7 +3,7 @@ use Rattle.std.proofs.Common.{◌≡◌, ℕ, suc, ◌-◌, ◌+◌, ◌≤◌, 
 use Rattle.std.proofs.lemmas.List.{append-nil}
 use Rattle.image_form.specs.declared.fault.ImageError.{ImageError}
 use Rattle.image_form.specs.declared.fault.ImageError.TheVariants as error
-use Rattle.image_form.specs.Reading.{◌>>=◌, Read, Fails, entries_at}
+use Rattle.image_form.specs.Reading.{◌>>=◌, Read, IsImageError, entries_at}
 
 module _ {X : Type 0} where
   -- what was read before, and what is still read
@@ -29,7 +29,7 @@ module _ {X : Type 0} where
       sym one ∙ so_far
 
   pub ends : (entry : List X → List ℕ → Read X) (e : ImageError) (lent front : List X) (count i : ℕ) (bytes : List ℕ) (total : Read (List X))
-      → lent ≡ front → i < count → Fails e (entry lent bytes) → SoFar entry count i front bytes total → Fails e total
+      → lent ≡ front → i < count → IsImageError e (entry lent bytes) → SoFar entry count i front bytes total → IsImageError e total
   unfolding entries_at
   ends entry error.NoMemory lent front count i bytes total same lt h so_far = tt
   ends entry (error.Fault f) lent front count i bytes total same lt h so_far =

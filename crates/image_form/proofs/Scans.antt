@@ -6,11 +6,11 @@ use Rattle.std.proofs.lemmas.Bool.Decides.{nat_tests}
 use Rattle.std.proofs.lemmas.List.{map-append}
 use Rattle.std.proofs.lemmas.List.Sums.{sum_by-append, sum_by-cons}
 use Rattle.wedge_base.specs.declared.image.MemoryRange.{MemoryRange}
-use Rattle.image_form.specs.Forms.{is_below, ascend_from, is_path, is_root}
+use Rattle.image_form.specs.Forms.{is_below, ascend_from, is_entry_path, is_root}
 use Rattle.wedge_base.specs.Paths.{is_canonical}
 use Rattle.wedge_base.specs.Texts.{is_name, starts_name, continues_name}
 use Rattle.wedge_base.specs.Maps.{is_among}
-use Rattle.image_form.specs.Rules.{high_end, low_end, most_range_bytes, addresses, differ_from, end_of, is_off_text, lie_apart}
+use Rattle.image_form.specs.Rules.{high_end, low_end, most_range_bytes, addresses, differ_from, range_end, is_off_text, lie_apart}
 use Rattle.wedge_base.specs.Images.{is_text_address}
 use Rattle.image_form.specs.Reading.{last_of, is_base, is_word_count, is_range_length}
 use Rattle.image_form.proofs.Lasts.{last_of-push}
@@ -28,10 +28,10 @@ addresses_scan = record {
   more = λ front p ps. ap (λ ns. not (is_among (addresses front) p.address) && differ_from ns (addresses ps)) (sym (map-append (λ x. x.address) front (p ∷ [])));
 }
 
-pub ranges_scan : (base count : ℕ) → IsScan (last_of end_of 0) (λ e r. leb e r.base && is_off_text base count r.base (length r.bytes)) (lie_apart base count)
+pub ranges_scan : (base count : ℕ) → IsScan (last_of range_end 0) (λ e r. leb e r.base && is_off_text base count r.base (length r.bytes)) (lie_apart base count)
 ranges_scan base count = record {
   none = λ e. refl;
-  more = λ front r rs. ap (λ e. (leb (last_of end_of 0 front) r.base && is_off_text base count r.base (length r.bytes)) && lie_apart base count e rs) (sym (last_of-push end_of 0 front r));
+  more = λ front r rs. ap (λ e. (leb (last_of range_end 0 front) r.base && is_off_text base count r.base (length r.bytes)) && lie_apart base count e rs) (sym (last_of-push range_end 0 front r));
 }
 
 -- ---- sums
@@ -101,8 +101,8 @@ name_short (c ∷ cs) h =
     let rules = both (leb (length cs) 63 && starts_name c) (list_all continues_name cs) h in
     omega (arith, leb-true (length cs) 63 (both (leb (length cs) 63) (starts_name c) rules.0).0)
 
-pub path_short : (t : List ℕ) → is_path t ≡ true → length t < 65535
-unfolding is_path
+pub path_short : (t : List ℕ) → is_entry_path t ≡ true → length t < 65535
+unfolding is_entry_path
 path_short t h =
     let sized = both (leb 2 (length t) && leb (length t) 255) (is_canonical t) h in
     omega (arith, leb-true (length t) 255 (both (leb 2 (length t)) (leb (length t) 255) sized.0).1)

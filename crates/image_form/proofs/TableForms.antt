@@ -4,7 +4,7 @@ use Rattle.std.specs.List.{flat_map, AllByRecursion}
 use Rattle.std.proofs.lemmas.Bool.{leb-true}
 use Rattle.std.proofs.lemmas.Bool.Decides.{nat_tests}
 use Rattle.std.proofs.lemmas.List.Concat.{flat_map-cons}
-use Rattle.image_form.specs.Encoding.{table}
+use Rattle.image_form.specs.Encoding.{encode_table}
 use Rattle.image_form.specs.declared.fault.Why.TheVariants.{Limit}
 use Rattle.image_form.specs.Reading.{Read, entries_at, table_at}
 use Rattle.image_form.proofs.Form.{IsBytes, bind_ok, ok_is, Takes, Takes-then, IsForm, seq, reworded}
@@ -55,10 +55,10 @@ module _ {X : Type 0} where
     }
 
     -- entries after their count
-    pub table_form : (most total : ℕ) → most < 2 ^ 32 → IsForm (table_at most entry total) (table encode) (λ xs. (length xs ≤ most) × Each Good [] xs)
+    pub table_form : (most total : ℕ) → most < 2 ^ 32 → IsForm (table_at most entry total) (encode_table encode) (λ xs. (length xs ≤ most) × Each Good [] xs)
     unfolding table_at
     table_form most total small =
-        reworded (table encode) (λ xs. (length xs ≤ most) × Each Good [] xs)
+        reworded (encode_table encode) (λ xs. (length xs ≤ most) × Each Good [] xs)
         (seq _ _ _ (λ xs. length xs) (checked_form (λ n. leb n most) Limit total) (λ n good. entries_form n []) (λ n xs good r. r.0))
         (λ xs good. (refl, (leb-true (length xs) most good.0.0, good.1.1)))
         (λ xs rule. let few : leb (length xs) most ≡ true = grind (arith, nat_tests, rule.0) in ((few, omega (arith, rule.0, small)), (refl, rule.1)))

@@ -6,7 +6,7 @@ use Rattle.std.specs.List.{flat_map, AllByRecursion}
 use Rattle.std.proofs.lemmas.List.{append-nil}
 use Rattle.std.proofs.lemmas.List.Concat.{flat_map-cons}
 use Rattle.wedge_base.specs.Images.{Image}
-use Rattle.image_form.specs.Encoding.{magic, version, number, string, content, table, procedure, range, right_code, tag, kind_code, bits_code, fd, file, encoding}
+use Rattle.image_form.specs.Encoding.{magic, version, encode_number, encode_string, encode_content, encode_table, encode_procedure, encode_range, right_code, encode_tag, kind_code, bits_code, encode_fd, encode_file, encoding}
 use Rattle.image_form.specs.Fitting.{WordFits, ProcedureFits, RangeFits, TagFits, FdFits, FileFits, TableFits, PartsFit}
 use Rattle.image_form.specs.Rules.{IsProcedure, IsRange, IsTag, IsFd, IsFile, IsImage}
 use Rattle.image_form.specs.Reading.{Read}
@@ -68,13 +68,13 @@ module _ {X : Type 0} where
       let later = listed one ys xs r q (omega arith) fit.1 good.1 first.1 in
       (λ k. first.0 k ∷ later.0 k, later.1)
 
-number_unique : IsUnique number (λ n. n < 2 ^ 32) (λ n. n < 2 ^ 32) (λ y x. y ≡ x)
+number_unique : IsUnique encode_number (λ n. n < 2 ^ 32) (λ n. n < 2 ^ 32) (λ y x. y ≡ x)
 number_unique = from_form (number_form 0)
 
-table_unique : {X : Type 0} {s : X → List ℕ} {F G : X → Type 0} → IsUnique s F G (λ y x. y ≡ x) → IsUnique (table s) (TableFits F) (TableFits G) (λ y x. y ≡ x)
+table_unique : {X : Type 0} {s : X → List ℕ} {F G : X → Type 0} → IsUnique s F G (λ y x. y ≡ x) → IsUnique (encode_table s) (TableFits F) (TableFits G) (λ y x. y ≡ x)
 table_unique {X} {s} one = record {
   unique = λ ys xs r q fit good e.
-      let apart : number (length ys) ++ (flat_map s ys ++ r) ≡ number (length xs) ++ (flat_map s xs ++ q) = sym (append_assoc (number (length ys)) (flat_map s ys) r) ∙ e ∙ append_assoc (number (length xs)) (flat_map s xs) q in
+      let apart : encode_number (length ys) ++ (flat_map s ys ++ r) ≡ encode_number (length xs) ++ (flat_map s xs ++ q) = sym (append_assoc (encode_number (length ys)) (flat_map s ys) r) ∙ e ∙ append_assoc (encode_number (length xs)) (flat_map s xs) q in
       let first = number_unique.unique (length ys) (length xs) (flat_map s ys ++ r) (flat_map s xs ++ q) fit.count good.count apart in
       listed one ys xs r q first.0 fit.each good.each first.1;
 }
@@ -83,8 +83,8 @@ same_length : (ys xs r q : List ℕ) → length ys ≡ length xs → ys ++ r ≡
 same_length ys xs r q long e = (from_form (bytes_form 0 (length xs))).unique ys xs r q long refl e
 
 -- a string that is encoded with a shorter length than its own differs from those that are short
-string_unique : IsUnique string (λ t. Unit {0}) (λ t. length t < 65535) (λ y x. y ≡ x)
-unfolding string
+string_unique : IsUnique encode_string (λ t. Unit {0}) (λ t. length t < 65535) (λ y x. y ≡ x)
+unfolding encode_string
 string_unique = record {
   unique = λ ys xs r q fit short e.
       let count = λ (t : List ℕ). to_le_bytes w16 (min (length t) 65535) in
@@ -94,21 +94,21 @@ string_unique = record {
       same_length ys xs r q long first.1;
 }
 
-content_unique : IsUnique content (λ t. length t < 2 ^ 32) (λ t. length t < 2 ^ 32) (λ y x. y ≡ x)
+content_unique : IsUnique encode_content (λ t. length t < 2 ^ 32) (λ t. length t < 2 ^ 32) (λ y x. y ≡ x)
 content_unique = whole (λ t. length t < 2 ^ 32) (λ t. length t < 2 ^ 32) (from_form (content_form (λ _. true) 0)) (λ y x e. e) (λ y fit. (refl, fit)) (λ x good. (refl, good))
 
-right_unique : IsUnique (λ r. number (right_code r)) (λ r. Unit {0}) (λ r. Unit {0}) (λ y x. y ≡ x)
+right_unique : IsUnique (λ r. encode_number (right_code r)) (λ r. Unit {0}) (λ r. Unit {0}) (λ y x. y ≡ x)
 right_unique = from_form (right_form 0)
 
-kind_unique : IsUnique (λ k. number (kind_code k)) (λ k. Unit {0}) (λ k. Unit {0}) (λ y x. y ≡ x)
+kind_unique : IsUnique (λ k. encode_number (kind_code k)) (λ k. Unit {0}) (λ k. Unit {0}) (λ y x. y ≡ x)
 kind_unique = from_form (kind_form 0)
 
-bits_unique : IsUnique (λ b. number (bits_code b)) (λ b. Unit {0}) (λ b. Unit {0}) (λ y x. y ≡ x)
+bits_unique : IsUnique (λ b. encode_number (bits_code b)) (λ b. Unit {0}) (λ b. Unit {0}) (λ y x. y ≡ x)
 bits_unique = from_form (bits_form 0)
 
 -- ---- entries
 
-word_unique : IsUnique number WordFits WordFits (λ y x. y ≡ x)
+word_unique : IsUnique encode_number WordFits WordFits (λ y x. y ≡ x)
 word_unique = whole WordFits WordFits number_unique (λ y x e. e) (λ y fit. fit.small) (λ x fit. fit.small)
 
 -- what a rule gives, beside that an entry fits
@@ -116,7 +116,7 @@ pub record Named {X : Type 0} (text : X → List ℕ) (Fits : X → Type 0) (x :
   pub short : length (text x) < 65535
   pub fits : Fits x
 
-procedure_unique : IsUnique procedure ProcedureFits (Named (λ p. p.name) ProcedureFits) (λ y x. y ≡ x)
+procedure_unique : IsUnique encode_procedure ProcedureFits (Named (λ p. p.name) ProcedureFits) (λ y x. y ≡ x)
 procedure_unique =
     whole ProcedureFits (Named (λ p. p.name) ProcedureFits)
     (field_then (λ p. p.name) string_unique (field_last (λ p. p.address) number_unique))
@@ -124,7 +124,7 @@ procedure_unique =
     (λ y fit. (tt, fit.address))
     (λ x good. (good.short, good.fits.address))
 
-range_unique : IsUnique range RangeFits RangeFits (λ y x. y ≡ x)
+range_unique : IsUnique encode_range RangeFits RangeFits (λ y x. y ≡ x)
 range_unique =
     whole RangeFits RangeFits
     (field_then (λ r. r.base) number_unique (field_last (λ r. r.bytes) content_unique))
@@ -132,7 +132,7 @@ range_unique =
     (λ y fit. (fit.base, fit.size))
     (λ x fit. (fit.base, fit.size))
 
-tag_unique : IsUnique tag TagFits (Named (λ t. t.name) TagFits) (λ y x. y ≡ x)
+tag_unique : IsUnique encode_tag TagFits (Named (λ t. t.name) TagFits) (λ y x. y ≡ x)
 tag_unique =
     whole TagFits (Named (λ t. t.name) TagFits)
     (field_then (λ t. t.name) string_unique (field_then (λ t. t.pages) number_unique (field_then (λ t. t.right) right_unique (field_then (λ t. t.content) content_unique no_more))))
@@ -140,7 +140,7 @@ tag_unique =
     (λ y fit. (tt, (fit.pages, (tt, (fit.size, tt)))))
     (λ x good. (good.short, (good.fits.pages, (tt, (good.fits.size, tt)))))
 
-fd_unique : IsUnique fd FdFits (Named (λ f. f.name) FdFits) (λ y x. y ≡ x)
+fd_unique : IsUnique encode_fd FdFits (Named (λ f. f.name) FdFits) (λ y x. y ≡ x)
 fd_unique =
     whole FdFits (Named (λ f. f.name) FdFits)
     (field_then (λ f. f.name) string_unique (field_then (λ f. f.kind) kind_unique (field_then (λ f. f.bits) bits_unique (field_then (λ f. f.content) content_unique no_more))))
@@ -148,7 +148,7 @@ fd_unique =
     (λ y fit. (tt, (tt, (tt, (fit.size, tt)))))
     (λ x good. (good.short, (tt, (tt, (good.fits.size, tt)))))
 
-file_unique : IsUnique file FileFits (Named (λ f. f.path) FileFits) (λ y x. y ≡ x)
+file_unique : IsUnique encode_file FileFits (Named (λ f. f.path) FileFits) (λ y x. y ≡ x)
 file_unique =
     whole FileFits (Named (λ f. f.path) FileFits)
     (field_then (λ f. f.path) string_unique (field_then (λ f. f.owner) number_unique (field_then (λ f. f.mode) number_unique (field_then (λ f. f.kind) kind_unique (field_then (λ f. f.content) content_unique no_more)))))

@@ -26,35 +26,35 @@ abbrev pub version : ℕ
 version = 1
 
 -- four bytes
-unfoldable pub number : ℕ → List ℕ
-number n = to_le_bytes w32 n
+unfoldable pub encode_number : ℕ → List ℕ
+encode_number n = to_le_bytes w32 n
 
 -- The bytes of a string after their length in two bytes. A string of more than 65,535 bytes, which
 -- no rule allows, is written with the length 65,535.
-unfoldable pub string : List ℕ → List ℕ
-string text = to_le_bytes w16 (min (length text) 65535) ++ text
+unfoldable pub encode_string : List ℕ → List ℕ
+encode_string text = to_le_bytes w16 (min (length text) 65535) ++ text
 
 -- bytes after their length in four bytes
-unfoldable pub content : List ℕ → List ℕ
-content bytes = number (length bytes) ++ bytes
+unfoldable pub encode_content : List ℕ → List ℕ
+encode_content bytes = encode_number (length bytes) ++ bytes
 
 -- entries after their count
-abbrev pub table : {X : Type 0} → (X → List ℕ) → List X → List ℕ
-table entry xs = number (length xs) ++ flat_map entry xs
+abbrev pub encode_table : {X : Type 0} → (X → List ℕ) → List X → List ℕ
+encode_table entry xs = encode_number (length xs) ++ flat_map entry xs
 
-abbrev pub procedure : Procedure → List ℕ
-procedure p = string p.name ++ number p.address
+abbrev pub encode_procedure : Procedure → List ℕ
+encode_procedure p = encode_string p.name ++ encode_number p.address
 
-abbrev pub range : MemoryRange → List ℕ
-range r = number r.base ++ content r.bytes
+abbrev pub encode_range : MemoryRange → List ℕ
+encode_range r = encode_number r.base ++ encode_content r.bytes
 
 -- 0 none, 1 Cow, 2 Read, 3 ReadWrite
 abbrev pub right_code : Option Right → ℕ
 right_code None = 0
 right_code (Some r) = rank r
 
-abbrev pub tag : TagEntry → List ℕ
-tag t = concat (string t.name ∷ number t.pages ∷ number (right_code t.right) ∷ content t.content ∷ [])
+abbrev pub encode_tag : TagEntry → List ℕ
+encode_tag t = concat (encode_string t.name ∷ encode_number t.pages ∷ encode_number (right_code t.right) ∷ encode_content t.content ∷ [])
 
 abbrev pub kind_code : StreamKind → ℕ
 kind_code kind.Source = 0
@@ -64,15 +64,15 @@ kind_code kind.Append = 1
 abbrev pub bits_code : FdBits → ℕ
 bits_code b = (if b.read then 1 else 0) + (if b.append then 2 else 0)
 
-abbrev pub fd : FdEntry → List ℕ
-fd f = concat (string f.name ∷ number (kind_code f.kind) ∷ number (bits_code f.bits) ∷ content f.content ∷ [])
+abbrev pub encode_fd : FdEntry → List ℕ
+encode_fd f = concat (encode_string f.name ∷ encode_number (kind_code f.kind) ∷ encode_number (bits_code f.bits) ∷ encode_content f.content ∷ [])
 
-abbrev pub file : FileEntry → List ℕ
-file f = concat (string f.path ∷ number f.owner ∷ number f.mode ∷ number (kind_code f.kind) ∷ content f.content ∷ [])
+abbrev pub encode_file : FileEntry → List ℕ
+encode_file f = concat (encode_string f.path ∷ encode_number f.owner ∷ encode_number f.mode ∷ encode_number (kind_code f.kind) ∷ encode_content f.content ∷ [])
 
 unfoldable pub encoding : Image → List ℕ
 encoding i = concat (
-    number magic ∷ number version ∷ number i.fuel ∷ number i.base ∷ table number i.words
-    ∷ table procedure i.procedures ∷ number i.entry ∷ table range i.ranges
-    ∷ table tag i.tags ∷ table fd i.fds ∷ table file i.files
-    ∷ number i.user ∷ string i.root ∷ [])
+    encode_number magic ∷ encode_number version ∷ encode_number i.fuel ∷ encode_number i.base ∷ encode_table encode_number i.words
+    ∷ encode_table encode_procedure i.procedures ∷ encode_number i.entry ∷ encode_table encode_range i.ranges
+    ∷ encode_table encode_tag i.tags ∷ encode_table encode_fd i.fds ∷ encode_table encode_file i.files
+    ∷ encode_number i.user ∷ encode_string i.root ∷ [])

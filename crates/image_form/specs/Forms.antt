@@ -5,8 +5,8 @@ use Rattle.std.specs.Cmp.Lexicographic.{slice_cmp}
 use Rattle.wedge_base.specs.Paths.{is_canonical}
 
 -- a canonical path of 2 to 255 bytes, and so of at least one part
-unfoldable pub is_path : List ℕ → Bool
-is_path text = nat_le 2 (length text) && nat_le (length text) 255 && is_canonical text
+unfoldable pub is_entry_path : List ℕ → Bool
+is_entry_path text = nat_le 2 (length text) && nat_le (length text) 255 && is_canonical text
 
 -- a root directory is a canonical path of 1 to 255 bytes: it may also be `/` alone
 unfoldable pub is_root : List ℕ → Bool

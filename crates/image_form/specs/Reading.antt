@@ -21,9 +21,9 @@ use Rattle.image_form.specs.declared.fault.ImageError.{ImageError}
 use Rattle.image_form.specs.declared.fault.ImageError.TheVariants as error
 use Rattle.image_form.specs.Encoding.{most_bytes, magic, version}
 use Rattle.wedge_base.specs.Texts.{is_name}
-use Rattle.image_form.specs.Forms.{is_path, is_root, is_below}
+use Rattle.image_form.specs.Forms.{is_entry_path, is_root, is_below}
 use Rattle.wedge_base.specs.Maps.{is_among}
-use Rattle.image_form.specs.Rules.{most_fuel, low_end, high_end, most_procedures, most_ranges, most_range_bytes, most_tags, most_declared_fds, most_files, addresses, end_of, is_off_text, may_hold}
+use Rattle.image_form.specs.Rules.{most_fuel, low_end, high_end, most_procedures, most_ranges, most_range_bytes, most_tags, most_declared_fds, most_files, addresses, range_end, is_off_text, may_hold}
 
 -- ---- what reading gives
 
@@ -50,14 +50,14 @@ abbrev pub place : ℕ → List ℕ → ℕ
 place total rest = total - length rest
 
 -- the fault of an answer is the one that reading gives, unless memory ran out
-abbrev pub Fails : {Y : Type 0} → ImageError → Result Y Fault → Type 0
-Fails error.NoMemory read = Unit {0}
-Fails (error.Fault f) read = read ≡ Err f
+abbrev pub IsImageError : {Y : Type 0} → ImageError → Result Y Fault → Type 0
+IsImageError error.NoMemory read = Unit {0}
+IsImageError (error.Fault f) read = read ≡ Err f
 
 -- What a function answered, seen by view, is what reading gives, unless memory ran out.
-abbrev pub Gives : {X Y : Type 0} → (X → Y) → Result X ImageError → Result Y Fault → Type 0
-Gives view (Ok x) read = read ≡ Ok (view x)
-Gives view (Err e) read = Fails e read
+abbrev pub IsImageAnswer : {X Y : Type 0} → (X → Y) → Result X ImageError → Result Y Fault → Type 0
+IsImageAnswer view (Ok x) read = read ≡ Ok (view x)
+IsImageAnswer view (Err e) read = IsImageError e read
 
 -- ---- fields
 
@@ -150,27 +150,27 @@ range_length_at base front total bytes =
     checked_at (is_range_length base) Range total bytes >>= λ n rest.
     demand (nat_le (sum_by (λ r. length r.bytes) front + n) most_range_bytes) (place total bytes) Limit (Ok (n, rest))
 
-unfoldable pub range_at : ℕ → ℕ → ℕ → List MemoryRange → List ℕ → Read MemoryRange
-range_at base count total front bytes =
+unfoldable pub range_entry_at : ℕ → ℕ → ℕ → List MemoryRange → List ℕ → Read MemoryRange
+range_entry_at base count total front bytes =
     checked_at is_base Range total bytes >>= λ start rest.
     range_length_at start front total rest >>= λ n rest.
-    demand (nat_le (last_of end_of 0 front) start && is_off_text base count start n) (place total bytes) Overlap (
+    demand (nat_le (last_of range_end 0 front) start && is_off_text base count start n) (place total bytes) Overlap (
     bytes_at total n rest >>= λ content rest.
     Ok (record { base = start; bytes = content }, rest))
 
 unfoldable pub ranges_at : ℕ → ℕ → ℕ → List ℕ → Read (List MemoryRange)
-ranges_at base count total bytes = table_at most_ranges (range_at base count total) total bytes
+ranges_at base count total bytes = table_at most_ranges (range_entry_at base count total) total bytes
 
 -- ---- tags, descriptors and files
 
-abbrev pub right_of : ℕ → Option Right
-right_of zero = None
-right_of (suc zero) = Some right.Cow
-right_of (suc (suc zero)) = Some right.Read
-right_of (suc (suc (suc n))) = Some right.ReadWrite
+abbrev pub right_from_code : ℕ → Option Right
+right_from_code zero = None
+right_from_code (suc zero) = Some right.Cow
+right_from_code (suc (suc zero)) = Some right.Read
+right_from_code (suc (suc (suc n))) = Some right.ReadWrite
 
 unfoldable pub right_at : ℕ → List ℕ → Read (Option Right)
-right_at total bytes = checked_at (λ n. nat_le n 3) Range total bytes >>= λ n rest. Ok (right_of n, rest)
+right_at total bytes = checked_at (λ n. nat_le n 3) Range total bytes >>= λ n rest. Ok (right_from_code n, rest)
 
 abbrev pub is_page_count : ℕ → Bool
 is_page_count n = nat_le 1 n && nat_le n most_pages
@@ -186,18 +186,18 @@ tag_at total front bytes =
 unfoldable pub tags_at : ℕ → List ℕ → Read (List TagEntry)
 tags_at total bytes = table_at most_tags (tag_at total) total bytes
 
-abbrev pub kind_of : ℕ → StreamKind
-kind_of zero = kind.Source
-kind_of (suc n) = kind.Append
+abbrev pub kind_from_code : ℕ → StreamKind
+kind_from_code zero = kind.Source
+kind_from_code (suc n) = kind.Append
 
 unfoldable pub kind_at : ℕ → List ℕ → Read StreamKind
-kind_at total bytes = checked_at (λ n. nat_le n 1) Range total bytes >>= λ n rest. Ok (kind_of n, rest)
+kind_at total bytes = checked_at (λ n. nat_le n 1) Range total bytes >>= λ n rest. Ok (kind_from_code n, rest)
 
-abbrev pub bits_of : ℕ → FdBits
-bits_of n = record { read = n % 2 == 1; append = nat_le 2 n }
+abbrev pub bits_from_code : ℕ → FdBits
+bits_from_code n = record { read = n % 2 == 1; append = nat_le 2 n }
 
 unfoldable pub bits_at : ℕ → List ℕ → Read FdBits
-bits_at total bytes = checked_at (λ n. nat_le n 3) Range total bytes >>= λ n rest. Ok (bits_of n, rest)
+bits_at total bytes = checked_at (λ n. nat_le n 3) Range total bytes >>= λ n rest. Ok (bits_from_code n, rest)
 
 unfoldable pub fd_at : ℕ → List FdEntry → List ℕ → Read FdEntry
 fd_at total front bytes =
@@ -210,9 +210,9 @@ fd_at total front bytes =
 unfoldable pub fds_at : ℕ → List ℕ → Read (List FdEntry)
 fds_at total bytes = table_at most_declared_fds (fd_at total) total bytes
 
-unfoldable pub file_at : ℕ → List FileEntry → List ℕ → Read FileEntry
-file_at total front bytes =
-    key_at is_path (last_of (λ f. f.path) [] front) total bytes >>= λ path rest.
+unfoldable pub file_entry_at : ℕ → List FileEntry → List ℕ → Read FileEntry
+file_entry_at total front bytes =
+    key_at is_entry_path (last_of (λ f. f.path) [] front) total bytes >>= λ path rest.
     number_at total rest >>= λ owner rest.
     checked_at (λ n. nat_le n 15) Range total rest >>= λ mode rest.
     kind_at total rest >>= λ kind rest.
@@ -220,7 +220,7 @@ file_at total front bytes =
     Ok (record { path = path; owner = owner; mode = mode; kind = kind; content = content }, rest)
 
 unfoldable pub files_at : ℕ → List ℕ → Read (List FileEntry)
-files_at total bytes = table_at most_files (file_at total) total bytes
+files_at total bytes = table_at most_files (file_entry_at total) total bytes
 
 -- ---- the whole
 

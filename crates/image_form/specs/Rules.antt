@@ -12,7 +12,7 @@ use Rattle.wedge_base.specs.declared.rights.StreamKind.{StreamKind}
 use Rattle.wedge_base.specs.declared.rights.StreamKind.TheVariants as kind
 use Rattle.image_form.specs.Encoding.{encoding, most_bytes}
 use Rattle.wedge_base.specs.Texts.{is_name}
-use Rattle.image_form.specs.Forms.{is_path, is_root, ascend}
+use Rattle.image_form.specs.Forms.{is_entry_path, is_root, ascend}
 
 -- ---- limits
 
@@ -87,8 +87,8 @@ pub record IsRange (r : MemoryRange) : Type 0 where
   pub some_byte : 1 ≤ length r.bytes
   pub end_high : r.base + length r.bytes ≤ high_end
 
-abbrev pub end_of : MemoryRange → ℕ
-end_of r = r.base + length r.bytes
+abbrev pub range_end : MemoryRange → ℕ
+range_end r = r.base + length r.bytes
 
 -- whether n bytes at an address share none with the text, which has `count` words at `base`
 abbrev pub is_off_text : ℕ → ℕ → ℕ → ℕ → Bool
@@ -99,7 +99,7 @@ is_off_text base count address n = nat_le (address + n) base || nat_le (base + 4
 abbrev pub lie_apart : ℕ → ℕ → ℕ → List MemoryRange → Bool
 lie_apart base count before [] = true
 lie_apart base count before (r ∷ rs) =
-    nat_le before r.base && is_off_text base count r.base (length r.bytes) && lie_apart base count (end_of r) rs
+    nat_le before r.base && is_off_text base count r.base (length r.bytes) && lie_apart base count (range_end r) rs
 
 pub record AreRanges (base count : ℕ) (rs : List MemoryRange) : Type 0 where
   pub not_too_many : length rs ≤ most_ranges
@@ -136,7 +136,7 @@ pub record AreFds (fs : List FdEntry) : Type 0 where
   pub names_ascend : IsTrue (ascend (map (λ f. f.name) fs))
 
 pub record IsFile (f : FileEntry) : Type 0 where
-  pub canonical : IsTrue (is_path f.path)
+  pub canonical : IsTrue (is_entry_path f.path)
   pub owner_fits : f.owner < 2 ^ 32
   pub mode_fits : f.mode < 16
   pub content_suits : IsTrue (may_hold f.kind (length f.content))

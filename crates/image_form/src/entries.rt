@@ -2,7 +2,7 @@
 
 ghost use Rattle.std.specs.Prelude.{◌≡◌, [], length, IfOk};
 ghost use Rattle.image_form.specs.Reading as reading;
-ghost use Rattle.image_form.specs.Reading.{Gives};
+ghost use Rattle.image_form.specs.Reading.{IsImageAnswer};
 
 use crate::fault::ImageError;
 use crate::fields::{limited, number};
@@ -11,7 +11,7 @@ use std::alloc::Global;
 /// An entry whose reading depends on the entries before it alone.
 pub(crate) trait ReadEntry: Drop {
     ghost use Rattle.std.specs.Prelude.{ℕ, List};
-    ghost use Rattle.image_form.specs.Reading.{Read, Gives};
+    ghost use Rattle.image_form.specs.Reading.{Read, IsImageAnswer};
 
     ghost entry_at: { ℕ → List Self → List ℕ → Read Self };
 
@@ -22,7 +22,8 @@ pub(crate) trait ReadEntry: Drop {
         total: usize,
         bytes: &'a [u8],
     ) -> Result<(Self, &'a [u8]), ImageError>
-        ensures { Gives (λ x. (x.0, x.1.now)) result (entry_at total front.now bytes.now) };
+        ensures { IsImageAnswer
+            (λ x. (x.0, x.1.now)) result (entry_at total front.now bytes.now) };
 }
 
 /// So many entries.
@@ -32,7 +33,7 @@ pub(crate) fn entry_list<T: ReadEntry>(
     total: usize,
     bytes: &[u8],
 ) -> Result<(Vec<T>, &[u8]), ImageError>
-    ensures is { Gives (λ x. (x.0.items, x.1.now)) result
+    ensures is { IsImageAnswer (λ x. (x.0.items, x.1.now)) result
         (reading.entries_at (T.entry_at total) count [] bytes.now) }
     ensures long { IfOk result (λ x. length x.0.items ≡ count) }
 {
@@ -54,7 +55,7 @@ pub(crate) fn entry_table<T: ReadEntry>(
     total: usize,
     bytes: &[u8],
 ) -> Result<(Vec<T>, &[u8]), ImageError>
-    ensures { Gives (λ x. (x.0.items, x.1.now)) result
+    ensures { IsImageAnswer (λ x. (x.0.items, x.1.now)) result
         (reading.table_at most (T.entry_at total) total bytes.now) }
 {
     let (count, rest) = limited(most, total, bytes)?;

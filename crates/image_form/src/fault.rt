@@ -31,7 +31,7 @@ impl Why {
 
     /// The word for it.
     pub fn word(self) -> &'static str
-        ensures { result.now ≡ words.word self }
+        ensures { result.now ≡ words.image_why_word self }
     {
         match self {
             Why::Magic => "magic",

@@ -2,7 +2,7 @@
 
 ghost use Rattle.std.specs.Prelude.{◌≡◌, []};
 ghost use Rattle.image_form.specs.Reading as reading;
-ghost use Rattle.image_form.specs.Reading.{Gives, last_of};
+ghost use Rattle.image_form.specs.Reading.{IsImageAnswer, last_of};
 
 use crate::entries::ReadEntry;
 use crate::fault::{ImageError, Why};
@@ -26,7 +26,7 @@ fn last_name(front: &[FdEntry]) -> &[u8]
 /// The root's bits on a descriptor.
 #[tactic(auto, unfolding(crate::specs::Reading::checked_at, crate::specs::Reading::bits_at))]
 fn bits(total: usize, bytes: &[u8]) -> Result<(FdBits, &[u8]), ImageError>
-    ensures { Gives (λ x. (x.0, x.1.now)) result (reading.bits_at total bytes.now) }
+    ensures { IsImageAnswer (λ x. (x.0, x.1.now)) result (reading.bits_at total bytes.now) }
 {
     let (number, rest) = number(total, bytes)?;
     if 3 < number {

@@ -8,7 +8,7 @@ ghost use Rattle.image_form.specs.Forms as forms;
 ghost use Rattle.wedge_base.specs.Texts as texts;
 ghost use Rattle.image_form.specs.Reading as reading;
 ghost use Rattle.image_form.specs.Rules as rules;
-ghost use Rattle.image_form.specs.Reading.{Gives, place};
+ghost use Rattle.image_form.specs.Reading.{IsImageAnswer, place};
 
 use crate::fault::{Fault, ImageError, Why};
 use crate::forms::{is_below, is_path, is_root};
@@ -28,7 +28,8 @@ pub(crate) fn refused(total: usize, rest: &[u8], why: Why) -> ImageError
 /// So many bytes.
 #[tactic(auto, unfolding(crate::specs::Reading::bytes_at))]
 pub(crate) fn take(total: usize, count: usize, bytes: &[u8]) -> Result<(&[u8], &[u8]), ImageError>
-    ensures is { Gives (λ x. (x.0.now, x.1.now)) result (reading.bytes_at total count bytes.now) }
+    ensures is { IsImageAnswer
+        (λ x. (x.0.now, x.1.now)) result (reading.bytes_at total count bytes.now) }
     ensures long { IfOk result (λ x. length x.0.now ≡ count) }
 {
     if bytes.len() < count {
@@ -40,7 +41,7 @@ pub(crate) fn take(total: usize, count: usize, bytes: &[u8]) -> Result<(&[u8], &
 /// A number of four bytes.
 #[tactic(auto, unfolding(crate::specs::Reading::number_at))]
 pub(crate) fn number(total: usize, bytes: &[u8]) -> Result<(u32, &[u8]), ImageError>
-    ensures { Gives (λ x. (x.0, x.1.now)) result (reading.number_at total bytes.now) }
+    ensures { IsImageAnswer (λ x. (x.0, x.1.now)) result (reading.number_at total bytes.now) }
 {
     let (front, rest) = take(total, 4, bytes)?;
     let number = u32::from_le_bytes([front[0], front[1], front[2], front[3]]);
@@ -50,7 +51,7 @@ pub(crate) fn number(total: usize, bytes: &[u8]) -> Result<(u32, &[u8]), ImageEr
 /// A number of two bytes.
 #[tactic(auto, unfolding(crate::specs::Reading::short_at))]
 fn short(total: usize, bytes: &[u8]) -> Result<(u16, &[u8]), ImageError>
-    ensures { Gives (λ x. (x.0, x.1.now)) result (reading.short_at total bytes.now) }
+    ensures { IsImageAnswer (λ x. (x.0, x.1.now)) result (reading.short_at total bytes.now) }
 {
     let (front, rest) = take(total, 2, bytes)?;
     let number = u16::from_le_bytes([front[0], front[1]]);
@@ -60,7 +61,8 @@ fn short(total: usize, bytes: &[u8]) -> Result<(u16, &[u8]), ImageError>
 /// A number that is at most a limit.
 #[tactic(auto, unfolding(crate::specs::Reading::checked_at))]
 pub(crate) fn limited(most: u32, total: usize, bytes: &[u8]) -> Result<(u32, &[u8]), ImageError>
-    ensures { Gives (λ x. (x.0, x.1.now)) result (reading.limited_at most total bytes.now) }
+    ensures { IsImageAnswer
+        (λ x. (x.0, x.1.now)) result (reading.limited_at most total bytes.now) }
 {
     let (number, rest) = number(total, bytes)?;
     if most < number {
@@ -72,7 +74,7 @@ pub(crate) fn limited(most: u32, total: usize, bytes: &[u8]) -> Result<(u32, &[u
 /// A string.
 #[tactic(auto, unfolding(crate::specs::Reading::string_at))]
 fn string(total: usize, bytes: &[u8]) -> Result<(&[u8], &[u8]), ImageError>
-    ensures { Gives (λ x. (x.0.now, x.1.now)) result (reading.string_at total bytes.now) }
+    ensures { IsImageAnswer (λ x. (x.0.now, x.1.now)) result (reading.string_at total bytes.now) }
 {
     let (count, rest) = short(total, bytes)?;
     take(total, usize::from(count), rest)
@@ -85,7 +87,7 @@ pub(crate) fn name_after<'a>(
     total: usize,
     bytes: &'a [u8],
 ) -> Result<(&'a [u8], &'a [u8]), ImageError>
-    ensures { Gives (λ x. (x.0.now, x.1.now)) result
+    ensures { IsImageAnswer (λ x. (x.0.now, x.1.now)) result
         (reading.key_at texts.is_name before.now total bytes.now) }
 {
     let (name, rest) = string(total, bytes)?;
@@ -105,8 +107,8 @@ pub(crate) fn path_after<'a>(
     total: usize,
     bytes: &'a [u8],
 ) -> Result<(&'a [u8], &'a [u8]), ImageError>
-    ensures { Gives (λ x. (x.0.now, x.1.now)) result
-        (reading.key_at forms.is_path before.now total bytes.now) }
+    ensures { IsImageAnswer (λ x. (x.0.now, x.1.now)) result
+        (reading.key_at forms.is_entry_path before.now total bytes.now) }
 {
     let (path, rest) = string(total, bytes)?;
     if !is_path(path) {
@@ -121,7 +123,8 @@ pub(crate) fn path_after<'a>(
 /// A root directory.
 #[tactic(auto, unfolding(crate::specs::Reading::formed_at))]
 pub(crate) fn root(alloc: Global, total: usize, bytes: &[u8]) -> Result<(Bytes, &[u8]), ImageError>
-    ensures { Gives (λ x. (x.0, x.1.now)) result (reading.formed_at forms.is_root total bytes.now) }
+    ensures { IsImageAnswer
+        (λ x. (x.0, x.1.now)) result (reading.formed_at forms.is_root total bytes.now) }
 {
     let (root, rest) = string(total, bytes)?;
     if !is_root(root) {
@@ -133,7 +136,7 @@ pub(crate) fn root(alloc: Global, total: usize, bytes: &[u8]) -> Result<(Bytes, 
 /// What a stream is.
 #[tactic(auto, unfolding(crate::specs::Reading::checked_at, crate::specs::Reading::kind_at))]
 pub(crate) fn kind(total: usize, bytes: &[u8]) -> Result<(StreamKind, &[u8]), ImageError>
-    ensures { Gives (λ x. (x.0, x.1.now)) result (reading.kind_at total bytes.now) }
+    ensures { IsImageAnswer (λ x. (x.0, x.1.now)) result (reading.kind_at total bytes.now) }
 {
     let (number, rest) = number(total, bytes)?;
     match number {
@@ -151,7 +154,7 @@ pub(crate) fn stream_content(
     total: usize,
     bytes: &[u8],
 ) -> Result<(Bytes, &[u8]), ImageError>
-    ensures { Gives (λ x. (x.0, x.1.now)) result
+    ensures { IsImageAnswer (λ x. (x.0, x.1.now)) result
         (reading.content_at (rules.may_hold kind) total bytes.now) }
 {
     let (length, after) = number(total, bytes)?;

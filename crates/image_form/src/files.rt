@@ -3,7 +3,7 @@
 ghost use Rattle.std.specs.Prelude.{◌≡◌, [], nat_le};
 ghost use Rattle.image_form.specs.declared.fault.Why.TheVariants as why;
 ghost use Rattle.image_form.specs.Reading as reading;
-ghost use Rattle.image_form.specs.Reading.{Gives, last_of};
+ghost use Rattle.image_form.specs.Reading.{IsImageAnswer, last_of};
 
 use crate::entries::ReadEntry;
 use crate::fault::{ImageError, Why};
@@ -27,7 +27,7 @@ fn last_path(front: &[FileEntry]) -> &[u8]
 /// The mode of a file.
 #[tactic(auto, unfolding(crate::specs::Reading::checked_at))]
 fn mode(total: usize, bytes: &[u8]) -> Result<(u32, &[u8]), ImageError>
-    ensures { Gives (λ x. (x.0, x.1.now)) result
+    ensures { IsImageAnswer (λ x. (x.0, x.1.now)) result
         (reading.checked_at (λ n. nat_le n 15) why.Range total bytes.now) }
 {
     let (mode, rest) = number(total, bytes)?;
@@ -38,11 +38,11 @@ fn mode(total: usize, bytes: &[u8]) -> Result<(u32, &[u8]), ImageError>
 }
 
 impl ReadEntry for FileEntry {
-    ghost use Rattle.image_form.specs.Reading.{file_at};
+    ghost use Rattle.image_form.specs.Reading.{file_entry_at};
 
-    ghost entry_at = { file_at };
+    ghost entry_at = { file_entry_at };
 
-    #[tactic(auto, unfolding(crate::specs::Reading::file_at))]
+    #[tactic(auto, unfolding(crate::specs::Reading::file_entry_at))]
     fn read<'a>(
         alloc: Global,
         front: &[FileEntry],

@@ -3,7 +3,7 @@
 ghost use Rattle.std.specs.Prelude.{◌≡◌, IfOk, OnOk, Ok};
 ghost use Rattle.image_form.specs.Encoding as encoded;
 ghost use Rattle.image_form.specs.Rules.{IsImage};
-ghost use Rattle.image_form.specs.Reading.{Gives, reading};
+ghost use Rattle.image_form.specs.Reading.{IsImageAnswer, reading};
 ghost use Rattle.image_form.specs.View.{image_of};
 
 use crate::fault::{Fault, ImageError, Why};
@@ -16,7 +16,7 @@ use std::alloc::Global;
 
 /// Checks parts by the bytes that would be written of them.
 fn check_parts(alloc: Global, parts: &ImageParts) -> Result<(), ImageError>
-    ensures exact { Gives (λ _. image_of parts.now) result
+    ensures exact { IsImageAnswer (λ _. image_of parts.now) result
         (reading (encoded.encoding (image_of parts.now))) }
     ensures valid { OnOk result (IsImage (image_of parts.now)) }
 {
@@ -35,11 +35,12 @@ fn check_parts(alloc: Global, parts: &ImageParts) -> Result<(), ImageError>
 /// its offset is one in those bytes.
 pub fn finish_image(alloc: Global, parts: ImageParts) -> Result<Image, ImageError>
     // What is made, or which fault comes first.
-    ensures exact { Gives (λ i. i) result (reading (encoded.encoding (image_of parts))) }
+    ensures exact { IsImageAnswer (λ i. i) result (reading (encoded.encoding (image_of parts))) }
     // What is made has these parts.
     ensures same { IfOk result (λ i. i ≡ image_of parts) }
     // Parts of an image are made that image, unless memory runs out.
-    ensures only { IsImage (image_of parts) → Gives (λ i. i) result (Ok (image_of parts)) }
+    ensures only { IsImage (image_of parts) → IsImageAnswer
+        (λ i. i) result (Ok (image_of parts)) }
 {
     match check_parts(alloc, &parts) {
         Ok(()) => Ok(Image::from_parts(parts)),

@@ -9,9 +9,9 @@ use wedge_base::is_canonical;
 const MOST_PATH_BYTES: usize = 255;
 
 /// Whether a string is a canonical path of at least one part.
-#[tactic(auto, unfolding(crate::specs::Forms::is_path))]
+#[tactic(auto, unfolding(crate::specs::Forms::is_entry_path))]
 pub(crate) fn is_path(text: &[u8]) -> bool
-    ensures { result ≡ forms.is_path text.now }
+    ensures { result ≡ forms.is_entry_path text.now }
 {
     2 <= text.len() && text.len() <= MOST_PATH_BYTES && is_canonical(text)
 }

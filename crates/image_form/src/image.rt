@@ -292,7 +292,8 @@ impl Image {
         ensures is { result ≡ proc_of self.now address }
         ensures begins { images.begins_at self.now.procedures result ≡ true }
         ensures not_above { result ≤ address }
-        ensures greatest { All (λ a. a ≤ address → a ≤ result) (addresses self.now.procedures) }
+        ensures greatest { All
+            (λ a. a ≤ address → a ≤ result) (addresses self.now.procedures) }
     {
         greatest_not_above(self.procedures(), address)
     }

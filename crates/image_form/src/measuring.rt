@@ -11,9 +11,9 @@ use crate::parts::LentParts;
 use crate::reading::{MAGIC, MOST_BYTES, VERSION};
 use crate::tables::after_table;
 
-#[tactic(auto, unfolding(crate::specs::Encoding::number))]
+#[tactic(auto, unfolding(crate::specs::Encoding::encode_number))]
 pub(crate) fn after_number(room: usize, n: u32) -> Option<usize>
-    ensures leaves { Leaves room (encoded.number n) result }
+    ensures leaves { Leaves room (encoded.encode_number n) result }
     ensures less { IfSome result (λ left. left < room) }
 {
     // Each number takes four bytes; which one it is, the contract alone asks.
@@ -21,19 +21,19 @@ pub(crate) fn after_number(room: usize, n: u32) -> Option<usize>
     room.checked_sub(4)
 }
 
-#[tactic(auto, unfolding(crate::specs::Encoding::string))]
+#[tactic(auto, unfolding(crate::specs::Encoding::encode_string))]
 pub(crate) fn after_string(room: usize, text: &[u8]) -> Option<usize>
-    ensures leaves { Leaves room (encoded.string text.now) result }
+    ensures leaves { Leaves room (encoded.encode_string text.now) result }
     ensures less { IfSome result (λ left. left < room) }
 {
     let room = room.checked_sub(2)?;
     room.checked_sub(text.len())
 }
 
-#[tactic(auto, unfolding(crate::specs::Encoding::content, crate::specs::Encoding::number))]
+#[tactic(auto, unfolding(crate::specs::Encoding::encode_content, crate::specs::Encoding::encode_number))]
 pub(crate) fn after_content(room: usize, bytes: &[u8]) -> Option<usize>
     requires { room ≤ 16777216 }
-    ensures leaves { Leaves room (encoded.content bytes.now) result }
+    ensures leaves { Leaves room (encoded.encode_content bytes.now) result }
     ensures fits { OnSome result (length bytes.now < 2 ^ 32) }
 {
     let room = room.checked_sub(4)?;

@@ -8,7 +8,7 @@ ghost use Rattle.wedge_base.specs.Maps.{is_among};
 ghost use Rattle.image_form.specs.Rules.{addresses, most_procedures};
 ghost use Rattle.image_form.specs.declared.fault.Why.TheVariants as why;
 ghost use Rattle.image_form.specs.Reading as reading;
-ghost use Rattle.image_form.specs.Reading.{Gives, last_of};
+ghost use Rattle.image_form.specs.Reading.{IsImageAnswer, last_of};
 
 use crate::fault::{ImageError, Why};
 use crate::fields::{limited, name_after, number, refused};
@@ -55,7 +55,7 @@ fn procedure<'a>(
     bytes: &'a [u8],
 ) -> Result<(Procedure, &'a [u8]), ImageError>
     requires { (q : ℕ) → contains nat_cmp seen.now q ≡ is_among (addresses front.now) q }
-    ensures { Gives (λ x. (x.0, x.1.now)) result
+    ensures { IsImageAnswer (λ x. (x.0, x.1.now)) result
         (reading.procedure_at text.base text.count total front.now bytes.now) }
 {
     let (name, after) = name_after(last_name(front), total, bytes)?;
@@ -78,7 +78,7 @@ fn procedure_list(
     total: usize,
     bytes: &[u8],
 ) -> Result<(Vec<Procedure>, &[u8]), ImageError>
-    ensures { Gives (λ x. (x.0.items, x.1.now)) result
+    ensures { IsImageAnswer (λ x. (x.0.items, x.1.now)) result
         (reading.entries_at (reading.procedure_at text.base text.count total) count []
         bytes.now) }
 {
@@ -102,7 +102,7 @@ pub(crate) fn procedures(
     total: usize,
     bytes: &[u8],
 ) -> Result<(Vec<Procedure>, &[u8]), ImageError>
-    ensures { Gives (λ x. (x.0.items, x.1.now)) result
+    ensures { IsImageAnswer (λ x. (x.0.items, x.1.now)) result
         (reading.procedures_at text.base text.count total bytes.now) }
 {
     let (count, after) = limited(MOST_PROCEDURES, total, bytes)?;
@@ -120,7 +120,7 @@ pub(crate) fn entry<'a>(
     total: usize,
     bytes: &'a [u8],
 ) -> Result<(u32, &'a [u8]), ImageError>
-    ensures { Gives (λ x. (x.0, x.1.now)) result
+    ensures { IsImageAnswer (λ x. (x.0, x.1.now)) result
         (reading.checked_at (images.begins_at procedures.now) why.Range total bytes.now) }
 {
     let (entry, rest) = number(total, bytes)?;

@@ -4,7 +4,7 @@ ghost use Rattle.std.specs.Prelude.{◌≡◌, ◌+◌, ◌≤◌, [], ◌∷◌
 ghost use Rattle.std.specs.List.{sum_by};
 ghost use Rattle.image_form.specs.Rules as rules;
 ghost use Rattle.image_form.specs.Reading as reading;
-ghost use Rattle.image_form.specs.Reading.{Gives, last_of};
+ghost use Rattle.image_form.specs.Reading.{IsImageAnswer, last_of};
 
 use crate::fault::{ImageError, Why};
 use crate::fields::{limited, number, refused, take};
@@ -28,14 +28,14 @@ struct RangesRead {
     /// Where the last one ends, or 0.
     end: u32,
     ghost summed: { sum ≡ sum_by (λ r. length r.bytes) ranges.items },
-    ghost ended: { end ≡ last_of rules.end_of 0 ranges.items },
+    ghost ended: { end ≡ last_of rules.range_end 0 ranges.items },
     ghost small: { sum ≤ rules.most_range_bytes },
 }
 
 impl RangesRead {
     fn push(&mut self, range: MemoryRange) -> Result<(), NoMemory>
         requires small { self.old.sum + length range.bytes ≤ rules.most_range_bytes }
-        requires low { rules.end_of range ≤ rules.high_end }
+        requires low { rules.range_end range ≤ rules.high_end }
         ensures { OnOk result (self.new.ranges.items ≡ self.old.ranges.items ++ range ∷ []) }
     {
         let size = range.bytes.as_slice().len() as u32;
@@ -70,7 +70,7 @@ fn range_length<'a>(
     total: usize,
     bytes: &'a [u8],
 ) -> Result<(u32, &'a [u8]), ImageError>
-    ensures is { Gives (λ x. (x.0, x.1.now)) result
+    ensures is { IsImageAnswer (λ x. (x.0, x.1.now)) result
         (reading.range_length_at base before.now.ranges.items total bytes.now) }
     ensures small { IfOk result (λ x. before.now.sum + x.0 ≤ rules.most_range_bytes) }
     ensures low { IfOk result (λ x. base + x.0 ≤ rules.high_end) }
@@ -86,7 +86,7 @@ fn range_length<'a>(
 }
 
 /// A range, where those before it are known, and how many bytes they have together.
-#[tactic(auto, unfolding(crate::specs::Reading::range_at))]
+#[tactic(auto, unfolding(crate::specs::Reading::range_entry_at))]
 fn range<'a>(
     alloc: Global,
     text: TextSpan,
@@ -94,10 +94,11 @@ fn range<'a>(
     total: usize,
     bytes: &'a [u8],
 ) -> Result<(MemoryRange, &'a [u8]), ImageError>
-    ensures is { Gives (λ x. (x.0, x.1.now)) result
-        (reading.range_at text.base text.count total before.now.ranges.items bytes.now) }
-    ensures small { IfOk result (λ x. before.now.sum + length x.0.bytes ≤ rules.most_range_bytes) }
-    ensures low { IfOk result (λ x. rules.end_of x.0 ≤ rules.high_end) }
+    ensures is { IsImageAnswer (λ x. (x.0, x.1.now)) result
+        (reading.range_entry_at text.base text.count total before.now.ranges.items bytes.now) }
+    ensures small { IfOk result
+        (λ x. before.now.sum + length x.0.bytes ≤ rules.most_range_bytes) }
+    ensures low { IfOk result (λ x. rules.range_end x.0 ≤ rules.high_end) }
 {
     let (base, after) = base(total, bytes)?;
     let (size, after) = range_length(base, before, total, after)?;
@@ -117,8 +118,8 @@ fn range_list(
     total: usize,
     bytes: &[u8],
 ) -> Result<(Vec<MemoryRange>, &[u8]), ImageError>
-    ensures { Gives (λ x. (x.0.items, x.1.now)) result
-        (reading.entries_at (reading.range_at text.base text.count total) count [] bytes.now) }
+    ensures { IsImageAnswer (λ x. (x.0.items, x.1.now)) result
+        (reading.entries_at (reading.range_entry_at text.base text.count total) count [] bytes.now) }
 {
     let mut before = RangesRead {
         ranges: Vec::new(alloc),
@@ -142,7 +143,7 @@ pub(crate) fn ranges(
     total: usize,
     bytes: &[u8],
 ) -> Result<(Vec<MemoryRange>, &[u8]), ImageError>
-    ensures { Gives (λ x. (x.0.items, x.1.now)) result
+    ensures { IsImageAnswer (λ x. (x.0.items, x.1.now)) result
         (reading.ranges_at text.base text.count total bytes.now) }
 {
     let (count, rest) = limited(MOST_RANGES, total, bytes)?;

@@ -7,7 +7,7 @@ ghost use Rattle.image_form.specs.declared.fault.Why.TheVariants as why;
 ghost use Rattle.image_form.specs.Encoding as encoded;
 ghost use Rattle.image_form.specs.Rules as rules;
 ghost use Rattle.image_form.specs.Reading as reading;
-ghost use Rattle.image_form.specs.Reading.{Gives};
+ghost use Rattle.image_form.specs.Reading.{IsImageAnswer};
 ghost use Rattle.image_form.specs.View.{image_of};
 
 use crate::entries::entry_table;
@@ -39,7 +39,7 @@ pub(crate) const MOST_BYTES: usize = 16777216;
 /// The magic number and the version.
 #[tactic(auto, unfolding(crate::specs::Reading::checked_at))]
 fn magic(total: usize, bytes: &[u8]) -> Result<(u32, &[u8]), ImageError>
-    ensures { Gives (λ x. (x.0, x.1.now)) result
+    ensures { IsImageAnswer (λ x. (x.0, x.1.now)) result
         (reading.checked_at (λ n. n == encoded.magic) why.Magic total bytes.now) }
 {
     let (number, rest) = number(total, bytes)?;
@@ -52,7 +52,7 @@ fn magic(total: usize, bytes: &[u8]) -> Result<(u32, &[u8]), ImageError>
 /// The version of the form.
 #[tactic(auto, unfolding(crate::specs::Reading::checked_at))]
 fn version(total: usize, bytes: &[u8]) -> Result<(u32, &[u8]), ImageError>
-    ensures { Gives (λ x. (x.0, x.1.now)) result
+    ensures { IsImageAnswer (λ x. (x.0, x.1.now)) result
         (reading.checked_at (λ n. n == encoded.version) why.Version total bytes.now) }
 {
     let (number, rest) = number(total, bytes)?;
@@ -65,7 +65,7 @@ fn version(total: usize, bytes: &[u8]) -> Result<(u32, &[u8]), ImageError>
 /// The fuel, after the magic number and the version.
 #[tactic(auto, unfolding(crate::specs::Reading::header_at))]
 fn header(total: usize, bytes: &[u8]) -> Result<(u32, &[u8]), ImageError>
-    ensures { Gives (λ x. (x.0, x.1.now)) result (reading.header_at total bytes.now) }
+    ensures { IsImageAnswer (λ x. (x.0, x.1.now)) result (reading.header_at total bytes.now) }
 {
     let (_, rest) = magic(total, bytes)?;
     let (_, rest) = version(total, rest)?;
@@ -75,7 +75,8 @@ fn header(total: usize, bytes: &[u8]) -> Result<(u32, &[u8]), ImageError>
 /// The parts of an image.
 #[tactic(auto, unfolding(crate::specs::Reading::tags_at, crate::specs::Reading::fds_at, crate::specs::Reading::files_at, crate::specs::Reading::image_at))]
 fn parts(alloc: Global, total: usize, bytes: &[u8]) -> Result<(ImageParts, &[u8]), ImageError>
-    ensures { Gives (λ x. (image_of x.0, x.1.now)) result (reading.image_at total bytes.now) }
+    ensures { IsImageAnswer
+        (λ x. (image_of x.0, x.1.now)) result (reading.image_at total bytes.now) }
 {
     let (fuel, rest) = header(total, bytes)?;
     let (base, rest) = base(total, rest)?;
@@ -111,7 +112,7 @@ fn parts(alloc: Global, total: usize, bytes: &[u8]) -> Result<(ImageParts, &[u8]
 /// The parts of the image that all the bytes are.
 #[tactic(auto, unfolding(crate::specs::Reading::reading))]
 fn all_parts(alloc: Global, bytes: &[u8]) -> Result<ImageParts, ImageError>
-    ensures { Gives image_of result (reading.reading bytes.now) }
+    ensures { IsImageAnswer image_of result (reading.reading bytes.now) }
 {
     let total = bytes.len();
     if MOST_BYTES < total {
@@ -129,9 +130,10 @@ fn all_parts(alloc: Global, bytes: &[u8]) -> Result<ImageParts, ImageError>
 
 /// The same, and that the bytes are an encoding exactly where they are read.
 pub(crate) fn image_parts(alloc: Global, bytes: &[u8]) -> Result<ImageParts, ImageError>
-    ensures exact { Gives image_of result (reading.reading bytes.now) }
+    ensures exact { IsImageAnswer image_of result (reading.reading bytes.now) }
     ensures found { IfOk result (λ p. Encodes (image_of p) bytes.now) }
-    ensures only { (i : images.Image) → Encodes i bytes.now → Gives image_of result (Ok i) }
+    ensures only { (i : images.Image) → Encodes i bytes.now
+        → IsImageAnswer image_of result (Ok i) }
 {
     all_parts(alloc, bytes)
 }
@@ -140,11 +142,12 @@ pub(crate) fn image_parts(alloc: Global, bytes: &[u8]) -> Result<ImageParts, Ima
 /// of more than 16,777,216 bytes are not looked at.
 pub fn read_image(alloc: Global, bytes: &[u8]) -> Result<Image, ImageError>
     // What is read, or which fault comes first.
-    ensures exact { Gives (λ i. i) result (reading.reading bytes.now) }
+    ensures exact { IsImageAnswer (λ i. i) result (reading.reading bytes.now) }
     // What is read is an image, and all the bytes are its encoding.
     ensures found { IfOk result (λ i. Encodes i bytes.now) }
     // What is the encoding of an image is read as that image, unless memory runs out.
-    ensures only { (i : images.Image) → Encodes i bytes.now → Gives (λ j. j) result (Ok i) }
+    ensures only { (i : images.Image) → Encodes i bytes.now → IsImageAnswer
+        (λ j. j) result (Ok i) }
 {
     match image_parts(alloc, bytes) {
         Ok(parts) => Ok(Image::from_parts(parts)),

@@ -35,7 +35,7 @@ pub(crate) trait TableEntry {
 /// How many bytes of the room are left after a table. None where it takes more than there are.
 pub(crate) fn after_table<T: TableEntry>(room: usize, entries: &[T]) -> Option<usize>
     requires { room ≤ 16777216 }
-    ensures leaves { Leaves room (encoded.table T.encode entries.now) result }
+    ensures leaves { Leaves room (encoded.encode_table T.encode entries.now) result }
     ensures fits { OnSome result (fitting.TableFits T.fits entries.now) }
 {
     let mut room = room.checked_sub(4)?;
@@ -48,7 +48,8 @@ pub(crate) fn after_table<T: TableEntry>(room: usize, entries: &[T]) -> Option<u
 /// Appends the bytes that encode a table.
 pub(crate) fn put_table<T: TableEntry>(out: &mut Vec<u8>, entries: &[T]) -> Result<(), NoMemory>
     requires { fitting.TableFits T.fits entries.now }
-    ensures { OnOk result (out.new.items ≡ out.old.items ++ encoded.table T.encode entries.now) }
+    ensures { OnOk result (out.new.items
+        ≡ out.old.items ++ encoded.encode_table T.encode entries.now) }
 {
     put_number(out, entries.len() as u32)?;
     for entry in entries {
@@ -58,10 +59,10 @@ pub(crate) fn put_table<T: TableEntry>(out: &mut Vec<u8>, entries: &[T]) -> Resu
 }
 
 impl TableEntry for u32 {
-    ghost use Rattle.image_form.specs.Encoding.{number};
+    ghost use Rattle.image_form.specs.Encoding.{encode_number};
     ghost use Rattle.image_form.specs.Fitting.{WordFits};
 
-    ghost encode = { number };
+    ghost encode = { encode_number };
 
     ghost fits = { WordFits };
 
@@ -75,10 +76,10 @@ impl TableEntry for u32 {
 }
 
 impl TableEntry for Procedure {
-    ghost use Rattle.image_form.specs.Encoding.{procedure};
+    ghost use Rattle.image_form.specs.Encoding.{encode_procedure};
     ghost use Rattle.image_form.specs.Fitting.{ProcedureFits};
 
-    ghost encode = { procedure };
+    ghost encode = { encode_procedure };
 
     ghost fits = { ProcedureFits };
 
@@ -95,10 +96,10 @@ impl TableEntry for Procedure {
 }
 
 impl TableEntry for MemoryRange {
-    ghost use Rattle.image_form.specs.Encoding.{range};
+    ghost use Rattle.image_form.specs.Encoding.{encode_range};
     ghost use Rattle.image_form.specs.Fitting.{RangeFits};
 
-    ghost encode = { range };
+    ghost encode = { encode_range };
 
     ghost fits = { RangeFits };
 
@@ -114,10 +115,10 @@ impl TableEntry for MemoryRange {
 }
 
 impl TableEntry for TagEntry {
-    ghost use Rattle.image_form.specs.Encoding.{tag};
+    ghost use Rattle.image_form.specs.Encoding.{encode_tag};
     ghost use Rattle.image_form.specs.Fitting.{TagFits};
 
-    ghost encode = { tag };
+    ghost encode = { encode_tag };
 
     ghost fits = { TagFits };
 
@@ -137,10 +138,10 @@ impl TableEntry for TagEntry {
 }
 
 impl TableEntry for FdEntry {
-    ghost use Rattle.image_form.specs.Encoding.{fd};
+    ghost use Rattle.image_form.specs.Encoding.{encode_fd};
     ghost use Rattle.image_form.specs.Fitting.{FdFits};
 
-    ghost encode = { fd };
+    ghost encode = { encode_fd };
 
     ghost fits = { FdFits };
 
@@ -160,10 +161,10 @@ impl TableEntry for FdEntry {
 }
 
 impl TableEntry for FileEntry {
-    ghost use Rattle.image_form.specs.Encoding.{file};
+    ghost use Rattle.image_form.specs.Encoding.{encode_file};
     ghost use Rattle.image_form.specs.Fitting.{FileFits};
 
-    ghost encode = { file };
+    ghost encode = { encode_file };
 
     ghost fits = { FileFits };
 

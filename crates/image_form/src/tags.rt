@@ -4,7 +4,7 @@ ghost use Rattle.std.specs.Prelude.{◌≡◌, ◌*◌, ◌≤◌, [], IfOk, nat
 ghost use Rattle.wedge_base.specs.Images.{page};
 ghost use Rattle.image_form.specs.declared.fault.Why.TheVariants as why;
 ghost use Rattle.image_form.specs.Reading as reading;
-ghost use Rattle.image_form.specs.Reading.{Gives, last_of};
+ghost use Rattle.image_form.specs.Reading.{IsImageAnswer, last_of};
 
 use crate::entries::ReadEntry;
 use crate::fault::{ImageError, Why};
@@ -28,7 +28,7 @@ fn last_name(front: &[TagEntry]) -> &[u8]
 /// How many pages a tag has.
 #[tactic(auto, unfolding(crate::specs::Reading::checked_at))]
 fn pages(total: usize, bytes: &[u8]) -> Result<(u32, &[u8]), ImageError>
-    ensures is { Gives (λ x. (x.0, x.1.now)) result
+    ensures is { IsImageAnswer (λ x. (x.0, x.1.now)) result
         (reading.checked_at reading.is_page_count why.Range total bytes.now) }
     ensures few { IfOk result (λ x. x.0 ≤ 16) }
 {
@@ -42,7 +42,7 @@ fn pages(total: usize, bytes: &[u8]) -> Result<(u32, &[u8]), ImageError>
 /// The root's right on a tag.
 #[tactic(auto, unfolding(crate::specs::Reading::checked_at, crate::specs::Reading::right_at))]
 fn right(total: usize, bytes: &[u8]) -> Result<(Option<Right>, &[u8]), ImageError>
-    ensures { Gives (λ x. (x.0, x.1.now)) result (reading.right_at total bytes.now) }
+    ensures { IsImageAnswer (λ x. (x.0, x.1.now)) result (reading.right_at total bytes.now) }
 {
     let (number, rest) = number(total, bytes)?;
     match number {
@@ -63,7 +63,7 @@ fn tag_content(
     bytes: &[u8],
 ) -> Result<(Bytes, &[u8]), ImageError>
     requires { pages ≤ 16 }
-    ensures { Gives (λ x. (x.0, x.1.now)) result
+    ensures { IsImageAnswer (λ x. (x.0, x.1.now)) result
         (reading.content_at (λ n. nat_le n (pages * page)) total bytes.now) }
 {
     let (length, after) = number(total, bytes)?;

@@ -3,7 +3,7 @@
 ghost use Rattle.std.specs.Prelude.{◌≡◌, ◌+◌, ◌*◌, ◌≤◌, [], length, IfOk};
 ghost use Rattle.image_form.specs.Rules.{high_end};
 ghost use Rattle.image_form.specs.Reading as reading;
-ghost use Rattle.image_form.specs.Reading.{Gives};
+ghost use Rattle.image_form.specs.Reading.{IsImageAnswer};
 ghost use Rattle.image_form.specs.declared.fault.Why.TheVariants as why;
 
 use crate::entries::entry_list;
@@ -20,7 +20,7 @@ pub(crate) const HIGH_END: u32 = 0x10000000;
 /// The address of the first word.
 #[tactic(auto, unfolding(crate::specs::Reading::checked_at))]
 pub(crate) fn base(total: usize, bytes: &[u8]) -> Result<(u32, &[u8]), ImageError>
-    ensures { Gives (λ x. (x.0, x.1.now)) result
+    ensures { IsImageAnswer (λ x. (x.0, x.1.now)) result
         (reading.checked_at reading.is_base why.Range total bytes.now) }
 {
     let (base, rest) = number(total, bytes)?;
@@ -38,7 +38,8 @@ pub(crate) fn words(
     total: usize,
     bytes: &[u8],
 ) -> Result<(Vec<u32>, &[u8]), ImageError>
-    ensures is { Gives (λ x. (x.0.items, x.1.now)) result (reading.words_at base total bytes.now) }
+    ensures is { IsImageAnswer
+        (λ x. (x.0.items, x.1.now)) result (reading.words_at base total bytes.now) }
     ensures fit { IfOk result (λ x. base + 4 * length x.0.items ≤ high_end) }
 {
     let (count, rest) = number(total, bytes)?;

@@ -17,17 +17,17 @@ use crate::tables::put_table;
 use std::alloc::Global;
 use wedge_base::{FdBits, NoMemory, Right, StreamKind};
 
-#[tactic(auto, unfolding(crate::specs::Encoding::number))]
+#[tactic(auto, unfolding(crate::specs::Encoding::encode_number))]
 pub(crate) fn put_number(out: &mut Vec<u8>, n: u32) -> Result<(), NoMemory>
-    ensures { OnOk result (out.new.items ≡ out.old.items ++ encoded.number n) }
+    ensures { OnOk result (out.new.items ≡ out.old.items ++ encoded.encode_number n) }
 {
     out.extend_from_slice(&n.to_le_bytes())?;
     Ok(())
 }
 
-#[tactic(auto, unfolding(crate::specs::Encoding::string))]
+#[tactic(auto, unfolding(crate::specs::Encoding::encode_string))]
 pub(crate) fn put_string(out: &mut Vec<u8>, text: &[u8]) -> Result<(), NoMemory>
-    ensures { OnOk result (out.new.items ≡ out.old.items ++ encoded.string text.now) }
+    ensures { OnOk result (out.new.items ≡ out.old.items ++ encoded.encode_string text.now) }
 {
     let length = text.len().min(65535) as u16;
     out.extend_from_slice(&length.to_le_bytes())?;
@@ -35,10 +35,10 @@ pub(crate) fn put_string(out: &mut Vec<u8>, text: &[u8]) -> Result<(), NoMemory>
     Ok(())
 }
 
-#[tactic(auto, unfolding(crate::specs::Encoding::content))]
+#[tactic(auto, unfolding(crate::specs::Encoding::encode_content))]
 pub(crate) fn put_content(out: &mut Vec<u8>, bytes: &[u8]) -> Result<(), NoMemory>
     requires { length bytes.now < 2 ^ 32 }
-    ensures { OnOk result (out.new.items ≡ out.old.items ++ encoded.content bytes.now) }
+    ensures { OnOk result (out.new.items ≡ out.old.items ++ encoded.encode_content bytes.now) }
 {
     put_number(out, bytes.len() as u32)?;
     out.extend_from_slice(bytes)?;
@@ -102,7 +102,8 @@ pub fn write_image(alloc: Global, image: &Image) -> Result<Vec<u8>, NoMemory>
     // They are read again as this image.
     ensures again { IfOk result (λ v. reading v.items ≡ Ok image.now) }
     // They encode no other image.
-    ensures alone { (i : images.Image) → IfOk result (λ v. Encodes i v.items → i ≡ image.now) }
+    ensures alone { (i : images.Image) → IfOk result
+        (λ v. Encodes i v.items → i ≡ image.now) }
 {
     encoding(alloc, image.lend())
 }

@@ -6,7 +6,7 @@ use Rattle.std.proofs.lemmas.List.Sums.{sum_by-cons}
 use Rattle.toml.specs.Data.{Members}
 use Rattle.wedge_base.specs.Images.{Image}
 use Rattle.wedge_base.specs.declared.image.MemoryRange.{MemoryRange}
-use Rattle.image_form.specs.Encoding.{most_bytes, range, content, encoding}
+use Rattle.image_form.specs.Encoding.{most_bytes, encode_range, encode_content, encoding}
 use Rattle.image_form.specs.Reading.{reading, refuse}
 use Rattle.image_form.specs.declared.fault.Why.TheVariants.{Limit}
 use Rattle.image_form.proofs.Measures.{words_long}
@@ -18,13 +18,13 @@ use Rattle.part_toml.specs.Faults.{Image as ImageRefusal}
 use Rattle.part_toml.specs.Partition.{unless, by_image, refusal_in}
 use Rattle.part_toml.specs.Joining.{image_with, document_with, Joins}
 
-range_long : (r : MemoryRange) → length r.bytes ≤ length (range r)
-unfolding content
+range_long : (r : MemoryRange) → length r.bytes ≤ length (encode_range r)
+unfolding encode_content
 range_long r = simp length-append (omega arith)
 
-ranges_long : (rs : List MemoryRange) → sum_by (λ r. length r.bytes) rs ≤ length (flat_map range rs)
+ranges_long : (rs : List MemoryRange) → sum_by (λ r. length r.bytes) rs ≤ length (flat_map encode_range rs)
 ranges_long [] = omega arith
-ranges_long (r ∷ rs) = omega (arith, range_long r, ranges_long rs, sum_by-cons (λ q. length q.bytes) r rs, ap length (flat_map-cons range r rs), length-append (range r) (flat_map range rs))
+ranges_long (r ∷ rs) = omega (arith, range_long r, ranges_long rs, sum_by-cons (λ q. length q.bytes) r rs, ap length (flat_map-cons encode_range r rs), length-append (encode_range r) (flat_map encode_range rs))
 
 -- the text and the data are among the bytes of an encoding
 pub encoding_long : (i : Image) → 4 * length i.words + sum_by (λ r. length r.bytes) i.ranges ≤ length (encoding i)

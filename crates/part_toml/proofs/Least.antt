@@ -5,7 +5,7 @@ use Rattle.std.proofs.lemmas.Grind.{fold-append}
 use Rattle.std.specs.Map.{keys_of}
 use Rattle.toml.specs.View.{members_view}
 use Rattle.toml.specs.declared.value.Value.{Value}
-use Rattle.part_toml.specs.Faults.{lesser, least, keys}
+use Rattle.part_toml.specs.Faults.{lesser, least, member_keys}
 
 pub same_choice : (a b : Bool) (best : Option (List ℕ)) (m n : List ℕ) → a ≡ b → m ≡ n → cond a (lesser best m) best ≡ cond b (lesser best n) best
 same_choice a b best m n e f = ap (λ t. cond t (lesser best m) best) e ∙ ap (λ t. cond b (lesser best t) best) f
@@ -36,7 +36,7 @@ module _ {X : Type 0} (name : X → List ℕ) (test : X → Bool) (xs : List X) 
   least_end best i h = ap (λ ys. fold lesser best (map name (filter test ys))) (drop_all i xs h)
 
 -- the keys of a map's members
-pub keys-view : (es : List (String Global × Value)) → keys (members_view es) ≡ map string_bytes (keys_of es)
+pub keys-view : (es : List (String Global × Value)) → member_keys (members_view es) ≡ map string_bytes (keys_of es)
 keys-view [] = refl
 keys-view (e ∷ es) = ap (λ ks. string_bytes e.0 ∷ ks) (keys-view es)
 

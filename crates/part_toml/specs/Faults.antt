@@ -11,8 +11,8 @@ use Rattle.part_toml.specs.declared.keys.Part.{Part}
 use Rattle.part_toml.specs.declared.keys.Part.TheVariants as part
 use Rattle.part_toml.specs.declared.keys.Key.TheVariants as key
 use Rattle.part_toml.specs.declared.keys.Field.{Field}
-use Rattle.part_toml.specs.Keys.{name_of, fields, prefix}
-use Rattle.part_toml.specs.Values.{at, has, passes, fits, tables_at}
+use Rattle.part_toml.specs.Keys.{name_of, part_fields, prefix}
+use Rattle.part_toml.specs.Values.{value_at, has_key, some_passes, value_fits, tables_at}
 
 -- why a partition is rejected
 pub data Refusal : Type 0 where
@@ -38,23 +38,23 @@ least names = fold lesser None names
 
 -- ---- the keys of a table
 
-abbrev pub keys : Members → List (List ℕ)
-keys no_members = []
-keys (member k d ms) = k ∷ keys ms
+abbrev pub member_keys : Members → List (List ℕ)
+member_keys no_members = []
+member_keys (member k d ms) = k ∷ member_keys ms
 
 abbrev pub is_missing : Members → Field → Bool
-is_missing ms f = f.required && not (has f.key ms)
+is_missing ms f = f.required && not (has_key f.key ms)
 
 -- the names of the keys that must be there, and are not
 abbrev pub missing : List Field → Members → List (List ℕ)
 missing fs ms = map (λ f. name_of f.key) (filter (is_missing ms) fs)
 
-abbrev pub is_known : List Field → List ℕ → Bool
-is_known fs n = list_any (λ f. bytes_eq (name_of f.key) n) fs
+abbrev pub is_field_name : List Field → List ℕ → Bool
+is_field_name fs n = list_any (λ f. bytes_eq (name_of f.key) n) fs
 
 -- the keys that are there, and that no table of its kind has
 abbrev pub unknown : List Field → Members → List (List ℕ)
-unknown fs ms = filter (λ n. not (is_known fs n)) (keys ms)
+unknown fs ms = filter (λ n. not (is_field_name fs n)) (member_keys ms)
 
 -- whether a table has not the keys of content that it may have: data have one of `text` and `hex`,
 -- and the others at most one
@@ -65,18 +65,18 @@ is_content_wrong part.Data text hex = (text && hex) || (not text && not hex)
 is_content_wrong p text hex = text && hex
 
 abbrev pub content_fault : Part → Members → List (List ℕ)
-content_fault p ms = if is_content_wrong p (has key.Text ms) (has key.Hex ms) then name_of key.Hex ∷ [] else []
+content_fault p ms = if is_content_wrong p (has_key key.Text ms) (has_key key.Hex ms) then name_of key.Hex ∷ [] else []
 
 abbrev pub first_key_fault : Part → Members → Option (List ℕ)
-first_key_fault p ms = least (content_fault p ms ++ missing (fields p) ms ++ unknown (fields p) ms)
+first_key_fault p ms = least (content_fault p ms ++ missing (part_fields p) ms ++ unknown (part_fields p) ms)
 
 -- ---- the values of a table
 
 abbrev pub is_wrong : Members → Field → Bool
-is_wrong ms f = passes (λ d. not (fits f.kind d)) (at f.key ms)
+is_wrong ms f = some_passes (λ d. not (value_fits f.kind d)) (value_at f.key ms)
 
 abbrev pub first_kind_fault : Part → Members → Option (List ℕ)
-first_kind_fault p ms = least (map (λ f. name_of f.key) (filter (is_wrong ms) (fields p)))
+first_kind_fault p ms = least (map (λ f. name_of f.key) (filter (is_wrong ms) (part_fields p)))
 
 -- ---- tables
 

@@ -9,7 +9,7 @@ use Rattle.image_form.specs.Encoding.{encoding}
 use Rattle.elf_in.specs.Program.{Program}
 use Rattle.part_toml.specs.declared.keys.Key.TheVariants as key
 use Rattle.part_toml.specs.declared.keys.Part.TheVariants as part
-use Rattle.part_toml.specs.Values.{number_at, text_at}
+use Rattle.part_toml.specs.Values.{number_at_key, text_at}
 use Rattle.part_toml.specs.Faults.{Refusal, Toml, document_fault}
 use Rattle.part_toml.specs.Parts.{tags, fds, files}
 use Rattle.part_toml.specs.Partition.{unless, by_image}
@@ -25,7 +25,7 @@ pub record Joins (p : Program) (i : Image) : Type 0 where
 -- the image of a program, with what the tables of a partition give besides
 unfoldable pub image_with : Program → Members → Image
 image_with p ms = record {
-  fuel = number_at key.Fuel 0 ms;
+  fuel = number_at_key key.Fuel 0 ms;
   base = p.base;
   words = p.words;
   procedures = p.procedures;
@@ -34,7 +34,7 @@ image_with p ms = record {
   tags = tags ms;
   fds = fds ms;
   files = files ms;
-  user = number_at key.User 0 ms;
+  user = number_at_key key.User 0 ms;
   root = text_at key.Root ms;
 }
 

@@ -15,23 +15,23 @@ must k v = record { key = k; kind = v; required = true }
 abbrev pub may : Key → Kind → Field
 may k v = record { key = k; kind = v; required = false }
 
-abbrev pub fields : Part → List Field
-fields part.Top =
+abbrev pub part_fields : Part → List Field
+part_fields part.Top =
     must key.Fuel kind.Number ∷ must key.User kind.Number ∷ must key.Entry kind.Text
     ∷ must key.Root kind.Text ∷ must key.Text kind.Text ∷ may key.Base kind.Number
     ∷ may key.Data kind.Tables ∷ may key.Tag kind.Tables ∷ may key.Fd kind.Tables ∷ may key.File kind.Tables ∷ []
-fields part.Joined =
+part_fields part.Joined =
     must key.Fuel kind.Number ∷ must key.User kind.Number ∷ must key.Root kind.Text
     ∷ may key.Tag kind.Tables ∷ may key.Fd kind.Tables ∷ may key.File kind.Tables ∷ []
-fields part.Data =
+part_fields part.Data =
     must key.Name kind.Text ∷ must key.Base kind.Number ∷ may key.Text kind.Text ∷ may key.Hex kind.Hex ∷ []
-fields part.Tag =
+part_fields part.Tag =
     must key.Name kind.Text ∷ must key.Pages kind.Number ∷ must key.Right kind.Right
     ∷ may key.Text kind.Text ∷ may key.Hex kind.Hex ∷ []
-fields part.Fd =
+part_fields part.Fd =
     must key.Name kind.Text ∷ must key.Kind kind.Stream ∷ must key.Bits kind.Bits
     ∷ may key.Text kind.Text ∷ may key.Hex kind.Hex ∷ []
-fields part.File =
+part_fields part.File =
     must key.Path kind.Text ∷ must key.Owner kind.Number ∷ must key.Mode kind.Number ∷ must key.Kind kind.Stream
     ∷ may key.Text kind.Text ∷ may key.Hex kind.Hex ∷ []
 

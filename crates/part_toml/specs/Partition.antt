@@ -14,12 +14,12 @@ use Rattle.part_toml.specs.declared.fault.PartFault.{PartFault}
 use Rattle.part_toml.specs.declared.fault.PartFault.TheVariants as fault
 use Rattle.part_toml.specs.declared.keys.Key.TheVariants as key
 use Rattle.part_toml.specs.declared.keys.Part.TheVariants as part
-use Rattle.part_toml.specs.Values.{number_at, text_at}
+use Rattle.part_toml.specs.Values.{number_at_key, text_at}
 use Rattle.part_toml.specs.Faults.{Refusal, Toml, Key, Kind, Asm, document_fault}
 use Rattle.part_toml.specs.Faults.{Image as ImageRefusal}
 use Rattle.stable_sort.specs.Sorting.{sorted}
 use Rattle.stable_sort.specs.ByName.{procedure_before}
-use Rattle.part_toml.specs.Parts.{ranges, tags, fds, files, equates, address_of}
+use Rattle.part_toml.specs.Parts.{declared_ranges, tags, fds, files, equates, procedure_address}
 
 -- ---- the steps
 
@@ -50,34 +50,34 @@ or_no_label None = Err (Asm 0 why.Label)
 
 -- the address of the first word: 65536 where the partition gives none
 abbrev pub base_at : Members → ℕ
-base_at ms = number_at key.Base 65536 ms
+base_at ms = number_at_key key.Base 65536 ms
 
 -- the assembled text, or the assembler's fault
-unfoldable pub text_of : Members → Result Assembled Refusal
-text_of ms = by_assembler (asm.assembled (text_at key.Text ms) (base_at ms) (equates (tags ms) (fds ms) (ranges ms)))
+unfoldable pub assembled_text : Members → Result Assembled Refusal
+assembled_text ms = by_assembler (asm.assembled (text_at key.Text ms) (base_at ms) (equates (tags ms) (fds ms) (declared_ranges ms)))
 
 -- the image whose text and entry are given
-unfoldable pub image_of : Members → Assembled → ℕ → Image
-image_of ms a entry = record {
-  fuel = number_at key.Fuel 0 ms;
+unfoldable pub image_of_tables : Members → Assembled → ℕ → Image
+image_of_tables ms a entry = record {
+  fuel = number_at_key key.Fuel 0 ms;
   base = base_at ms;
   words = a.words;
   procedures = sorted procedure_before a.procedures;
   entry = entry;
-  ranges = map (λ r. r.range) (ranges ms);
+  ranges = map (λ r. r.range) (declared_ranges ms);
   tags = tags ms;
   fds = fds ms;
   files = files ms;
-  user = number_at key.User 0 ms;
+  user = number_at_key key.User 0 ms;
   root = text_at key.Root ms;
 }
 
 unfoldable pub partition_of : Members → Result Image Refusal
 partition_of ms =
     unless (document_fault part.Top ms) (
-    text_of ms >>= λ a.
-    or_no_label (address_of (text_at key.Entry ms) a.procedures) >>= λ entry.
-    by_image (reading (encoding (image_of ms a entry))))
+    assembled_text ms >>= λ a.
+    or_no_label (procedure_address (text_at key.Entry ms) a.procedures) >>= λ entry.
+    by_image (reading (encoding (image_of_tables ms a entry))))
 
 abbrev pub or_no_toml : Option Members → Result Image Refusal
 or_no_toml (Some ms) = partition_of ms
@@ -102,9 +102,9 @@ refusal_in (Ok x) = None
 refusal_in (Err r) = Some r
 
 -- what the code answers is what is meant, unless memory ran out
-abbrev pub IsAnswer : {X : Type 0} → Result X PartFault → Result X Refusal → Type 0
-IsAnswer (Ok x) meant = meant ≡ Ok x
-IsAnswer (Err e) meant = Reports e (refusal_in meant)
+abbrev pub IsPartitionAnswer : {X : Type 0} → Result X PartFault → Result X Refusal → Type 0
+IsPartitionAnswer (Ok x) meant = meant ≡ Ok x
+IsPartitionAnswer (Err e) meant = Reports e (refusal_in meant)
 
 -- the code finds nothing wrong, or what is wrong first
 abbrev pub Finds : {X : Type 0} → Result X PartFault → Option Refusal → Type 0

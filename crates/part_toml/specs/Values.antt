@@ -20,8 +20,8 @@ abbrev pub small : ℤ → Option ℕ
 small (pos n) = if nat_lt n (2 ^ 32) then Some n else None
 small (negsuc n) = None
 
-abbrev pub number_of : Data → Option ℕ
-number_of d = option_and_then small (as_integer d)
+abbrev pub u32_value : Data → Option ℕ
+u32_value d = option_and_then small (as_integer d)
 
 -- the right that a string names: "none" names that there is none
 abbrev pub right_named : List ℕ → Option (Option Right)
@@ -36,15 +36,15 @@ stream_named w =
     if bytes_eq w (codes "source") then Some stream.Source else
     if bytes_eq w (codes "append") then Some stream.Append else None
 
-abbrev pub bits : Bool → Bool → FdBits
-bits r a = record { read = r; append = a }
+abbrev pub fd_bits : Bool → Bool → FdBits
+fd_bits r a = record { read = r; append = a }
 
 abbrev pub bits_named : List ℕ → Option FdBits
 bits_named w =
-    if bytes_eq w (codes "none") then Some (bits false false) else
-    if bytes_eq w (codes "read") then Some (bits true false) else
-    if bytes_eq w (codes "append") then Some (bits false true) else
-    if bytes_eq w (codes "both") then Some (bits true true) else None
+    if bytes_eq w (codes "none") then Some (fd_bits false false) else
+    if bytes_eq w (codes "read") then Some (fd_bits true false) else
+    if bytes_eq w (codes "append") then Some (fd_bits false true) else
+    if bytes_eq w (codes "both") then Some (fd_bits true true) else None
 
 -- ---- hexadecimal digits
 
@@ -52,25 +52,25 @@ abbrev pub is_decimal : ℕ → Bool
 is_decimal c = nat_le 48 c && nat_le c 57
 
 -- `a` to `f`
-abbrev pub is_letter : ℕ → Bool
-is_letter c = nat_le 97 c && nat_le c 102
+abbrev pub is_hex_letter : ℕ → Bool
+is_hex_letter c = nat_le 97 c && nat_le c 102
 
-abbrev pub is_digit : ℕ → Bool
-is_digit c = is_decimal c || is_letter c
+abbrev pub is_lower_hex : ℕ → Bool
+is_lower_hex c = is_decimal c || is_hex_letter c
 
 -- pairs of digits
 abbrev pub is_hex : List ℕ → Bool
-is_hex text = length text % 2 == 0 && list_all is_digit text
+is_hex text = length text % 2 == 0 && list_all is_lower_hex text
 
 -- the value of a digit, and 0 of any other byte
 abbrev pub digit : ℕ → ℕ
-digit c = if is_decimal c then c - 48 else (if is_letter c then c - 87 else 0)
+digit c = if is_decimal c then c - 48 else (if is_hex_letter c then c - 87 else 0)
 
 -- the bytes that pairs of digits encode
-abbrev pub bytes_of : List ℕ → List ℕ
-bytes_of [] = []
-bytes_of (c ∷ []) = []
-bytes_of (c ∷ d ∷ rest) = (16 * digit c + digit d) ∷ bytes_of rest
+abbrev pub hex_bytes : List ℕ → List ℕ
+hex_bytes [] = []
+hex_bytes (c ∷ []) = []
+hex_bytes (c ∷ d ∷ rest) = (16 * digit c + digit d) ∷ hex_bytes rest
 
 -- ---- the kinds of values
 
@@ -79,9 +79,9 @@ are_tables no_items = true
 are_tables (item d ds) = is_some (as_table d) && are_tables ds
 
 -- whether there is a value, and it passes a test
-abbrev pub passes : {X : Type 0} → (X → Bool) → Option X → Bool
-passes test None = false
-passes test (Some x) = test x
+abbrev pub some_passes : {X : Type 0} → (X → Bool) → Option X → Bool
+some_passes test None = false
+some_passes test (Some x) = test x
 
 -- whether a string is of a kind that is no number and no array
 abbrev pub word_fits : Kind → List ℕ → Bool
@@ -91,26 +91,26 @@ word_fits kind.Stream w = is_some (stream_named w)
 word_fits kind.Bits w = is_some (bits_named w)
 word_fits k w = true
 
-abbrev pub fits : Kind → Data → Bool
-fits kind.Number d = is_some (number_of d)
-fits kind.Tables d = passes are_tables (as_array d)
-fits k d = passes (word_fits k) (as_str d)
+abbrev pub value_fits : Kind → Data → Bool
+value_fits kind.Number d = is_some (u32_value d)
+value_fits kind.Tables d = some_passes are_tables (as_array d)
+value_fits k d = some_passes (word_fits k) (as_str d)
 
 -- ---- the value at a key of a table
 
-abbrev pub at : Key → Members → Option Data
-at k ms = get_member (name_of k) ms
+abbrev pub value_at : Key → Members → Option Data
+value_at k ms = get_member (name_of k) ms
 
-abbrev pub has : Key → Members → Bool
-has k ms = is_some (at k ms)
+abbrev pub has_key : Key → Members → Bool
+has_key k ms = is_some (value_at k ms)
 
 -- its number, or another where there is none
-abbrev pub number_at : Key → ℕ → Members → ℕ
-number_at k other ms = unwrap_or (option_and_then number_of (at k ms)) other
+abbrev pub number_at_key : Key → ℕ → Members → ℕ
+number_at_key k other ms = unwrap_or (option_and_then u32_value (value_at k ms)) other
 
 -- its string, or no bytes where there is none
 abbrev pub text_at : Key → Members → List ℕ
-text_at k ms = unwrap_or (option_and_then as_str (at k ms)) []
+text_at k ms = unwrap_or (option_and_then as_str (value_at k ms)) []
 
 abbrev pub tables_of : Items → List Members
 tables_of no_items = []
@@ -122,4 +122,4 @@ tables_in (Some ds) = tables_of ds
 
 -- its tables, or none
 abbrev pub tables_at : Key → Members → List Members
-tables_at k ms = tables_in (option_and_then as_array (at k ms))
+tables_at k ms = tables_in (option_and_then as_array (value_at k ms))

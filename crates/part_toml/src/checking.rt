@@ -73,7 +73,7 @@ fn least_missing<'a>(first: Option<&'a str>, fields: &[Field], table: &Table) ->
 
 /// Whether a name is that of a key that a table may have.
 fn is_known(fields: &[Field], name: &str) -> bool
-    ensures { result ≡ faults.is_known fields.now name.now }
+    ensures { result ≡ faults.is_field_name fields.now name.now }
 {
     fields.iter().any(|field| field.key.name() == name)
 }

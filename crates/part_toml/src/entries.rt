@@ -81,7 +81,7 @@ pub(crate) fn copy_at(alloc: Global, table: &Table, key: Key) -> Result<Bytes, N
 
 /// The bytes that a table gives, as a string or in hexadecimal digits.
 fn content_at(alloc: Global, table: &Table) -> Result<Bytes, NoMemory>
-    ensures { IfOk result (λ b. b ≡ parts.content_at (table_view table.now)) }
+    ensures { IfOk result (λ b. b ≡ parts.table_content (table_view table.now)) }
 {
     if has(table, Key::Text) {
         copy_at(alloc, table, Key::Text)
@@ -109,7 +109,7 @@ fn stream_at(table: &Table) -> StreamKind
 }
 
 /// The entries that the tables of a partition name, in their order.
-#[tactic(auto, unfolding(crate::specs::Parts::ranges, crate::specs::Parts::tags, crate::specs::Parts::fds, crate::specs::Parts::files))]
+#[tactic(auto, unfolding(crate::specs::Parts::declared_ranges, crate::specs::Parts::tags, crate::specs::Parts::fds, crate::specs::Parts::files))]
 pub(crate) fn all_entries(alloc: Global, top: &Table) -> Result<Entries, NoMemory>
     ensures { IfOk result (λ e. AreEntries e (table_view top.now)) }
 {
@@ -139,9 +139,9 @@ impl Sortable for NamedRange {
 }
 
 impl Entry for NamedRange {
-    ghost use Rattle.part_toml.specs.Parts.{range_of};
+    ghost use Rattle.part_toml.specs.Parts.{range_of_table};
 
-    ghost entry_of = { range_of };
+    ghost entry_of = { range_of_table };
 
     fn read(alloc: Global, table: &Table) -> Result<NamedRange, NoMemory> {
         let name = copy_at(alloc, table, Key::Name)?;
@@ -195,9 +195,9 @@ const NO_BITS: FdBits = FdBits {
 };
 
 impl Entry for FileEntry {
-    ghost use Rattle.part_toml.specs.Parts.{file_of};
+    ghost use Rattle.part_toml.specs.Parts.{file_of_table};
 
-    ghost entry_of = { file_of };
+    ghost entry_of = { file_of_table };
 
     fn read(alloc: Global, table: &Table) -> Result<FileEntry, NoMemory> {
         let path = copy_at(alloc, table, Key::Path)?;

@@ -36,7 +36,7 @@ fn tag_address(place: u32) -> u32
 /// Adds the numbers of tags.
 fn push_tags(alloc: Global, equates: &mut Vec<Equate>, tags: &[TagEntry]) -> Result<(), NoMemory>
     ensures { OnOk result (equates.new.items
-        ≡ equates.old.items ++ parts.placed parts.tag_equate 0 tags.now) }
+        ≡ equates.old.items ++ parts.numbered_equates parts.tag_equate 0 tags.now) }
 {
     let mut place: u32 = 0;
     for tag in tags {
@@ -49,7 +49,7 @@ fn push_tags(alloc: Global, equates: &mut Vec<Equate>, tags: &[TagEntry]) -> Res
 /// Adds the addresses of tags.
 fn push_windows(alloc: Global, equates: &mut Vec<Equate>, tags: &[TagEntry]) -> Result<(), NoMemory>
     ensures { OnOk result (equates.new.items
-        ≡ equates.old.items ++ parts.placed parts.window_equate 0 tags.now) }
+        ≡ equates.old.items ++ parts.numbered_equates parts.window_equate 0 tags.now) }
 {
     let mut place: u32 = 0;
     for tag in tags {
@@ -68,7 +68,7 @@ fn push_windows(alloc: Global, equates: &mut Vec<Equate>, tags: &[TagEntry]) -> 
 /// Adds the numbers of descriptors.
 fn push_fds(alloc: Global, equates: &mut Vec<Equate>, fds: &[FdEntry]) -> Result<(), NoMemory>
     ensures { OnOk result (equates.new.items
-        ≡ equates.old.items ++ parts.placed parts.fd_equate 0 fds.now) }
+        ≡ equates.old.items ++ parts.numbered_equates parts.fd_equate 0 fds.now) }
 {
     let mut place: u32 = 0;
     for fd in fds {

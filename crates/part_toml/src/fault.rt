@@ -69,9 +69,9 @@ impl<T: Drop> From<AllocFailed<T>> for PartFault {
 
 impl From<AsmError> for PartFault {
     ghost use Rattle.std.specs.Prelude.{◌≡◌};
-    ghost use Rattle.part_toml.specs.Views.{by_assembler};
+    ghost use Rattle.part_toml.specs.Views.{part_fault_of_asm};
 
-    ghost from_gives = { λ e f. f ≡ by_assembler e };
+    ghost from_gives = { λ e f. f ≡ part_fault_of_asm e };
 
     fn from(e: AsmError) -> PartFault {
         match e {
@@ -86,9 +86,9 @@ impl From<AsmError> for PartFault {
 
 impl From<ImageError> for PartFault {
     ghost use Rattle.std.specs.Prelude.{◌≡◌};
-    ghost use Rattle.part_toml.specs.Views.{by_image};
+    ghost use Rattle.part_toml.specs.Views.{part_fault_of_image};
 
-    ghost from_gives = { λ e f. f ≡ by_image e };
+    ghost from_gives = { λ e f. f ≡ part_fault_of_image e };
 
     fn from(e: ImageError) -> PartFault {
         match e {

@@ -5,7 +5,7 @@ ghost use Rattle.toml.specs.View.{table_view};
 ghost use Rattle.image_form.specs.View as image;
 ghost use Rattle.part_toml.specs.Joining as joining;
 ghost use Rattle.part_toml.specs.Joining.{Joins};
-ghost use Rattle.part_toml.specs.Partition.{IsAnswer};
+ghost use Rattle.part_toml.specs.Partition.{IsPartitionAnswer};
 ghost use Rattle.part_toml.specs.Views.{AreEntries};
 
 use crate::checking::check_document;
@@ -57,7 +57,8 @@ fn image_parts(
 /// than an image may have, they are not made.
 #[tactic(auto, unfolding(crate::specs::Joining::document_with))]
 fn read_table(alloc: Global, top: &Table, program: &ElfProgram<'_>) -> Result<Image, PartFault>
-    ensures exact { IsAnswer result (joining.document_with program.now (table_view top.now)) }
+    ensures exact { IsPartitionAnswer result
+        (joining.document_with program.now (table_view top.now)) }
     ensures joins { IfOk result (Joins program.now) }
 {
     check_document(alloc, Part::Joined, top)?;
@@ -82,7 +83,7 @@ pub fn read_partition_with(
     program: &ElfProgram<'_>,
 ) -> Result<Image, PartFault>
     // The image that both mean, or what is wrong first.
-    ensures exact { IsAnswer result (joining.partition_with program.now text.now) }
+    ensures exact { IsPartitionAnswer result (joining.partition_with program.now text.now) }
     // It has the text, the data, the procedures and the entry of the program.
     ensures joins { IfOk result (Joins program.now) }
 {

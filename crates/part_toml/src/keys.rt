@@ -268,7 +268,7 @@ static FILE: [Field; 6] = [
 impl Part {
     /// The keys that a table may have.
     pub fn fields(self) -> &'static [Field]
-        ensures { result.now ≡ keys.fields self }
+        ensures { result.now ≡ keys.part_fields self }
     {
         match self {
             Part::Top => &TOP,

@@ -7,7 +7,7 @@ ghost use Rattle.image_form.specs.Encoding.{encoding};
 ghost use Rattle.image_form.specs.View as image;
 ghost use Rattle.part_toml.specs.Parts as parts;
 ghost use Rattle.part_toml.specs.Partition as partition;
-ghost use Rattle.part_toml.specs.Partition.{IsAnswer};
+ghost use Rattle.part_toml.specs.Partition.{IsPartitionAnswer};
 ghost use Rattle.part_toml.specs.Values as values;
 ghost use Rattle.part_toml.specs.Views.{AreEntries};
 
@@ -28,10 +28,10 @@ use wedge_base::{Items, MemoryRange, NoMemory, Procedure};
 const BASE: u32 = 65536;
 
 /// Assembles the text of a partition.
-#[tactic(auto, unfolding(crate::specs::Partition::text_of))]
+#[tactic(auto, unfolding(crate::specs::Partition::assembled_text))]
 fn text_of(alloc: Global, top: &Table, entries: &Entries) -> Result<Assembled, PartFault>
     requires { AreEntries entries.now (table_view top.now) }
-    ensures { IsAnswer result (partition.text_of (table_view top.now)) }
+    ensures { IsPartitionAnswer result (partition.assembled_text (table_view top.now)) }
 {
     let names = equates(alloc, &entries.tags, &entries.fds, &entries.ranges)?;
     let text = text_at(top, Key::Text);
@@ -41,7 +41,7 @@ fn text_of(alloc: Global, top: &Table, entries: &Entries) -> Result<Assembled, P
 
 /// The address of the procedure of a name.
 fn address_of(name: &[u8], procedures: &[Procedure]) -> Option<u32>
-    ensures { result ≡ parts.address_of name.now procedures.now }
+    ensures { result ≡ parts.procedure_address name.now procedures.now }
 {
     procedures
         .iter()
@@ -61,7 +61,7 @@ fn unnamed(alloc: Global, named: Vec<NamedRange>) -> Result<Items<MemoryRange>, 
 }
 
 /// The parts of the image.
-#[tactic(auto, unfolding(crate::specs::Partition::image_of))]
+#[tactic(auto, unfolding(crate::specs::Partition::image_of_tables))]
 fn image_parts(
     alloc: Global,
     top: &Table,
@@ -71,7 +71,7 @@ fn image_parts(
 ) -> Result<ImageParts, NoMemory>
     requires { AreEntries entries (table_view top.now) }
     ensures { IfOk result (λ p. image.image_of p
-        ≡ partition.image_of (table_view top.now) text entry) }
+        ≡ partition.image_of_tables (table_view top.now) text entry) }
 {
     let mut procedures = text.procedures.into_vec();
     sort(&mut procedures)?;
@@ -101,8 +101,8 @@ fn finish(
     entry: u32,
 ) -> Result<Image, PartFault>
     requires { AreEntries entries (table_view top.now) }
-    ensures { IsAnswer result (partition.by_image
-        (reading (encoding (partition.image_of (table_view top.now) text entry)))) }
+    ensures { IsPartitionAnswer result (partition.by_image
+        (reading (encoding (partition.image_of_tables (table_view top.now) text entry)))) }
 {
     let parts = image_parts(alloc, top, entries, text, entry)?;
     Ok(finish_image(alloc, parts)?)
@@ -111,7 +111,7 @@ fn finish(
 /// The image of a partition's tables.
 #[tactic(auto, unfolding(crate::specs::Partition::partition_of))]
 fn read_table(alloc: Global, top: &Table) -> Result<Image, PartFault>
-    ensures { IsAnswer result (partition.partition_of (table_view top.now)) }
+    ensures { IsPartitionAnswer result (partition.partition_of (table_view top.now)) }
 {
     check_document(alloc, Part::Top, top)?;
     let entries = all_entries(alloc, top)?;
@@ -131,7 +131,7 @@ fn read_table(alloc: Global, top: &Table) -> Result<Image, PartFault>
 #[tactic(auto, unfolding(crate::specs::Partition::partition))]
 pub fn read_partition(alloc: Global, text: &str) -> Result<Image, PartFault>
     // The image that the partition means, or the first fault.
-    ensures exact { IsAnswer result (partition.partition text.now) }
+    ensures exact { IsPartitionAnswer result (partition.partition text.now) }
 {
     match toml::table_from_str(alloc, text) {
         Ok(top) => read_table(alloc, &top),

@@ -12,20 +12,20 @@ use wedge_base::NoMemory;
 
 /// The value at a key.
 pub(crate) fn at<'a>(table: &'a Table, key: Key) -> Option<&'a Value>
-    ensures { option_map (λ v. view v.now) result ≡ values.at key (table_view table.now) }
+    ensures { option_map (λ v. view v.now) result ≡ values.value_at key (table_view table.now) }
 {
     table.get(key.name())
 }
 
 pub(crate) fn has(table: &Table, key: Key) -> bool
-    ensures { result ≡ values.has key (table_view table.now) }
+    ensures { result ≡ values.has_key key (table_view table.now) }
 {
     at(table, key).is_some()
 }
 
 /// The number at a key, or another where there is none.
 pub(crate) fn number_at(table: &Table, key: Key, other: u32) -> u32
-    ensures { result ≡ values.number_at key other (table_view table.now) }
+    ensures { result ≡ values.number_at_key key other (table_view table.now) }
 {
     match at(table, key) {
         Some(value) => number_of(value).unwrap_or(other),

@@ -19,7 +19,7 @@ fn small(n: i64) -> Option<u32>
 
 /// The number that a value is.
 pub(crate) fn number_of(value: &Value) -> Option<u32>
-    ensures { result ≡ values.number_of (view value.now) }
+    ensures { result ≡ values.u32_value (view value.now) }
 {
     let n = value.as_integer()?;
     small(n)
@@ -64,13 +64,13 @@ pub(crate) fn bits_named(word: &str) -> Option<FdBits>
 }
 
 fn is_digit(c: u8) -> bool
-    ensures { result ≡ values.is_digit c }
+    ensures { result ≡ values.is_lower_hex c }
 {
     matches!(c, b'0'..=b'9' | b'a'..=b'f')
 }
 
 fn are_digits(text: &[u8]) -> bool
-    ensures { result ≡ list_all values.is_digit text.now }
+    ensures { result ≡ list_all values.is_lower_hex text.now }
 {
     text.iter().all(|c| is_digit(*c))
 }
@@ -96,7 +96,7 @@ fn digit(c: u8) -> u8
 
 /// The bytes that pairs of digits encode.
 pub(crate) fn bytes_of(alloc: Global, text: &[u8]) -> Result<Bytes, NoMemory>
-    ensures { IfOk result (λ b. b ≡ values.bytes_of text.now) }
+    ensures { IfOk result (λ b. b ≡ values.hex_bytes text.now) }
 {
     let mut bytes = Items::new(Vec::new(alloc));
     let mut rest = text;
@@ -128,7 +128,7 @@ fn word_fits(kind: Kind, word: &str) -> bool
 
 /// Whether a value is of a kind.
 pub(crate) fn fits(kind: Kind, value: &Value) -> bool
-    ensures { result ≡ values.fits kind (view value.now) }
+    ensures { result ≡ values.value_fits kind (view value.now) }
 {
     match kind {
         Kind::Number => number_of(value).is_some(),

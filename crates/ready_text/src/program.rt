@@ -90,7 +90,8 @@ impl<'a> Program<'a> {
     /// is no instruction.
     #[inline(always)]
     pub fn fetch(&self, pc: u32) -> Option<&Option<Instr>>
-        ensures is { option_map (λ r. r.now) result ≡ option_map decode (images.fetch self.now pc) }
+        ensures is { option_map (λ r. r.now) result
+            ≡ option_map decode (images.fetch self.now pc) }
         ensures registers { IfSome result (λ o. IfSome o.now HasRegisters) }
     {
         instructions_are_those_in_range();

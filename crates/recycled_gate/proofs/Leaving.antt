@@ -5,14 +5,14 @@ use Rattle.cow_pages.specs.PrivateMemory.{PrivateMemory}
 use Rattle.wedge_events.specs.declared.cells.GateAsk.{GateAsk}
 use Rattle.wedge_events.specs.declared.cells.GateAsk.TheVariants as ask
 use Rattle.wedge_events.specs.declared.cells.GateReply.TheVariants as reply
-use Rattle.recycled_gate.specs.Laws.{after, AllFit, left_last, BeginsWithWhatWasLeft}
+use Rattle.recycled_gate.specs.Laws.{gate_after_asks, AllFit, left_last, BeginsWithWhatWasLeft}
 
 -- while the gate is free it keeps what the last run left
 abbrev Keeps : Kept → Option PrivateMemory → Type 0
 Keeps k left = k.entered ≡ false → k.kept ≡ left
 
 kept_last : (k : Kept) (before : Option PrivateMemory) (qs : List GateAsk) (run : List ℕ) (memory : PrivateMemory) → Keeps k before
-    → AllFit k (qs ++ ask.Enter run memory ∷ []) → (after k qs).kept ≡ left_last before qs
+    → AllFit k (qs ++ ask.Enter run memory ∷ []) → (gate_after_asks k qs).kept ≡ left_last before qs
 kept_last k before [] run memory keeps fit = keeps fit.0
 kept_last k before (ask.Enter r p ∷ qs) run memory keeps fit =
     kept_last (record { entered = true; kept = None }) before qs run memory (λ e. absurd (true≢false e)) fit.1

@@ -7,9 +7,9 @@ use Rattle.wedge_events.specs.declared.cells.GateAsk.TheVariants as ask
 use Rattle.wedge_events.specs.declared.cells.GateReply.TheVariants as reply
 
 -- the gate after asks, one after another
-abbrev pub after : Kept → List GateAsk → Kept
-after k [] = k
-after k (q ∷ qs) = after (gate_next k q) qs
+abbrev pub gate_after_asks : Kept → List GateAsk → Kept
+gate_after_asks k [] = k
+gate_after_asks k (q ∷ qs) = gate_after_asks (gate_next k q) qs
 
 -- each ask fits as it comes
 abbrev pub AllFit : Kept → List GateAsk → Type 0
@@ -27,5 +27,5 @@ left_last before (ask.Leave end memory ∷ qs) = left_last (Some memory) qs
 abbrev pub BeginsWithWhatWasLeft : Type 0
 BeginsWithWhatWasLeft = (qs : List GateAsk) (run : List ℕ) (memory : PrivateMemory)
     → AllFit gate_opening (qs ++ ask.Enter run memory ∷ [])
-    → gate_reply (after gate_opening qs) (ask.Enter run memory)
+    → gate_reply (gate_after_asks gate_opening qs) (ask.Enter run memory)
     ≡ reply.Entered (unwrap_or (left_last None qs) memory)

@@ -89,12 +89,12 @@ abbrev pub backslash : ℕ
 backslash = 92
 
 -- whether a byte is written in quotes as it is: from a space to `~`, but neither of these two
-abbrev pub is_plain : ℕ → Bool
-is_plain b = nat_le 0x20 b && nat_le b 0x7e && not (b == quote) && not (b == backslash)
+abbrev pub is_unescaped : ℕ → Bool
+is_unescaped b = nat_le 0x20 b && nat_le b 0x7e && not (b == quote) && not (b == backslash)
 
 -- every other byte is a backslash and two hexadecimal digits
 unfoldable pub escaped : ℕ → List ℕ
-escaped b = if is_plain b then b ∷ [] else backslash ∷ hex_digit (b / 16) ∷ hex_digit (b % 16) ∷ []
+escaped b = if is_unescaped b then b ∷ [] else backslash ∷ hex_digit (b / 16) ∷ hex_digit (b % 16) ∷ []
 
 unfoldable pub quoted : List ℕ → List ℕ
 quoted bytes = quote ∷ flat_map escaped bytes ++ quote ∷ []

@@ -68,14 +68,14 @@ names_in text = names_from [] (pieces_at 10 text)
 -- ---- what the calls return
 
 -- the fault of an answer is the one that reading gives, unless memory ran out
-abbrev pub Fails : {Y : Type 0} → ScheduleFault → Result Y ℕ → Type 0
-Fails fault.NoMemory read = Unit {0}
-Fails (fault.Form at) read = read ≡ Err at
+abbrev pub IsScheduleFault : {Y : Type 0} → ScheduleFault → Result Y ℕ → Type 0
+IsScheduleFault fault.NoMemory read = Unit {0}
+IsScheduleFault (fault.Form at) read = read ≡ Err at
 
 -- what a function answered, seen by view, is what reading gives, unless memory ran out
-abbrev pub Gives : {X Y : Type 0} → (X → Y) → Result X ScheduleFault → Result Y ℕ → Type 0
-Gives view (Ok x) read = read ≡ Ok (view x)
-Gives view (Err e) read = Fails e read
+abbrev pub IsScheduleAnswer : {X Y : Type 0} → (X → Y) → Result X ScheduleFault → Result Y ℕ → Type 0
+IsScheduleAnswer view (Ok x) read = read ≡ Ok (view x)
+IsScheduleAnswer view (Err e) read = IsScheduleFault e read
 
 -- bytes that begin as no decimal form does: there are none, or a zero with more behind it
 abbrev pub BeginsNoNumber : List ℕ → Type 0

@@ -3,7 +3,7 @@
 ghost use Rattle.std.specs.Prelude.{◌≡◌, ◌==◌, ◌+◌, ◌*◌, ◌<◌, ◌∷◌, [], length, IfOk, IfNone, IfSome, SomeIff, IsTrue, ◌↔◌};
 ghost use Rattle.std.specs.Char.{digit_value};
 ghost use Rattle.std.specs.List.{position};
-ghost use Rattle.report_text.specs.Schedules.{pieces_at, name_in, names_in, schedule_of, Gives, BeginsNoNumber, IsNextDigit};
+ghost use Rattle.report_text.specs.Schedules.{pieces_at, name_in, names_in, schedule_of, IsScheduleAnswer, BeginsNoNumber, IsNextDigit};
 ghost use Rattle.report_text.specs.Schedules as schedules;
 ghost use Rattle.report_text.specs.declared.fault.ScheduleFault.TheVariants as fault;
 
@@ -21,7 +21,8 @@ fn position_of(byte: u8, bytes: &[u8]) -> Option<usize>
 /// The bytes before the first one that is this one, and those behind it.
 fn cut_at(byte: u8, bytes: &[u8]) -> Option<(&[u8], &[u8])>
     ensures none { IfNone result (pieces_at byte bytes.now ≡ bytes.now ∷ []) }
-    ensures cut { IfSome result (λ x. pieces_at byte bytes.now ≡ x.0.now ∷ pieces_at byte x.1.now) }
+    ensures cut { IfSome result
+        (λ x. pieces_at byte bytes.now ≡ x.0.now ∷ pieces_at byte x.1.now) }
     ensures less { IfSome result (λ x. length x.1.now < length bytes.now) }
 {
     let end = position_of(byte, bytes)?;
@@ -97,7 +98,7 @@ fn form_behind(names: &[ActorName]) -> ScheduleFault
 #[tactic(auto, unfolding(crate::specs::Schedules::names_in))]
 pub fn read_schedule(alloc: Global, bytes: &[u8]) -> Result<Vec<ActorName>, ScheduleFault>
     // The names of the lines, or the first line of another form.
-    ensures exact { Gives (λ names. names.items) result (names_in bytes.now) }
+    ensures exact { IsScheduleAnswer (λ names. names.items) result (names_in bytes.now) }
     // What is read is the text that is written for these names.
     ensures canonical { IfOk result (λ names. schedule_of names.items ≡ bytes.now) }
 {

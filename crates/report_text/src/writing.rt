@@ -22,9 +22,11 @@ fn write_line(out: &mut Vec<u8>, parts: &[u32]) -> Result<(), NoMemory>
 /// The schedule of a journal: for each of its entries, in order, the name of the entry's actor and LF.
 pub fn write_schedule(alloc: Global, journal: &Journal) -> Result<Vec<u8>, NoMemory>
     // A line for each entry, with the name of its actor.
-    ensures text { IfOk result (λ text. text.items ≡ schedule_of (actors_of journal.now.entries)) }
+    ensures text { IfOk result
+        (λ text. text.items ≡ schedule_of (actors_of journal.now.entries)) }
     // It is read as these names.
-    ensures again { IfOk result (λ text. names_in text.items ≡ Ok (actors_of journal.now.entries)) }
+    ensures again { IfOk result
+        (λ text. names_in text.items ≡ Ok (actors_of journal.now.entries)) }
 {
     let mut out = Vec::new(alloc);
     for entry in journal.entries.as_slice() {

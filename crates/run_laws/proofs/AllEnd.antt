@@ -9,12 +9,12 @@ use Rattle.wedge_events.specs.declared.events.Turn.{Turn}
 use Rattle.sthread_life.specs.Actors.{ActorState, root}
 use Rattle.sthread_life.specs.Children.{is_child, child_name}
 use Rattle.sthread_life.specs.Local.{has_ended, rest}
-use Rattle.sthread_life.specs.Taking.{next_start, takes, begun, child_of, run_by}
+use Rattle.sthread_life.specs.Taking.{next_start, takes, actor_begun, child_of, run_by}
 use Rattle.run_laws.specs.Ends.{is_end_event}
 use Rattle.run_laws.specs.FamilyTrees.{IsChildOf, IsOfTree, Family}
 use Rattle.run_laws.specs.Fuel.{starter_of, number_in, has_child}
 use Rattle.run_laws.specs.Laws.{EndedHaveJoinedAll, AllHaveEnded}
-use Rattle.run_laws.specs.Worlds.{WorldState, opening, actor_named, put_actor, with_begun, Runs, ready, resumed, is_ended}
+use Rattle.run_laws.specs.Worlds.{WorldState, initial_state, actor_named, put_actor, with_begun, Runs, ready, resumed, is_ended}
 use Rattle.run_laws.proofs.Between.{event_for, takes_name}
 use Rattle.run_laws.proofs.FamilyRuns.{Acts, ActsAlone, Starts, Enters, Joins, acts, one_begins, run_family}
 use Rattle.run_laws.proofs.Happening.{Happens, Requested, Joined, Snaps, GateSnaps, Started, Opens, Releases, Numbers, OpensFile, LastJoined, Ended, EntersGate, LeavesGate, EntersRecycled, LeavesRecycled}
@@ -56,17 +56,17 @@ ended_alone w b e (EntersRecycled x) over = no_end w.image b e _ x.is refl over
 ended_alone w b e (LeavesRecycled l) over = ap (λ y. (takes w.image b y).unjoined) l.is ∙ l.left
 
 -- whoever begins lives
-begun_lives : (w : WorldState) (b : ActorState) (e : Event) (c : ActorState) → Acts w b e → begun w.image b e ≡ Some c → has_ended c.phase ≡ false
+begun_lives : (w : WorldState) (b : ActorState) (e : Event) (c : ActorState) → Acts w b e → actor_begun w.image b e ≡ Some c → has_ended c.phase ≡ false
 begun_lives w b e c (ActsAlone one) begins = let none : None ≡ Some c = sym (one_begins w.image b e one) ∙ begins in absurd cc
 begun_lives w b e c (Starts s) begins =
-    let two : Some (child_of w.image b (child_name b.name (next_start b))) ≡ Some c = sym (ap (begun w.image b) s.is) ∙ begins in
+    let two : Some (child_of w.image b (child_name b.name (next_start b))) ≡ Some c = sym (ap (actor_begun w.image b) s.is) ∙ begins in
     let one : child_of w.image b (child_name b.name (next_start b)) ≡ c = cc in
     ap (λ (x : ActorState). has_ended x.phase) (sym one)
 begun_lives w b e c (Enters y) begins =
     let two : Some (run_by b (child_name b.name (next_start b)) y.kept y.entrance) ≡ Some c = sym y.begins ∙ begins in
     let one : run_by b (child_name b.name (next_start b)) y.kept y.entrance ≡ c = cc in
     ap (λ (x : ActorState). has_ended x.phase) (sym one)
-begun_lives w b e c (Joins k listed j) begins = let none : None ≡ Some c = sym (ap (begun w.image b) j.is) ∙ begins in absurd cc
+begun_lives w b e c (Joins k listed j) begins = let none : None ≡ Some c = sym (ap (actor_begun w.image b) j.is) ∙ begins in absurd cc
 
 -- ---- actors
 
@@ -109,13 +109,13 @@ turn_left w name e new all p h =
     left_put w.actors p.actor (ready w.actors p.actor) (record { name = ready_name w.actors p.actor; there = was }) (ready_left w.actors p.actor was h) h in
     let put : IsPut v.actors a x = record { name = takes_name w.image b e ∙ rest-name w.image a; there = turned_there v name a p.parts.named } in
     let after = left_put v.actors a x put (ended_alone v b e happens) goes in
-    subst (λ (z : WorldState). NoneLeft z.actors) (sym p.parts.new_is) (left_begun (put_actor v.actors x) (begun w.image b e) (λ c begins. begun_lives v b e c (acts v b e happens) begins) after)
+    subst (λ (z : WorldState). NoneLeft z.actors) (sym p.parts.new_is) (left_begun (put_actor v.actors x) (actor_begun w.image b e) (λ c begins. begun_lives v b e c (acts v b e happens) begins) after)
 
 runs_left : (old : WorldState) (turns : List Turn) (new : WorldState) → AllReady old → NoneLeft old.actors → Runs old turns new → NoneLeft new.actors
 runs_left old [] new all h run = subst (λ (w : WorldState). NoneLeft w.actors) (sym run) h
 runs_left old (t ∷ ts) new all h run = runs_left run.0 ts new (turn_ready old t.actor t.event run.0 all run.1) (turn_left old t.actor t.event run.0 all (turn_from old t.actor t.event run.0 run.1) h) run.2
 
-opening_left : (i : Image) → NoneLeft (opening i).actors
+opening_left : (i : Image) → NoneLeft (initial_state i).actors
 unfolding root
 opening_left i m x found over = by_name (same root_name m) found
   where
@@ -124,7 +124,7 @@ opening_left i m x found over = by_name (same root_name m) found
     by_name false is = absurd cc
 
 pub ended_have_joined : EndedHaveJoinedAll
-ended_have_joined i turns new run = runs_left (opening i) turns new (opening_ready i) (opening_left i) run
+ended_have_joined i turns new run = runs_left (initial_state i) turns new (opening_ready i) (opening_left i) run
 
 -- ---- once the root has ended
 

@@ -30,13 +30,13 @@ use Rattle.wedge_base.specs.declared.rights.End.{End}
 use Rattle.sthread_life.specs.declared.phase.Phase.{Phase}
 use Rattle.sthread_life.specs.declared.phase.Phase.TheVariants as phase
 use Rattle.sthread_life.specs.Actors.{ActorState, answers, answers_more, spends}
-use Rattle.sthread_life.specs.Calls.{a1, a0, draft_at, new_gate, has_gate, makes_or_waits, making}
+use Rattle.sthread_life.specs.Calls.{a1, a0, draft_at, new_gate, has_gate, makes_or_waits, continue_gate}
 use Rattle.sthread_life.specs.Opening.{FileOpening}
 use Rattle.wedge_base.specs.Sheets.{made_fd, Draft}
 use Rattle.sthread_life.specs.Between.{IsBetween}
 use Rattle.sthread_life.specs.Children.{without_child, child_name, with_child}
 use Rattle.sthread_life.specs.Local.{rest, end_reached}
-use Rattle.sthread_life.specs.Taking.{wanted, pair, runs, loads_by, loads_at, has_snapped, has_number, has_opened_file, end_value, end_number, answered_end, takes, copied_on, has_entered, next_start}
+use Rattle.sthread_life.specs.Taking.{current_want, pair, runs, loads_by, loads_at, has_snapped, has_number, has_opened_file, end_value, end_number, answered_end, takes, copied_on, has_entered, next_start}
 use Rattle.sthread_life.specs.Copying.{Preparation}
 use Rattle.cow_pages.specs.Listed.{bytes_listed}
 use Rattle.wedge_events.specs.Directories.{directory_reply}
@@ -47,7 +47,7 @@ use Rattle.wedge_events.specs.Streams.{stream_reply as stream_reply_of}
 use Rattle.wedge_events.specs.Wants.{slot_ask_with}
 use Rattle.wedge_base.specs.declared.rights.End.TheVariants as end_
 use Rattle.run_laws.specs.Cells.{Cells, slot_in, stream_in, kept_in, tag_in}
-use Rattle.run_laws.specs.Worlds.{WorldState, actor_named, join_event, event_at, happened, wanting, Taken}
+use Rattle.run_laws.specs.Worlds.{WorldState, actor_named, join_event, event_at, apply_event, wanting, Taken}
 use Rattle.callgate.specs.declared.gate.Gate.{Gate}
 use Rattle.sthread_life.specs.declared.copy_grant.CopyGrant.{CopyGrant}
 use Rattle.sthread_life.specs.Entrances.{Entrance}
@@ -112,7 +112,7 @@ opened_is Q a (phase.Ended x) fd other on = other
 
 -- what the copy of a tag leaves of an actor: one that prepares a child goes on with that, one that makes a gate likewise or has made it,
 -- and any other runs
-pub made_is : (Q : ActorState → Type 0) (a : ActorState) (d : Draft) (p : Preparation) → ((x : Preparation) → Q (record a { phase = phase.MakingGate x })) → ((g : Gate) → Q (has_gate a g)) → Q (making a d p)
+pub made_is : (Q : ActorState → Type 0) (a : ActorState) (d : Draft) (p : Preparation) → ((x : Preparation) → Q (record a { phase = phase.MakingGate x })) → ((g : Gate) → Q (has_gate a g)) → Q (continue_gate a d p)
 made_is Q a d p waits made = by_left p.left
   where
     by_left : (gs : List CopyGrant) → Q (makes_or_waits a d p gs)
@@ -433,16 +433,16 @@ pub record TurnParts (w : WorldState) (name : List ℕ) (e : Event) (new : World
   pub actor : ActorState
   pub named : actor_named w.actors name ≡ Some actor
   pub want : Want
-  pub wants : wanted (rest w.image actor) ≡ Some want
+  pub wants : current_want (rest w.image actor) ≡ Some want
   pub comes : event_at w (rest w.image actor) want ≡ Some e
-  pub new_is : new ≡ (happened w (rest w.image actor) e).world
+  pub new_is : new ≡ (apply_event w (rest w.image actor) e).world
 
 parts_event : (w : WorldState) (name : List ℕ) (a : ActorState) (q : Want) (o : Option Event) (e : Event) (new : WorldState)
-    → actor_named w.actors name ≡ Some a → wanted (rest w.image a) ≡ Some q → event_at w (rest w.image a) q ≡ o
-    → option_map (happened w (rest w.image a)) o ≡ Some (record { event = e; world = new }) → TurnParts w name e new
+    → actor_named w.actors name ≡ Some a → current_want (rest w.image a) ≡ Some q → event_at w (rest w.image a) q ≡ o
+    → option_map (apply_event w (rest w.image a)) o ≡ Some (record { event = e; world = new }) → TurnParts w name e new
 parts_event w name a q None e new named wants at t = absurd cc
 parts_event w name a q (Some f) e new named wants at t =
-    let is : happened w (rest w.image a) f ≡ record { event = e; world = new } = cc in
+    let is : apply_event w (rest w.image a) f ≡ record { event = e; world = new } = cc in
     let same : f ≡ e = ap (λ (x : Taken). x.event) is in
     record {
       actor = a;
@@ -450,10 +450,10 @@ parts_event w name a q (Some f) e new named wants at t =
       want = q;
       wants = wants;
       comes = at ∙ ap (λ (x : Event). Some x) same;
-      new_is = ap (λ (x : Taken). x.world) (sym is) ∙ ap (λ (x : Event). (happened w (rest w.image a) x).world) same;
+      new_is = ap (λ (x : Taken). x.world) (sym is) ∙ ap (λ (x : Event). (apply_event w (rest w.image a) x).world) same;
     }
 
 pub parts_wanting : (w : WorldState) (name : List ℕ) (a : ActorState) (q : Option Want) (e : Event) (new : WorldState)
-    → actor_named w.actors name ≡ Some a → wanted (rest w.image a) ≡ q → wanting w (rest w.image a) q ≡ Some (record { event = e; world = new }) → TurnParts w name e new
+    → actor_named w.actors name ≡ Some a → current_want (rest w.image a) ≡ q → wanting w (rest w.image a) q ≡ Some (record { event = e; world = new }) → TurnParts w name e new
 parts_wanting w name a None e new named wants t = absurd cc
 parts_wanting w name a (Some q) e new named wants t = parts_event w name a q (event_at w (rest w.image a) q) e new named wants refl t

@@ -25,8 +25,8 @@ use Rattle.run_laws.specs.Families.{IsRun}
 use Rattle.sthread_life.specs.Lending.{sheet_lent}
 use Rattle.run_laws.specs.Laws.{RootBounds}
 use Rattle.sthread_life.specs.Local.{is_running, step, run_local, rest}
-use Rattle.sthread_life.specs.Taking.{next_start, takes, child_of, run_by, begun}
-use Rattle.run_laws.specs.Worlds.{WorldState, opening, actor_named, put_actor, with_begun, turn_of, ready, resumed, Runs, with_actor}
+use Rattle.sthread_life.specs.Taking.{next_start, takes, child_of, run_by, actor_begun}
+use Rattle.run_laws.specs.Worlds.{WorldState, initial_state, actor_named, put_actor, with_begun, turn_of, ready, resumed, Runs, with_actor}
 use Rattle.run_laws.proofs.Between.{takes_name}
 use Rattle.run_laws.proofs.Bounding.{IsBounded, AllBounded, least_of, child_user, child_directory, within_bits, given_alone, rest_bounded, back_bounded, turn_bounded, opening_bounded, run_image}
 use Rattle.run_laws.proofs.FamilyRuns.{Acts, ActsAlone, Starts, Enters, Joins, acts, one_begins}
@@ -118,7 +118,7 @@ run_gates i zero a true e own all = unfold run_local in all
 run_gates i (suc n) a true e own all =
     let b = step i a in
     let s = steps_step i a in
-    let next = run_gates i n b _ refl (same_own i a b s.sheet s.made own) (grown i a b own all (step_grows (opening i) a e)) in
+    let next = run_gates i n b _ refl (same_own i a b s.sheet s.made own) (grown i a b own all (step_grows (initial_state i) a e)) in
     subst (λ (x : ActorState). AreGatesBounded i x.gates) (sym (goes_on i n a e)) next
 
 rest_gates : (i : Image) (a : ActorState) → HasNoMoreThanRoot i a.sheet a.made → AreGatesBounded i a.gates → AreGatesBounded i (rest i a).gates
@@ -138,10 +138,10 @@ put_gates i actors a x all doer m y (IsDoer is f) = subst (λ (z : ActorState). 
 put_gates i actors a x all doer m y (IsOther apart f) = all m y f
 
 -- a child knows the gates that its starter knows, and the run of a gate those that its caller knows
-begun_gates : (w : WorldState) (b : ActorState) (e : Event) → Acts w b e → AreGatesBounded w.image b.gates → (c : ActorState) → begun w.image b e ≡ Some c → AreGatesBounded w.image c.gates
+begun_gates : (w : WorldState) (b : ActorState) (e : Event) → Acts w b e → AreGatesBounded w.image b.gates → (c : ActorState) → actor_begun w.image b e ≡ Some c → AreGatesBounded w.image c.gates
 begun_gates w b e (ActsAlone one) all c is = let f : None ≡ Some c = sym (one_begins w.image b e one) ∙ is in absurd cc
 begun_gates w b e (Starts s) all c is =
-    let both : Some (child_of w.image b (child_name b.name (next_start b))) ≡ Some c = sym (ap (begun w.image b) s.is) ∙ is in
+    let both : Some (child_of w.image b (child_name b.name (next_start b))) ≡ Some c = sym (ap (actor_begun w.image b) s.is) ∙ is in
     let same_child : child_of w.image b (child_name b.name (next_start b)) ≡ c = cc in
     subst (λ (x : ActorState). AreGatesBounded w.image x.gates) same_child all
 begun_gates w b e (Enters x) all c is =
@@ -149,7 +149,7 @@ begun_gates w b e (Enters x) all c is =
     let both : Some run ≡ Some c = sym x.begins ∙ is in
     let same_run : run ≡ c = cc in
     subst (λ (y : ActorState). AreGatesBounded w.image y.gates) same_run all
-begun_gates w b e (Joins k listed j) all c is = let f : None ≡ Some c = sym (ap (begun w.image b) j.is) ∙ is in absurd cc
+begun_gates w b e (Joins k listed j) all c is = let f : None ≡ Some c = sym (ap (actor_begun w.image b) j.is) ∙ is in absurd cc
 
 -- an actor that goes on knows the gates that it knew
 resumed_gates : (w : WorldState) (a : ActorState) → AllGates w.image w.actors → actor_named w.actors a.name ≡ Some a → AllGates w.image (resumed w a).actors
@@ -184,7 +184,7 @@ turn_gates w name e new all_ready all p within =
     let put : IsPut v.actors a x = record { name = takes_name w.image b e ∙ rest-name w.image a; there = there } in
     let doer = grown w.image b x within.own within.gates (by_phase (with_actor v b) b x b.phase e (event_makes_gates v b e h)) in
     subst (λ (y : WorldState). AllGates w.image y.actors) (sym p.parts.new_is)
-    (by_begun v a x (resumed_gates w p.actor all (turned_there w name p.actor p.named)) put doer (begun w.image b e) (begun_gates v b e (acts v b e h) within.gates))
+    (by_begun v a x (resumed_gates w p.actor all (turned_there w name p.actor p.named)) put doer (actor_begun w.image b e) (begun_gates v b e (acts v b e h) within.gates))
   where
     by_begun : (v : WorldState) (a x : ActorState) → AllGates v.image v.actors → IsPut v.actors a x → AreGatesBounded v.image x.gates → (o : Option ActorState) → ((c : ActorState) → o ≡ Some c → AreGatesBounded v.image c.gates) → AllGates v.image (with_begun (put_actor v.actors x) o)
     by_begun v a x goes put doer None child m y found = put_gates v.image v.actors a x goes doer m y (find_put v.actors a x m y put found)
@@ -211,7 +211,7 @@ runs_within : (old : WorldState) (turns : List Turn) (new : WorldState) → AllR
 runs_within old [] new all_ready all run = subst AllWithin (sym run) all
 runs_within old (t ∷ ts) new all_ready all run = runs_within run.0 ts new (turn_ready old t.actor t.event run.0 all_ready run.1) (turn_within old t.actor t.event run.0 all_ready all run.1) run.2
 
-opening_within : (i : Image) → AllWithin (opening i)
+opening_within : (i : Image) → AllWithin (initial_state i)
 opening_within i = record { actors = opening_bounded i; gates = λ m a found. by_name (same (root i).name m) found }
   where
     none_known : AreGatesBounded i (root i).gates
@@ -223,8 +223,8 @@ opening_within i = record { actors = opening_bounded i; gates = λ m a found. by
 
 pub root_bounds : RootBounds
 root_bounds i turns new run name a named =
-    let all = runs_within (opening i) turns new (opening_ready i) (opening_within i) run in
-    let same_image = run_image (opening i) turns new run in
+    let all = runs_within (initial_state i) turns new (opening_ready i) (opening_within i) run in
+    let same_image = run_image (initial_state i) turns new run in
     record {
       own = own_of i a (subst (λ j. IsBounded j a) same_image (all.actors.actors name a named));
       gates = subst (λ j. AreGatesBounded j a.gates) same_image (all.gates name a named);

@@ -38,8 +38,8 @@ use Rattle.sthread_life.specs.Opening.{FileOpening}
 use Rattle.sthread_life.specs.Children.{child_name}
 use Rattle.run_laws.specs.Families.{IsChild, IsRun, made_under, made_by}
 use Rattle.sthread_life.specs.Local.{rest}
-use Rattle.sthread_life.specs.Taking.{next_start, takes, begun, child_of, run_by}
-use Rattle.run_laws.specs.Worlds.{WorldState, opening, actor_named, put_actor, with_begun, ready, resumed, Runs}
+use Rattle.sthread_life.specs.Taking.{next_start, takes, actor_begun, child_of, run_by}
+use Rattle.run_laws.specs.Worlds.{WorldState, initial_state, actor_named, put_actor, with_begun, ready, resumed, Runs}
 use Rattle.run_laws.proofs.Between.{event_for, Leaves, IsPreparing, MayPrepare, MayNumber, MayWait, takes_name, takes_between}
 use Rattle.run_laws.proofs.Directing.{claimed_number, next_number}
 use Rattle.run_laws.proofs.Meeting.{IsRequest}
@@ -362,7 +362,7 @@ turn_bounded w name e new all bounded p runs =
     let doer = doer_bounded v b e bounded.counted bounded.above h (rest_bounded w.image a (goes.actors a.name a there)) in
     let child = begins_bounded v b e (acts v b e h) (rest_bounded w.image a (goes.actors a.name a there)) runs in
     subst AllBounded (sym p.parts.new_is)
-    (record { counted = cells_counted (length w.image.tags) w.cells e bounded.counted; above = cells_above (length w.image.fds) v b e h bounded.above; actors = by_begun v a x goes put doer (begun w.image b e) child })
+    (record { counted = cells_counted (length w.image.tags) w.cells e bounded.counted; above = cells_above (length w.image.fds) v b e h bounded.above; actors = by_begun v a x goes put doer (actor_begun w.image b e) child })
   where
     by_found : (w : WorldState) (a x : ActorState) → AllBounded w → IsPut w.actors a x → IsBounded w.image x → (m : List ℕ) (y : ActorState) → FoundPut w.actors a x m y → IsBounded w.image y
     by_found w a x bounded put doer m y (IsDoer is f) = subst (IsBounded w.image) (sym f) doer
@@ -376,11 +376,11 @@ turn_bounded w name e new all bounded p runs =
       | inr is ↦ subst (IsBounded w.image) (sym is) (child c refl)
     ]
 
-    begins_bounded : (w : WorldState) (b : ActorState) (e : Event) → Acts w b e → IsBounded w.image b → ((c : ActorState) → IsRun b c → HasNoMoreThanRoot w.image c.sheet nothing_made) → (c : ActorState) → begun w.image b e ≡ Some c → IsBounded w.image c
+    begins_bounded : (w : WorldState) (b : ActorState) (e : Event) → Acts w b e → IsBounded w.image b → ((c : ActorState) → IsRun b c → HasNoMoreThanRoot w.image c.sheet nothing_made) → (c : ActorState) → actor_begun w.image b e ≡ Some c → IsBounded w.image c
     begins_bounded w b e (ActsAlone one) bounded runs c is = let f : None ≡ Some c = sym (one_begins w.image b e one) ∙ is in absurd cc
     begins_bounded w b e (Starts s) bounded runs c is =
         let child = child_of w.image b (child_name b.name (next_start b)) in
-        let both : Some child ≡ Some c = sym (ap (begun w.image b) s.is) ∙ is in
+        let both : Some child ≡ Some c = sym (ap (actor_begun w.image b) s.is) ∙ is in
         let same_child : child ≡ c = cc in
         subst (IsBounded w.image) same_child (child_bounded w.image b child (child_begins w.image b s.preparation s.at s.complete s.ready) bounded)
     begins_bounded w b e (Enters x) bounded runs c is =
@@ -390,9 +390,9 @@ turn_bounded w name e new all bounded p runs =
         let same_run : run ≡ c = cc in
         let begins = run_begins b x.kept x.entrance x.at x.may in
         subst (IsBounded w.image) same_run (run_bounded w.image b run begins (runs run begins))
-    begins_bounded w b e (Joins k listed j) bounded runs c is = let f : None ≡ Some c = sym (ap (begun w.image b) j.is) ∙ is in absurd cc
+    begins_bounded w b e (Joins k listed j) bounded runs c is = let f : None ≡ Some c = sym (ap (actor_begun w.image b) j.is) ∙ is in absurd cc
 
-pub opening_bounded : (i : Image) → AllBounded (opening i)
+pub opening_bounded : (i : Image) → AllBounded (initial_state i)
 opening_bounded i = record { counted = omega arith; above = record { unused = omega arith; released = refl }; actors = λ m y found. by_name (same root_name m) (opening_found m y found) }
   where
     by_name : (t : Bool) {y : ActorState} → (if t then Some (root i) else None) ≡ Some y → IsBounded i y
@@ -409,7 +409,7 @@ opening_bounded i = record { counted = omega arith; above = record { unused = om
         root_bounded = unfold root in record { tags = λ tag r inside e. e; fds = λ fd inside. bits_self (bits_of (root i) fd); opens = λ slot tag is. absurd cc; files = λ o fd is some. absurd cc; user = λ some. (refl, refl); directory = front_itself (parts_of i.root) }
     by_name false e = absurd cc
 
-    opening_found : (m : List ℕ) (y : ActorState) → actor_named (opening i).actors m ≡ Some y → (if same root_name m then Some (root i) else None) ≡ Some y
+    opening_found : (m : List ℕ) (y : ActorState) → actor_named (initial_state i).actors m ≡ Some y → (if same root_name m then Some (root i) else None) ≡ Some y
     opening_found m y e = unfold root in e
 
 pub run_image : (old : WorldState) (turns : List Turn) (new : WorldState) → Runs old turns new → new.image ≡ old.image

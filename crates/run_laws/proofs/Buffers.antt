@@ -8,7 +8,7 @@ use Rattle.wedge_base.specs.declared.image.MemoryRange.{MemoryRange}
 use Rattle.sthread_life.specs.Actors.{ActorState}
 use Rattle.sthread_life.specs.Calls.{path_in}
 use Rattle.sthread_life.specs.Private.{fits_read, buffer, buffer_in}
-use Rattle.run_laws.specs.Requests.{bytes_in_range, bytes_at, path_at}
+use Rattle.run_laws.specs.Requests.{bytes_in_range, buffer_bytes, path_at}
 
 by_range : (i : Image) (pointer n : ℕ) (t u : Bool) (r : Option MemoryRange)
     → (if not t then None else if u then Some [] else bytes_in_range i pointer n r) ≡ (if t && (u || is_some r || in_text i pointer n) then Some (if u then [] else buffer_in i pointer n r) else None)
@@ -17,7 +17,7 @@ by_range i pointer n true true r = refl
 by_range i pointer n true false (Some r) = refl
 by_range i pointer n true false None = refl
 
-pub buffer_is : (i : Image) (a : ActorState) (pointer n : ℕ) → bytes_at i a pointer n ≡ (if fits_read i a pointer n then Some (buffer i a pointer n) else None)
+pub buffer_is : (i : Image) (a : ActorState) (pointer n : ℕ) → buffer_bytes i a pointer n ≡ (if fits_read i a pointer n then Some (buffer i a pointer n) else None)
 buffer_is i a pointer n = by_range i pointer n (nat_le n 256) (n == 0) (range_at a.memory.ranges pointer n)
 
 pub path_is : (i : Image) (a : ActorState) (pointer n : ℕ) → path_at i a pointer n ≡ path_in i a pointer n

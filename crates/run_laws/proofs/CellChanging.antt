@@ -6,8 +6,8 @@ use Rattle.wedge_events.specs.declared.cells.GateReply.{GateReply}
 use Rattle.wedge_events.specs.declared.cells.GateAsk.{GateAsk}
 use Rattle.wedge_events.specs.Gates.{Kept, gate_opening, gate_next}
 use Rattle.wedge_base.specs.Identities.{same_gate}
-use Rattle.wedge_events.specs.Slots.{Segment, slot_reply as slot_reply_of, slot_after, opened, stored, placed, freed}
-use Rattle.wedge_events.specs.Streams.{Stream, opened as stream_opened, stream_reply as stream_reply_of, stream_after, moved, grown, closed}
+use Rattle.wedge_events.specs.Slots.{Segment, slot_reply as slot_reply_of, slot_after, new_segment, write_segment, with_placed_block, with_freed_block}
+use Rattle.wedge_events.specs.Streams.{Stream, new_stream as stream_opened, stream_reply as stream_reply_of, stream_after, with_bytes_read, with_more_bytes, closed_stream}
 use Rattle.wedge_base.specs.declared.grants.GateId.{GateId}
 use Rattle.wedge_events.specs.declared.events.SlotWant.TheVariants as slot_want
 use Rattle.wedge_events.specs.declared.events.Want.{Want}
@@ -32,7 +32,7 @@ use Rattle.sthread_life.specs.Calls.{a0}
 use Rattle.sthread_life.specs.Taking.{pair}
 use Rattle.run_laws.specs.Cells.{Cells, GateCell, slot_in, stream_in, kept_in, kept_among, put_kept, cells_after}
 use Rattle.run_laws.specs.Worlds.{WorldState, turn_of, resumed, Runs}
-use Rattle.run_laws.specs.CellHistories.{after_turns, Occupant, occupant, occupant_in, occupant_by, occupant_after_event, Mode, mode, mode_in, mode_by, mode_after_event, places_after_event, numbers_after_event, lives_after_event, kept_after_event, CellsFollow}
+use Rattle.run_laws.specs.CellHistories.{after_turns, Occupant, occupant, occupant_in, occupant_by, occupant_after_event, StreamMode, mode, mode_in, mode_by, mode_after_event, places_after_event, numbers_after_event, lives_after_event, kept_after_event, CellsFollow}
 use Rattle.run_laws.proofs.Between.{event_for}
 use Rattle.run_laws.proofs.Turns.{turn_from}
 use Rattle.run_laws.proofs.Happening.{Happens, Requested, Joined, Snaps, GateSnaps, Started, Opens, Releases, Numbers, OpensFile, LastJoined, Ended, EntersGate, LeavesGate, EntersRecycled, LeavesRecycled}
@@ -55,10 +55,10 @@ pub record IsChanged (old : Cells) (e : Event) (new : Cells) : Type 0 where
 abbrev occupant_of : Option Segment → Option Occupant
 occupant_of g = option_map (λ x. occupant x.tag x.blocks) g
 
-abbrev mode_of : Option Stream → Option Mode
+abbrev mode_of : Option Stream → Option StreamMode
 mode_of s = option_map (λ x. mode x.kind x.live) s
 
-stored_occupant : (offset width value : ℕ) (g : Option Segment) → occupant_of (option_map (stored offset width value) g) ≡ occupant_of g
+stored_occupant : (offset width value : ℕ) (g : Option Segment) → occupant_of (option_map (write_segment offset width value) g) ≡ occupant_of g
 stored_occupant offset width value None = refl
 stored_occupant offset width value (Some g) = refl
 
@@ -67,7 +67,7 @@ store_shows offset width value live g slot_reply.Stored = stored_occupant offset
 store_shows offset width value live g r = refl
 
 store_stays : (offset width value : ℕ) (live : Option Live) (g : Option Segment) (r : SlotReply) → g ≡ None → slot_after g (slot_ask.Store offset width value live) r ≡ None
-store_stays offset width value live g slot_reply.Stored e = ap (option_map (stored offset width value)) e
+store_stays offset width value live g slot_reply.Stored e = ap (option_map (write_segment offset width value)) e
 store_stays offset width value live g r e = e
 
 -- a close, a block that is placed, and one that is freed
@@ -79,7 +79,7 @@ close_stays : (tag : ℕ) (g : Option Segment) (r : SlotReply) → g ≡ None �
 close_stays tag g slot_reply.Closed e = refl
 close_stays tag g r e = e
 
-placed_occupant : (tag size offset : ℕ) (g : Option Segment) → occupant_of (option_map (placed offset size) g) ≡ occupant_by (occupant_of g) (slot_ask.Smalloc tag size) (slot_reply.Placed offset)
+placed_occupant : (tag size offset : ℕ) (g : Option Segment) → occupant_of (option_map (with_placed_block offset size) g) ≡ occupant_by (occupant_of g) (slot_ask.Smalloc tag size) (slot_reply.Placed offset)
 placed_occupant tag size offset None = refl
 placed_occupant tag size offset (Some g) = refl
 
@@ -88,10 +88,10 @@ place_shows tag size g (slot_reply.Placed offset) = placed_occupant tag size off
 place_shows tag size g r = refl
 
 place_stays : (tag size : ℕ) (g : Option Segment) (r : SlotReply) → g ≡ None → slot_after g (slot_ask.Smalloc tag size) r ≡ None
-place_stays tag size g (slot_reply.Placed offset) e = ap (option_map (placed offset size)) e
+place_stays tag size g (slot_reply.Placed offset) e = ap (option_map (with_placed_block offset size)) e
 place_stays tag size g r e = e
 
-freed_occupant : (offset : ℕ) (live : Option Live) (g : Option Segment) → occupant_of (option_map (freed offset) g) ≡ occupant_by (occupant_of g) (slot_ask.Sfree offset live) slot_reply.Freed
+freed_occupant : (offset : ℕ) (live : Option Live) (g : Option Segment) → occupant_of (option_map (with_freed_block offset) g) ≡ occupant_by (occupant_of g) (slot_ask.Sfree offset live) slot_reply.Freed
 freed_occupant offset live None = refl
 freed_occupant offset live (Some g) = refl
 
@@ -100,19 +100,19 @@ free_shows offset live g slot_reply.Freed = freed_occupant offset live g
 free_shows offset live g r = refl
 
 free_stays : (offset : ℕ) (live : Option Live) (g : Option Segment) (r : SlotReply) → g ≡ None → slot_after g (slot_ask.Sfree offset live) r ≡ None
-free_stays offset live g slot_reply.Freed e = ap (option_map (freed offset)) e
+free_stays offset live g slot_reply.Freed e = ap (option_map (with_freed_block offset)) e
 free_stays offset live g r e = e
 
 -- a read, an append and a close
-moved_mode : (count : ℕ) (s : Option Stream) → mode_of (option_map (moved count) s) ≡ mode_of s
+moved_mode : (count : ℕ) (s : Option Stream) → mode_of (option_map (with_bytes_read count) s) ≡ mode_of s
 moved_mode count None = refl
 moved_mode count (Some s) = refl
 
-grown_mode : (bytes : List ℕ) (s : Option Stream) → mode_of (option_map (grown bytes) s) ≡ mode_of s
+grown_mode : (bytes : List ℕ) (s : Option Stream) → mode_of (option_map (with_more_bytes bytes) s) ≡ mode_of s
 grown_mode bytes None = refl
 grown_mode bytes (Some s) = refl
 
-closed_mode : (s : Option Stream) → mode_of (option_map closed s) ≡ option_map (λ x. mode x.kind false) (mode_of s)
+closed_mode : (s : Option Stream) → mode_of (option_map closed_stream s) ≡ option_map (λ x. mode x.kind false) (mode_of s)
 closed_mode None = refl
 closed_mode (Some s) = refl
 
@@ -178,7 +178,7 @@ want_changes N c b q own = absurd own
 -- a tag is opened in a slot that is there
 open_changes : (c : Cells) (s tag pages : ℕ) → s < length c.slots → IsChanged c (event.Slot s (slot_ask.Open tag pages) slot_reply.Opened) (cells_after c (event.Slot s (slot_ask.Open tag pages) slot_reply.Opened))
 open_changes c s tag pages inside = record {
-  occupants = λ slot. follows_in occupant_of (λ x. Some (occupant tag [])) c.slots s slot (Some (opened tag pages)) _ inside refl refl;
+  occupants = λ slot. follows_in occupant_of (λ x. Some (occupant tag [])) c.slots s slot (Some (new_segment tag pages)) _ inside refl refl;
   modes = λ fd. refl;
   places = refl;
   numbers = refl;

@@ -14,7 +14,7 @@ use Rattle.wedge_events.specs.declared.cells.StreamReply.{StreamReply}
 use Rattle.sthread_life.specs.Actors.{ActorState, right_of}
 use Rattle.sthread_life.specs.Taking.{takes}
 use Rattle.run_laws.specs.Cells.{Cells, held, slot_in, stream_in}
-use Rattle.run_laws.specs.Worlds.{WorldState, actor_named, put_actor, happened, with_actor}
+use Rattle.run_laws.specs.Worlds.{WorldState, actor_named, put_actor, apply_event, with_actor}
 use Rattle.run_laws.specs.Requests.{Request}
 use Rattle.run_laws.specs.Allowed.{lacks, is_refused, IsDone, denied}
 use Rattle.run_laws.specs.Moments.{NothingDenied, IsChecked}
@@ -57,7 +57,7 @@ checked_allowed old a r e new t lack refused done none stay =
 
 -- the world after an event
 abbrev pub after : WorldState → ActorState → Event → WorldState
-after w b e = (happened w b e).world
+after w b e = (apply_event w b e).world
 
 -- one that leaves the cells as they are
 pub stayed : (w : WorldState) (b x : ActorState) (cells : Cells) → cells ≡ w.cells → x.name ≡ b.name → record w { cells = cells; actors = put_actor w.actors x } ≡ with_actor (with_actor w b) x

@@ -3,7 +3,7 @@ use Rattle.std.proofs.Common.{◌≡◌, ℕ, ◌+◌, ◌<◌, ◌≤◌, Bool,
 use Rattle.std.proofs.lemmas.Bool.Decides.{nat_tests}
 use Rattle.std.specs.List.{AllByRecursion}
 use Rattle.std.specs.Prelude.{Option, Some, None, nat_lt, not, ◌&&◌, if◌then◌else◌}
-use Rattle.wedge_events.specs.Directories.{Directory, Claim, no_number, claim_from, claim, claim_reply, claim_next, directory_reply as directory_reply_of, directory_next, is_among, is_claimed}
+use Rattle.wedge_events.specs.Directories.{Directory, Claim, no_number, claim_from, claim, claim_reply, claim_next, directory_reply as directory_reply_of, directory_next, contains_place, is_claimed}
 use Rattle.wedge_events.specs.declared.cells.DirectoryAsk.{DirectoryAsk}
 use Rattle.wedge_events.specs.declared.cells.DirectoryAsk.TheVariants as directory_ask
 use Rattle.wedge_events.specs.declared.cells.DirectoryReply.TheVariants as directory_reply
@@ -94,4 +94,4 @@ next_sound n d (directory_ask.Release place) sound = by_test (is_claimed d place
 
     by_test : (t : Bool) → is_claimed d place ≡ t → GivesBelow n (if t then record d { released = place ∷ d.released } else d)
     by_test false e = sound
-    by_test true e = (sound.0, sound.1, (below (not (is_among d.released place)) e, sound.2))
+    by_test true e = (sound.0, sound.1, (below (not (contains_place d.released place)) e, sound.2))

@@ -15,9 +15,9 @@ use Rattle.rv_hart.specs.declared.Need.TheVariants as need
 use Rattle.rv_hart.specs.Local.{local}
 use Rattle.sthread_life.specs.declared.phase.Phase.TheVariants as phase
 use Rattle.sthread_life.specs.Actors.{ActorState, answers, refuses, spends}
-use Rattle.sthread_life.specs.Calls.{serves, exit, is_procedure, create, join, tag_new, tag_delete, smalloc, sfree, fd_read, fd_append, fd_close, draft_call, sc_new, sc_mem_add, sc_fd_add, sc_cgate_add, add_gate_to, with_draft, add_right, add_right_to, add_bits, add_bits_to, bits, a0, a1, a2, a7, set_user, sc_user, path_in, set_root, sc_root, file_open, cgate_make, cgate}
-use Rattle.sthread_life.specs.Local.{needed, executed, fuelled, fetched, step}
-use Rattle.run_laws.specs.Allowed.{answered}
+use Rattle.sthread_life.specs.Calls.{serves, exit, is_procedure, create, join, tag_new, tag_delete, smalloc, sfree, fd_read, fd_append, fd_close, draft_call, sc_new, sc_mem_add, sc_fd_add, sc_cgate_add, add_gate_to, with_draft, add_right, add_right_to, add_bits, add_bits_to, read_append_bits, a0, a1, a2, a7, set_user, sc_user, path_in, set_root, sc_root, file_open, cgate_make, cgate}
+use Rattle.sthread_life.specs.Local.{step_with_need, step_with_instr, step_with_fuel, step_with_word, step}
+use Rattle.run_laws.specs.Allowed.{answered_hart}
 use Rattle.run_laws.specs.Drafting.{right_of_number, bits_of_number, edited, with_new, drafts_by_call, is_draft_call, draft_value, AnswersNeed, AnswersInstr, AnswersWith, AnswersDrafts}
 use Rattle.run_laws.specs.Refusals.{full, bad, right_refusal, bits_refusal, gate_refusal, fuel_short, user_refusal, root_refusal, draft_refusal}
 use Rattle.run_laws.specs.Worlds.{WorldState, with_actor}
@@ -28,7 +28,7 @@ use Rattle.sthread_life.proofs.Resting.{not_below}
 
 -- an actor that goes on at the next word, answered a value, with such drafts and some fuel
 abbrev Answered : ActorState → ℕ → List Draft → ActorState → Type 0
-Answered a value ds x = (fuel : ℕ) × (x ≡ record a { drafts = ds; fuel = fuel; hart = answered a value 0; phase = phase.Running })
+Answered a value ds x = (fuel : ℕ) × (x ≡ record a { drafts = ds; fuel = fuel; hart = answered_hart a value 0; phase = phase.Running })
 
 -- a refusal that is none
 abbrev if_room : Bool → Option ℕ
@@ -65,11 +65,11 @@ right_to_answers a (Some d) none = right_answers a d (a2 a == 1) (a2 a == 2) (a2
 bits_answers : (a : ActorState) (d : Draft) (t u v : Bool) → (t ≡ true → u ≡ false) → (if not (t || (u || v)) then Some bad else if_room (takes_fd d (a1 a))) ≡ None
     → Answered a 0 (edited a.drafts (a0 a) (if not (t || (u || v)) then Some bad else if_room (takes_fd d (a1 a)))
     (λ x. with_fd x (a1 a) (record { read = (if u then false else true); append = (if t then false else true) })) (Some d))
-    (add_bits a d (if t then Some (bits true false) else if u then Some (bits false true) else if v then Some (bits true true) else None))
+    (add_bits a d (if t then Some (read_append_bits true false) else if u then Some (read_append_bits false true) else if v then Some (read_append_bits true true) else None))
 bits_answers a d true true v apart none = let both : true ≡ false = apart refl in absurd cc
-bits_answers a d true false v apart none = put_answers a d (with_fd d (a1 a) (bits true false)) (λ x. with_fd x (a1 a) (bits true false)) (takes_fd d (a1 a)) refl none
-bits_answers a d false true v apart none = put_answers a d (with_fd d (a1 a) (bits false true)) (λ x. with_fd x (a1 a) (bits false true)) (takes_fd d (a1 a)) refl none
-bits_answers a d false false true apart none = put_answers a d (with_fd d (a1 a) (bits true true)) (λ x. with_fd x (a1 a) (bits true true)) (takes_fd d (a1 a)) refl none
+bits_answers a d true false v apart none = put_answers a d (with_fd d (a1 a) (read_append_bits true false)) (λ x. with_fd x (a1 a) (read_append_bits true false)) (takes_fd d (a1 a)) refl none
+bits_answers a d false true v apart none = put_answers a d (with_fd d (a1 a) (read_append_bits false true)) (λ x. with_fd x (a1 a) (read_append_bits false true)) (takes_fd d (a1 a)) refl none
+bits_answers a d false false true apart none = put_answers a d (with_fd d (a1 a) (read_append_bits true true)) (λ x. with_fd x (a1 a) (read_append_bits true true)) (takes_fd d (a1 a)) refl none
 bits_answers a d false false false apart none = absurd cc
 
 bits_to_answers : (a : ActorState) (d : Option Draft) → bits_refusal (a1 a) (a2 a) d ≡ None
@@ -168,7 +168,7 @@ call_answers i a n is none =
 put_back : (w : WorldState) (b x : ActorState) → x.name ≡ b.name → with_actor w x ≡ with_actor (with_actor w b) x
 put_back w b x name = ap (λ (as_ : List ActorState). record w { actors = as_ }) (sym (put_put w.actors b x name))
 
-need_answers : (w : WorldState) (b : ActorState) (n : ℕ) (ins : Instr) (h : Hart) (k : Need) → AnswersNeed (with_actor w b) (record b { fuel = n }) k (with_actor w (needed w.image ins (record b { fuel = n }) h k))
+need_answers : (w : WorldState) (b : ActorState) (n : ℕ) (ins : Instr) (h : Hart) (k : Need) → AnswersNeed (with_actor w b) (record b { fuel = n }) k (with_actor w (step_with_need w.image ins (record b { fuel = n }) h k))
 need_answers w b n ins h need.Done = tt
 need_answers w b n ins h (need.Load address width s) = tt
 need_answers w b n ins h (need.Store address width value) = tt
@@ -179,18 +179,18 @@ need_answers w b n ins h need.Call = λ is none.
     let x = call_answers w.image p (a7 p) is none in
     (x.0, ap (with_actor w) x.1 ∙ put_back w b _ refl)
 
-instr_answers : (w : WorldState) (b : ActorState) (n : ℕ) (ins : Option Instr) → AnswersInstr (with_actor w b) (record b { fuel = n }) ins (with_actor w (executed w.image (record b { fuel = n }) ins))
+instr_answers : (w : WorldState) (b : ActorState) (n : ℕ) (ins : Option Instr) → AnswersInstr (with_actor w b) (record b { fuel = n }) ins (with_actor w (step_with_instr w.image (record b { fuel = n }) ins))
 instr_answers w b n None = tt
 instr_answers w b n (Some ins) = need_answers w b n ins (local ins b.hart).hart (local ins b.hart).need
 
-word_answers : (w : WorldState) (b : ActorState) (o : Option ℕ) (n : ℕ) → b.fuel ≡ n → AnswersWith (with_actor w b) b (option_and_then decode o) n (with_actor w (fetched w.image b o))
+word_answers : (w : WorldState) (b : ActorState) (o : Option ℕ) (n : ℕ) → b.fuel ≡ n → AnswersWith (with_actor w b) b (option_and_then decode o) n (with_actor w (step_with_word w.image b o))
 word_answers w b None zero has = tt
 word_answers w b None (suc n) has = tt
 word_answers w b (Some word) zero has = tt
 word_answers w b (Some word) (suc n) has =
     let left : n ≡ b.fuel - 1 = omega (arith, has) in
-    let is : executed w.image (record b { fuel = n }) (decode word) ≡ fuelled w.image b word b.fuel =
-    ap (λ m. executed w.image (record b { fuel = m }) (decode word)) left ∙ ap (fuelled w.image b word) (sym has) in
+    let is : step_with_instr w.image (record b { fuel = n }) (decode word) ≡ step_with_fuel w.image b word b.fuel =
+    ap (λ m. step_with_instr w.image (record b { fuel = m }) (decode word)) left ∙ ap (step_with_fuel w.image b word) (sym has) in
     subst (λ x. AnswersInstr (with_actor w b) (record b { fuel = n }) (decode word) (with_actor w x)) is (instr_answers w b n (decode word))
 
 pub step_answers : (w : WorldState) (b : ActorState) → AnswersDrafts (with_actor w b) b None (with_actor w (step w.image b))

@@ -45,9 +45,9 @@ use Rattle.sthread_life.specs.Private.{loads, stores, load_bytes, load_copy, loa
 use Rattle.sthread_life.specs.Children.{is_child, without_child}
 use Rattle.run_laws.proofs.Between.{joined_is, numbered_is, opened_is, snapped_is, entered_is}
 use Rattle.run_laws.proofs.Buffers.{path_is}
-use Rattle.sthread_life.specs.Calls.{serves, exit, is_procedure, create, create_with, create_checked, join, are_pages, tag_new, tag_delete, smalloc, free_at, sfree, fd_read, fd_append, fd_close, draft_call, sc_new, sc_mem_add, sc_fd_add, sc_cgate_add, add_gate_to, with_draft, add_right, add_right_to, add_bits, add_bits_to, bits, a0, a1, a2, a3, a7, set_user, sc_user, path_in, set_root, sc_root, file_at, mode_asked, suits, open_file, open_path, file_open, makes_or_waits, may_be_gate, make_checked, make_with, cgate_make, enter_checked, enter_lending, enter_held, cgate, lent_asked}
+use Rattle.sthread_life.specs.Calls.{serves, exit, is_procedure, create, create_with, create_checked, join, are_pages, tag_new, tag_delete, smalloc, free_at, sfree, fd_read, fd_append, fd_close, draft_call, sc_new, sc_mem_add, sc_fd_add, sc_cgate_add, add_gate_to, with_draft, add_right, add_right_to, add_bits, add_bits_to, read_append_bits, a0, a1, a2, a3, a7, set_user, sc_user, path_in, set_root, sc_root, file_at, mode_asked, suits, open_file, open_path, file_open, makes_or_waits, may_be_gate, make_checked, make_with, cgate_make, enter_checked, enter_lending, enter_held, cgate, lent_asked}
 use Rattle.run_laws.specs.Drafting.{right_of_number, bits_of_number, edited, with_new, drafts_by_call, drafts_by_need, drafts_by_instr, drafts_by_fuel, drafts_by_word, drafts_after}
-use Rattle.sthread_life.specs.Local.{needed, executed, fuelled, fetched, step}
+use Rattle.sthread_life.specs.Local.{step_with_need, step_with_instr, step_with_fuel, step_with_word, step}
 use Rattle.run_laws.specs.Refusals.{full, bad, right_refusal, bits_refusal, gate_refusal, fuel_short, user_refusal, root_refusal}
 use Rattle.sthread_life.specs.Taking.{runs, loads_by, loads_at, takes}
 use Rattle.sthread_life.specs.Copying.{Preparation}
@@ -196,13 +196,13 @@ right_to_edits a None = refl
 right_to_edits a (Some d) = right_edits a d (a2 a == 1) (a2 a == 2) (a2 a == 3)
 
 bits_edits : (a : ActorState) (d : Draft) (t u v : Bool) → (t ≡ true → u ≡ false)
-    → (add_bits a d (if t then Some (bits true false) else if u then Some (bits false true) else if v then Some (bits true true) else None)).drafts
+    → (add_bits a d (if t then Some (read_append_bits true false) else if u then Some (read_append_bits false true) else if v then Some (read_append_bits true true) else None)).drafts
     ≡ edited a.drafts (a0 a) (if not (t || (u || v)) then Some bad else if takes_fd d (a1 a) then None else Some full)
     (λ x. with_fd x (a1 a) (record { read = (if u then false else true); append = (if t then false else true) })) (Some d)
 bits_edits a d true true v apart = let both : true ≡ false = apart refl in absurd cc
-bits_edits a d true false v apart = put_edits a d (with_fd d (a1 a) (bits true false)) (λ x. with_fd x (a1 a) (bits true false)) (takes_fd d (a1 a)) refl
-bits_edits a d false true v apart = put_edits a d (with_fd d (a1 a) (bits false true)) (λ x. with_fd x (a1 a) (bits false true)) (takes_fd d (a1 a)) refl
-bits_edits a d false false true apart = put_edits a d (with_fd d (a1 a) (bits true true)) (λ x. with_fd x (a1 a) (bits true true)) (takes_fd d (a1 a)) refl
+bits_edits a d true false v apart = put_edits a d (with_fd d (a1 a) (read_append_bits true false)) (λ x. with_fd x (a1 a) (read_append_bits true false)) (takes_fd d (a1 a)) refl
+bits_edits a d false true v apart = put_edits a d (with_fd d (a1 a) (read_append_bits false true)) (λ x. with_fd x (a1 a) (read_append_bits false true)) (takes_fd d (a1 a)) refl
+bits_edits a d false false true apart = put_edits a d (with_fd d (a1 a) (read_append_bits true true)) (λ x. with_fd x (a1 a) (read_append_bits true true)) (takes_fd d (a1 a)) refl
 bits_edits a d false false false apart = refl
 
 pub one_not_two : (n : ℕ) → (n == 1) ≡ true → (n == 2) ≡ false
@@ -295,7 +295,7 @@ call_edits i a n =
 
 -- ---- an instruction
 
-need_edits : (i : Image) (ins : Instr) (a : ActorState) (h : Hart) (n : Need) → (needed i ins a h n).drafts ≡ drafts_by_need i a n
+need_edits : (i : Image) (ins : Instr) (a : ActorState) (h : Hart) (n : Need) → (step_with_need i ins a h n).drafts ≡ drafts_by_need i a n
 need_edits i ins a h need.Done = refl
 need_edits i ins a h (need.Load address width s) = load_stays i ins s a address width
 need_edits i ins a h (need.Store address width value) = store_stays i a address width value
@@ -303,17 +303,17 @@ need_edits i ins a h need.Call = call_edits i a (a7 a)
 need_edits i ins a h need.Break = refl
 need_edits i ins a h need.JumpMisaligned = refl
 
-instr_edits : (i : Image) (a : ActorState) (ins : Option Instr) → (executed i a ins).drafts ≡ drafts_by_instr i a ins
+instr_edits : (i : Image) (a : ActorState) (ins : Option Instr) → (step_with_instr i a ins).drafts ≡ drafts_by_instr i a ins
 instr_edits i a None = refl
 instr_edits i a (Some ins) = need_edits i ins a (local ins a.hart).hart (local ins a.hart).need
 
-fuel_edits : (i : Image) (a : ActorState) (word n : ℕ) → a.fuel ≡ n → (fuelled i a word n).drafts ≡ drafts_by_fuel i a word n
+fuel_edits : (i : Image) (a : ActorState) (word n : ℕ) → a.fuel ≡ n → (step_with_fuel i a word n).drafts ≡ drafts_by_fuel i a word n
 fuel_edits i a word zero has = refl
 fuel_edits i a word (suc n) has =
     let left : n ≡ a.fuel - 1 = omega (arith, has) in
-    subst (λ m. (executed i (record a { fuel = m }) (decode word)).drafts ≡ drafts_by_instr i (record a { fuel = n }) (decode word)) left (instr_edits i (record a { fuel = n }) (decode word))
+    subst (λ m. (step_with_instr i (record a { fuel = m }) (decode word)).drafts ≡ drafts_by_instr i (record a { fuel = n }) (decode word)) left (instr_edits i (record a { fuel = n }) (decode word))
 
-word_edits : (i : Image) (a : ActorState) (o : Option ℕ) → (fetched i a o).drafts ≡ drafts_by_word i a o
+word_edits : (i : Image) (a : ActorState) (o : Option ℕ) → (step_with_word i a o).drafts ≡ drafts_by_word i a o
 word_edits i a None = refl
 word_edits i a (Some word) = fuel_edits i a word a.fuel refl
 

@@ -7,7 +7,7 @@ use Rattle.std.specs.Option.{option_map, option_or}
 use Rattle.std.specs.Ordering.{nat_cmp, is_eq}
 use Rattle.std.proofs.lemmas.Bool.Decides.{nat_tests}
 use Rattle.wedge_base.specs.Maps.{Map, at, is_among}
-use Rattle.wedge_base.specs.Sheets.{Sheet, Made, Draft, gate_at, tag_granted, gate_granted, granted, first_excess, item_excess, user_excess, items, may_grant, tag_item, fd_item}
+use Rattle.wedge_base.specs.Sheets.{Sheet, Made, Draft, gate_at, tag_granted, gate_granted, sheet_of_draft, first_excess, item_excess, user_excess, items, may_grant, tag_item, fd_item}
 use Rattle.wedge_base.specs.declared.rights.Denial.{Denial}
 use Rattle.wedge_base.specs.declared.rights.Denial.TheVariants as denial
 use Rattle.wedge_base.specs.declared.grants.Item.{Item}
@@ -83,7 +83,7 @@ none_lacks s m (n ∷ ns) entry e among = by_held (is_some (gate_at s m n)) refl
     by_held false q h others = absurd cc
     by_held true q h others = by_entry (is_eq (nat_cmp entry n)) refl among q (others h)
 
-pub is_drafted : (s : Sheet) (m : Made) (d : Draft) → first_excess s m d ≡ None → IsDrafted s m d (granted s m d)
+pub is_drafted : (s : Sheet) (m : Made) (d : Draft) → first_excess s m d ≡ None → IsDrafted s m d (sheet_of_draft s m d)
 is_drafted s m d allowed =
     let p : Item → Bool = λ i. not (may_grant s m i) in
     let none : find p ((map tag_item d.tags ++ map fd_item d.fds) ++ map item.Gate d.gates) ≡ None = no_item (item_excess s m (items d)) (user_excess s d) allowed in

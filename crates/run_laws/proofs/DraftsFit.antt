@@ -12,7 +12,7 @@ use Rattle.std.specs.FinMap.Entries.{by_order, is_sorted, is_sorted-put, length-
 use Rattle.std.specs.Prelude.{Option, Some, None, ◌==◌, ◌||◌, slice_get, slice_set, unwrap_or, if◌then◌else◌}
 use Rattle.wedge_base.specs.Images.{Image, fetch}
 use Rattle.wedge_base.specs.Maps.{Map, has, with, with_number, is_among, AreRising}
-use Rattle.wedge_base.specs.Sheets.{Draft, is_copy, empty_draft, grants, granted, tag_granted, most_grants, is_full, takes_tag, takes_fd, takes_gate, with_tag, with_fd, with_gate}
+use Rattle.wedge_base.specs.Sheets.{Draft, is_copy, empty_draft, grant_count, sheet_of_draft, tag_granted, most_grants, is_full, takes_tag, takes_fd, takes_gate, with_tag, with_fd, with_gate}
 use Rattle.grant_sheet.proofs.Editing.{rising_with}
 use Rattle.wedge_events.specs.declared.events.Event.{Event}
 use Rattle.wedge_base.specs.declared.rights.FdBits.{FdBits}
@@ -37,7 +37,7 @@ use Rattle.sthread_life.proofs.Resting.{stays, goes_on}
 
 -- a draft with at most 1,024 grants, whose items are in order
 pub record IsFew (d : Draft) : Type 0 where
-  pub few : grants d ≤ most_grants
+  pub few : grant_count d ≤ most_grants
   pub tags : T (is_sorted nat_cmp d.tags)
   pub fds : T (is_sorted nat_cmp d.fds)
   pub gates : AreRising 0 d.gates
@@ -50,19 +50,19 @@ empty_few = record { few = omega arith; tags = tt; fds = tt; gates = tt }
 
 -- ---- one grant more
 
-room : (d : Draft) (t : Bool) (n old : ℕ) → (t || not (is_full d)) ≡ true → grants d ≤ most_grants → n ≡ (if t then old else old + 1) → old ≤ grants d → grants d + n ≤ most_grants + old
+room : (d : Draft) (t : Bool) (n old : ℕ) → (t || not (is_full d)) ≡ true → grant_count d ≤ most_grants → n ≡ (if t then old else old + 1) → old ≤ grant_count d → grant_count d + n ≤ most_grants + old
 room d true n old taken few more inside = omega (arith, few, more)
 room d false n old taken few more inside = grind (arith, nat_tests, taken, more)
 
 tag_few : (d : Draft) (tag : ℕ) (r : Right) → takes_tag d tag ≡ true → IsFew d → IsFew (with_tag d tag r)
 tag_few d tag r taken f =
-    let inside : length d.tags ≤ grants d = omega arith in
+    let inside : length d.tags ≤ grant_count d = omega arith in
     let all = room d (has d.tags tag) (length (with d.tags tag r)) (length d.tags) taken f.few (length-put nat_cmp nat_cmp_total tag r d.tags f.tags) inside in
     record { few = omega (arith, all); tags = is_sorted-put nat_cmp nat_cmp_total tag r d.tags f.tags; fds = f.fds; gates = f.gates }
 
 fd_few : (d : Draft) (fd : ℕ) (b : FdBits) → takes_fd d fd ≡ true → IsFew d → IsFew (with_fd d fd b)
 fd_few d fd b taken f =
-    let inside : length d.fds ≤ grants d = omega arith in
+    let inside : length d.fds ≤ grant_count d = omega arith in
     let all = room d (has d.fds fd) (length (with d.fds fd b)) (length d.fds) taken f.few (length-put nat_cmp nat_cmp_total fd b d.fds f.fds) inside in
     record { few = omega (arith, all); tags = f.tags; fds = is_sorted-put nat_cmp nat_cmp_total fd b d.fds f.fds; gates = f.gates }
 
@@ -94,7 +94,7 @@ one_more n = omega arith
 
 gate_few : (d : Draft) (entry : ℕ) → takes_gate d entry ≡ true → IsFew d → IsFew (with_gate d entry)
 gate_few d entry taken f =
-    let inside : length d.gates ≤ grants d = omega arith in
+    let inside : length d.gates ≤ grant_count d = omega arith in
     let all = room d (is_among d.gates entry) (length (with_number d.gates entry)) (length d.gates) taken f.few (entries_counted 0 entry d.gates f.gates ∙ ap (λ n. if is_among d.gates entry then length d.gates else n) (one_more (length d.gates))) inside in
     record { few = omega (arith, all); tags = f.tags; fds = f.fds; gates = rising_with 0 entry d.gates (omega arith) f.gates }
 
@@ -235,6 +235,6 @@ pub few_copies : (a : ActorState) → AreFew a.drafts → length (copies_asked a
 few_copies a all =
     let d = draft_at a.drafts (a0 a) in
     let few = draft_few a.drafts (a0 a) all in
-    let copies = all_grants (granted a.sheet a.made d).tags in
-    let same : length (granted a.sheet a.made d).tags ≡ length d.tags = length-map d.tags (tag_granted a.sheet a.made) in
+    let copies = all_grants (sheet_of_draft a.sheet a.made d).tags in
+    let same : length (sheet_of_draft a.sheet a.made d).tags ≡ length d.tags = length-map d.tags (tag_granted a.sheet a.made) in
     let most = few.few in omega (arith, most, copies, same)

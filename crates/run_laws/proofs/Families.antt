@@ -8,7 +8,7 @@ use Rattle.wedge_events.specs.declared.cells.GateReply.TheVariants as gate_reply
 use Rattle.wedge_events.specs.declared.cells.GateAsk.TheVariants as gate_ask
 use Rattle.wedge_base.specs.Images.{Image, fetch}
 use Rattle.wedge_base.specs.Names.{same}
-use Rattle.wedge_base.specs.Sheets.{Made, empty_draft, granted, Draft}
+use Rattle.wedge_base.specs.Sheets.{Made, empty_draft, sheet_of_draft, Draft}
 use Rattle.wedge_base.specs.declared.rights.End.{End}
 use Rattle.wedge_events.specs.declared.events.Want.{Want}
 use Rattle.wedge_events.specs.declared.events.Want.TheVariants as want
@@ -42,12 +42,12 @@ use Rattle.sthread_life.specs.Calls.{a0, draft_at}
 use Rattle.run_laws.specs.Cells.{Cells}
 use Rattle.sthread_life.specs.Children.{Children, is_number, fuel_given, is_child, without_child, child_name}
 use Rattle.run_laws.specs.Ends.{is_end_event}
-use Rattle.run_laws.specs.Families.{IsChild, IsStart, IsFirst, IsToJoin, ActsAlone, made_in, made_under, made_by, labelled_under, labels_by, joined, KeepsFamily, IsRun, IsEnter, EndsAsIs, DoesNext}
+use Rattle.run_laws.specs.Families.{IsChild, IsStart, IsFirst, IsToJoin, ActsAlone, made_in, made_under, made_by, labelled_under, labels_by, after_join, KeepsFamily, IsRun, IsEnter, EndsAsIs, DoesNext}
 use Rattle.sthread_life.specs.Local.{end_reached, step}
 use Rattle.cow_pages.specs.Listed.{bytes_listed}
 use Rattle.sthread_life.specs.Copying.{Preparation}
 use Rattle.sthread_life.specs.Taking.{runs, loads_by, loads_at, next_start, takes, child_of, memory_made, has_opened_file, has_entered, run_by, run_at}
-use Rattle.run_laws.specs.Worlds.{WorldState, actor_named, put_actor, happened, with_actor, with_begun}
+use Rattle.run_laws.specs.Worlds.{WorldState, actor_named, put_actor, apply_event, with_actor, with_begun}
 use Rattle.run_laws.proofs.Between.{event_for, IsJoin, joined_is, numbered_is, snapped_is, takes_name, entered_is, entered_by}
 use Rattle.run_laws.proofs.Happening.{AtOpen, AtFile, Happens, Requested, Joined, Snaps, GateSnaps, Started, Opens, Releases, Numbers, OpensFile, LastJoined, Ended, joined_at, EntersGate, LeavesGate, EntersRecycled, LeavesRecycled, AtRecycledEnter, memory_for}
 use Rattle.run_laws.proofs.Meeting.{IsRequest, IsStartable}
@@ -169,7 +169,7 @@ step_family w b run =
 
 -- the world after an event
 abbrev after : WorldState → ActorState → Event → WorldState
-after w b e = (happened w b e).world
+after w b e = (apply_event w b e).world
 
 alone : (w : WorldState) (b : ActorState) (e : Event) → IsOfOne e → (after w b e).actors ≡ put_actor w.actors (takes w.image b e) → DoesNext b.phase (Some e) → (is_end_event (Some e) ≡ true → b.unjoined ≡ []) → EndsAsIs b.run_of b.memory (Some e)
     → ActsAlone (with_actor w b) b (Some e) (after w b e)
@@ -301,7 +301,7 @@ happens_made w b e (LeavesRecycled l) = MadeNothing (ap (λ y. made_by b (Some y
 pub child_begins : (i : Image) (b : ActorState) (p : Preparation) → b.phase ≡ phase.Starting p → p.left ≡ [] → IsStartable b → IsChild b (child_of i b (child_name b.name (next_start b)))
 child_begins i b p at complete ready =
     let found : draft_at b.drafts (a0 b) ≡ ready.draft = ap (λ o. unwrap_or o empty_draft) ready.drafted in
-    let sheet : granted b.sheet b.made (draft_at b.drafts (a0 b)) ≡ granted b.sheet b.made ready.draft = ap (granted b.sheet b.made) found in
+    let sheet : sheet_of_draft b.sheet b.made (draft_at b.drafts (a0 b)) ≡ sheet_of_draft b.sheet b.made ready.draft = ap (sheet_of_draft b.sheet b.made) found in
     record {
       draft = ready.draft;
       drafted = ready.drafted;
@@ -420,7 +420,7 @@ join_child w b k e j =
     subst (λ o. IsSomeAnd o (λ c. (c.phase ≡ phase.Ended j.how) × (c.fuel ≡ j.child.fuel))) (sym (named_put_other w.actors b (child_name b.name k) (longer b.name k) ∙ j.there))
     (ended_so j.child.phase j.how j.ended, refl)
 
-joins_as : (i : Image) (b : ActorState) (p : Phase) (k : ℕ) (x : End) (fuel : ℕ) → b.phase ≡ p → takes i b (event.Join k x fuel) ≡ joined b p k x fuel
+joins_as : (i : Image) (b : ActorState) (p : Phase) (k : ℕ) (x : End) (fuel : ℕ) → b.phase ≡ p → takes i b (event.Join k x fuel) ≡ after_join b p k x fuel
 unfolding takes
 joins_as i b phase.Running k x fuel at = joined_at b phase.Running x k fuel at
 joins_as i b (phase.Within q) k x fuel at = joined_at b (phase.Within q) x k fuel at
@@ -437,7 +437,7 @@ joins_as i b (phase.Ended y) k x fuel at = joined_at b (phase.Ended y) x k fuel 
 join_family : (w : WorldState) (b : ActorState) (k : ℕ) (e : Event) → IsJoin w b k e → IsToJoin b b.phase k → is_child b.unjoined k ≡ true → KeepsFamily (with_actor w b) b (Some e) (after w b e)
 join_family w b k e j due listed =
     let x = takes w.image b (event.Join k j.how j.child.fuel) in
-    let is : x ≡ joined b b.phase k j.how j.child.fuel = joins_as w.image b b.phase k j.how j.child.fuel refl in
+    let is : x ≡ after_join b b.phase k j.how j.child.fuel = joins_as w.image b b.phase k j.how j.child.fuel refl in
     subst (λ y. KeepsFamily (with_actor w b) b (Some y) (after w b y)) (sym j.is)
     (record {
       listed = listed;

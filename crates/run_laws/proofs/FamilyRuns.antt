@@ -27,8 +27,8 @@ use Rattle.run_laws.specs.Laws.{NamesAreDistinct, FuelIsKept}
 use Rattle.sthread_life.specs.Local.{step, is_running, has_ended, end_reached, run_local, rest}
 use Rattle.run_laws.specs.Moments.{EachTurn}
 use Rattle.run_laws.specs.Paying.{cost_at, cost_by, given_by, brought_by}
-use Rattle.sthread_life.specs.Taking.{next_start, takes, begun, child_of, run_by}
-use Rattle.run_laws.specs.Worlds.{WorldState, opening, actor_named, put_actor, with_begun, turn_of, Runs, ready, resumed}
+use Rattle.sthread_life.specs.Taking.{next_start, takes, actor_begun, child_of, run_by}
+use Rattle.run_laws.specs.Worlds.{WorldState, initial_state, actor_named, put_actor, with_begun, turn_of, Runs, ready, resumed}
 use Rattle.run_laws.proofs.Between.{event_for, IsJoin, joined_is, takes_name, takes_between, entered_by}
 use Rattle.run_laws.proofs.Families.{IsOfOne, takes_same, first_child}
 use Rattle.run_laws.specs.FamilyTrees.{IsOfTree, Family, WaitsForOwn}
@@ -90,7 +90,7 @@ rest_units i a = units_taken i (a.fuel + 1) a _ refl
 
 -- ---- what an event is of
 
-pub one_begins : (i : Image) (b : ActorState) (e : Event) → IsOfOne e → begun i b e ≡ None
+pub one_begins : (i : Image) (b : ActorState) (e : Event) → IsOfOne e → actor_begun i b e ≡ None
 one_begins i b (event.Start child) h = absurd h
 one_begins i b (event.Enter run) h = absurd h
 one_begins i b (event.Gate id (gate_ask.Enter run first) (gate_reply.Entered memory)) h = absurd h
@@ -242,7 +242,7 @@ enter_keeps w a e y f there live =
     }
 
 turn_keeps_at : (w : WorldState) (a : ActorState) (e : Event) → Family w.actors → actor_named w.actors a.name ≡ Some a → Happens w (rest w.image a) e → Acts w (rest w.image a) e
-    → TurnKeeps w a e (record w { actors = with_begun (put_actor w.actors (takes w.image (rest w.image a) e)) (begun w.image (rest w.image a) e) })
+    → TurnKeeps w a e (record w { actors = with_begun (put_actor w.actors (takes w.image (rest w.image a) e)) (actor_begun w.image (rest w.image a) e) })
 turn_keeps_at w a e f there h (ActsAlone one) =
     let b = rest w.image a in
     let x = takes w.image b e in
@@ -263,7 +263,7 @@ turn_keeps_at w a e f there h (ActsAlone one) =
 turn_keeps_at w a e f there h (Starts s) =
     let b = rest w.image a in
     let name = child_name b.name (next_start b) in
-    subst (λ y. TurnKeeps w a y (record w { actors = with_begun (put_actor w.actors (takes w.image b y)) (begun w.image b y) })) (sym s.is)
+    subst (λ y. TurnKeeps w a y (record w { actors = with_begun (put_actor w.actors (takes w.image b y)) (actor_begun w.image b y) })) (sym s.is)
     (start_keeps w a f there (sym (rest-ended w.image a) ∙ lives w b e h) (subst (λ y. (takes w.image b y).fuel + cost_by b y + given_by b (Some y) ≡ b.fuel + brought_by (Some y)) s.is (event_pays w b e h)))
 turn_keeps_at w a e f there h (Enters y) =
     let b = rest w.image a in
@@ -291,7 +291,7 @@ turn_keeps_at w a e f there h (Joins k listed j) =
       unjoined = ap (λ y. (takes w.image b y).unjoined) j.is ∙ (same_join.1 ∙ ap (λ cs. without_child cs k) kept.unjoined);
       fuel = omega (arith, exact);
     } in
-    subst (λ o. TurnKeeps w a e (record w { actors = with_begun (put_actor w.actors x) o })) (sym (ap (begun w.image b) j.is))
+    subst (λ o. TurnKeeps w a e (record w { actors = with_begun (put_actor w.actors x) o })) (sym (ap (actor_begun w.image b) j.is))
     (record { family = family_joined w.actors a x f p live joins waits; fuel = sum_joined w.actors a x (units_of_turn w.image a e) f p live joins exact })
 
 -- ---- an actor that goes on
@@ -353,7 +353,7 @@ turn_family w name e new all f t = (turn_keeps w name e new (turn_from w name e 
 
 -- ---- runs
 
-pub opening_family : (i : Image) → Family (opening i).actors
+pub opening_family : (i : Image) → Family (initial_state i).actors
 unfolding root
 opening_family i = record {
   tree = λ m x e. by_name m _ refl e;
@@ -379,8 +379,8 @@ runs_family : (old : WorldState) (turns : List Turn) (new : WorldState) → AllR
 runs_family old [] new all f run = subst (λ (w : WorldState). Family w.actors) (sym run) f
 runs_family old (t ∷ ts) new all f run = runs_family run.0 ts new (turn_ready old t.actor t.event run.0 all run.1) (turn_family old t.actor t.event run.0 all f run.1) run.2
 
-pub run_family : (i : Image) (turns : List Turn) (new : WorldState) → Runs (opening i) turns new → Family new.actors
-run_family i turns new run = runs_family (opening i) turns new (opening_ready i) (opening_family i) run
+pub run_family : (i : Image) (turns : List Turn) (new : WorldState) → Runs (initial_state i) turns new → Family new.actors
+run_family i turns new run = runs_family (initial_state i) turns new (opening_ready i) (opening_family i) run
 
 pub names_distinct : NamesAreDistinct
 names_distinct i turns new run = (run_family i turns new run).distinct
@@ -394,9 +394,9 @@ each_takes_units old (t ∷ ts) new all f run = (
   each_takes_units run.0 ts new (turn_ready old t.actor t.event run.0 all run.1) (turn_family old t.actor t.event run.0 all f run.1) run.2,
 )
 
-opening_fuel : (i : Image) → fuel_of (opening i) ≡ i.fuel
+opening_fuel : (i : Image) → fuel_of (initial_state i) ≡ i.fuel
 unfolding root
 opening_fuel i = omega arith
 
 pub fuel_kept : FuelIsKept
-fuel_kept i turns new run = (opening_fuel i, each_takes_units (opening i) turns new (opening_ready i) (opening_family i) run)
+fuel_kept i turns new run = (opening_fuel i, each_takes_units (initial_state i) turns new (opening_ready i) (opening_family i) run)

@@ -5,7 +5,7 @@ use Rattle.wedge_events.specs.Directories.{Directory, Claim, claim, claim_reply,
 use Rattle.wedge_base.specs.Images.{Image}
 use Rattle.wedge_base.specs.Rights.{no_bits, bits_within}
 use Rattle.wedge_base.specs.Sheets.{bits_in, either_bits, made_fd}
-use Rattle.wedge_events.specs.Streams.{opened}
+use Rattle.wedge_events.specs.Streams.{new_stream}
 use Rattle.wedge_base.specs.declared.rights.Code.TheVariants as code
 use Rattle.wedge_base.specs.declared.rights.FdBits.{FdBits}
 use Rattle.wedge_events.specs.declared.events.Event.{Event}
@@ -138,8 +138,8 @@ file_makes : (w : WorldState) (b : ActorState) (o : FileOpening) (fd : ℕ) → 
     → OpensFile (with_actor w b) b o fd (event.Fd fd (stream_ask.Open o.kind o.bytes) stream_reply.Opened) (after w b (event.Fd fd (stream_ask.Open o.kind o.bytes) stream_reply.Opened))
 file_makes w b o fd at_ = (
   refl,
-  ap (λ x. record w { cells = record w.cells { streams = slice_set w.cells.streams fd (Some (opened o.kind o.bytes)) }; actors = put_actor w.actors x }) (opened_at w.image b o fd (stream_ask.Open o.kind o.bytes) at_)
-      ∙ ap (λ (as_ : List ActorState). record w { cells = record w.cells { streams = slice_set w.cells.streams fd (Some (opened o.kind o.bytes)) }; actors = as_ }) (sym (put_put w.actors b (opened_file b o fd) refl)),
+  ap (λ x. record w { cells = record w.cells { streams = slice_set w.cells.streams fd (Some (new_stream o.kind o.bytes)) }; actors = put_actor w.actors x }) (opened_at w.image b o fd (stream_ask.Open o.kind o.bytes) at_)
+      ∙ ap (λ (as_ : List ActorState). record w { cells = record w.cells { streams = slice_set w.cells.streams fd (Some (new_stream o.kind o.bytes)) }; actors = as_ }) (sym (put_put w.actors b (opened_file b o fd) refl)),
   opened_held b fd o.bits,
 )
 

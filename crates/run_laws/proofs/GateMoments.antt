@@ -9,7 +9,7 @@ use Rattle.cow_pages.specs.PrivateMemory.{PrivateMemory}
 use Rattle.wedge_base.specs.Images.{Image, fetch}
 use Rattle.wedge_base.specs.Maps.{Map}
 use Rattle.wedge_base.specs.Pages.{pages_of}
-use Rattle.wedge_base.specs.Sheets.{Draft, empty_draft, granted, first_excess}
+use Rattle.wedge_base.specs.Sheets.{Draft, empty_draft, sheet_of_draft, first_excess}
 use Rattle.wedge_events.specs.Slots.{Segment, slot_reply as slot_reply_of}
 use Rattle.wedge_base.specs.declared.grants.GateId.{GateId}
 use Rattle.wedge_base.specs.declared.rights.Code.TheVariants as code
@@ -35,14 +35,14 @@ use Rattle.sthread_life.specs.declared.phase.Phase.{Phase}
 use Rattle.sthread_life.specs.declared.phase.Phase.TheVariants as phase
 use Rattle.sthread_life.specs.Actors.{ActorState, pristine, refuses}
 use Rattle.run_laws.specs.Allowed.{lacks, HasBegunGate}
-use Rattle.sthread_life.specs.Calls.{a0, a1, a4, a7, is_procedure, draft_at, new_gate, makes_or_waits, making, make_checked, make_with, serves}
+use Rattle.sthread_life.specs.Calls.{a0, a1, a4, a7, is_procedure, draft_at, new_gate, makes_or_waits, continue_gate, make_checked, make_with, serves}
 use Rattle.run_laws.specs.Cells.{Cells, slot_in}
 use Rattle.run_laws.specs.ChildCopies.{IsPrepared, pages_living, snap_reply}
 use Rattle.sthread_life.specs.Children.{without_child}
-use Rattle.sthread_life.specs.Copying.{Preparation, copy_grants, copied_from, prepared, behind_first}
+use Rattle.sthread_life.specs.Copying.{Preparation, copy_grants, copied_from, prepare_copies, behind_first}
 use Rattle.sthread_life.specs.Resting.{NotMaking}
 use Rattle.run_laws.specs.GateCalls.{KeepsGates, MakesWith, PreparesGate, BeginsUnless, GatesByRequest, InstrMakesGates, SnapsForGate, EventMakesGates}
-use Rattle.sthread_life.specs.Local.{needed, executed, fuelled, fetched, step}
+use Rattle.sthread_life.specs.Local.{step_with_need, step_with_instr, step_with_fuel, step_with_word, step}
 use Rattle.run_laws.specs.Requests.{Request, Loads, Stores, Reads, Appends, Closes, Opens, Creates, Makes, Deletes, Allots, Frees, make_of, call_request, needed_request, instr_request, word_request, Enters}
 use Rattle.sthread_life.specs.Taking.{runs, loads_by, loads_at, has_snapped, copied_on, takes}
 use Rattle.run_laws.specs.Worlds.{WorldState, with_actor}
@@ -54,7 +54,7 @@ use Rattle.run_laws.proofs.Preparing.{copies_are, prepared_so}
 use Rattle.sthread_life.proofs.Resting.{Goes, Things, need_makes, goes_needed}
 
 -- a gate is made, or waits for copies, with the memory that is prepared
-prepares_gate : (a : ActorState) (d : Draft) (m : PrivateMemory) (gs : List CopyGrant) (p : Preparation) → IsPrepared a m gs p → slice_get a.drafts (a0 a) ≡ Some d → MayGrant a → PreparesGate a d m gs (making a d p)
+prepares_gate : (a : ActorState) (d : Draft) (m : PrivateMemory) (gs : List CopyGrant) (p : Preparation) → IsPrepared a m gs p → slice_get a.drafts (a0 a) ≡ Some d → MayGrant a → PreparesGate a d m gs (continue_gate a d p)
 prepares_gate a d m gs p so drafted g = record { preparation = p; prepared = so; after = by_left p.left }
   where
     by_left : (l : List CopyGrant) → MakesWith a d p l (makes_or_waits a d p l)
@@ -67,10 +67,10 @@ checked_gates : (i : Image) (a : ActorState) (d : Draft) (o : Option Denial) →
     → GatesByRequest i a (Some (Makes d)) (make_checked i a d o)
 checked_gates i a d (Some y) drafted excess user root = subst (λ o. BeginsUnless i a d o (make_checked i a d (Some y))) (sym excess) (record { known = refl; held = refl; count = refl; calm = tt })
 checked_gates i a d None drafted excess user root =
-    let gs = (granted a.sheet a.made d).tags in
+    let gs = (sheet_of_draft a.sheet a.made d).tags in
     let may : MayGrant a = record { draft = d; drafted = drafted; allowed = excess; user = user; root = root } in
-    subst (λ o. BeginsUnless i a d o (make_checked i a d None)) (sym excess) (subst (λ l. PreparesGate a d (pristine i) l (making a d (prepared a.sheet a.made a.memory.copies (pristine i) (copy_grants gs)))) (copies_are gs)
-    (prepares_gate a d (pristine i) (copy_grants gs) (prepared a.sheet a.made a.memory.copies (pristine i) (copy_grants gs)) (prepared_so a (pristine i) (copy_grants gs)) drafted may))
+    subst (λ o. BeginsUnless i a d o (make_checked i a d None)) (sym excess) (subst (λ l. PreparesGate a d (pristine i) l (continue_gate a d (prepare_copies a.sheet a.made a.memory.copies (pristine i) (copy_grants gs)))) (copies_are gs)
+    (prepares_gate a d (pristine i) (copy_grants gs) (prepare_copies a.sheet a.made a.memory.copies (pristine i) (copy_grants gs)) (prepared_so a (pristine i) (copy_grants gs)) drafted may))
 
 drafted_gates : (i : Image) (a : ActorState) (d : Draft) (p k u r : Bool) → slice_get a.drafts (a0 a) ≡ Some d → is_none d.user ≡ u → is_none d.root ≡ r
     → GatesByRequest i a (if p && (k && (u && r)) then Some (Makes d) else None) (if not (p && (k && (u && r))) then refuses a code.Bad else make_checked i a d (first_excess a.sheet a.made d))
@@ -127,10 +127,10 @@ goes_keeping cost false a b e calm g = record {
   calm = g.unmade calm;
 }
 
-need_gates : (i : Image) (c : Cells) (ins : Instr) (a : ActorState) (h : Hart) (n : Need) (t : Bool) → need_makes a n ≡ t → a.phase ≡ phase.Running → GatesByRequest i a (needed_request i c a ins.rd n) (needed i ins a h n)
+need_gates : (i : Image) (c : Cells) (ins : Instr) (a : ActorState) (h : Hart) (n : Need) (t : Bool) → need_makes a n ≡ t → a.phase ≡ phase.Running → GatesByRequest i a (needed_request i c a ins.rd n) (step_with_need i ins a h n)
 need_gates i c ins a h n false same run =
-    let keeps = goes_keeping _ _ a (needed i ins a h n) same (subst NotMaking (sym run) tt) (goes_needed i ins a h n) in
-    keeps_by i a (needed i ins a h n) (needed_request i c a ins.rd n) keeps (λ d asked none. begun_changes a (needed i ins a h n) d (((needed_comes i ins a h n run).met c (Makes d) asked).done none refl) keeps)
+    let keeps = goes_keeping _ _ a (step_with_need i ins a h n) same (subst NotMaking (sym run) tt) (goes_needed i ins a h n) in
+    keeps_by i a (step_with_need i ins a h n) (needed_request i c a ins.rd n) keeps (λ d asked none. begun_changes a (step_with_need i ins a h n) d (((needed_comes i ins a h n run).met c (Makes d) asked).done none refl) keeps)
 need_gates i c ins a h need.Call true same run = call_gates i c a (a7 a) same
 need_gates i c ins a h need.Done true same run = absurd cc
 need_gates i c ins a h (need.Load address width s) true same run = absurd cc
@@ -138,17 +138,17 @@ need_gates i c ins a h (need.Store address width value) true same run = absurd c
 need_gates i c ins a h need.Break true same run = absurd cc
 need_gates i c ins a h need.JumpMisaligned true same run = absurd cc
 
-executed_gates : (i : Image) (c : Cells) (a : ActorState) (ins : Option Instr) → a.phase ≡ phase.Running → GatesByRequest i a (instr_request i c a ins) (executed i a ins)
+executed_gates : (i : Image) (c : Cells) (a : ActorState) (ins : Option Instr) → a.phase ≡ phase.Running → GatesByRequest i a (instr_request i c a ins) (step_with_instr i a ins)
 executed_gates i c a None run = record { known = refl; held = refl; count = refl; calm = tt }
 executed_gates i c a (Some ins) run = need_gates i c ins a (local ins a.hart).hart (local ins a.hart).need _ refl run
 
-fetched_gates : (i : Image) (c : Cells) (a : ActorState) (n : ℕ) (w : Option ℕ) → a.phase ≡ phase.Running → a.fuel ≡ suc n → GatesByRequest i (record a { fuel = n }) (word_request i c (record a { fuel = n }) w) (fetched i a w)
+fetched_gates : (i : Image) (c : Cells) (a : ActorState) (n : ℕ) (w : Option ℕ) → a.phase ≡ phase.Running → a.fuel ≡ suc n → GatesByRequest i (record a { fuel = n }) (word_request i c (record a { fuel = n }) w) (step_with_word i a w)
 fetched_gates i c a n None run has = record { known = refl; held = refl; count = refl; calm = tt }
 fetched_gates i c a n (Some word) run has =
     let p = record a { fuel = n } in
     let left : n ≡ a.fuel - 1 = omega (arith, has) in
-    let paid = subst (λ m. GatesByRequest i p (instr_request i c p (decode word)) (executed i (record a { fuel = m }) (decode word))) left (executed_gates i c p (decode word) run) in
-    subst (λ m. GatesByRequest i p (instr_request i c p (decode word)) (fuelled i a word m)) (sym has) paid
+    let paid = subst (λ m. GatesByRequest i p (instr_request i c p (decode word)) (step_with_instr i (record a { fuel = m }) (decode word))) left (executed_gates i c p (decode word) run) in
+    subst (λ m. GatesByRequest i p (instr_request i c p (decode word)) (step_with_fuel i a word m)) (sym has) paid
 
 instr_gates : (w : WorldState) (a : ActorState) (n : ℕ) → a.fuel ≡ n → a.phase ≡ phase.Running → InstrMakesGates w a n (step w.image a)
 unfolding step

@@ -14,7 +14,7 @@ use Rattle.cow_pages.specs.PrivateMemory.{PrivateMemory}
 use Rattle.sthread_life.specs.Entrances.{Entrance}
 use Rattle.run_laws.specs.Families.{made_by}
 use Rattle.run_laws.specs.Paying.{cost_by}
-use Rattle.sthread_life.specs.Taking.{next_start, takes, begun, run_by, run_at, has_entered}
+use Rattle.sthread_life.specs.Taking.{next_start, takes, actor_begun, run_by, run_at, has_entered}
 use Rattle.run_laws.specs.Worlds.{WorldState, put_actor, with_begun}
 use Rattle.sthread_life.specs.declared.phase.Phase.TheVariants as phase
 use Rattle.run_laws.proofs.Between.{entered_by}
@@ -55,7 +55,7 @@ pub record IsEntry (w : WorldState) (b : ActorState) (e : Event) : Type 0 where
   pub kept : Option PrivateMemory
   pub brought : (kept ≡ None) ⊎ (kept ≡ Some (memory_for w.cells entrance.gate))
   pub takes_so : takes w.image b e ≡ entered_by b entrance
-  pub begins : begun w.image b e ≡ Some (run_by b (child_name b.name (next_start b)) kept entrance)
+  pub begins : actor_begun w.image b e ≡ Some (run_by b (child_name b.name (next_start b)) kept entrance)
   pub free : cost_by b e ≡ 0
   pub makes : made_by b (Some e) ≡ b.made
 
@@ -68,7 +68,7 @@ fresh_entry w b e x = record {
   kept = None;
   brought = inl refl;
   takes_so = ap (takes w.image b) x.is ∙ ap (has_entered b) x.at;
-  begins = ap (begun w.image b) x.is ∙ ap (run_at b (child_name b.name (next_start b)) None) x.at;
+  begins = ap (actor_begun w.image b) x.is ∙ ap (run_at b (child_name b.name (next_start b)) None) x.at;
   free = ap (cost_by b) x.is;
   makes = ap (λ y. made_by b (Some y)) x.is;
 }
@@ -82,12 +82,12 @@ recycled_entry w b e x = record {
   kept = Some (memory_for w.cells x.entrance.gate);
   brought = inr refl;
   takes_so = ap (takes w.image b) x.is ∙ ap (has_entered b) x.at;
-  begins = ap (begun w.image b) x.is ∙ ap (run_at b (child_name b.name (next_start b)) (Some (memory_for w.cells x.entrance.gate))) x.at;
+  begins = ap (actor_begun w.image b) x.is ∙ ap (run_at b (child_name b.name (next_start b)) (Some (memory_for w.cells x.entrance.gate))) x.at;
   free = ap (cost_by b) x.is;
   makes = ap (λ y. made_by b (Some y)) x.is;
 }
 
 -- what it makes of the actors
 pub entered_actors : (w : WorldState) (actors : List ActorState) (b : ActorState) (e : Event) (y : IsEntry w b e)
-    → with_begun (put_actor actors (takes w.image b e)) (begun w.image b e) ≡ put_actor actors (entered_by b y.entrance) ++ run_by b (child_name b.name (next_start b)) y.kept y.entrance ∷ []
-entered_actors w actors b e y = ap (λ x. with_begun (put_actor actors x) (begun w.image b e)) y.takes_so ∙ ap (with_begun (put_actor actors (entered_by b y.entrance))) y.begins
+    → with_begun (put_actor actors (takes w.image b e)) (actor_begun w.image b e) ≡ put_actor actors (entered_by b y.entrance) ++ run_by b (child_name b.name (next_start b)) y.kept y.entrance ∷ []
+entered_actors w actors b e y = ap (λ x. with_begun (put_actor actors x) (actor_begun w.image b e)) y.takes_so ∙ ap (with_begun (put_actor actors (entered_by b y.entrance))) y.begins

@@ -24,8 +24,8 @@ use Rattle.run_laws.specs.Laws.{NoneRunsWithin, GatesHeldAreOlder}
 use Rattle.sthread_life.specs.Lending.{sheet_lent}
 use Rattle.run_laws.specs.Holding.{gate_for}
 use Rattle.sthread_life.specs.Local.{is_running, step, run_local, rest}
-use Rattle.sthread_life.specs.Taking.{next_start, takes, begun, child_of, run_by}
-use Rattle.run_laws.specs.Worlds.{WorldState, opening, actor_named, put_actor, with_begun, turn_of, ready, resumed, at_rest, Runs, with_actor}
+use Rattle.sthread_life.specs.Taking.{next_start, takes, actor_begun, child_of, run_by}
+use Rattle.run_laws.specs.Worlds.{WorldState, initial_state, actor_named, put_actor, with_begun, turn_of, ready, resumed, at_rest, Runs, with_actor}
 use Rattle.run_laws.proofs.Between.{takes_name}
 use Rattle.run_laws.proofs.Bounding.{with_same, with_other}
 use Rattle.run_laws.proofs.Families.{takes_sheet, child_begins}
@@ -398,11 +398,11 @@ turn_clean w name e new all family held clean t =
             absurd (put_free v a b put family id.maker of.maker of.there u)
 
     by_begun : (v : WorldState) (a : ActorState) → actor_named v.actors a.name ≡ Some a → Family v.actors → IsPut v.actors a (rest v.image a) → AreHeld (put_actor v.actors (rest v.image a)) → Acts v (rest v.image a) e
-        → AreClean (put_actor v.actors (takes v.image (rest v.image a) e)) → AreClean (with_begun (put_actor v.actors (takes v.image (rest v.image a) e)) (begun v.image (rest v.image a) e))
+        → AreClean (put_actor v.actors (takes v.image (rest v.image a) e)) → AreClean (with_begun (put_actor v.actors (takes v.image (rest v.image a) e)) (actor_begun v.image (rest v.image a) e))
     by_begun v a there family rested held_so (ActsAlone one) done =
         subst (λ o. AreClean (with_begun (put_actor v.actors (takes v.image (rest v.image a) e)) o)) (sym (one_begins v.image (rest v.image a) e one)) done
     by_begun v a there family rested held_so (Joins k listed j) done =
-        subst (λ o. AreClean (with_begun (put_actor v.actors (takes v.image (rest v.image a) e)) o)) (sym (ap (begun v.image (rest v.image a)) j.is)) done
+        subst (λ o. AreClean (with_begun (put_actor v.actors (takes v.image (rest v.image a) e)) o)) (sym (ap (actor_begun v.image (rest v.image a)) j.is)) done
     by_begun v a there family rested held_so (Starts s) done =
         let b = rest v.image a in
         let x = takes v.image b e in
@@ -411,7 +411,7 @@ turn_clean w name e new all family held clean t =
         let put : IsPut v.actors a x = record { name = takes_name v.image b e ∙ rested.name; there = there } in
         let same_gates : x.gates ≡ b.gates = ap (λ y. (takes v.image b y).gates) s.is ∙ started_gates v.image b (child_name b.name (next_start b)) in
         let same_made : x.made ≡ b.made = ap (λ y. (takes v.image b y).made) s.is ∙ started_made v.image b (child_name b.name (next_start b)) in
-        subst (λ o. AreClean (with_begun (put_actor v.actors x) o)) (sym (ap (begun v.image b) s.is))
+        subst (λ o. AreClean (with_begun (put_actor v.actors x) o)) (sym (ap (actor_begun v.image b) s.is))
         (clean_behind (put_actor v.actors x) x c
         (record {
           knows = sym same_gates;
@@ -462,7 +462,7 @@ turn_clean w name e new all family held clean t =
 
 -- ---- runs
 
-opening_clean : (i : Image) → AreClean (opening i).actors
+opening_clean : (i : Image) → AreClean (initial_state i).actors
 unfolding root
 opening_clean i = record {
   each = λ m n r a g p own q under. let none : None ≡ Some g = of_root m r p ∙ own in absurd cc;
@@ -473,7 +473,7 @@ opening_clean i = record {
     by_name a true e = let one : root i ≡ a = cc in ap (λ (x : ActorState). x.run_of) one
     by_name a false e = absurd cc
 
-    of_root : (m : List ℕ) (a : ActorState) → actor_named (opening i).actors m ≡ Some a → None ≡ a.run_of
+    of_root : (m : List ℕ) (a : ActorState) → actor_named (initial_state i).actors m ≡ Some a → None ≡ a.run_of
     of_root m a found = by_name a (same (root i).name m) found
 
 runs_clean : (old : WorldState) (turns : List Turn) (new : WorldState) → AllReady old → Family old.actors → AreHeld old.actors → AreClean old.actors → Runs old turns new → AreClean new.actors
@@ -494,8 +494,8 @@ unheld m g a c outside h entry held id =
       | inr made ↦ true≢false (sym made ∙ (ap (λ (x : GateId). is_under m x.maker) same_one ∙ outside))
     ]
 
-run_is_clean : (i : Image) (turns : List Turn) (new : WorldState) → Runs (opening i) turns new → AreClean new.actors
-run_is_clean i turns new run = runs_clean (opening i) turns new (opening_ready i) (opening_family i) (opening_held i) (opening_clean i) run
+run_is_clean : (i : Image) (turns : List Turn) (new : WorldState) → Runs (initial_state i) turns new → AreClean new.actors
+run_is_clean i turns new run = runs_clean (initial_state i) turns new (opening_ready i) (opening_family i) (opening_held i) (opening_clean i) run
 
 pub none_within : NoneRunsWithin
 none_within i turns new run m n r a g h entry p own q under held id =
@@ -522,7 +522,7 @@ rest_after : (w : WorldState) (m : List ℕ) (g : Gate) (a : ActorState) → is_
 unfolding rest
 rest_after w m g a under c = run_after w m g (a.fuel + 1) a _ refl under c
 
-pub none_at_rest : (i : Image) (turns : List Turn) (w : WorldState) → Runs (opening i) turns w → (m n : List ℕ) (r a : ActorState) (g h : Gate) (entry : ℕ) → actor_named w.actors m ≡ Some r → r.run_of ≡ Some g
+pub none_at_rest : (i : Image) (turns : List Turn) (w : WorldState) → Runs (initial_state i) turns w → (m n : List ℕ) (r a : ActorState) (g h : Gate) (entry : ℕ) → actor_named w.actors m ≡ Some r → r.run_of ≡ Some g
     → actor_named w.actors n ≡ Some a → is_under m n ≡ true → gate_for (at_rest w a) entry ≡ Some h → h.id ≡ g.id → ⊥
 none_at_rest i turns w run m n r a g h entry p own q under held id =
     let clean = run_is_clean i turns w run in

@@ -34,7 +34,7 @@ use Rattle.wedge_base.specs.declared.rights.FdBits.{FdBits}
 use Rattle.wedge_base.specs.declared.rights.Right.{Right}
 use Rattle.sthread_life.specs.Children.{is_child}
 use Rattle.sthread_life.specs.Calls.{entrance_of, serves, exit, is_procedure, create, create_with, create_checked, create_allowed, join, are_pages, tag_new, tag_delete, smalloc, free_at, sfree, fd_read, fd_append, fd_close, most_drafts, sc_new, right_asked, bits_asked, add_right, add_right_to, sc_mem_add, add_bits, add_bits_to, sc_fd_add, add_gate_to, sc_cgate_add, draft_call, a0, a1, a2, a3, a7, set_user, sc_user, path_in, put_root, set_root, sc_root, file_at, mode_asked, suits, open_file, open_path, file_open, makes_or_waits, may_be_gate, make_checked, make_with, cgate_make, enter_checked, enter_lending, enter_held, cgate, lent_asked}
-use Rattle.sthread_life.specs.Local.{needed, executed, fuelled, fetched, step, is_running}
+use Rattle.sthread_life.specs.Local.{step_with_need, step_with_instr, step_with_fuel, step_with_word, step, is_running}
 use Rattle.run_laws.specs.Worlds.{WorldState, actor_named, put_actor, with_actor}
 use Rattle.run_laws.specs.Allowed.{next_word}
 use Rattle.run_laws.specs.Ends.{GoesTo, NeedGoesOn, WordGoesOn, GoesOn}
@@ -243,8 +243,8 @@ put_next w b x a named n h =
 named_as : (w : WorldState) (b p a : ActorState) → actor_named w.actors b.name ≡ Some a → p.name ≡ b.name → actor_named w.actors p.name ≡ Some a
 named_as w b p a named pn = subst (λ m. actor_named w.actors m ≡ Some a) (sym pn) named
 
-need_goes : (w : WorldState) (b p a : ActorState) (ins : Instr) (h : Hart) (n : Need) → actor_named w.actors b.name ≡ Some a → p.name ≡ b.name → (needed w.image ins p h n).name ≡ b.name → p.phase ≡ phase.Running
-    → NeedGoesOn (with_actor w b) p h n (with_actor w (needed w.image ins p h n))
+need_goes : (w : WorldState) (b p a : ActorState) (ins : Instr) (h : Hart) (n : Need) → actor_named w.actors b.name ≡ Some a → p.name ≡ b.name → (step_with_need w.image ins p h n).name ≡ b.name → p.phase ≡ phase.Running
+    → NeedGoesOn (with_actor w b) p h n (with_actor w (step_with_need w.image ins p h n))
 need_goes w b p a ins h need.Done named pn xn run = ap (λ (as_ : List ActorState). record w { actors = as_ }) (sym (put_put w.actors b (record p { hart = h }) pn))
 need_goes w b p a ins h (need.Load address width s) named pn xn run = put_next w p (loads w.image ins s p address width) a (named_as w b p a named pn) (xn ∙ sym pn) (next_load w.image ins s p address width run)
 need_goes w b p a ins h (need.Store address width value) named pn xn run = put_next w p (stores w.image p address width value) a (named_as w b p a named pn) (xn ∙ sym pn) (next_store w.image p address width value run)
@@ -252,8 +252,8 @@ need_goes w b p a ins h need.Call named pn xn run = put_next w p (serves w.image
 need_goes w b p a ins h need.Break named pn xn run = put_next w p (ends p end_.Break) a (named_as w b p a named pn) (xn ∙ sym pn) (λ e. absurd cc, λ e. refl)
 need_goes w b p a ins h need.JumpMisaligned named pn xn run = put_next w p (ends p end_.JumpMisaligned) a (named_as w b p a named pn) (xn ∙ sym pn) (λ e. absurd cc, λ e. refl)
 
-instr_goes : (w : WorldState) (b a : ActorState) (ins : Option Instr) (n : ℕ) → actor_named w.actors b.name ≡ Some a → (executed w.image (record b { fuel = n }) ins).name ≡ b.name → b.phase ≡ phase.Running
-    → WordGoesOn (with_actor w b) b ins (suc n) (with_actor w (executed w.image (record b { fuel = n }) ins))
+instr_goes : (w : WorldState) (b a : ActorState) (ins : Option Instr) (n : ℕ) → actor_named w.actors b.name ≡ Some a → (step_with_instr w.image (record b { fuel = n }) ins).name ≡ b.name → b.phase ≡ phase.Running
+    → WordGoesOn (with_actor w b) b ins (suc n) (with_actor w (step_with_instr w.image (record b { fuel = n }) ins))
 instr_goes w b a None n named xn run = put_next w b (ends (record b { fuel = n }) end_.BadInstruction) a named refl (λ e. absurd cc, λ e. refl)
 instr_goes w b a (Some ins) n named xn run = need_goes w b (record b { fuel = n }) a ins (local ins b.hart).hart (local ins b.hart).need named refl xn run
 
@@ -262,13 +262,13 @@ out_goes : (w : WorldState) (b a : ActorState) (ins : Option Instr) (e : End) �
 out_goes w b a None e named = put_next w b (ends b e) a named refl (λ e. absurd cc, λ e. refl)
 out_goes w b a (Some ins) e named = put_next w b (ends b e) a named refl (λ e. absurd cc, λ e. refl)
 
-word_goes : (w : WorldState) (b a : ActorState) (n : ℕ) (o : Option ℕ) → actor_named w.actors b.name ≡ Some a → b.fuel ≡ n → (fetched w.image b o).name ≡ b.name → b.phase ≡ phase.Running
-    → WordGoesOn (with_actor w b) b (option_and_then decode o) n (with_actor w (fetched w.image b o))
+word_goes : (w : WorldState) (b a : ActorState) (n : ℕ) (o : Option ℕ) → actor_named w.actors b.name ≡ Some a → b.fuel ≡ n → (step_with_word w.image b o).name ≡ b.name → b.phase ≡ phase.Running
+    → WordGoesOn (with_actor w b) b (option_and_then decode o) n (with_actor w (step_with_word w.image b o))
 word_goes w b a n None named has xn run = put_next w b (ends b end_.FetchFault) a named refl (λ e. absurd cc, λ e. refl)
-word_goes w b a zero (Some word) named has xn run = subst (λ x. WordGoesOn (with_actor w b) b (decode word) zero (with_actor w x)) (sym (ap (fuelled w.image b word) has)) (out_goes w b a (decode word) end_.FuelOut named)
+word_goes w b a zero (Some word) named has xn run = subst (λ x. WordGoesOn (with_actor w b) b (decode word) zero (with_actor w x)) (sym (ap (step_with_fuel w.image b word) has)) (out_goes w b a (decode word) end_.FuelOut named)
 word_goes w b a (suc n) (Some word) named has xn run =
     let left : n ≡ b.fuel - 1 = omega (arith, has) in
-    let is : executed w.image (record b { fuel = n }) (decode word) ≡ fuelled w.image b word b.fuel = ap (λ m. executed w.image (record b { fuel = m }) (decode word)) left ∙ sym (ap (fuelled w.image b word) has) in
+    let is : step_with_instr w.image (record b { fuel = n }) (decode word) ≡ step_with_fuel w.image b word b.fuel = ap (λ m. step_with_instr w.image (record b { fuel = m }) (decode word)) left ∙ sym (ap (step_with_fuel w.image b word) has) in
     subst (λ x. WordGoesOn (with_actor w b) b (decode word) (suc n) (with_actor w x)) is (instr_goes w b a (decode word) n named (ap (λ (x : ActorState). x.name) is ∙ xn) run)
 
 pub step_goes : (w : WorldState) (b a : ActorState) → actor_named w.actors b.name ≡ Some a → (step w.image b).name ≡ b.name → b.phase ≡ phase.Running → GoesOn (with_actor w b) b None (with_actor w (step w.image b))

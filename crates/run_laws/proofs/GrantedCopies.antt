@@ -42,7 +42,7 @@ use Rattle.sthread_life.specs.Calls.{a0}
 use Rattle.run_laws.specs.Cells.{slot_in, kept_in}
 use Rattle.sthread_life.specs.Children.{child_name}
 use Rattle.run_laws.specs.CopiesGranted.{grants_copy, AreGranted, AreOwnCopiesGranted, AreGateCopiesGranted}
-use Rattle.sthread_life.specs.Copying.{Preparation, with_declared, copied_from, is_copy_alone, prepared, behind_first}
+use Rattle.sthread_life.specs.Copying.{Preparation, with_declared, copied_from, is_copy_alone, prepare_copies, behind_first}
 use Rattle.run_laws.specs.FamilyTrees.{Family}
 use Rattle.run_laws.specs.Laws.{CopiesAreGranted, RunsAreAlone}
 use Rattle.run_laws.specs.RecycledGates.{AreRunsAlone}
@@ -52,8 +52,8 @@ use Rattle.run_laws.proofs.KnownGates.{AreHeld, rest_held, resumed_held, turn_he
 use Rattle.sthread_life.specs.Local.{is_running, step, run_local, rest}
 use Rattle.run_laws.specs.Remembering.{copied_bytes, Elsewhere, copy_target, target_among, LoadGives, StoreWrites, NeedRemembers, InstrRemembers, WordRemembers, memory_in, memory_after}
 use Rattle.sthread_life.specs.Lending.{sheet_lent}
-use Rattle.sthread_life.specs.Taking.{copies_asked, has_snapped, next_start, takes, memory_made, child_of, run_by, begun}
-use Rattle.run_laws.specs.Worlds.{WorldState, opening, actor_named, put_actor, with_begun, turn_of, ready, resumed, Runs}
+use Rattle.sthread_life.specs.Taking.{copies_asked, has_snapped, next_start, takes, memory_made, child_of, run_by, actor_begun}
+use Rattle.run_laws.specs.Worlds.{WorldState, initial_state, actor_named, put_actor, with_begun, turn_of, ready, resumed, Runs}
 use Rattle.run_laws.proofs.Between.{IsPreparing, takes_name}
 use Rattle.sthread_life.proofs.ByNumber.{same_number, number_itself}
 use Rattle.run_laws.proofs.Families.{takes_sheet}
@@ -201,7 +201,7 @@ claim_granted : (i : Image) (b : ActorState) (p : Preparation) → (takes i b (e
     → IsGranted (child_grants (takes i b (event.Lives lives_ask.Claim lives_reply.Claimed))) p
 unfolding takes
 claim_granted i b p is =
-    let begins = prepared b.sheet b.made b.memory.copies (pristine i) (copies_asked b) in
+    let begins = prepare_copies b.sheet b.made b.memory.copies (pristine i) (copies_asked b) in
     let same : begins ≡ p = cc in
     subst (IsGranted (child_grants b)) same (prepared_granted (child_grants b) b.sheet b.made b.memory.copies (pristine i) (copies_asked b) (λ slot there. absurd cc) (grants_granted (child_grants b)))
 
@@ -209,7 +209,7 @@ claim_granted i b p is =
 snapped_granted : (b : ActorState) (old p : Preparation) (slot : ℕ) (o : Option (List ℕ)) → b.phase ≡ phase.Starting old → IsGranted (child_grants b) old → grants_copy (child_grants b) slot ≡ true
     → (has_snapped b b.phase slot o).phase ≡ phase.Starting p → IsGranted (child_grants b) p
 snapped_granted b old p slot o at h here is =
-    let goes = prepared b.sheet b.made b.memory.copies (copied_from o slot old.memory) (behind_first old.left) in
+    let goes = prepare_copies b.sheet b.made b.memory.copies (copied_from o slot old.memory) (behind_first old.left) in
     let goes_on_so : phase.Starting goes ≡ phase.Starting p = sym (ap (λ ph. (has_snapped b ph slot o).phase) at) ∙ is in
     let same : goes ≡ p = cc in
     subst (IsGranted (child_grants b)) same
@@ -312,10 +312,10 @@ run_of_granted w b e x name there held alone h = record {
     gates_own : AreGateCopiesGranted x.entrance.gate
     gates_own = each_entered AreGateCopiesGranted b (a0 b) x.entrance.gate h.gates x.may.held
 
-begins_granted : (w : WorldState) (b : ActorState) (e : Event) → Acts w b e → actor_named (put_actor w.actors b) b.name ≡ Some b → AreHeld (put_actor w.actors b) → AreRunsAlone w.cells (put_actor w.actors b) → HasGranted b → (c : ActorState) → begun w.image b e ≡ Some c → HasGranted c
+begins_granted : (w : WorldState) (b : ActorState) (e : Event) → Acts w b e → actor_named (put_actor w.actors b) b.name ≡ Some b → AreHeld (put_actor w.actors b) → AreRunsAlone w.cells (put_actor w.actors b) → HasGranted b → (c : ActorState) → actor_begun w.image b e ≡ Some c → HasGranted c
 begins_granted w b e (ActsAlone one) there held alone h c is = let f : None ≡ Some c = sym (one_begins w.image b e one) ∙ is in absurd cc
 begins_granted w b e (Starts s) there held alone h c is =
-    let both : Some (child_of w.image b (child_name b.name (next_start b))) ≡ Some c = sym (ap (begun w.image b) s.is) ∙ is in
+    let both : Some (child_of w.image b (child_name b.name (next_start b))) ≡ Some c = sym (ap (actor_begun w.image b) s.is) ∙ is in
     let same_one : child_of w.image b (child_name b.name (next_start b)) ≡ c = cc in
     subst HasGranted same_one (child_granted w.image b (child_name b.name (next_start b)) s.preparation s.at h)
 begins_granted w b e (Enters x) there held alone h c is =
@@ -323,7 +323,7 @@ begins_granted w b e (Enters x) there held alone h c is =
     let both : Some run ≡ Some c = sym x.begins ∙ is in
     let same_one : run ≡ c = cc in
     subst HasGranted same_one (run_of_granted w b e x (child_name b.name (next_start b)) there held alone h)
-begins_granted w b e (Joins k listed j) there held alone h c is = let f : None ≡ Some c = sym (ap (begun w.image b) j.is) ∙ is in absurd cc
+begins_granted w b e (Joins k listed j) there held alone h c is = let f : None ≡ Some c = sym (ap (actor_begun w.image b) j.is) ∙ is in absurd cc
 
 -- ---- runs
 
@@ -371,9 +371,9 @@ turn_granted w name e new all_ready all held alone p =
     let found : actor_named (put_actor v.actors b) b.name ≡ Some b = ap (actor_named (put_actor v.actors b)) (rest-name w.image a) ∙ found_put v.actors a b rests_so in
     let held_so = rest_held v a there (resumed_held w p.actor (turned_there w name p.actor p.named) held) in
     let alone_so = rested_alone v a there (resumed_alone w p.actor (turned_there w name p.actor p.named) alone) in
-    subst AllGranted (sym p.parts.new_is) (begun_granted v a (takes w.image b e) goes put (doer_granted v b e h rested) (begun w.image b e) (begins_granted v b e (acts v b e h) found held_so alone_so rested))
+    subst AllGranted (sym p.parts.new_is) (begun_granted v a (takes w.image b e) goes put (doer_granted v b e h rested) (actor_begun w.image b e) (begins_granted v b e (acts v b e h) found held_so alone_so rested))
 
-opening_granted : (i : Image) → AllGranted (opening i)
+opening_granted : (i : Image) → AllGranted (initial_state i)
 opening_granted i m y found = by_name (same root_name m) (opening_found m y found)
   where
     root_granted : HasGranted (root i)
@@ -388,7 +388,7 @@ opening_granted i m y found = by_name (same root_name m) (opening_found m y foun
     by_name true e = let is : root i ≡ _ = cc in subst HasGranted is root_granted
     by_name false e = absurd cc
 
-    opening_found : (n : List ℕ) (z : ActorState) → actor_named (opening i).actors n ≡ Some z → (if same root_name n then Some (root i) else None) ≡ Some z
+    opening_found : (n : List ℕ) (z : ActorState) → actor_named (initial_state i).actors n ≡ Some z → (if same root_name n then Some (root i) else None) ≡ Some z
     opening_found n z e = unfold root in e
 
 -- what a turn keeps: each actor has its copies granted, knows its gates, and is alone in a recycled gate
@@ -412,9 +412,9 @@ runs_kept : (old : WorldState) (turns : List Turn) (new : WorldState) → AllRea
 runs_kept old [] new all k run = subst AllKept (sym run) k
 runs_kept old (t ∷ ts) new all k run = runs_kept run.0 ts new (turn_ready old t.actor t.event run.0 all run.1) (turn_kept old t.actor t.event run.0 all k run.1) run.2
 
-run_kept : (i : Image) (turns : List Turn) (new : WorldState) → Runs (opening i) turns new → AllKept new
+run_kept : (i : Image) (turns : List Turn) (new : WorldState) → Runs (initial_state i) turns new → AllKept new
 run_kept i turns new run =
-    runs_kept (opening i) turns new (opening_ready i) (record { granted = opening_granted i; family = opening_family i; held = opening_held i; alone = opening_alone i }) run
+    runs_kept (initial_state i) turns new (opening_ready i) (record { granted = opening_granted i; family = opening_family i; held = opening_held i; alone = opening_alone i }) run
 
 pub copies_granted : CopiesAreGranted
 copies_granted i turns new run name a named = let h = (run_kept i turns new run).granted name a named in record { own = h.own; gates = h.gates }

@@ -19,7 +19,7 @@ use Rattle.run_laws.proofs.Happening.{Happens}
 use Rattle.sthread_life.specs.Calls.{a0, draft_at}
 use Rattle.sthread_life.specs.Taking.{takes}
 use Rattle.wedge_base.specs.Images.{Image}
-use Rattle.run_laws.specs.Worlds.{WorldState, opening, with_actor}
+use Rattle.run_laws.specs.Worlds.{WorldState, initial_state, with_actor}
 use Rattle.wedge_events.specs.declared.events.Event.{Event}
 use Rattle.run_laws.specs.Cells.{slot_in}
 use Rattle.sthread_life.specs.Actors.{ActorState, pristine}
@@ -28,7 +28,7 @@ use Rattle.std.specs.List.{AllByRecursion}
 use Rattle.sthread_life.specs.Resting.{NotMaking}
 use Rattle.run_laws.specs.GateCalls.{KeepsGates, MakesWith, PreparesGate, BeginsUnless, GatesByRequest, InstrMakesGates, SnapsForGate, EventMakesGates}
 use Rattle.sthread_life.specs.Local.{is_running, step, run_local, rest}
-use Rattle.wedge_base.specs.Sheets.{Sheet, granted}
+use Rattle.wedge_base.specs.Sheets.{Sheet, sheet_of_draft}
 use Rattle.run_laws.specs.Requests.{Request, Loads, Stores, Reads, Appends, Closes, Opens, Creates, Makes, Enters, Deletes, Allots, Frees, request_at}
 use Rattle.sthread_life.specs.declared.phase.Phase.{Phase}
 use Rattle.run_laws.specs.CopiesGranted.{AreGateCopiesGranted}
@@ -56,32 +56,32 @@ one_more_granted [] g all own = (own, tt)
 one_more_granted (x ∷ xs) g all own = (all.0, one_more_granted xs g all.1 own)
 
 -- the call's own draft
-draft_tags : (a : ActorState) (d : Draft) → slice_get a.drafts (a0 a) ≡ Some d → (granted a.sheet a.made d).tags ≡ child_grants a
-draft_tags a d there = ap (λ o. (granted a.sheet a.made (unwrap_or o empty_draft)).tags) (sym there)
+draft_tags : (a : ActorState) (d : Draft) → slice_get a.drafts (a0 a) ≡ Some d → (sheet_of_draft a.sheet a.made d).tags ≡ child_grants a
+draft_tags a d there = ap (λ o. (sheet_of_draft a.sheet a.made (unwrap_or o empty_draft)).tags) (sym there)
 
-makes_granted : (a b : ActorState) (d : Draft) (p : Preparation) (gs : List CopyGrant) → slice_get a.drafts (a0 a) ≡ Some d → IsGranted (granted a.sheet a.made d).tags p → AreGatesGranted a.gates
+makes_granted : (a b : ActorState) (d : Draft) (p : Preparation) (gs : List CopyGrant) → slice_get a.drafts (a0 a) ≡ Some d → IsGranted (sheet_of_draft a.sheet a.made d).tags p → AreGatesGranted a.gates
     → MakesWith a d p gs b → GatesGranted b
 makes_granted a b d p [] there h all (g, of, memory, is) = record {
   making = λ q at. absurd (subst NotMaking (sym (ap (λ (x : ActorState). x.phase) is) ∙ at) tt);
   gates = subst AreGatesGranted (sym (ap (λ (x : ActorState). x.gates) is)) (one_more_granted a.gates g all
-      (subst (λ (s : Sheet). AreGranted s.tags g.memory.copies) (sym of.sheet) (subst (λ (m : PrivateMemory). AreGranted (granted a.sheet a.made d).tags m.copies) (sym memory) h.copies)));
+      (subst (λ (s : Sheet). AreGranted s.tags g.memory.copies) (sym of.sheet) (subst (λ (m : PrivateMemory). AreGranted (sheet_of_draft a.sheet a.made d).tags m.copies) (sym memory) h.copies)));
 }
 makes_granted a b d p (x ∷ xs) there h all is = record {
   making = λ q at.
       let both : phase.MakingGate p ≡ phase.MakingGate q = sym (ap (λ (y : ActorState). y.phase) is) ∙ at in
       let same : p ≡ q = cc in
-      subst (λ (y : ActorState). IsGranted (child_grants y) q) (sym is) (subst (λ tags. IsGranted tags q) (draft_tags a d there) (subst (IsGranted (granted a.sheet a.made d).tags) same h));
+      subst (λ (y : ActorState). IsGranted (child_grants y) q) (sym is) (subst (λ tags. IsGranted tags q) (draft_tags a d there) (subst (IsGranted (sheet_of_draft a.sheet a.made d).tags) same h));
   gates = subst AreGatesGranted (sym (ap (λ (y : ActorState). y.gates) is)) all;
 }
 
-gate_granted : (a b : ActorState) (d : Draft) (m : PrivateMemory) (gs : List CopyGrant) → slice_get a.drafts (a0 a) ≡ Some d → AreGranted (granted a.sheet a.made d).tags m.copies
-    → AreAllGranted (granted a.sheet a.made d).tags gs → AreGatesGranted a.gates → PreparesGate a d m gs b → GatesGranted b
+gate_granted : (a b : ActorState) (d : Draft) (m : PrivateMemory) (gs : List CopyGrant) → slice_get a.drafts (a0 a) ≡ Some d → AreGranted (sheet_of_draft a.sheet a.made d).tags m.copies
+    → AreAllGranted (sheet_of_draft a.sheet a.made d).tags gs → AreGatesGranted a.gates → PreparesGate a d m gs b → GatesGranted b
 gate_granted a b d m gs there all each gates p =
-    makes_granted a b d p.preparation p.preparation.left there (so_prepared (granted a.sheet a.made d).tags a m gs p.preparation p.prepared all each) gates p.after
+    makes_granted a b d p.preparation p.preparation.left there (so_prepared (sheet_of_draft a.sheet a.made d).tags a m gs p.preparation p.prepared all each) gates p.after
 
 begins_gate : (i : Image) (a b : ActorState) (d : Draft) (o : Option Denial) → slice_get a.drafts (a0 a) ≡ Some d → AreGatesGranted a.gates → BeginsUnless i a d o b → GatesGranted b
 begins_gate i a b d None there gates h =
-    let tags = (granted a.sheet a.made d).tags in
+    let tags = (sheet_of_draft a.sheet a.made d).tags in
     gate_granted a b d (pristine i) (copies_in tags) there (λ slot k. absurd cc) (subst (AreAllGranted tags) (copies_are tags) (grants_granted tags)) gates h
 begins_gate i a b d (Some x) there gates h = keeps_granted a b h gates
 
@@ -107,7 +107,7 @@ instr_granted w a b (suc n) gates h =
     request_granted w.image p b (request_at w.image w.cells p) (λ d asked. makes_drafted w.image w.cells p d asked) gates h
 
 step_gates_granted : (i : Image) (a : ActorState) → is_running a.phase ≡ true → AreGatesGranted a.gates → GatesGranted (step i a)
-step_gates_granted i a e gates = instr_granted (opening i) a (step i a) a.fuel gates (step_makes_gates (opening i) a (running_is a.phase e))
+step_gates_granted i a e gates = instr_granted (initial_state i) a (step i a) a.fuel gates (step_makes_gates (initial_state i) a (running_is a.phase e))
 
 run_gates : (i : Image) (n : ℕ) (a : ActorState) (t : Bool) → is_running a.phase ≡ t → GatesGranted a → GatesGranted (run_local i n a)
 run_gates i n a false e h = subst GatesGranted (sym (stays i n a e)) h
@@ -124,7 +124,7 @@ snap_gates : (w : WorldState) (a b : ActorState) (p : Preparation) (gs : List Co
     → AreGatesGranted a.gates → SnapsForGate w a p gs e b → GatesGranted b
 snap_gates w a b p [] e left d there granted_so gates h = keeps_granted a b h gates
 snap_gates w a b p (g ∷ gs) e left d there granted_so gates h =
-    let tags = (granted a.sheet a.made d).tags in
+    let tags = (sheet_of_draft a.sheet a.made d).tags in
     let so : IsGranted tags p = subst (λ ts. IsGranted ts p) (sym (draft_tags a d there)) granted_so in
     let each : AreAllGranted tags (g ∷ gs) = subst (AreAllGranted tags) left so.left in
     let drafts : draft_at a.drafts (a0 a) ≡ d = ap (λ o. unwrap_or o empty_draft) there in

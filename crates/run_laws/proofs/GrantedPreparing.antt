@@ -3,7 +3,7 @@ use Rattle.std.proofs.Common.{◌≡◌, ℕ, Bool, true, false, List, [], ◌�
 use Rattle.std.specs.Prelude.{◌++◌}
 use Rattle.std.specs.Prelude.{Option, Some, None, is_some, ◌&&◌, ◌||◌, ◌==◌, if◌then◌else◌}
 use Rattle.std.specs.Option.{option_or}
-use Rattle.sthread_life.specs.Copying.{Preparation, copy_grants, copied_from, is_copy_alone, prepared}
+use Rattle.sthread_life.specs.Copying.{Preparation, copy_grants, copied_from, is_copy_alone, prepare_copies}
 use Rattle.cow_pages.specs.Copies.{Copies, is_slot, copy_at, without_copy}
 use Rattle.run_laws.specs.CopiesGranted.{grants_copy, AreGranted}
 use Rattle.cow_pages.specs.PrivateMemory.{PrivateMemory}
@@ -13,7 +13,7 @@ use Rattle.wedge_base.specs.declared.rights.Grant.{Grant}
 use Rattle.run_laws.specs.ChildCopies.{IsPrepared, own_at}
 use Rattle.std.specs.List.{AllByRecursion}
 use Rattle.sthread_life.proofs.ByNumber.{same_number, number_itself, found_with, found_elsewhere, found_gone}
-use Rattle.wedge_base.specs.Sheets.{Sheet, Made, granted, right_on, is_copy}
+use Rattle.wedge_base.specs.Sheets.{Sheet, Made, sheet_of_draft, right_on, is_copy}
 use Rattle.wedge_base.specs.Maps.{Map}
 use Rattle.std.proofs.lemmas.Bool.{eq-eqb}
 use Rattle.std.proofs.lemmas.Bool.{eqb-true}
@@ -68,13 +68,13 @@ pub record IsGranted (gs : Map Grant) (p : Preparation) : Type 0 where
   pub copies : AreGranted gs p.memory.copies
   pub left : AreAllGranted gs p.left
 
-pub prepared_granted : (gs : Map Grant) (s : Sheet) (made : Made) (own : Copies) (m : PrivateMemory) (left : List CopyGrant) → AreGranted gs m.copies → AreAllGranted gs left → IsGranted gs (prepared s made own m left)
+pub prepared_granted : (gs : Map Grant) (s : Sheet) (made : Made) (own : Copies) (m : PrivateMemory) (left : List CopyGrant) → AreGranted gs m.copies → AreAllGranted gs left → IsGranted gs (prepare_copies s made own m left)
 prepared_granted gs s made own m [] all each = record { copies = all; left = tt }
 prepared_granted gs s made own m (g ∷ left) all each =
     by_right (is_copy_alone (right_on s made g.tag)) (prepared_granted gs s made own (copied_from (copy_at own g.slot) g.slot m) left (copied_granted gs (copy_at own g.slot) g.slot m all each.0) each.1)
   where
-    by_right : (t : Bool) → IsGranted gs (prepared s made own (copied_from (copy_at own g.slot) g.slot m) left)
-        → IsGranted gs (if t then prepared s made own (copied_from (copy_at own g.slot) g.slot m) left else record { memory = m; left = g ∷ left })
+    by_right : (t : Bool) → IsGranted gs (prepare_copies s made own (copied_from (copy_at own g.slot) g.slot m) left)
+        → IsGranted gs (if t then prepare_copies s made own (copied_from (copy_at own g.slot) g.slot m) left else record { memory = m; left = g ∷ left })
     by_right true later = later
     by_right false later = record { copies = all; left = each }
 
@@ -113,4 +113,4 @@ so_prepared tags a m gs p so all each =
 
 -- the grants of the child that an actor prepares, and of the gate that it makes
 abbrev pub child_grants : ActorState → Map Grant
-child_grants a = (granted a.sheet a.made (draft_at a.drafts (a0 a))).tags
+child_grants a = (sheet_of_draft a.sheet a.made (draft_at a.drafts (a0 a))).tags

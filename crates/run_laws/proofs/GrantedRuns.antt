@@ -5,7 +5,7 @@ use Rattle.std.specs.Ordering.{nat_cmp, is_eq}
 use Rattle.std.specs.Prelude.{Option, Some, None, is_some, ◌||◌, if◌then◌else◌}
 use Rattle.std.specs.declared.cmp.Ordering.{Ordering}
 use Rattle.std.specs.declared.cmp.Ordering.TheVariants.{Less, Equal, Greater}
-use Rattle.wedge_base.specs.Maps.{Map, at, has, with, joined}
+use Rattle.wedge_base.specs.Maps.{Map, at, has, with, map_union}
 use Rattle.wedge_base.specs.Sheets.{Sheet, lent_to}
 use Rattle.wedge_base.specs.declared.rights.Grant.{Grant}
 use Rattle.run_laws.specs.CopiesGranted.{grants_copy}
@@ -27,7 +27,7 @@ grants_with (e ∷ es) k v slot lacks there = in_order (nat_cmp k e.0) lacks (gr
     in_order Greater none others = or_later _ (grants_copy es slot) (grants_copy (with es k v) slot) (others none) there
 
 -- and so where what another map has is put at such keys
-grants_joined : (gs es : Map Grant) (slot : ℕ) → grants_copy gs slot ≡ true → grants_copy (joined gs es) slot ≡ true
+grants_joined : (gs es : Map Grant) (slot : ℕ) → grants_copy gs slot ≡ true → grants_copy (map_union gs es) slot ≡ true
 grants_joined gs [] slot there = there
 grants_joined gs (e ∷ es) slot there = grants_joined (if has gs e.0 then gs else with gs e.0 e.1) es slot (by_key (has gs e.0) refl)
   where

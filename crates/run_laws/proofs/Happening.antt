@@ -40,7 +40,7 @@ use Rattle.wedge_events.specs.declared.cells.StreamReply.TheVariants as stream_r
 use Rattle.wedge_base.specs.declared.rights.StreamKind.{StreamKind}
 use Rattle.sthread_life.specs.declared.copy_grant.CopyGrant.{CopyGrant}
 use Rattle.cow_pages.specs.Listed.{bytes_listed}
-use Rattle.sthread_life.specs.Taking.{next_start, starting_want, ending_want, entering_want, leaving_want, wanted, wanted_at, has_snapped, opening_want, answered_end, takes, making_want, copied_on}
+use Rattle.sthread_life.specs.Taking.{next_start, starting_want, ending_want, entering_want, leaving_want, current_want, wanted_at, has_snapped, opening_want, answered_end, takes, making_want, copied_on}
 use Rattle.run_laws.specs.Worlds.{WorldState, event_at}
 use Rattle.run_laws.proofs.Between.{event_for, IsJoin, ComesOf, comes_of, Leaves, IsPreparing, MayPrepare, MayNumber, numbered_is, takes_between, IsMaking, made_is, entered_is, waiting_is, MayWait}
 use Rattle.run_laws.proofs.Directing.{claimed_inside}
@@ -305,7 +305,7 @@ module _ (w : WorldState) (b : ActorState) (e : Event) where
   by_phase (phase.Ending x) q at reads wants comes = let is : ending_want b.run_of b.memory b.unjoined x ≡ q = cc in ending b.run_of b.unjoined x q at refl refl is comes
   by_phase (phase.Ended x) q at reads wants comes = absurd cc
 
-pub happens : (w : WorldState) (b : ActorState) (q : Want) (e : Event) → ReadsAs w.image b b.phase → wanted b ≡ Some q → event_at w b q ≡ Some e → Happens w b e
+pub happens : (w : WorldState) (b : ActorState) (q : Want) (e : Event) → ReadsAs w.image b b.phase → current_want b ≡ Some q → event_at w b q ≡ Some e → Happens w b e
 happens w b q e reads wants at = by_phase w b e b.phase q refl reads wants (comes_of w b q e at)
 
 -- ---- what the actor then is in

@@ -1,12 +1,12 @@
 -- Where the cells look alike to an actor in two worlds, its loads, stores, reads and appends go the same way in both.
 use Rattle.std.proofs.Common.{◌≡◌, ℕ, Bool, true, false, List, [], refl, sym, ap, ◌∙◌}
 use Rattle.std.specs.Prelude.{Option, Some, None, is_some, option_map, length, ◌==◌, if◌then◌else◌}
-use Rattle.wedge_base.specs.Bytes.{written, bytes_of}
+use Rattle.wedge_base.specs.Bytes.{overwrite, bytes_of}
 use Rattle.wedge_base.specs.Images.{Image}
 use Rattle.wedge_base.specs.Rights.{at_least}
 use Rattle.wedge_base.specs.Sheets.{right_on, bits_on}
-use Rattle.wedge_events.specs.Slots.{Segment, slot_reply as slot_reply_of, slot_after, stored}
-use Rattle.wedge_events.specs.Streams.{Stream, stream_reply as stream_reply_of, stream_after, moved, grown}
+use Rattle.wedge_events.specs.Slots.{Segment, slot_reply as slot_reply_of, slot_after, write_segment}
+use Rattle.wedge_events.specs.Streams.{Stream, stream_reply as stream_reply_of, stream_after, with_bytes_read, with_more_bytes}
 use Rattle.wedge_events.specs.declared.cells.Live.{Live}
 use Rattle.wedge_events.specs.declared.cells.SlotAsk.{SlotAsk}
 use Rattle.wedge_events.specs.declared.cells.SlotAsk.TheVariants as slot_ask
@@ -32,8 +32,8 @@ use Rattle.run_laws.specs.Families.{made_by}
 use Rattle.run_laws.specs.Isolation.{Sight, sight, seen, has_bit, LookAlike, IsSeen}
 use Rattle.run_laws.specs.Laws.{AccessesAreIsolated}
 use Rattle.sthread_life.specs.Local.{rest}
-use Rattle.sthread_life.specs.Taking.{pair, wanted, wanted_at, takes, begun}
-use Rattle.run_laws.specs.Worlds.{WorldState, actor_named, put_actor, with_begun, wanting, ready, resumed, at_rest, turn_with, turn_of, happened, event_at}
+use Rattle.sthread_life.specs.Taking.{pair, current_want, wanted_at, takes, actor_begun}
+use Rattle.run_laws.specs.Worlds.{WorldState, actor_named, put_actor, with_begun, wanting, ready, resumed, at_rest, turn_with, turn_of, apply_event, event_at}
 use Rattle.run_laws.proofs.Between.{takes_name}
 use Rattle.run_laws.proofs.Families.{takes_sheet, takes_made, IsNoOpening, made_same, made_within}
 use Rattle.run_laws.proofs.Named.{found_name}
@@ -110,16 +110,16 @@ replies_alike a q o p s h first second =
 
 -- what it leaves to be seen
 sight_after : SlotAsk → SlotReply → Option Sight → Option Sight
-sight_after (slot_ask.Store offset width value live) slot_reply.Stored o = option_map (λ (s : Sight). record { tag = s.tag; bytes = written s.bytes offset (bytes_of width value) }) o
+sight_after (slot_ask.Store offset width value live) slot_reply.Stored o = option_map (λ (s : Sight). record { tag = s.tag; bytes = overwrite s.bytes offset (bytes_of width value) }) o
 sight_after q r o = o
 
 stored_seen : (a : ActorState) (offset width value : ℕ) (g : Option Segment)
-    → seen a (option_map (stored offset width value) g) ≡ option_map (λ (s : Sight). record { tag = s.tag; bytes = written s.bytes offset (bytes_of width value) }) (seen a g)
+    → seen a (option_map (write_segment offset width value) g) ≡ option_map (λ (s : Sight). record { tag = s.tag; bytes = overwrite s.bytes offset (bytes_of width value) }) (seen a g)
 stored_seen a offset width value None = refl
 stored_seen a offset width value (Some g) = by_right (may_use a g.tag right.Read)
   where
-    by_right : (t : Bool) → (if t then Some (sight (stored offset width value g)) else None)
-        ≡ option_map (λ (s : Sight). record { tag = s.tag; bytes = written s.bytes offset (bytes_of width value) }) (if t then Some (sight g) else None)
+    by_right : (t : Bool) → (if t then Some (sight (write_segment offset width value g)) else None)
+        ≡ option_map (λ (s : Sight). record { tag = s.tag; bytes = overwrite s.bytes offset (bytes_of width value) }) (if t then Some (sight g) else None)
     by_right true = refl
     by_right false = refl
 
@@ -131,7 +131,7 @@ access_shows a (slot_ask.Load offset width live) r g h = refl
 access_shows a q r g h = absurd h
 
 access_stays : (q : SlotAsk) (r : SlotReply) (g : Option Segment) → IsAccessAsk q → g ≡ None → slot_after g q r ≡ None
-access_stays (slot_ask.Store offset width value live) slot_reply.Stored g h e = ap (option_map (stored offset width value)) e
+access_stays (slot_ask.Store offset width value live) slot_reply.Stored g h e = ap (option_map (write_segment offset width value)) e
 access_stays (slot_ask.Store offset width value live) r g h e = e
 access_stays (slot_ask.Load offset width live) r g h e = e
 access_stays q r g h e = absurd h
@@ -158,9 +158,9 @@ IsUseAsk (stream_ask.Append bits bytes) = Unit {0}
 IsUseAsk q = ⊥
 
 use_stays : (q : StreamAsk) (r : StreamReply) (s : Option Stream) → IsUseAsk q → s ≡ None → stream_after s q r ≡ None
-use_stays (stream_ask.Read bits count) (stream_reply.Given bytes) s h e = ap (option_map (moved (length bytes))) e
+use_stays (stream_ask.Read bits count) (stream_reply.Given bytes) s h e = ap (option_map (with_bytes_read (length bytes))) e
 use_stays (stream_ask.Read bits count) r s h e = e
-use_stays (stream_ask.Append bits bytes) stream_reply.Appended s h e = ap (option_map (grown bytes)) e
+use_stays (stream_ask.Append bits bytes) stream_reply.Appended s h e = ap (option_map (with_more_bytes bytes)) e
 use_stays (stream_ask.Append bits bytes) r s h e = e
 use_stays q r s h e = absurd h
 
@@ -197,7 +197,7 @@ record ComesAlike (v w : WorldState) (b : ActorState) (q : Want) : Type 0 where
   event : Event
   in_first : event_at v b q ≡ Some event
   in_second : event_at w b q ≡ Some event
-  nobody : (i : Image) (x : ActorState) → begun i x event ≡ None
+  nobody : (i : Image) (x : ActorState) → actor_begun i x event ≡ None
   made : made_by b (Some event) ≡ b.made
   alike : LookAlike b (cells_after v.cells event) (cells_after w.cells event)
 
@@ -250,14 +250,14 @@ seen_at_rest c a b q same is = absurd is
 
 -- the turn of an actor that is within a want once it has gone on
 turns_by : (w : WorldState) (name : List ℕ) (a b : ActorState) (q : Want) (e : Event) → actor_named w.actors name ≡ Some a → at_rest w a ≡ b → b.phase ≡ phase.Within q → event_at (resumed w a) b q ≡ Some e
-    → turn_of w name ≡ Some (happened (resumed w a) b e)
+    → turn_of w name ≡ Some (apply_event (resumed w a) b e)
 unfolding turn_of
 turns_by w name a b q e there rests at comes_so =
-    ap (turn_with w) there ∙ (ap (λ (x : ActorState). wanting (resumed w a) x (wanted x)) rests
-    ∙ (ap (λ p. wanting (resumed w a) b (wanted_at b p)) at ∙ ap (option_map (happened (resumed w a) b)) comes_so))
+    ap (turn_with w) there ∙ (ap (λ (x : ActorState). wanting (resumed w a) x (current_want x)) rests
+    ∙ (ap (λ p. wanting (resumed w a) b (wanted_at b p)) at ∙ ap (option_map (apply_event (resumed w a) b)) comes_so))
 
-doer_after : (w : WorldState) (name : List ℕ) (a b : ActorState) (e : Event) → actor_named w.actors name ≡ Some a → at_rest w a ≡ b → begun w.image b e ≡ None
-    → actor_named (happened (resumed w a) b e).world.actors name ≡ Some (takes w.image b e)
+doer_after : (w : WorldState) (name : List ℕ) (a b : ActorState) (e : Event) → actor_named w.actors name ≡ Some a → at_rest w a ≡ b → actor_begun w.image b e ≡ None
+    → actor_named (apply_event (resumed w a) b e).world.actors name ≡ Some (takes w.image b e)
 doer_after w name a b e there rests nobody =
     let v = resumed w a in
     let on = ready w.actors a in
@@ -278,8 +278,8 @@ isolated v w name a q access =
     let second : at_rest w a ≡ b = ap (λ i. rest i (ready w.actors a)) (sym access.image) ∙ ap (rest v.image) (sym access.going) in
     record {
       event = c.event;
-      first = (happened (resumed v a) b c.event).world;
-      second = (happened (resumed w a) b c.event).world;
+      first = (apply_event (resumed v a) b c.event).world;
+      second = (apply_event (resumed w a) b c.event).world;
       in_first = turns_by v name a b q c.event access.in_first refl access.within c.in_first;
       in_second = turns_by w name a b q c.event access.in_second second access.within c.in_second;
       after = x;

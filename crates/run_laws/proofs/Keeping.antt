@@ -1,7 +1,7 @@
 -- Private memory over an instruction and over an event.
 use Rattle.std.proofs.Common.{◌≡◌, ℕ, zero, suc, ◌+◌, ◌-◌, Bool, true, false, List, refl, sym, ap, subst, ◌∙◌, arith, ◌∷◌, []}
 use Rattle.std.specs.Prelude.{Option, Some, None, option_map, option_and_then, not, ◌&&◌, ◌==◌, nat_lt, nat_le, if◌then◌else◌, length, slice_get, slice_range}
-use Rattle.wedge_base.specs.Bytes.{number_of, bytes_of, written}
+use Rattle.wedge_base.specs.Bytes.{number_of, bytes_of, overwrite}
 use Rattle.wedge_base.specs.Images.{Image, fetch, read_text, slot_of}
 use Rattle.wedge_base.specs.Memory.{range_at, read_range}
 use Rattle.wedge_events.specs.Streams.{Stream, stream_reply as stream_reply_of, most_fds}
@@ -57,7 +57,7 @@ use Rattle.run_laws.specs.Cells.{Cells, stream_in}
 use Rattle.run_laws.specs.Worlds.{WorldState}
 use Rattle.run_laws.proofs.WritingCopies.{copied_there}
 use Rattle.sthread_life.specs.Calls.{serves, exit, is_procedure, create, create_with, create_checked, join, are_pages, tag_new, tag_delete, smalloc, free_at, sfree, fd_read, fd_append, fd_close, most_drafts, sc_new, right_asked, bits_asked, add_right, add_right_to, sc_mem_add, add_bits, add_bits_to, sc_fd_add, add_gate_to, sc_cgate_add, draft_call, a0, a1, a2, a3, a7, set_user, sc_user, path_in, put_root, set_root, sc_root, file_at, mode_asked, suits, open_file, open_path, file_open, makes_or_waits, may_be_gate, make_checked, make_with, cgate_make, enter_checked, enter_lending, enter_held, cgate, lent_asked}
-use Rattle.sthread_life.specs.Local.{needed, executed, fuelled, fetched, step}
+use Rattle.sthread_life.specs.Local.{step_with_need, step_with_instr, step_with_fuel, step_with_word, step}
 use Rattle.sthread_life.specs.Taking.{runs, loads_by, loads_at, takes}
 use Rattle.run_laws.specs.Remembering.{copied_bytes, copy_target, target_among, Elsewhere, LoadGives, StoreWrites, NeedRemembers, InstrRemembers, WordRemembers, EventRemembers, memory_after}
 use Rattle.run_laws.proofs.WritingRanges.{length-bytes_of, written_at}
@@ -99,7 +99,7 @@ load_gives i ins s a address width true false None = window_given ins s a width 
 -- stores
 copy_stored : (a : ActorState) (address width value : ℕ) (p : Place) (bytes : List ℕ) (t : Bool) → copy_at a.memory.copies p.slot ≡ Some bytes → holds_copy p.offset width bytes ≡ t
     → StoreWrites a address (bytes_of width value) (copy_target (Some p) (if t then Some (slice_range bytes p.offset (p.offset + width)) else None))
-    (if t then has_stored (with_bytes a p.slot (written bytes p.offset (bytes_of width value))) else ends a end_.Unmapped)
+    (if t then has_stored (with_bytes a p.slot (overwrite bytes p.offset (bytes_of width value))) else ends a end_.Unmapped)
 copy_stored a address width value p bytes true there holds =
     let count = length-bytes_of width value in
     (copied_there a.memory.copies p bytes (bytes_of width value) there (ap (λ n. nat_le (p.offset + n) (length bytes)) count ∙ holds), refl, refl)
@@ -247,7 +247,7 @@ call_keeps i a n =
     (keeps_if a (file_open i a) _ (n == 18) (open_keeps i a (mode_asked (a2 a)) (path_in i a (a0 a) (a1 a))) (draft_keeps i a n)))))))))))))
 
 -- an instruction
-need_remembers : (i : Image) (ins : Instr) (a : ActorState) (h : Hart) (n : Need) → NeedRemembers i ins.rd a n (needed i ins a h n)
+need_remembers : (i : Image) (ins : Instr) (a : ActorState) (h : Hart) (n : Need) → NeedRemembers i ins.rd a n (step_with_need i ins a h n)
 need_remembers i ins a h need.Done = refl
 need_remembers i ins a h (need.Load address width s) = load_gives i ins s a address width _ _ (range_at a.memory.ranges address width)
 need_remembers i ins a h (need.Store address width value) = store_writes a address width value _ _ (range_at a.memory.ranges address width) refl
@@ -255,17 +255,17 @@ need_remembers i ins a h need.Call = call_keeps i a (a7 a)
 need_remembers i ins a h need.Break = refl
 need_remembers i ins a h need.JumpMisaligned = refl
 
-instr_remembers : (i : Image) (a : ActorState) (ins : Option Instr) → InstrRemembers i a ins (executed i a ins)
+instr_remembers : (i : Image) (a : ActorState) (ins : Option Instr) → InstrRemembers i a ins (step_with_instr i a ins)
 instr_remembers i a None = refl
 instr_remembers i a (Some ins) = need_remembers i ins a (local ins a.hart).hart (local ins a.hart).need
 
-word_remembers : (i : Image) (a : ActorState) (n : ℕ) (o : Option ℕ) → a.fuel ≡ n → WordRemembers i a (option_and_then decode o) n (fetched i a o)
+word_remembers : (i : Image) (a : ActorState) (n : ℕ) (o : Option ℕ) → a.fuel ≡ n → WordRemembers i a (option_and_then decode o) n (step_with_word i a o)
 word_remembers i a zero None has = refl
 word_remembers i a (suc n) None has = refl
-word_remembers i a zero (Some word) has = ap (λ (x : ActorState). x.memory) (ap (fuelled i a word) has)
+word_remembers i a zero (Some word) has = ap (λ (x : ActorState). x.memory) (ap (step_with_fuel i a word) has)
 word_remembers i a (suc n) (Some word) has =
     let left : n ≡ a.fuel - 1 = omega (arith, has) in
-    let is : executed i (record a { fuel = n }) (decode word) ≡ fuelled i a word a.fuel = ap (λ m. executed i (record a { fuel = m }) (decode word)) left ∙ sym (ap (fuelled i a word) has) in
+    let is : step_with_instr i (record a { fuel = n }) (decode word) ≡ step_with_fuel i a word a.fuel = ap (λ m. step_with_instr i (record a { fuel = m }) (decode word)) left ∙ sym (ap (step_with_fuel i a word) has) in
     subst (InstrRemembers i (record a { fuel = n }) (decode word)) is (instr_remembers i (record a { fuel = n }) (decode word))
 
 pub step_remembers : (i : Image) (a : ActorState) → WordRemembers i a (option_and_then decode (fetch i a.hart.pc)) a.fuel (step i a)

@@ -28,8 +28,8 @@ use Rattle.run_laws.specs.KnownGates.{AreAmong, IsMadeAfter, AreInOrder, KnowsIt
 use Rattle.run_laws.specs.Laws.{GatesAreKept}
 use Rattle.sthread_life.specs.Local.{is_running, step, run_local, rest}
 use Rattle.run_laws.specs.Requests.{Request, Loads, Stores, Reads, Appends, Closes, Opens, Creates, Makes, Enters as EntersAt, Deletes, Allots, Frees, request_at}
-use Rattle.sthread_life.specs.Taking.{next_start, takes, child_of, run_by, begun}
-use Rattle.run_laws.specs.Worlds.{WorldState, opening, actor_named, put_actor, with_begun, turn_of, ready, resumed, Runs, with_actor}
+use Rattle.sthread_life.specs.Taking.{next_start, takes, child_of, run_by, actor_begun}
+use Rattle.run_laws.specs.Worlds.{WorldState, initial_state, actor_named, put_actor, with_begun, turn_of, ready, resumed, Runs, with_actor}
 use Rattle.run_laws.proofs.Between.{takes_name}
 use Rattle.run_laws.proofs.Bounding.{with_same, with_other}
 use Rattle.run_laws.proofs.Families.{takes_sheet, child_begins, run_begins}
@@ -433,15 +433,15 @@ turn_held w name e new all_ready h t =
     subst (λ (y : WorldState). AreHeld y.actors) (sym p.parts.new_is) (by_begun v (acts v b e happens) done doer at_rest found)
   where
     by_begun : (v : WorldState) {b : ActorState} → Acts v b e → AreHeld (put_actor v.actors (takes v.image b e)) → actor_named (put_actor v.actors (takes v.image b e)) (takes v.image b e).name ≡ Some (takes v.image b e)
-        → AreHeld (put_actor v.actors b) → actor_named (put_actor v.actors b) b.name ≡ Some b → AreHeld (with_begun (put_actor v.actors (takes v.image b e)) (begun v.image b e))
+        → AreHeld (put_actor v.actors b) → actor_named (put_actor v.actors b) b.name ≡ Some b → AreHeld (with_begun (put_actor v.actors (takes v.image b e)) (actor_begun v.image b e))
     by_begun v {b} (ActsAlone one) done doer at_rest found = subst (λ o. AreHeld (with_begun (put_actor v.actors (takes v.image b e)) o)) (sym (one_begins v.image b e one)) done
     by_begun v {b} (Starts s) done doer at_rest found =
-        subst (λ o. AreHeld (with_begun (put_actor v.actors (takes v.image b e)) o)) (sym (ap (begun v.image b) s.is))
+        subst (λ o. AreHeld (with_begun (put_actor v.actors (takes v.image b e)) o)) (sym (ap (actor_begun v.image b) s.is))
         (child_held v b e s done doer (at_rest.each b.name b found))
     by_begun v {b} (Enters y) done doer at_rest found =
         subst (λ o. AreHeld (with_begun (put_actor v.actors (takes v.image b e)) o)) (sym y.begins)
         (run_begins_held v b e y done doer (at_rest.each b.name b found))
-    by_begun v {b} (Joins k listed j) done doer at_rest found = subst (λ o. AreHeld (with_begun (put_actor v.actors (takes v.image b e)) o)) (sym (ap (begun v.image b) j.is)) done
+    by_begun v {b} (Joins k listed j) done doer at_rest found = subst (λ o. AreHeld (with_begun (put_actor v.actors (takes v.image b e)) o)) (sym (ap (actor_begun v.image b) j.is)) done
 
 -- ---- the root
 
@@ -453,14 +453,14 @@ root_none : (i : Image) (id : GateId) (g : Gate) → gate_named (root i).gates i
 unfolding root
 root_none i id g e = cc
 
-is_root : (i : Image) (m : List ℕ) (a : ActorState) → actor_named (opening i).actors m ≡ Some a → root i ≡ a
+is_root : (i : Image) (m : List ℕ) (a : ActorState) → actor_named (initial_state i).actors m ≡ Some a → root i ≡ a
 is_root i m a found = by_name (same (root i).name m) found
   where
     by_name : (t : Bool) → (if t then Some (root i) else None) ≡ Some a → root i ≡ a
     by_name true e = cc
     by_name false e = absurd cc
 
-pub opening_held : (i : Image) → AreHeld (opening i).actors
+pub opening_held : (i : Image) → AreHeld (initial_state i).actors
 opening_held i = record {
   each = λ m a found. subst KnowsItsGates (is_root i m a found) (root_knows i);
   makers = λ m a id g found known. absurd (root_none i id g (ap (λ (x : ActorState). gate_named x.gates id) (is_root i m a found) ∙ known));
@@ -482,5 +482,5 @@ one_gate actors all m n a b id g h there here first second =
 
 pub gates_kept : GatesAreKept
 gates_kept i turns new run =
-    let h = runs_held (opening i) turns new (opening_ready i) (opening_held i) run in
+    let h = runs_held (initial_state i) turns new (opening_ready i) (opening_held i) run in
     record { each = h.each; makers = h.makers; one = one_gate new.actors h }

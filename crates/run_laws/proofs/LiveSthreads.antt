@@ -25,12 +25,12 @@ use Rattle.sthread_life.specs.declared.phase.Phase.TheVariants as phase
 use Rattle.sthread_life.specs.Actors.{ActorState, root}
 use Rattle.sthread_life.specs.Children.{child_name, without_child}
 use Rattle.sthread_life.specs.Local.{has_ended, is_running, rest}
-use Rattle.sthread_life.specs.Taking.{takes, begun, run_at, has_snapped, next_start}
+use Rattle.sthread_life.specs.Taking.{takes, actor_begun, run_at, has_snapped, next_start}
 use Rattle.run_laws.specs.Cells.{cells_after, slot_in}
 use Rattle.run_laws.specs.Ends.{is_end_event}
 use Rattle.run_laws.specs.Laws.{LivesAreCounted}
 use Rattle.run_laws.specs.LiveSthreads.{is_starting, lives_of, lives_in}
-use Rattle.run_laws.specs.Worlds.{WorldState, opening, actor_named, put_actor, with_begun, turn_of, Runs, ready, resumed}
+use Rattle.run_laws.specs.Worlds.{WorldState, initial_state, actor_named, put_actor, with_begun, turn_of, Runs, ready, resumed}
 use Rattle.run_laws.proofs.Between.{event_for, IsPreparing, entered_is, joined_is, takes_name}
 use Rattle.run_laws.proofs.CellChanging.{turn_cells}
 use Rattle.run_laws.proofs.Families.{IsOfOne, takes_same}
@@ -134,7 +134,7 @@ lives_begun actors (Some c) = lives_behind actors c
 
 -- what an event makes of the count, where it counts its actor's lives at least
 record IsCounted (w : WorldState) (b : ActorState) (e : Event) : Type 0 where
-  count : lives_of b ≤ w.cells.lives → (cells_after w.cells e).lives + lives_of b ≡ w.cells.lives + lives_of (takes w.image b e) + begun_lives (begun w.image b e)
+  count : lives_of b ≤ w.cells.lives → (cells_after w.cells e).lives + lives_of b ≡ w.cells.lives + lives_of (takes w.image b e) + begun_lives (actor_begun w.image b e)
   most : w.cells.lives ≤ most_lives → (cells_after w.cells e).lives ≤ most_lives
 
 abbrev IsClaim : Event → Type 0
@@ -145,7 +145,7 @@ starts_none : (i : Image) (b : ActorState) (e : Event) (p : Phase) → b.phase �
 starts_none i b e p at calm other = no_start (takes i b e).phase (λ k. ⊎_elim (λ c. other c) (λ c. calm (subst IsPreparing at c)) (was_preparing i b e k))
 
 -- an event that leaves the count, and neither ends nor begins an actor
-quiet : (w : WorldState) (b : ActorState) (e : Event) (p : Phase) → b.phase ≡ p → (IsPreparing p → ⊥) → has_ended p ≡ false → (takes w.image b e).run_of ≡ b.run_of → begun_lives (begun w.image b e) ≡ 0 → is_end_event (Some e) ≡ false → (IsClaim e → ⊥)
+quiet : (w : WorldState) (b : ActorState) (e : Event) (p : Phase) → b.phase ≡ p → (IsPreparing p → ⊥) → has_ended p ≡ false → (takes w.image b e).run_of ≡ b.run_of → begun_lives (actor_begun w.image b e) ≡ 0 → is_end_event (Some e) ≡ false → (IsClaim e → ⊥)
     → (cells_after w.cells e).lives ≡ w.cells.lives → IsCounted w b e
 quiet w b e p at calm live own none goes other alike =
     let was = by_parts b false (is_some b.run_of) false (ap has_ended at ∙ live) refl (ap is_starting at ∙ no_start p calm) in
@@ -219,7 +219,7 @@ event_counted w b e (Snaps s) = subst (IsCounted w b) (sym s.is) (record { count
     now : lives_of (takes w.image b asked) ≡ (if false || is_some b.run_of then 0 else 1) + 1
     now = by_parts (takes w.image b asked) false (is_some b.run_of) true (reached w.image b asked) (ap is_some (takes_same w.image b asked tt).run_of) still
 
-    none : begun_lives (begun w.image b asked) ≡ 0
+    none : begun_lives (actor_begun w.image b asked) ≡ 0
     none = refl
 event_counted w b e (GateSnaps s) = subst (IsCounted w b) (sym s.is) (quiet_one w b _ _ s.at (λ k. k) refl tt refl (λ c. let h = c in cc) refl)
 event_counted w b e (Started s) = subst (IsCounted w b) (sym s.is) (record { count = λ k. omega (arith, was, now, child); most = λ k. k })
@@ -233,7 +233,7 @@ event_counted w b e (Started s) = subst (IsCounted w b) (sym s.is) (record { cou
     now : lives_of (takes w.image b asked) ≡ (if false || is_some b.run_of then 0 else 1) + 0
     now = by_parts (takes w.image b asked) false (is_some b.run_of) false (reached w.image b asked) (unfold takes in refl) (unfold takes in refl)
 
-    child : begun_lives (begun w.image b asked) ≡ 1
+    child : begun_lives (actor_begun w.image b asked) ≡ 1
     child = refl
 event_counted w b e (Opens o) = subst (IsCounted w b) (sym o.is) (quiet_one w b _ _ o.at (λ k. k) refl tt refl (λ c. let h = c in cc) refl)
 event_counted w b e (Releases r) = subst (IsCounted w b) (sym r.is) (quiet_one w b _ _ r.at (λ k. k) refl tt refl (λ c. let h = c in cc) refl)
@@ -305,8 +305,8 @@ turn_counted w t new all taken h =
     let put = lives_put v.actors a x (takes_name w.image b t.event ∙ rest-name w.image a) there in
     let rested = rest_lives w.image a _ refl in
     let inside = lives_within v.actors a.name a there in
-    let begins = lives_begun (put_actor v.actors x) (begun w.image b t.event) in
-    let sum : lives_in new.actors ≡ lives_in (with_begun (put_actor v.actors x) (begun w.image b t.event)) = ap (λ (z : WorldState). lives_in z.actors) p.parts.new_is in
+    let begins = lives_begun (put_actor v.actors x) (actor_begun w.image b t.event) in
+    let sum : lives_in new.actors ≡ lives_in (with_begun (put_actor v.actors x) (actor_begun w.image b t.event)) = ap (λ (z : WorldState). lives_in z.actors) p.parts.new_is in
     let cell : new.cells.lives ≡ (cells_after w.cells t.event).lives = ap (λ c. c.lives) (turn_cells w t new taken) in
     let before = h.counted in
     let own : lives_of b ≤ w.cells.lives = omega (arith, rested, inside, goes, alike, before) in
@@ -318,13 +318,13 @@ runs_counted : (old : WorldState) (turns : List Turn) (new : WorldState) → All
 runs_counted old [] new all h run = subst AreCounted (sym run) h
 runs_counted old (t ∷ ts) new all h run = runs_counted run.0 ts new (turn_ready old t.actor t.event run.0 all run.1) (turn_counted old t run.0 all run.1 h) run.2
 
-opening_counted : (i : Image) → AreCounted (opening i)
+opening_counted : (i : Image) → AreCounted (initial_state i)
 unfolding root
 opening_counted i = record { counted = refl; few = omega arith }
 
 pub lives_are_counted : LivesAreCounted
 lives_are_counted i turns w run =
-    let c = runs_counted (opening i) turns w (opening_ready i) (opening_counted i) run in
+    let c = runs_counted (initial_state i) turns w (opening_ready i) (opening_counted i) run in
     let is = c.counted in
     let few = c.few in
     (is, omega (arith, is, few))

@@ -20,7 +20,7 @@ use Rattle.sthread_life.specs.Actors.{ActorState, gate_held}
 use Rattle.sthread_life.specs.Calls.{a0, a7}
 use Rattle.run_laws.specs.Cells.{Cells, slot_in, stream_in}
 use Rattle.sthread_life.specs.Lending.{may_lend}
-use Rattle.run_laws.specs.Requests.{Access, Request, Loads, Stores, Reads, Appends, Closes, Opens, Creates, Makes, Enters, Allots, Frees, reaches_window, in_tag, in_window, bytes_at, path_at, in_stream, is_room, append_of, bits_to_open, file_of, open_of, create_of, suits_gate, make_of, lending_of, enter_of, free_of, lent_of, call_request, needed_request, instr_request, word_request, request_at}
+use Rattle.run_laws.specs.Requests.{Access, Request, Loads, Stores, Reads, Appends, Closes, Opens, Creates, Makes, Enters, Allots, Frees, reaches_window, in_tag, in_window, buffer_bytes, path_at, in_stream, is_room, append_of, bits_to_open, file_of, open_of, create_of, suits_gate, make_of, lending_of, enter_of, free_of, lent_of, call_request, needed_request, instr_request, word_request, request_at}
 
 if_makes : {X : Type 0} (t : Bool) (x y : Option Request) (d : Draft) → (x ≡ Some (Makes d) → X) → (y ≡ Some (Makes d) → X) → (if t then x else y) ≡ Some (Makes d) → X
 if_makes true x y d first second e = first e
@@ -89,7 +89,7 @@ call_drafted i c a n d =
     (if_makes (n == 14) _ _ d (λ k. absurd (enter_not (r 10) (gate_held a (r 10)) (lent_of a.drafts (r 12)) d k))
     (if_makes (n == 15) _ _ d
     (λ k. absurd (if_makes (is_room a (r 11) (r 12) && (nat_le (r 12) a.fuel && nat_lt (r 10) most_fds)) (in_stream (λ s. Reads (r 10) s (r 12)) (stream_in c (r 10))) None d (in_stream_not (λ s. Reads (r 10) s (r 12)) (stream_in c (r 10)) d (λ x j. cc)) (λ j. cc) k))
-    (if_makes (n == 16) _ _ d (λ k. absurd (append_not c a (r 10) (r 12) (bytes_at i a (r 11) (r 12)) d k))
+    (if_makes (n == 16) _ _ d (λ k. absurd (append_not c a (r 10) (r 12) (buffer_bytes i a (r 11) (r 12)) d k))
     (if_makes (n == 17) _ _ d
     (λ k. absurd (if_makes (nat_lt (r 10) most_fds) (in_stream (Closes (r 10)) (stream_in c (r 10))) None d (in_stream_not (Closes (r 10)) (stream_in c (r 10)) d (λ x j. cc)) (λ j. cc) k))
     (if_makes (n == 18) _ None d (λ k. absurd (open_not i a (r 11) (bits_to_open (r 12)) (path_at i a (r 10) (r 11)) d k)) (λ k. absurd cc))))))))))

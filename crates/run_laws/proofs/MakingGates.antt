@@ -24,7 +24,7 @@ use Rattle.sthread_life.specs.Actors.{ActorState}
 use Rattle.sthread_life.specs.Between.{IsBetween}
 use Rattle.sthread_life.specs.Calls.{a0, draft_at, makes_or_waits}
 use Rattle.run_laws.specs.ChildCopies.{snap_reply}
-use Rattle.sthread_life.specs.Copying.{Preparation, is_copy_alone, copied_from, prepared, behind_first}
+use Rattle.sthread_life.specs.Copying.{Preparation, is_copy_alone, copied_from, prepare_copies, behind_first}
 use Rattle.sthread_life.specs.Taking.{copies_asked, copied_on, has_snapped, takes}
 use Rattle.run_laws.proofs.Between.{IsPreparing, IsMaking, MayNumber, Leaves, takes_between, waiting_is}
 
@@ -33,12 +33,12 @@ longer [] x e = absurd cc
 longer (y ∷ ys) x e = longer ys x cc
 
 -- the copies that are left once those of the maker's own are made
-pub prepared_left : (s : Sheet) (made : Made) (own : Copies) (m : PrivateMemory) (gs : List CopyGrant) → length (prepared s made own m gs).left ≤ length gs
+pub prepared_left : (s : Sheet) (made : Made) (own : Copies) (m : PrivateMemory) (gs : List CopyGrant) → length (prepare_copies s made own m gs).left ≤ length gs
 prepared_left s made own m [] = omega arith
 prepared_left s made own m (g ∷ gs) = by_right (is_copy_alone (right_on s made g.tag)) (prepared_left s made own (copied_from (copy_at own g.slot) g.slot m) gs)
   where
-    by_right : (t : Bool) → length (prepared s made own (copied_from (copy_at own g.slot) g.slot m) gs).left ≤ length gs
-        → length (if t then prepared s made own (copied_from (copy_at own g.slot) g.slot m) gs else record { memory = m; left = g ∷ gs }).left ≤ suc (length gs)
+    by_right : (t : Bool) → length (prepare_copies s made own (copied_from (copy_at own g.slot) g.slot m) gs).left ≤ length gs
+        → length (if t then prepare_copies s made own (copied_from (copy_at own g.slot) g.slot m) gs else record { memory = m; left = g ∷ gs }).left ≤ suc (length gs)
     by_right true fewer = omega (arith, fewer)
     by_right false fewer = omega arith
 

@@ -53,9 +53,9 @@ use Rattle.cow_pages.specs.Listed.{bytes_listed}
 use Rattle.run_laws.specs.ChildCopies.{NotPreparing, PreparesBy}
 use Rattle.sthread_life.specs.Copying.{Preparation}
 use Rattle.run_laws.proofs.Preparing.{step_unprepared, event_prepares}
-use Rattle.sthread_life.specs.Taking.{next_start, pair, runs, loads_by, loads_at, has_snapped, answered_end, has_started, takes_lives, takes, child_of, begun, copied_on, has_entered, run_by, wanted, wanted_at}
+use Rattle.sthread_life.specs.Taking.{next_start, pair, runs, loads_by, loads_at, has_snapped, answered_end, has_started, takes_lives, takes, child_of, actor_begun, copied_on, has_entered, run_by, current_want, wanted_at}
 use Rattle.run_laws.specs.Cells.{Cells, held, slot_in, stream_in, cells_after}
-use Rattle.run_laws.specs.Worlds.{WorldState, opening, actor_named, put_actor, with_begun, turn_of, Runs, with_actor, ready, resumed}
+use Rattle.run_laws.specs.Worlds.{WorldState, initial_state, actor_named, put_actor, with_begun, turn_of, Runs, with_actor, ready, resumed}
 use Rattle.run_laws.specs.Requests.{Access, Request, Loads, Stores, Reads, Appends, Closes, Opens, Creates, Deletes, Allots, Frees, request_at, in_tag, Makes, Enters}
 use Rattle.run_laws.specs.Allowed.{may_use, lacks, is_refused, next_word, IsDone, denied, comes_to, HasBegunGate, IsAboutToEnter}
 use Rattle.run_laws.specs.Moments.{EachMoment, EachInstructionOf, TurnHas, is_use, slot_used, NothingDenied, IsChecked, ComesToEvent, IsMet, IsAnswered, Misses, MeetsWith, AnswersAt, GoesOnAs, EachMomentOf}
@@ -88,7 +88,7 @@ use Rattle.run_laws.proofs.GateMoments.{step_makes_gates, event_makes_gates}
 use Rattle.run_laws.proofs.MakingGates.{longer}
 use Rattle.run_laws.proofs.TagSlots.{made_slot, used_slot, at_slot, of_slot}
 use Rattle.sthread_life.specs.Entrances.{Entrance}
-use Rattle.run_laws.specs.Families.{joined}
+use Rattle.run_laws.specs.Families.{after_join}
 use Rattle.run_laws.proofs.Turns.{Readies, Stays, Back, readies, turn_from}
 
 -- ---- an instruction
@@ -399,7 +399,7 @@ misses_for w b N rd s (want.Lives lives_ask.Claim) own = tt
 misses_for w b N rd s q own = absurd own
 
 -- an event of no request
-unasked : (w : WorldState) (b : ActorState) (e : Event) → begun w.image b e ≡ None → (takes w.image b e).denials ≡ b.denials → NothingDenied (with_actor w b) (after w b e)
+unasked : (w : WorldState) (b : ActorState) (e : Event) → actor_begun w.image b e ≡ None → (takes w.image b e).denials ≡ b.denials → NothingDenied (with_actor w b) (after w b e)
 unasked w b e none same =
     let x = takes w.image b e in
     subst (λ o. NothingDenied (with_actor w b) (record w { cells = cells_after w.cells e; actors = with_begun (put_actor w.actors x) o })) (sym none) (kept w (cells_after w.cells e) b x (takes_name w.image b e) same)
@@ -881,7 +881,7 @@ put_such Q w b x a named n q = subst (λ f. IsSomeAnd f Q) (sym (put_there w b x
 done_such : (Q : ActorState → Type 0) (w : WorldState) (b a : ActorState) (e : Event) → actor_named w.actors b.name ≡ Some a → Q (takes w.image b e) → IsSomeAnd (actor_named (after w b e).actors b.name) Q
 done_such Q w b a e named q =
     let x = takes w.image b e in
-    subst (λ f. IsSomeAnd f Q) (sym (named_begun (put_actor w.actors x) (begun w.image b e) b.name x (put_there w b x a named (takes_name w.image b e)))) q
+    subst (λ f. IsSomeAnd f Q) (sym (named_begun (put_actor w.actors x) (actor_begun w.image b e) b.name x (put_there w b x a named (takes_name w.image b e)))) q
 
 -- ---- turns
 
@@ -905,7 +905,7 @@ moments_of P w name e new p h instructs happens =
     }
 
 -- whoever takes a turn goes on as it is, or from the run for which it waits
-goes_as : (w : WorldState) (a : ActorState) (q : Want) → wanted (rest w.image (ready w.actors a)) ≡ Some q → GoesOnAs w.actors a a.phase (ready w.actors a)
+goes_as : (w : WorldState) (a : ActorState) (q : Want) → current_want (rest w.image (ready w.actors a)) ≡ Some q → GoesOnAs w.actors a a.phase (ready w.actors a)
 goes_as w a q wants = by_case (readies w.actors a)
   where
     by_phase : (p : Phase) → a.phase ≡ p → ready w.actors a ≡ a → GoesOnAs w.actors a p (ready w.actors a)
@@ -919,7 +919,7 @@ goes_as w a q wants = by_case (readies w.actors a)
     by_phase (phase.Entering entrance) at is = is
     by_phase (phase.Waiting k) at is =
         let stays_so : rest w.image (ready w.actors a) ≡ a = ap (rest w.image) is ∙ rest-stays w.image a (ap is_running at) in
-        let none : None ≡ Some q = sym (ap (wanted_at a) at) ∙ (sym (ap (λ (x : ActorState). wanted x) stays_so) ∙ wants) in
+        let none : None ≡ Some q = sym (ap (wanted_at a) at) ∙ (sym (ap (λ (x : ActorState). current_want x) stays_so) ∙ wants) in
         absurd cc
     by_phase (phase.Ending x) at is = is
     by_phase (phase.Ended x) at is = is
@@ -928,7 +928,7 @@ goes_as w a q wants = by_case (readies w.actors a)
     by_case (Stays is) = by_phase a.phase refl is
     by_case (Back k at r is) =
         subst (λ p. GoesOnAs w.actors a p (ready w.actors a)) (sym at)
-        (subst (λ o. IsSomeAnd o (λ c. (e : End) × (c.phase ≡ phase.Ended e) × (ready w.actors a ≡ joined a (phase.Waiting k) k e c.fuel))) (sym r.there) (r.how, ended_so r.run.phase r.how r.ended, is))
+        (subst (λ o. IsSomeAnd o (λ c. (e : End) × (c.phase ≡ phase.Ended e) × (ready w.actors a ≡ after_join a (phase.Waiting k) k e c.fuel))) (sym r.there) (r.how, ended_so r.run.phase r.how r.ended, is))
 
 -- of the moments of a turn
 turn_has : (P : WorldState → ActorState → Option Event → WorldState → Type 0) (w : WorldState) (t : Turn) (new : WorldState) → AllReady w → turn_of w t.actor ≡ Some (record { event = t.event; world = new })
@@ -940,7 +940,7 @@ turn_has P w t new all e instructs happens a named =
     let same_actor : p.actor ≡ a = let f : Some p.actor ≡ Some a = sym p.named ∙ named in cc in
     let v = resumed w p.actor in
     let moments = moments_of P v t.actor t.event new p.parts (turn_happens w t.actor t.event new all p) (instructs v) (happens v) in
-    let goes = goes_as w p.actor p.parts.want (subst (λ (x : ActorState). wanted (rest w.image x) ≡ Some p.parts.want) p.is p.parts.wants) in
+    let goes = goes_as w p.actor p.parts.want (subst (λ (x : ActorState). current_want (rest w.image x) ≡ Some p.parts.want) p.is p.parts.wants) in
     subst (λ (x : ActorState). (b : ActorState) × GoesOnAs w.actors x x.phase b × EachMomentOf P (with_actor w b) b t.event new) same_actor
     (ready w.actors p.actor, goes, subst (λ (x : ActorState). EachMomentOf P v x t.event new) p.is moments)
 
@@ -988,7 +988,7 @@ each_lawful old [] new all run = tt
 each_lawful old (t ∷ ts) new all run = (run.0, run.1, turn_lawful old t run.0 all run.1, each_lawful run.0 ts new (turn_ready old t.actor t.event run.0 all run.1) run.2)
 
 pub moments_lawful : MomentsAreLawful
-moments_lawful i turns new run = each_lawful (opening i) turns new (opening_ready i) run
+moments_lawful i turns new run = each_lawful (initial_state i) turns new (opening_ready i) run
 
 -- whoever goes on has its name still
 goes_named : (actors : List ActorState) (a b : ActorState) (p : Phase) → GoesOnAs actors a p b → b.name ≡ a.name
@@ -1002,7 +1002,7 @@ goes_named actors a b (phase.OpeningFile o) is = ap (λ (x : ActorState). x.name
 goes_named actors a b (phase.Entering entrance) is = ap (λ (x : ActorState). x.name) is
 goes_named actors a b (phase.Waiting k) is = by_run (actor_named actors (a.name ++ k ∷ [])) is
   where
-    by_run : (o : Option ActorState) → IsSomeAnd o (λ c. (e : End) × (c.phase ≡ phase.Ended e) × (b ≡ joined a (phase.Waiting k) k e c.fuel)) → b.name ≡ a.name
+    by_run : (o : Option ActorState) → IsSomeAnd o (λ c. (e : End) × (c.phase ≡ phase.Ended e) × (b ≡ after_join a (phase.Waiting k) k e c.fuel)) → b.name ≡ a.name
     by_run None so = absurd so
     by_run (Some c) so = ap (λ (x : ActorState). x.name) so.2
 goes_named actors a b (phase.Ending x) is = ap (λ (x : ActorState). x.name) is

@@ -37,25 +37,25 @@ use Rattle.wedge_base.specs.declared.rights.StreamKind.TheVariants as kind
 use Rattle.sthread_life.specs.Actors.{ActorState, answers, bits_of, slot_held, code_number, denies, ends, refuses, wants, spends, pristine, gate_held}
 use Rattle.cow_pages.specs.Copies.{copy_at, holds_copy}
 use Rattle.sthread_life.specs.Private.{load_bytes, load_copy, load_window, load_range, store_copy, store_window, store_range, has_loaded, fits_read, fits_write, buffer}
-use Rattle.wedge_base.specs.Sheets.{Draft, empty_draft, takes_tag, takes_fd, takes_gate, with_gate, first_excess, granted}
+use Rattle.wedge_base.specs.Sheets.{Draft, empty_draft, takes_tag, takes_fd, takes_gate, with_gate, first_excess, sheet_of_draft}
 use Rattle.wedge_events.specs.Slots.{Segment}
 use Rattle.wedge_base.specs.declared.rights.Denial.{Denial}
 use Rattle.wedge_base.specs.declared.rights.Denial.TheVariants as denial
 use Rattle.wedge_events.specs.declared.cells.LivesAsk.TheVariants as lives_ask
 use Rattle.wedge_base.specs.declared.rights.Right.TheVariants as right
 use Rattle.run_laws.proofs.Buffers.{buffer_is, path_is}
-use Rattle.sthread_life.specs.Calls.{serves, is_procedure, create_with, create_checked, create_allowed, are_pages, free_at, fd_read, fd_append, fd_close, sc_new, add_right, add_right_to, sc_mem_add, add_bits, add_bits_to, sc_fd_add, add_gate_to, sc_cgate_add, with_draft, bits, a0, a1, a2, a3, a7, set_user, sc_user, path_in, set_root, sc_root, draft_call, file_at, mode_asked, suits, open_file, open_path, file_open, a4, new_gate, has_gate, makes_or_waits, may_be_gate, make_checked, make_with, enter_allowed, enter_checked, enter_lending, enter_held, lent_asked, entrance_of}
-use Rattle.sthread_life.specs.Local.{needed, executed, fuelled, fetched, step, is_running, run_local, rest}
+use Rattle.sthread_life.specs.Calls.{serves, is_procedure, create_with, create_checked, create_allowed, are_pages, free_at, fd_read, fd_append, fd_close, sc_new, add_right, add_right_to, sc_mem_add, add_bits, add_bits_to, sc_fd_add, add_gate_to, sc_cgate_add, with_draft, read_append_bits, a0, a1, a2, a3, a7, set_user, sc_user, path_in, set_root, sc_root, draft_call, file_at, mode_asked, suits, open_file, open_path, file_open, a4, new_gate, has_gate, makes_or_waits, may_be_gate, make_checked, make_with, enter_allowed, enter_checked, enter_lending, enter_held, lent_asked, entrance_of}
+use Rattle.sthread_life.specs.Local.{step_with_need, step_with_instr, step_with_fuel, step_with_word, step, is_running, run_local, rest}
 use Rattle.sthread_life.proofs.Resting.{stays, goes_on, running_is}
 use Rattle.run_laws.proofs.StreamCalls.{stream_request, stream_refusal, IsStreamRequest, request_at_phase, refusal_at_phase, stream_event}
 use Rattle.run_laws.specs.Cells.{Cells, slot_in, stream_in}
 use Rattle.run_laws.specs.Refusals.{fuel_short, full, deep, no_such, bad, start_refusal, create_refusal, pages_refusal, address_refusal, life_refusal, slots_refusal, close_refusal, place_refusal, block_refusal, free_refusal, call_refusal, call_refusal_after, right_refusal, bits_refusal, gate_refusal, number_refusal, read_refusal, append_refusal, need_refusal, instr_refusal, word_refusal, refusal_at, read_refusal_after, append_refusal_after, stream_close_refusal, need_refusal_after, instr_refusal_after, word_refusal_after, refusal_after, refused, user_refusal, root_refusal, draft_refusal, file_refusal, open_refusal, make_refusal, entry_refusal, lending_refusal, enter_refusal}
-use Rattle.run_laws.specs.Requests.{Access, Request, Loads, Stores, Reads, Appends, Closes, Creates, Deletes, Allots, Frees, create_of, in_tag, in_window, bytes_at, in_stream, is_room, read_of, append_of, close_of, free_of, call_request, needed_request, instr_request, word_request, request_at, Opens, bits_to_open, file_of, path_at, open_of, Makes, suits_gate, make_of, Enters, lent_of, lending_of, enter_of}
+use Rattle.run_laws.specs.Requests.{Access, Request, Loads, Stores, Reads, Appends, Closes, Creates, Deletes, Allots, Frees, create_of, in_tag, in_window, buffer_bytes, in_stream, is_room, read_of, append_of, close_of, free_of, call_request, needed_request, instr_request, word_request, request_at, Opens, bits_to_open, file_of, path_at, open_of, Makes, suits_gate, make_of, Enters, lent_of, lending_of, enter_of}
 use Rattle.run_laws.specs.Allowed.{may_use, may_be_opened, lacks, is_refused, is_checked_at_event, denied as denied_of, fits_kind, opened_as, HasBegunGate, IsAboutToEnter, enter_lacks, enter_refused}
 use Rattle.sthread_life.specs.Children.{is_child}
 use Rattle.run_laws.specs.Ends.{end_of, copy_end, window_end, needed_end, instr_end, fuel_end, word_end, end_at}
 use Rattle.run_laws.specs.MadeGates.{IsGateOf}
-use Rattle.sthread_life.specs.Copying.{Preparation, copy_grants, prepared}
+use Rattle.sthread_life.specs.Copying.{Preparation, copy_grants, prepare_copies}
 use Rattle.sthread_life.specs.Taking.{copies_asked}
 use Rattle.sthread_life.specs.declared.copy_grant.CopyGrant.{CopyGrant}
 use Rattle.run_laws.proofs.MakingGates.{MayGrant, IsMakeable, granting_at, prepared_left}
@@ -381,7 +381,7 @@ append_coded a fd n bytes false u v fuel few = refl
 append_coded a fd n bytes true u v fuel few = rw (fuel, few) refl
 
 append_comes : (N : ℕ → Bool → ℕ → Type 0) (i : Image) (a : ActorState)
-    → Comes N a (λ c. append_of c a (a0 a) (a2 a) (bytes_at i a (a1 a) (a2 a))) (λ c. append_refusal_after a (a0 a) (stream_in c (a0 a))) None (append_refusal a (a0 a) (a2 a) (bytes_at i a (a1 a) (a2 a))) (fd_append i a)
+    → Comes N a (λ c. append_of c a (a0 a) (a2 a) (buffer_bytes i a (a1 a) (a2 a))) (λ c. append_refusal_after a (a0 a) (stream_in c (a0 a))) None (append_refusal a (a0 a) (a2 a) (buffer_bytes i a (a1 a) (a2 a))) (fd_append i a)
 append_comes N i a =
     let t = fits_read i a (a1 a) (a2 a) in
     let bytes = buffer i a (a1 a) (a2 a) in
@@ -431,7 +431,7 @@ right_to_comes N a (Some d) = right_comes N a d (a2 a == 1) (a2 a == 2) (a2 a ==
 
 bits_comes : (N : ℕ → Bool → ℕ → Type 0) (a : ActorState) (d : Draft) (t u v : Bool)
     → AsDraft N a (if not (t || (u || v)) then Some bad else if takes_fd d (a1 a) then None else Some full)
-    (add_bits a d (if t then Some (bits true false) else if u then Some (bits false true) else if v then Some (bits true true) else None))
+    (add_bits a d (if t then Some (read_append_bits true false) else if u then Some (read_append_bits false true) else if v then Some (read_append_bits true true) else None))
 bits_comes N a d true u v = as_if N a None (Some full) _ (refuses a code.Full) (takes_fd d (a1 a)) (drafted_comes N a _ 0) (comes_refused N a _ _ code.Full (λ c. refl))
 bits_comes N a d false true v = as_if N a None (Some full) _ (refuses a code.Full) (takes_fd d (a1 a)) (drafted_comes N a _ 0) (comes_refused N a _ _ code.Full (λ c. refl))
 bits_comes N a d false false true = as_if N a None (Some full) _ (refuses a code.Full) (takes_fd d (a1 a)) (drafted_comes N a _ 0) (comes_refused N a _ _ code.Full (λ c. refl))
@@ -813,10 +813,10 @@ gate_checked : (N : ℕ → Bool → ℕ → Type 0) (i : Image) (a : ActorState
     → Comes N a (λ c. Some (Makes d)) (λ c. None) None None (make_checked i a d o)
 gate_checked N i a d (Some y) drafted excess user root = denied_now N a (Makes d) y _ refl excess refl
 gate_checked N i a d None drafted excess user root =
-    let gs = copy_grants (granted a.sheet a.made d).tags in
+    let gs = copy_grants (sheet_of_draft a.sheet a.made d).tags in
     let fewer = prepared_left a.sheet a.made a.memory.copies (pristine i) gs in
-    let asked : length (copies_asked a) ≡ length gs = ap (λ o. length (copy_grants (granted a.sheet a.made (unwrap_or o empty_draft)).tags)) drafted in
-    let p = prepared a.sheet a.made a.memory.copies (pristine i) gs in
+    let asked : length (copies_asked a) ≡ length gs = ap (λ o. length (copy_grants (sheet_of_draft a.sheet a.made (unwrap_or o empty_draft)).tags)) drafted in
+    let p = prepare_copies a.sheet a.made a.memory.copies (pristine i) gs in
     made_comes N a d p p.left drafted refl (record { draft = d; drafted = drafted; allowed = excess; user = user; root = root }) (omega (arith, fewer, asked)) excess
 
 gate_tests : (N : ℕ → Bool → ℕ → Type 0) (i : Image) (a : ActorState) (d : Draft) (p k u r : Bool) → slice_get a.drafts (a0 a) ≡ Some d → is_none d.user ≡ u → is_none d.root ≡ r
@@ -989,7 +989,7 @@ abbrev pub LoadsAt : Image → Hart → ℕ → Bool → ℕ → Type 0
 LoadsAt i h = InstrLoads h (option_and_then decode (fetch i h.pc))
 
 -- an instruction that is paid for
-pub needed_comes : (i : Image) (ins : Instr) (a : ActorState) (h : Hart) (n : Need) → a.phase ≡ phase.Running → Comes (NeedLoads ins.rd n) a (λ c. needed_request i c a ins.rd n) (λ c. need_refusal_after c a n) (needed_end i a n) (need_refusal i a n) (needed i ins a h n)
+pub needed_comes : (i : Image) (ins : Instr) (a : ActorState) (h : Hart) (n : Need) → a.phase ≡ phase.Running → Comes (NeedLoads ins.rd n) a (λ c. needed_request i c a ins.rd n) (λ c. need_refusal_after c a n) (needed_end i a n) (need_refusal i a n) (step_with_need i ins a h n)
 unfolding serves
 needed_comes i ins a h need.Done run = comes_on (NeedLoads ins.rd need.Done) a (record a { hart = h }) _ _ refl refl run (λ c. refl)
 needed_comes i ins a h (need.Load address width s) run = load_comes (NeedLoads ins.rd (need.Load address width s)) i ins s a address width _ _ (range_at a.memory.ranges address width) (refl, refl, refl) run
@@ -998,7 +998,7 @@ needed_comes i ins a h need.Call run = call_comes (NeedLoads ins.rd need.Call) i
 needed_comes i ins a h need.Break run = comes_end (NeedLoads ins.rd need.Break) a _ _ end_.Break (λ c. refl)
 needed_comes i ins a h need.JumpMisaligned run = comes_end (NeedLoads ins.rd need.JumpMisaligned) a _ _ end_.JumpMisaligned (λ c. refl)
 
-executed_comes : (i : Image) (a : ActorState) (ins : Option Instr) → a.phase ≡ phase.Running → Comes (InstrLoads a.hart ins) a (λ c. instr_request i c a ins) (λ c. instr_refusal_after c a ins) (instr_end i a ins) (instr_refusal i a ins) (executed i a ins)
+executed_comes : (i : Image) (a : ActorState) (ins : Option Instr) → a.phase ≡ phase.Running → Comes (InstrLoads a.hart ins) a (λ c. instr_request i c a ins) (λ c. instr_refusal_after c a ins) (instr_end i a ins) (instr_refusal i a ins) (step_with_instr i a ins)
 executed_comes i a None run = comes_end (InstrLoads a.hart None) a _ _ end_.BadInstruction (λ c. refl)
 executed_comes i a (Some ins) run = needed_comes i ins a (local ins a.hart).hart (local ins a.hart).need run
 
@@ -1007,12 +1007,12 @@ pub stuck : (i : Image) (a : ActorState) → a.fuel ≡ zero → (e : End) × (s
 unfolding step
 stuck i a out = fetched_stuck (fetch i a.hart.pc)
   where
-    fetched_stuck : (w : Option ℕ) → (e : End) × (fetched i a w ≡ ends a e) × (word_end i a w ≡ Some e)
+    fetched_stuck : (w : Option ℕ) → (e : End) × (step_with_word i a w ≡ ends a e) × (word_end i a w ≡ Some e)
     fetched_stuck None = (end_.FetchFault, refl, refl)
-    fetched_stuck (Some word) = (end_.FuelOut, ap (fuelled i a word) out, ap (fuel_end i a word) out)
+    fetched_stuck (Some word) = (end_.FuelOut, ap (step_with_fuel i a word) out, ap (fuel_end i a word) out)
 
 fetched_comes : (i : Image) (a : ActorState) (n : ℕ) (w : Option ℕ) → a.phase ≡ phase.Running → a.fuel ≡ suc n
-    → Comes (InstrLoads a.hart (option_and_then decode w)) (record a { fuel = n }) (λ c. word_request i c (record a { fuel = n }) w) (λ c. word_refusal_after c (record a { fuel = n }) w) (word_end i a w) (word_refusal i (record a { fuel = n }) w) (fetched i a w)
+    → Comes (InstrLoads a.hart (option_and_then decode w)) (record a { fuel = n }) (λ c. word_request i c (record a { fuel = n }) w) (λ c. word_refusal_after c (record a { fuel = n }) w) (word_end i a w) (word_refusal i (record a { fuel = n }) w) (step_with_word i a w)
 fetched_comes i a n None run has = record { name = refl; quiet = λ c h. refl; met = λ c r h. absurd cc; ends = refl; wants = tt; codes = λ m h. absurd cc }
 fetched_comes i a n (Some word) run has =
     let p = record a { fuel = n } in
@@ -1020,8 +1020,8 @@ fetched_comes i a n (Some word) run has =
     let later : Cells → Option ℕ = λ c. instr_refusal_after c p (decode word) in
     let told = instr_refusal i p (decode word) in
     let left : n ≡ a.fuel - 1 = omega (arith, has) in
-    let paid = subst (λ m. Comes (InstrLoads a.hart (decode word)) p asked later (instr_end i a (decode word)) told (executed i (record a { fuel = m }) (decode word))) left (executed_comes i p (decode word) run) in
-    subst (λ m. Comes (InstrLoads a.hart (decode word)) p asked later (fuel_end i a word m) told (fuelled i a word m)) (sym has) paid
+    let paid = subst (λ m. Comes (InstrLoads a.hart (decode word)) p asked later (instr_end i a (decode word)) told (step_with_instr i (record a { fuel = m }) (decode word))) left (executed_comes i p (decode word) run) in
+    subst (λ m. Comes (InstrLoads a.hart (decode word)) p asked later (fuel_end i a word m) told (step_with_fuel i a word m)) (sym has) paid
 
 pub step_comes : (i : Image) (a : ActorState) (n : ℕ) → a.phase ≡ phase.Running → a.fuel ≡ suc n
     → Comes (LoadsAt i a.hart) (record a { fuel = n }) (λ c. request_at i c (record a { fuel = n })) (λ c. refusal_after i c (record a { fuel = n })) (end_at i a) (refusal_at i (record a { fuel = n })) (step i a)

@@ -9,7 +9,7 @@ use Rattle.wedge_events.specs.declared.cells.GateReply.TheVariants as gate_reply
 use Rattle.wedge_events.specs.declared.cells.GateAsk.TheVariants as gate_ask
 use Rattle.wedge_base.specs.Blocks.{rounded, first_fit}
 use Rattle.wedge_base.specs.Bytes.{number_of}
-use Rattle.wedge_events.specs.Directories.{Directory, Claim, no_number, claim, claim_from, claim_reply, claim_next, is_among, is_claimed, release}
+use Rattle.wedge_events.specs.Directories.{Directory, Claim, no_number, claim, claim_from, claim_reply, claim_next, contains_place, is_claimed, release}
 use Rattle.wedge_base.specs.Images.{Image, most_pages}
 use Rattle.wedge_base.specs.Maps.{Map, at}
 use Rattle.wedge_base.specs.Names.{same, root_name}
@@ -48,8 +48,8 @@ use Rattle.sthread_life.specs.Local.{rest, is_running}
 use Rattle.run_laws.specs.Moments.{EachTurn}
 use Rattle.run_laws.specs.GateCalls.{EventMakesGates}
 use Rattle.run_laws.specs.Occupancy.{slot_of_call, tag_of_call, slot_known, GateHasIn, HasIn, AreOccupied, AskSuits, IsFreed, SlotsSuit}
-use Rattle.sthread_life.specs.Taking.{next_start, takes, begun, child_of, run_by}
-use Rattle.run_laws.specs.Worlds.{WorldState, opening, actor_named, with_actor, resumed, turn_of, Runs}
+use Rattle.sthread_life.specs.Taking.{next_start, takes, actor_begun, child_of, run_by}
+use Rattle.run_laws.specs.Worlds.{WorldState, initial_state, actor_named, with_actor, resumed, turn_of, Runs}
 use Rattle.run_laws.proofs.Between.{IsPreparing, MayPrepare, MayNumber, Leaves, event_for, takes_name, takes_between, MayWait}
 use Rattle.run_laws.proofs.Bounding.{equal_keys, with_same, with_other}
 use Rattle.run_laws.proofs.CellChanging.{IsChanged, event_changes}
@@ -359,7 +359,7 @@ open_turn w a slot tag pages occ there at_ c =
 -- the release of a slot
 released_claims : (d : Directory) (slot s : ℕ) (t : Bool) → (slot == s) ≡ false → is_claimed (if t then record d { released = slot ∷ d.released } else d) s ≡ is_claimed d s
 released_claims d slot s false apart = refl
-released_claims d slot s true apart = ap (λ b. nat_lt s d.unused && not (b || is_among d.released s)) apart
+released_claims d slot s true apart = ap (λ b. nat_lt s d.unused && not (b || contains_place d.released s)) apart
 
 released_number : (d : Directory) (slot : ℕ) (t : Bool) → (if t then record d { released = slot ∷ d.released } else d).number ≡ d.number
 released_number d slot true = refl
@@ -369,7 +369,7 @@ released_number d slot false = refl
 free_again : (d : Directory) (place : ℕ) → is_claimed d place ≡ true → is_claimed (release d place) place ≡ false
 free_again d place e = subst (λ t. is_claimed (if t then record d { released = place ∷ d.released } else d) place ≡ false) (sym e) (now_free (nat_lt place d.unused) (place == place) (eq-eqb place place refl))
   where
-    now_free : (u t : Bool) → t ≡ true → (u && not (t || is_among d.released place)) ≡ false
+    now_free : (u t : Bool) → t ≡ true → (u && not (t || contains_place d.released place)) ≡ false
     now_free true true h = refl
     now_free false true h = refl
     now_free u false h = absurd (true≢false (sym h))
@@ -440,14 +440,14 @@ by_happening w a e cells occ there (LeavesRecycled f) = subst (TurnsBy w a) (sym
 
 -- who starts a child, and who enters a gate, has what it had
 begins_plain : (w : WorldState) (a : ActorState) (e : Event) → EventMakesGates (with_actor w (rest w.image a)) (rest w.image a) (rest w.image a).phase e (takes w.image (rest w.image a) e) → Acts w (rest w.image a) e
-    → (k : ActorState) → begun w.image (rest w.image a) e ≡ Some k → IsPlain (takes w.image (rest w.image a) e) k
+    → (k : ActorState) → actor_begun w.image (rest w.image a) e ≡ Some k → IsPlain (takes w.image (rest w.image a) e) k
 begins_plain w a e gates (ActsAlone one) k is = let f : None ≡ Some k = sym (one_begins w.image (rest w.image a) e one) ∙ is in absurd cc
-begins_plain w a e gates (Joins n listed j) k is = let f : None ≡ Some k = sym (ap (begun w.image (rest w.image a)) j.is) ∙ is in absurd cc
+begins_plain w a e gates (Joins n listed j) k is = let f : None ≡ Some k = sym (ap (actor_begun w.image (rest w.image a)) j.is) ∙ is in absurd cc
 begins_plain w a e gates (Starts s) k is =
     let b = rest w.image a in
     let x = takes w.image b e in
     let child = child_of w.image b (child_name b.name (next_start b)) in
-    let both : Some child ≡ Some k = sym (ap (begun w.image b) s.is) ∙ is in
+    let both : Some child ≡ Some k = sym (ap (actor_begun w.image b) s.is) ∙ is in
     let same_child : child ≡ k = cc in
     let begins = child_begins w.image b s.preparation s.at s.complete s.ready in
     let known = (subst (λ p. EventMakesGates (with_actor w b) b p e x) s.at gates).known in
@@ -500,7 +500,7 @@ turn_occupied w name e new all occ t =
     let goes = resumed_occupied w p.actor occ (turned_there w name p.actor p.named) in
     let there = turned_there v name a p.parts.named in
     let put : IsPut v.actors a x = record { name = takes_name w.image b e ∙ rest-name w.image a; there = there } in
-    let after = occupied_after w.cells (cells_after w.cells e) v.actors a x (begun w.image b e) goes.occupied put (by_happening v a e all.cells goes there h) (begins_plain v a e (event_makes_gates v b e h) (acts v b e h)) in
+    let after = occupied_after w.cells (cells_after w.cells e) v.actors a x (actor_begun w.image b e) goes.occupied put (by_happening v a e all.cells goes there h) (begins_plain v a e (event_makes_gates v b e h) (acts v b e h)) in
     subst Occupied (sym p.parts.new_is) (record { occupied = after; released = cells_released w.cells e occ.released })
 
 -- ---- each ask suits
@@ -524,7 +524,7 @@ all_claimed d none = by_number (nat_lt d.number no_number) refl none
 
     by_released : (ps : List ℕ) → d.released ≡ ps → claim_from d ps ≡ None → (place : ℕ) → place < d.places → is_claimed d place ≡ true
     by_released [] is f place h =
-        ap (λ ps. nat_lt place d.unused && not (is_among ps place)) is ∙ ap (λ t. t && true) (below place d.unused d.places (by_unused _ refl f) h)
+        ap (λ ps. nat_lt place d.unused && not (contains_place ps place)) is ∙ ap (λ t. t && true) (below place d.unused d.places (by_unused _ refl f) h)
     by_released (p ∷ ps) is f place h = absurd cc
 
     by_number : (t : Bool) → nat_lt d.number no_number ≡ t → (if t then claim_from d d.released else None) ≡ None → (no_number ≤ d.number) ⊎ ((place : ℕ) → place < d.places → is_claimed d place ≡ true)
@@ -670,7 +670,7 @@ root_known n (t ∷ ts) k g e = by_right t.right e (root_known (n + 1) ts k g)
     by_right None f others = let h = others f in (h.0, omega (arith, h.1))
     by_right (Some r) f others = by_key (eq_by_cmp nat_cmp k n) r refl f others
 
-opening_occupied : (i : Image) → Occupied (opening i)
+opening_occupied : (i : Image) → Occupied (initial_state i)
 unfolding root
 opening_occupied i = record {
   occupied = record {
@@ -702,10 +702,10 @@ opening_occupied i = record {
     is_root m a true e = cc
     is_root m a false e = absurd cc
 
-    none_called : {X : Type 0} (m : List ℕ) (a : ActorState) (slot : ℕ) → actor_named (opening i).actors m ≡ Some a → slot_of_call a.phase ≡ Some slot → X
+    none_called : {X : Type 0} (m : List ℕ) (a : ActorState) (slot : ℕ) → actor_named (initial_state i).actors m ≡ Some a → slot_of_call a.phase ≡ Some slot → X
     none_called m a slot there e = let f : None ≡ Some slot = ap (λ (x : ActorState). slot_of_call x.phase) (is_root m a (same root_name m) there) ∙ e in absurd cc
 
-    none_coming : {X : Type 0} (m : List ℕ) (a : ActorState) (tag : ℕ) → actor_named (opening i).actors m ≡ Some a → tag_of_call a.phase ≡ Some tag → X
+    none_coming : {X : Type 0} (m : List ℕ) (a : ActorState) (tag : ℕ) → actor_named (initial_state i).actors m ≡ Some a → tag_of_call a.phase ≡ Some tag → X
     none_coming m a tag there e = let f : None ≡ Some tag = ap (λ (x : ActorState). tag_of_call x.phase) (is_root m a (same root_name m) there) ∙ e in absurd cc
 
     by_grant : (tag slot : ℕ) (o : Option Grant) → at (root_tags 0 i.tags) tag ≡ o → option_map (λ (g : Grant). g.slot) o ≡ Some slot → (slot ≡ tag) × (tag < length i.tags)
@@ -715,7 +715,7 @@ opening_occupied i = record {
         let is : g.slot ≡ slot = cc in
         (sym is ∙ h.0, omega (arith, h.1))
 
-    root_held : (m : List ℕ) (a : ActorState) (tag slot : ℕ) → actor_named (opening i).actors m ≡ Some a → HasIn a tag slot → (tag < length i.tags) × ((s : ℕ) → tag_in (opening_cells i) s ≡ Some tag → s ≡ slot)
+    root_held : (m : List ℕ) (a : ActorState) (tag slot : ℕ) → actor_named (initial_state i).actors m ≡ Some a → HasIn a tag slot → (tag < length i.tags) × ((s : ℕ) → tag_in (opening_cells i) s ≡ Some tag → s ≡ slot)
     root_held m a tag slot there e = by_root (subst (λ (x : ActorState). HasIn x tag slot) (sym (is_root m a (same root_name m) there)) e)
       where
         by_root : HasIn (root i) tag slot → (tag < length i.tags) × ((s : ℕ) → tag_in (opening_cells i) s ≡ Some tag → s ≡ slot)
@@ -733,6 +733,6 @@ each_suits old (t ∷ ts) new all occ run =
 
 pub slots_occupied : SlotsAreOccupied
 slots_occupied i turns new run = record {
-  occupied = (runs_occupied (opening i) turns new (opening_ready i) (opening_occupied i) run).occupied;
-  suit = each_suits (opening i) turns new (opening_ready i) (opening_occupied i) run;
+  occupied = (runs_occupied (initial_state i) turns new (opening_ready i) (opening_occupied i) run).occupied;
+  suit = each_suits (initial_state i) turns new (opening_ready i) (opening_occupied i) run;
 }

@@ -43,7 +43,7 @@ use Rattle.sthread_life.specs.declared.phase.Phase.TheVariants as phase
 use Rattle.sthread_life.specs.Calls.{a0, a1, a2, a3, a7, path_in}
 use Rattle.sthread_life.specs.Children.{without_child}
 use Rattle.run_laws.specs.Cells.{Cells, stream_in}
-use Rattle.sthread_life.specs.Local.{executed, fuelled, fetched, step}
+use Rattle.sthread_life.specs.Local.{step_with_instr, step_with_fuel, step_with_word, step}
 use Rattle.sthread_life.specs.Taking.{runs, answered_end, takes, has_entered}
 use Rattle.run_laws.specs.Worlds.{WorldState}
 use Rattle.run_laws.specs.Refusals.{fuel_short, root_refusal}
@@ -91,16 +91,16 @@ instr_cost_is : (i : Image) (a : ActorState) (ins : Option Instr) → instr_pric
 instr_cost_is i a None = refl
 instr_cost_is i a (Some ins) = need_cost_is i a (local ins a.hart).need
 
-fuelled_pays : (i : Image) (a : ActorState) (word n : ℕ) → a.fuel ≡ n → (fuelled i a word n).fuel + cost_of_word i a (Some word) n ≡ a.fuel
+fuelled_pays : (i : Image) (a : ActorState) (word n : ℕ) → a.fuel ≡ n → (step_with_fuel i a word n).fuel + cost_of_word i a (Some word) n ≡ a.fuel
 fuelled_pays i a word zero has = omega arith
 fuelled_pays i a word (suc n) has =
     let left : n ≡ a.fuel - 1 = omega (arith, has) in
-    let paid : (executed i (spends a 1) (decode word)).fuel + instr_cost i (record a { fuel = n }) (decode word) ≡ n =
-    subst (λ c. (executed i (spends a 1) (decode word)).fuel + c ≡ n) (instr_cost_is i (record a { fuel = n }) (decode word))
-    (subst (λ m. (executed i (record a { fuel = m }) (decode word)).fuel + instr_price i (record a { fuel = n }) (decode word) ≡ n) left (goes_executed i (record a { fuel = n }) (decode word)).fuel) in
+    let paid : (step_with_instr i (spends a 1) (decode word)).fuel + instr_cost i (record a { fuel = n }) (decode word) ≡ n =
+    subst (λ c. (step_with_instr i (spends a 1) (decode word)).fuel + c ≡ n) (instr_cost_is i (record a { fuel = n }) (decode word))
+    (subst (λ m. (step_with_instr i (record a { fuel = m }) (decode word)).fuel + instr_price i (record a { fuel = n }) (decode word) ≡ n) left (goes_executed i (record a { fuel = n }) (decode word)).fuel) in
     omega (arith, paid, has)
 
-fetched_pays : (i : Image) (a : ActorState) (o : Option ℕ) → (fetched i a o).fuel + cost_of_word i a o a.fuel ≡ a.fuel
+fetched_pays : (i : Image) (a : ActorState) (o : Option ℕ) → (step_with_word i a o).fuel + cost_of_word i a o a.fuel ≡ a.fuel
 fetched_pays i a None = omega arith
 fetched_pays i a (Some word) = fuelled_pays i a word a.fuel refl
 

@@ -12,7 +12,7 @@ use Rattle.cow_pages.specs.PrivateMemory.{PrivateMemory}
 use Rattle.wedge_base.specs.Images.{Image}
 use Rattle.wedge_base.specs.Maps.{Map}
 use Rattle.wedge_base.specs.Pages.{pages_of}
-use Rattle.wedge_base.specs.Sheets.{is_copy, granted}
+use Rattle.wedge_base.specs.Sheets.{is_copy, sheet_of_draft}
 use Rattle.wedge_base.specs.declared.rights.Grant.{Grant}
 use Rattle.wedge_events.specs.Slots.{Segment, slot_reply as slot_reply_of}
 use Rattle.wedge_events.specs.declared.cells.DirectoryAsk.TheVariants as directory_ask
@@ -35,7 +35,7 @@ use Rattle.sthread_life.specs.Actors.{ActorState, pristine, right_of}
 use Rattle.sthread_life.specs.Calls.{a0, draft_at}
 use Rattle.run_laws.specs.Cells.{slot_in}
 use Rattle.run_laws.specs.ChildCopies.{copy_asked, copies_in, own_at, IsPrepared, Prepares, pages_living, snap_reply, NotPreparing, SnapsNext, PreparesBy}
-use Rattle.sthread_life.specs.Copying.{Preparation, copy_grants, copied_from, is_copy_alone, prepared, behind_first}
+use Rattle.sthread_life.specs.Copying.{Preparation, copy_grants, copied_from, is_copy_alone, prepare_copies, behind_first}
 use Rattle.sthread_life.specs.Local.{step}
 use Rattle.sthread_life.specs.Taking.{copies_asked, has_snapped, takes, copied_on}
 use Rattle.run_laws.specs.Worlds.{WorldState, with_actor}
@@ -90,13 +90,13 @@ alone_is (Some right.ReadWrite) e = absurd cc
 not_alone : (r : Option Right) → is_copy_alone r ≡ false → r ≢ Some right.Cow
 not_alone r e is = let both : false ≡ true = sym e ∙ ap is_copy_alone is in cc
 
-pub prepared_so : (a : ActorState) (m : PrivateMemory) (gs : List CopyGrant) → IsPrepared a m gs (prepared a.sheet a.made a.memory.copies m gs)
+pub prepared_so : (a : ActorState) (m : PrivateMemory) (gs : List CopyGrant) → IsPrepared a m gs (prepare_copies a.sheet a.made a.memory.copies m gs)
 prepared_so a m [] = record { done = []; split = refl; own = tt; next = tt; ranges = refl; copies = λ slot. refl }
 prepared_so a m (g ∷ gs) = by_right (is_copy_alone (right_of a g.tag)) refl (prepared_so a (copied_from (copy_at a.memory.copies g.slot) g.slot m) gs)
   where
     by_right : (t : Bool) → is_copy_alone (right_of a g.tag) ≡ t
-        → IsPrepared a (copied_from (copy_at a.memory.copies g.slot) g.slot m) gs (prepared a.sheet a.made a.memory.copies (copied_from (copy_at a.memory.copies g.slot) g.slot m) gs)
-        → IsPrepared a m (g ∷ gs) (if t then prepared a.sheet a.made a.memory.copies (copied_from (copy_at a.memory.copies g.slot) g.slot m) gs else record { memory = m; left = g ∷ gs })
+        → IsPrepared a (copied_from (copy_at a.memory.copies g.slot) g.slot m) gs (prepare_copies a.sheet a.made a.memory.copies (copied_from (copy_at a.memory.copies g.slot) g.slot m) gs)
+        → IsPrepared a m (g ∷ gs) (if t then prepare_copies a.sheet a.made a.memory.copies (copied_from (copy_at a.memory.copies g.slot) g.slot m) gs else record { memory = m; left = g ∷ gs })
     by_right true e later = record {
       done = g ∷ later.done;
       split = ap (λ l. g ∷ l) later.split;
@@ -209,8 +209,8 @@ claim_prepares : (w : WorldState) (b : ActorState) (t : Bool)
     → PreparesBy (with_actor w b) b (phase.Within (want.Lives lives_ask.Claim)) (event.Lives lives_ask.Claim (if t then lives_reply.Claimed else lives_reply.Full)) (takes w.image b (event.Lives lives_ask.Claim (if t then lives_reply.Claimed else lives_reply.Full)))
 unfolding takes
 claim_prepares w b true =
-    subst (λ gs. Prepares b (pristine w.image) gs (takes w.image b (event.Lives lives_ask.Claim lives_reply.Claimed))) (copies_are (granted b.sheet b.made (draft_at b.drafts (a0 b))).tags)
-    (record { preparation = prepared b.sheet b.made b.memory.copies (pristine w.image) (copies_asked b); prepared = prepared_so b (pristine w.image) (copies_asked b); after = refl })
+    subst (λ gs. Prepares b (pristine w.image) gs (takes w.image b (event.Lives lives_ask.Claim lives_reply.Claimed))) (copies_are (sheet_of_draft b.sheet b.made (draft_at b.drafts (a0 b))).tags)
+    (record { preparation = prepare_copies b.sheet b.made b.memory.copies (pristine w.image) (copies_asked b); prepared = prepared_so b (pristine w.image) (copies_asked b); after = refl })
 claim_prepares w b false = tt
 
 want_prepares : (w : WorldState) (b : ActorState) (N : ℕ → Type 0) (q : Want) → IsRequest N b q → b.phase ≡ phase.Within q
@@ -231,7 +231,7 @@ goes_on_copying : (b : ActorState) (p : Preparation) (slot : ℕ) (gs : List Cop
 goes_on_copying b p slot gs o at behind =
     subst (λ ph. Prepares b (copied_from o slot p.memory) gs (has_snapped b ph slot o)) (sym at)
     (subst (λ l. Prepares b (copied_from o slot p.memory) l (has_snapped b (phase.Starting p) slot o)) behind
-    (record { preparation = prepared b.sheet b.made b.memory.copies (copied_from o slot p.memory) (behind_first p.left); prepared = prepared_so b (copied_from o slot p.memory) (behind_first p.left); after = refl }))
+    (record { preparation = prepare_copies b.sheet b.made b.memory.copies (copied_from o slot p.memory) (behind_first p.left); prepared = prepared_so b (copied_from o slot p.memory) (behind_first p.left); after = refl }))
 
 snap_prepares : (i : Image) (b : ActorState) (p : Preparation) (slot tag : ℕ) (gs : List CopyGrant) (g : Option Segment) → b.phase ≡ phase.Starting p → behind_first p.left ≡ gs
     → (slot_reply_of g (slot_ask.Snap tag) ≡ snap_reply (pages_living g tag))

@@ -31,7 +31,7 @@ use Rattle.run_laws.specs.Cells.{Cells, slot_in, stream_in}
 use Rattle.run_laws.specs.Laws.{RunsReadTheirOwn}
 use Rattle.run_laws.specs.Moments.{EachTurn}
 use Rattle.run_laws.specs.Readers.{loads_in, TurnLoadsOwn, reads_of, TurnReadsOwn}
-use Rattle.run_laws.specs.Worlds.{WorldState, opening, turn_of, resumed, Runs}
+use Rattle.run_laws.specs.Worlds.{WorldState, initial_state, turn_of, resumed, Runs}
 use Rattle.run_laws.proofs.Between.{event_for}
 use Rattle.run_laws.proofs.Happening.{Happens, Requested, Joined, Snaps, GateSnaps, Started, Opens, Releases, Numbers, OpensFile, LastJoined, Ended, EntersGate, LeavesGate, EntersRecycled, LeavesRecycled}
 use Rattle.run_laws.proofs.Meeting.{IsRequest}
@@ -157,6 +157,6 @@ each_turn P by old (t ∷ ts) new all run = (run.0, run.1, by old t run.0 all ru
 
 pub runs_read_their_own : RunsReadTheirOwn
 runs_read_their_own i turns new run = record {
-  loaders = each_turn TurnLoadsOwn (λ w t n all e. (turn_owns w t n all e).loads) (opening i) turns new (opening_ready i) run;
-  readers = each_turn TurnReadsOwn (λ w t n all e. (turn_owns w t n all e).reads) (opening i) turns new (opening_ready i) run;
+  loaders = each_turn TurnLoadsOwn (λ w t n all e. (turn_owns w t n all e).loads) (initial_state i) turns new (opening_ready i) run;
+  readers = each_turn TurnReadsOwn (λ w t n all e. (turn_owns w t n all e).reads) (initial_state i) turns new (opening_ready i) run;
 }

@@ -4,7 +4,7 @@ use Rattle.std.specs.Prelude.{Option, Some, is_some, ◌&&◌, ◌||◌, ◌==�
 use Rattle.std.proofs.lemmas.Bool.Decides.{nat_tests}
 use Rattle.std.proofs.lemmas.List.{length-take}
 use Rattle.std.proofs.Math.Seq.{drop-nil}
-use Rattle.wedge_base.specs.Bytes.{written}
+use Rattle.wedge_base.specs.Bytes.{overwrite}
 use Rattle.wedge_base.specs.Memory.{lies_in, range_at, write_range, write_at}
 use Rattle.wedge_events.specs.Streams.{Stream, stream_reply as stream_reply_of}
 use Rattle.wedge_base.specs.Images.{Image}
@@ -22,7 +22,7 @@ use Rattle.run_laws.proofs.StreamCalls.{read_cases}
 use Rattle.run_laws.proofs.WritingRanges.{written-zero, written-suc, lies_is, written_at}
 
 -- no bytes change nothing
-written_none : (b : List ℕ) (o : ℕ) → written b o [] ≡ b
+written_none : (b : List ℕ) (o : ℕ) → overwrite b o [] ≡ b
 written_none b zero = written-zero b []
 written_none [] (suc o) = drop-nil (suc o + 0)
 written_none (x ∷ b) (suc o) = written-suc x b o [] ∙ ap (λ z. x ∷ z) (written_none b o)

@@ -9,7 +9,7 @@ use Rattle.std.specs.declared.cmp.Ordering.TheVariants.{Less, Equal, Greater}
 use Rattle.cow_pages.specs.PrivateMemory.{PrivateMemory}
 use Rattle.wedge_base.specs.Identities.{same_gate}
 use Rattle.wedge_base.specs.Images.{Image}
-use Rattle.wedge_base.specs.Maps.{Map, has, with, joined}
+use Rattle.wedge_base.specs.Maps.{Map, has, with, map_union}
 use Rattle.wedge_base.specs.Names.{same}
 use Rattle.wedge_base.specs.Sheets.{Sheet, Made, Draft, is_copy, is_lendable, lent_to, tag_granted}
 use Rattle.wedge_base.specs.declared.grants.GateId.{GateId}
@@ -38,8 +38,8 @@ use Rattle.run_laws.specs.Ends.{is_end_event}
 use Rattle.sthread_life.specs.Lending.{sheet_lent, may_lend}
 use Rattle.sthread_life.specs.Local.{has_ended, is_running, step, run_local, rest}
 use Rattle.run_laws.specs.RecycledGates.{IsInside, IsEntered, IsKeptFor, IsRunOf, AreRunsAlone}
-use Rattle.sthread_life.specs.Taking.{next_start, takes, begun, child_of, run_by}
-use Rattle.run_laws.specs.Worlds.{WorldState, opening, actor_named, put_actor, with_begun, ready, resumed, with_actor}
+use Rattle.sthread_life.specs.Taking.{next_start, takes, actor_begun, child_of, run_by}
+use Rattle.run_laws.specs.Worlds.{WorldState, initial_state, actor_named, put_actor, with_begun, ready, resumed, with_actor}
 use Rattle.run_laws.proofs.Between.{event_for, joined_is, entered_is, takes_name}
 use Rattle.run_laws.proofs.CellChanging.{gate_changes}
 use Rattle.run_laws.proofs.EnteringGates.{run_is}
@@ -86,7 +86,7 @@ with_back (x ∷ xs) k v slot none e = in_order (nat_cmp k x.0) e (with_back xs 
     in_order Equal h others = later_so (is_copy x.1.right && (x.1.slot == slot)) (grants_copy xs slot) (skips (is_copy v.right) (v.slot == slot) _ none h)
     in_order Greater h others = either (is_copy x.1.right && (x.1.slot == slot)) (grants_copy (with xs k v) slot) (grants_copy xs slot) others h
 
-joined_back : (gs es : Map Grant) (slot : ℕ) → NoCopies es → grants_copy (joined gs es) slot ≡ true → grants_copy gs slot ≡ true
+joined_back : (gs es : Map Grant) (slot : ℕ) → NoCopies es → grants_copy (map_union gs es) slot ≡ true → grants_copy gs slot ≡ true
 joined_back gs [] slot none e = e
 joined_back gs (x ∷ xs) slot none e = by_key (has gs x.0) (joined_back (if has gs x.0 then gs else with gs x.0 x.1) xs slot none.1 e)
   where
@@ -387,8 +387,8 @@ leaves_alone c d actors b x g m h l = record {
 -- ---- what an event is to the gates
 
 pub data GateStep (w : WorldState) (b : ActorState) (e : Event) : Type 0 where
-  Passes : ((id : GateId) → kept_in (cells_after w.cells e) id ≡ kept_in w.cells id) → is_end_event (Some e) ≡ false → ((r : ActorState) → begun w.image b e ≡ Some r → IsOutside r) → GateStep w b e
-  Ends : ((id : GateId) → kept_in (cells_after w.cells e) id ≡ kept_in w.cells id) → is_end_event (Some e) ≡ true → begun w.image b e ≡ None → ((id : GateId) → IsInside id b → ⊥) → GateStep w b e
+  Passes : ((id : GateId) → kept_in (cells_after w.cells e) id ≡ kept_in w.cells id) → is_end_event (Some e) ≡ false → ((r : ActorState) → actor_begun w.image b e ≡ Some r → IsOutside r) → GateStep w b e
+  Ends : ((id : GateId) → kept_in (cells_after w.cells e) id ≡ kept_in w.cells id) → is_end_event (Some e) ≡ true → actor_begun w.image b e ≡ None → ((id : GateId) → IsInside id b → ⊥) → GateStep w b e
   EntersIt : AtRecycledEnter w b e → GateStep w b e
   LeavesIt : AtRecycledLeave b e → GateStep w b e
 
@@ -514,7 +514,7 @@ rested_alone w a there h =
 
 -- the event of an actor at rest, which is new_name's starter
 event_alone : (v : WorldState) (actors : List ActorState) (b : ActorState) (e : Event) → Happens v b e → IsPut actors b (takes v.image b e) → Follows b (takes v.image b e) → actor_named (put_actor actors (takes v.image b e)) (child_name b.name (next_start b)) ≡ None
-    → AreOwnCopiesGranted b → AreRunsAlone v.cells actors → AreRunsAlone (cells_after v.cells e) (with_begun (put_actor actors (takes v.image b e)) (begun v.image b e))
+    → AreOwnCopiesGranted b → AreRunsAlone v.cells actors → AreRunsAlone (cells_after v.cells e) (with_begun (put_actor actors (takes v.image b e)) (actor_begun v.image b e))
 unfolding recycled_entry
 event_alone v actors b e happens put f fresh own h = by_step (gate_step v b e happens)
   where
@@ -528,15 +528,15 @@ event_alone v actors b e happens put f fresh own h = by_step (gate_step v b e ha
     by_begun None k out = k
     by_begun (Some r) k out = begins_outside (cells_after v.cells e) (put_actor actors x) r k (out r refl)
 
-    by_step : GateStep v b e → AreRunsAlone (cells_after v.cells e) (with_begun (put_actor actors x) (begun v.image b e))
+    by_step : GateStep v b e → AreRunsAlone (cells_after v.cells e) (with_begun (put_actor actors x) (actor_begun v.image b e))
     by_step (Passes same_kept goes out) =
         let k = goes_alone actors b x put (follows_live b x f (reached v.image b e ∙ (goes ∙ sym live))) v.cells h in
-        by_begun (begun v.image b e) (cells_alone v.cells (cells_after v.cells e) (put_actor actors x) same_kept k) out
+        by_begun (actor_begun v.image b e) (cells_alone v.cells (cells_after v.cells e) (put_actor actors x) same_kept k) out
     by_step (Ends same_kept ends none out) =
         let over : has_ended x.phase ≡ true = reached v.image b e ∙ ends in
         let g : FollowsInside b x = record { follows = f; into = λ id i. absurd (out id i); back = λ id i. absurd (true≢false (sym over ∙ i.live)) } in
         let k = goes_alone actors b x put g v.cells h in
-        by_begun (begun v.image b e) (cells_alone v.cells (cells_after v.cells e) (put_actor actors x) same_kept k) (λ r begins. let n : None ≡ Some r = sym none ∙ begins in absurd cc)
+        by_begun (actor_begun v.image b e) (cells_alone v.cells (cells_after v.cells e) (put_actor actors x) same_kept k) (λ r begins. let n : None ≡ Some r = sym none ∙ begins in absurd cc)
     by_step (EntersIt y) =
         let entry = recycled_entry v b e y in
         let r = run_by b (child_name b.name (next_start b)) entry.kept entry.entrance in
@@ -566,7 +566,7 @@ event_alone v actors b e happens put f fresh own h = by_step (gate_step v b e ha
           after = λ id. ap (λ z. kept_in (cells_after v.cells z) id) l.is ∙ changes.gates id;
           granted = λ slot there. run.copies slot (own slot there);
         } in
-        subst (λ o. AreRunsAlone (cells_after v.cells e) (with_begun (put_actor actors x) o)) (sym (ap (begun v.image b) l.is))
+        subst (λ o. AreRunsAlone (cells_after v.cells e) (with_begun (put_actor actors x) o)) (sym (ap (actor_begun v.image b) l.is))
         (leaves_alone v.cells (cells_after v.cells e) actors b x l.gate b.memory h leaves)
 
 -- a turn of an actor whose copies are granted at rest
@@ -598,9 +598,9 @@ turn_alone w name e new all family p own h =
     ∙ (found_else v.actors a b (child_name b.name (next_start b)) rested apart ∙ (ap (actor_named v.actors) next ∙ next_is_new v.actors goes a there)) in
     let after = event_alone v (put_actor v.actors b) b e happens put follows fresh own at_rest in
     subst (λ (z : WorldState). AreRunsAlone z.cells z.actors) (sym p.parts.new_is)
-    (subst (λ as_. AreRunsAlone (cells_after v.cells e) (with_begun as_ (begun v.image b e))) (put_put v.actors b x (takes_name w.image b e)) after)
+    (subst (λ as_. AreRunsAlone (cells_after v.cells e) (with_begun as_ (actor_begun v.image b e))) (put_put v.actors b x (takes_name w.image b e)) after)
 
-pub opening_alone : (i : Image) → AreRunsAlone (opening i).cells (opening i).actors
+pub opening_alone : (i : Image) → AreRunsAlone (initial_state i).cells (initial_state i).actors
 unfolding root
 opening_alone i = record {
   runs = λ m a g found own. let none : None ≡ Some g = of_root m a found ∙ own in absurd cc;
@@ -614,5 +614,5 @@ opening_alone i = record {
     by_name a true e = let one : root i ≡ a = cc in ap (λ (x : ActorState). x.run_of) one
     by_name a false e = absurd cc
 
-    of_root : (m : List ℕ) (a : ActorState) → actor_named (opening i).actors m ≡ Some a → None ≡ a.run_of
+    of_root : (m : List ℕ) (a : ActorState) → actor_named (initial_state i).actors m ≡ Some a → None ≡ a.run_of
     of_root m a found = by_name a (same (root i).name m) found

@@ -23,11 +23,11 @@ use Rattle.sthread_life.specs.declared.phase.Phase.TheVariants as phase
 use Rattle.sthread_life.specs.Actors.{ActorState, root}
 use Rattle.sthread_life.specs.Local.{rest, is_running, has_ended, end_reached}
 use Rattle.sthread_life.specs.Children.{child_name}
-use Rattle.sthread_life.specs.Taking.{wanted, wanted_at, takes, child_of, run_by, run_at, begun, asks}
+use Rattle.sthread_life.specs.Taking.{current_want, wanted_at, takes, child_of, run_by, run_at, actor_begun, asks}
 use Rattle.sthread_life.specs.Between.{GivesBelow}
 use Rattle.run_laws.specs.Cells.{Cells, nothings, slot_in, stream_in, cells_after, event_of, live_at}
-use Rattle.run_laws.specs.Worlds.{WorldState, opening, actor_named, put_actor, with_begun, event_at, gate_event, happened, wanting, turn_with, turn_of, ended_with, resumes, ready_at, ready, resumed, at_rest, Runs, is_ended, is_complete, settled}
-use Rattle.run_laws.specs.Outcomes.{with_actor, lines_of, labels_of, streams_of, outcome_of}
+use Rattle.run_laws.specs.Worlds.{WorldState, initial_state, actor_named, put_actor, with_begun, event_at, gate_event, apply_event, wanting, turn_with, turn_of, ended_with, resumes, ready_at, ready, resumed, at_rest, Runs, is_ended, is_complete, all_at_rest}
+use Rattle.run_laws.specs.Outcomes.{with_actor_line, lines_of, labels_of, streams_of, outcome_of}
 use Rattle.sthread_life.proofs.Resting.{rest-name, rest-ended, rest-labels, rest-stays, rest-uncalm, rest_rest, ended-stays}
 use Rattle.run_laws.proofs.Turns.{back, RunEnded, Readies, Stays, Back, readies, ready_is, ready_name, ready_ended, ready_end, ready_else, waits_or, Turned, turn_from}
 use Rattle.run_laws.proofs.Between.{takes_name}
@@ -65,7 +65,7 @@ pub at_rest-stays : (w : WorldState) (a : ActorState) → has_ended a.phase ≡ 
 at_rest-stays w a e =
     ap (rest w.image) (ready_else w.actors a (λ k at. true≢false (sym e ∙ ap has_ended at))) ∙ ended-stays w.image a e
 
-pub settled_named : (w : WorldState) (name : List ℕ) → actor_named (settled w).actors name ≡ option_map (at_rest w) (actor_named w.actors name)
+pub settled_named : (w : WorldState) (name : List ℕ) → actor_named (all_at_rest w).actors name ≡ option_map (at_rest w) (actor_named w.actors name)
 settled_named w name = map_named (at_rest w) (at_rest-name w) w.actors name
 
 record IsImage {X : Type 0} (f : X → X) (o : Option X) (y : X) : Type 0 where
@@ -78,7 +78,7 @@ image_of f None y e = absurd cc
 image_of f (Some x) y e = record { from = x; there = refl; is = cc }
 
 -- the actor of a name in one of two worlds that are equal settled rests as that in the other
-rests_alike : (v w : WorldState) (name : List ℕ) (a : ActorState) → settled v ≡ settled w → actor_named v.actors name ≡ Some a
+rests_alike : (v w : WorldState) (name : List ℕ) (a : ActorState) → all_at_rest v ≡ all_at_rest w → actor_named v.actors name ≡ Some a
     → IsImage (at_rest w) (actor_named w.actors name) (at_rest v a)
 rests_alike v w name a alike named = image_of (at_rest w) (actor_named w.actors name) (at_rest v a)
     (sym (settled_named w name) ∙ ap (λ (x : WorldState). actor_named x.actors name) (sym alike) ∙ settled_named v name ∙ ap (option_map (at_rest v)) named)
@@ -193,7 +193,7 @@ alike_settled w (a ∷ as_) = (sym (at_rest-name w a), sym (ended_at_rest w a), 
 
 -- ---- the same turns
 -- an actor that wants an event has not ended
-wants_live : (a : ActorState) (q : Want) → wanted a ≡ Some q → has_ended a.phase ≡ false
+wants_live : (a : ActorState) (q : Want) → current_want a ≡ Some q → has_ended a.phase ≡ false
 wants_live a q wants = by_phase a.phase wants
   where
     by_phase : (p : Phase) → wanted_at a p ≡ Some q → has_ended p ≡ false
@@ -242,20 +242,20 @@ map_begun f g as_ bs (Some c) h agree = map-append f as_ (c ∷ []) ∙ (ap (λ 
 
 -- a settled world after an event of an actor at rest
 pub settled_after : WorldState → ActorState → Event → WorldState
-settled_after x b e = settled (happened x b e).world
+settled_after x b e = all_at_rest (apply_event x b e).world
 
 -- the actors after the event of one that goes on: that it went on makes no difference to the others
-after_resumed : (w : WorldState) (a b : ActorState) (e : Event) → b.name ≡ a.name → (happened (resumed w a) b e).world ≡ (happened w b e).world
+after_resumed : (w : WorldState) (a b : ActorState) (e : Event) → b.name ≡ a.name → (apply_event (resumed w a) b e).world ≡ (apply_event w b e).world
 after_resumed w a b e name =
-    ap (λ as_. record { image = w.image; cells = cells_after w.cells e; actors = with_begun as_ (begun w.image b e) })
+    ap (λ as_. record { image = w.image; cells = cells_after w.cells e; actors = with_begun as_ (actor_begun w.image b e) })
     (put_put w.actors (ready w.actors a) (takes w.image b e) (takes_name w.image b e ∙ (name ∙ sym (ready_name w.actors a))))
 
-pub settles_after : (w : WorldState) (a : ActorState) (e : Event) → actor_named w.actors a.name ≡ Some a → has_ended a.phase ≡ false → settled (happened (resumed w a) (at_rest w a) e).world ≡ settled_after (settled w) (at_rest w a) e
+pub settles_after : (w : WorldState) (a : ActorState) (e : Event) → actor_named w.actors a.name ≡ Some a → has_ended a.phase ≡ false → all_at_rest (apply_event (resumed w a) (at_rest w a) e).world ≡ settled_after (all_at_rest w) (at_rest w a) e
 unfolding settled_after
 settles_after w a e there live =
-    ap settled (after_resumed w a b e (at_rest-name w a))
+    ap all_at_rest (after_resumed w a b e (at_rest-name w a))
     ∙ ap (λ as_. record { image = w.image; cells = cells_after w.cells e; actors = as_ })
-    (map_begun (at_rest v) (at_rest u) (put_actor w.actors x) (put_actor (settled w).actors x) o
+    (map_begun (at_rest v) (at_rest u) (put_actor w.actors x) (put_actor (all_at_rest w).actors x) o
     (map_put (at_rest v) (at_rest u) (at_rest w) (at_rest-name w) (λ y. sym (ap (rest w.image) (ready_alike u.actors v.actors (λ n. sym (ends n)) (at_rest w y)) ∙ rested_then w.image w.actors v.actors y first)) w.actors x (agree x)) agree)
   where
     b : ActorState
@@ -265,16 +265,16 @@ settles_after w a e there live =
     x = takes w.image b e
 
     o : Option ActorState
-    o = begun w.image b e
+    o = actor_begun w.image b e
 
     v : WorldState
-    v = (happened w b e).world
+    v = (apply_event w b e).world
 
     u : WorldState
-    u = (happened (settled w) b e).world
+    u = (apply_event (all_at_rest w) b e).world
 
     ends : EndAlike v.actors u.actors
-    ends = alike_ends v.actors u.actors (alike_begun (put_actor w.actors x) (put_actor (settled w).actors x) o (alike_put w.actors (settled w).actors x (alike_settled w w.actors)))
+    ends = alike_ends v.actors u.actors (alike_begun (put_actor w.actors x) (put_actor (all_at_rest w).actors x) o (alike_put w.actors (all_at_rest w).actors x (alike_settled w w.actors)))
 
     first : EndsFirst w.actors v.actors
     first = ends_first w.actors a x o there (takes_name w.image b e ∙ at_rest-name w a) live
@@ -283,7 +283,7 @@ settles_after w a e there live =
     agree y = ap (rest w.image) (ready_alike v.actors u.actors ends y)
 
 -- an actor comes to the same event in a world that is settled, and in one in which it went on
-pub settled_event : (w : WorldState) (b : ActorState) (q : Want) → event_at (settled w) b q ≡ event_at w b q
+pub settled_event : (w : WorldState) (b : ActorState) (q : Want) → event_at (all_at_rest w) b q ≡ event_at w b q
 settled_event w b (want.Join k) = ap (option_map (λ (x : End × ℕ). event.Join k x.0 x.1)) (ap ended_with (settled_named w (child_name b.name k)) ∙ some_at_rest w (actor_named w.actors (child_name b.name k)))
 settled_event w b (want.Start child) = refl
 settled_event w b (want.Enter run) = refl
@@ -341,29 +341,29 @@ map_agree f g agree [] = refl
 map_agree f g agree (a ∷ as_) = ap (λ y. y ∷ map f as_) (agree a) ∙ ap (λ ys. g a ∷ ys) (map_agree f g agree as_)
 
 -- it differs in local events alone
-pub put_settled : (w : WorldState) (a x : ActorState) → actor_named w.actors a.name ≡ Some a → x.name ≡ a.name → ended_with (Some x) ≡ ended_with (Some a) → at_rest w x ≡ at_rest w a → settled (record w { actors = put_actor w.actors x }) ≡ settled w
+pub put_settled : (w : WorldState) (a x : ActorState) → actor_named w.actors a.name ≡ Some a → x.name ≡ a.name → ended_with (Some x) ≡ ended_with (Some a) → at_rest w x ≡ at_rest w a → all_at_rest (record w { actors = put_actor w.actors x }) ≡ all_at_rest w
 put_settled w a x there name end alike =
     let v : WorldState = record w { actors = put_actor w.actors x } in
     ap (λ as_. record { image = w.image; cells = w.cells; actors = as_ })
     (map_agree (at_rest v) (at_rest w) (λ y. ap (rest w.image) (ready_alike v.actors w.actors (put_ends w.actors a x there name end) y)) v.actors
     ∙ map_put_same (at_rest w) w.actors a x there name alike)
 
-pub rests_settled : (w : WorldState) (a : ActorState) → actor_named w.actors a.name ≡ Some a → settled (record w { actors = put_actor w.actors (at_rest w a) }) ≡ settled w
+pub rests_settled : (w : WorldState) (a : ActorState) → actor_named w.actors a.name ≡ Some a → all_at_rest (record w { actors = put_actor w.actors (at_rest w a) }) ≡ all_at_rest w
 rests_settled w a there = put_settled w a (at_rest w a) there (at_rest-name w a) (ended_at_rest w a) (at_rest_twice w a)
 
 -- a turn with this event, to a world that differs from another in local events alone
 pub record TurnsAlike (w : WorldState) (name : List ℕ) (e : Event) (new : WorldState) : Type 0 where
   pub to : WorldState
   pub turn : turn_of w name ≡ Some (record { event = e; world = to })
-  pub alike : settled new ≡ settled to
+  pub alike : all_at_rest new ≡ all_at_rest to
 
 -- the actor of a turn is there under its own name, and has not ended
 pub turned_there : (w : WorldState) (name : List ℕ) (a : ActorState) → actor_named w.actors name ≡ Some a → actor_named w.actors a.name ≡ Some a
 turned_there w name a named = ap (actor_named w.actors) (found_name w.actors name a named) ∙ named
 
 -- an actor of a world that is settled as another, with its turn there
-turn_as : (v w : WorldState) (name : List ℕ) (e : Event) (a c b : ActorState) (q : Want) → settled v ≡ settled w → actor_named v.actors name ≡ Some a → actor_named w.actors name ≡ Some c → at_rest v a ≡ b → at_rest w c ≡ b → wanted b ≡ Some q → event_at (resumed v a) b q ≡ Some e
-    → TurnsAlike w name e (happened (resumed v a) b e).world
+turn_as : (v w : WorldState) (name : List ℕ) (e : Event) (a c b : ActorState) (q : Want) → all_at_rest v ≡ all_at_rest w → actor_named v.actors name ≡ Some a → actor_named w.actors name ≡ Some c → at_rest v a ≡ b → at_rest w c ≡ b → current_want b ≡ Some q → event_at (resumed v a) b q ≡ Some e
+    → TurnsAlike w name e (apply_event (resumed v a) b e).world
 unfolding turn_of
 turn_as v w name e a c b q alike named other first second wants comes =
     let here = turned_there v name a named in
@@ -374,35 +374,35 @@ turn_as v w name e a c b q alike named other first second wants comes =
     let live_c = sym (at_rest-ended w c) ∙ (ap (λ (y : ActorState). has_ended y.phase) second ∙ live) in
     let live_a = sym (at_rest-ended v a) ∙ (ap (λ (y : ActorState). has_ended y.phase) first ∙ live) in
     record {
-      to = (happened (resumed w c) b e).world;
-      turn = ap (turn_with w) other ∙ (ap (λ (y : ActorState). wanting (resumed w c) y (wanted y)) second ∙ (ap (wanting (resumed w c) b) wants ∙ ap (option_map (happened (resumed w c) b)) event_is));
-      alike = ap (λ (y : ActorState). settled (happened (resumed v a) y e).world) (sym first) ∙ (settles_after v a e here live_a
-          ∙ (ap (λ x. settled_after x (at_rest v a) e) alike ∙ (ap (λ y. settled_after (settled w) y e) (first ∙ sym second) ∙ (sym (settles_after w c e there live_c)
-          ∙ ap (λ (y : ActorState). settled (happened (resumed w c) y e).world) second))));
+      to = (apply_event (resumed w c) b e).world;
+      turn = ap (turn_with w) other ∙ (ap (λ (y : ActorState). wanting (resumed w c) y (current_want y)) second ∙ (ap (wanting (resumed w c) b) wants ∙ ap (option_map (apply_event (resumed w c) b)) event_is));
+      alike = ap (λ (y : ActorState). all_at_rest (apply_event (resumed v a) y e).world) (sym first) ∙ (settles_after v a e here live_a
+          ∙ (ap (λ x. settled_after x (at_rest v a) e) alike ∙ (ap (λ y. settled_after (all_at_rest w) y e) (first ∙ sym second) ∙ (sym (settles_after w c e there live_c)
+          ∙ ap (λ (y : ActorState). all_at_rest (apply_event (resumed w c) y e).world) second))));
     }
 
-pub turns_alike : (v w : WorldState) (name : List ℕ) (e : Event) (new : WorldState) → settled v ≡ settled w → turn_of v name ≡ Some (record { event = e; world = new }) → TurnsAlike w name e new
+pub turns_alike : (v w : WorldState) (name : List ℕ) (e : Event) (new : WorldState) → all_at_rest v ≡ all_at_rest w → turn_of v name ≡ Some (record { event = e; world = new }) → TurnsAlike w name e new
 turns_alike v w name e new alike t =
     let p = turn_from v name e new t in
     let b = rest v.image p.parts.actor in
     let first : at_rest v p.actor ≡ b = ap (rest v.image) (sym p.is) in
     let other = rests_alike v w name p.actor alike p.named in
     let same_turn = turn_as v w name e p.actor other.from b p.parts.want alike p.named other.there first (other.is ∙ first) p.parts.wants p.parts.comes in
-    record { to = same_turn.to; turn = same_turn.turn; alike = ap settled p.parts.new_is ∙ same_turn.alike }
+    record { to = same_turn.to; turn = same_turn.turn; alike = ap all_at_rest p.parts.new_is ∙ same_turn.alike }
 
 -- ---- the same end
 
-pub whole_alike : (v w : WorldState) → settled v ≡ settled w → is_complete v ≡ is_complete w
+pub whole_alike : (v w : WorldState) → all_at_rest v ≡ all_at_rest w → is_complete v ≡ is_complete w
 whole_alike v w alike = sym (whole_at_rest v) ∙ ap (λ (x : WorldState). is_complete x) alike ∙ whole_at_rest w
   where
     ended_too : (x : WorldState) (o : Option ActorState) → is_ended (option_map (at_rest x) o) ≡ is_ended o
     ended_too x None = refl
     ended_too x (Some a) = at_rest-ended x a
 
-    whole_at_rest : (x : WorldState) → is_complete (settled x) ≡ is_complete x
+    whole_at_rest : (x : WorldState) → is_complete (all_at_rest x) ≡ is_complete x
     whole_at_rest x = ap is_ended (settled_named x root_name) ∙ ended_too x (actor_named x.actors root_name)
 
-no_line : (i : Image) (a : ActorState) (p : Phase) (ls : List ActorLine) → has_ended p ≡ false → with_actor i a p ls ≡ ls
+no_line : (i : Image) (a : ActorState) (p : Phase) (ls : List ActorLine) → has_ended p ≡ false → with_actor_line i a p ls ≡ ls
 no_line i a phase.Running ls e = refl
 no_line i a (phase.Within q) ls e = refl
 no_line i a (phase.Starting pre) ls e = refl
@@ -415,24 +415,24 @@ no_line i a (phase.OpeningFile o) ls e = refl
 no_line i a (phase.Ending x) ls e = refl
 no_line i a (phase.Ended x) ls e = absurd cc
 
-line_at_rest : (w : WorldState) (i : Image) (a : ActorState) (ls : List ActorLine) (t : Bool) → has_ended a.phase ≡ t → with_actor i (at_rest w a) (at_rest w a).phase ls ≡ with_actor i a a.phase ls
-line_at_rest w i a ls true e = ap (λ (x : ActorState). with_actor i x x.phase ls) (at_rest-stays w a e)
+line_at_rest : (w : WorldState) (i : Image) (a : ActorState) (ls : List ActorLine) (t : Bool) → has_ended a.phase ≡ t → with_actor_line i (at_rest w a) (at_rest w a).phase ls ≡ with_actor_line i a a.phase ls
+line_at_rest w i a ls true e = ap (λ (x : ActorState). with_actor_line i x x.phase ls) (at_rest-stays w a e)
 line_at_rest w i a ls false e = no_line i (at_rest w a) (at_rest w a).phase ls (at_rest-ended w a ∙ e) ∙ sym (no_line i a a.phase ls e)
 
 lines_at_rest : (w : WorldState) (i : Image) (actors : List ActorState) → lines_of i (map (at_rest w) actors) ≡ lines_of i actors
 lines_at_rest w i [] = refl
-lines_at_rest w i (a ∷ as_) = ap (with_actor i (at_rest w a) (at_rest w a).phase) (lines_at_rest w i as_) ∙ line_at_rest w i a (lines_of i as_) _ refl
+lines_at_rest w i (a ∷ as_) = ap (with_actor_line i (at_rest w a) (at_rest w a).phase) (lines_at_rest w i as_) ∙ line_at_rest w i a (lines_of i as_) _ refl
 
 labels_at_rest : (w : WorldState) (actors : List ActorState) → labels_of (map (at_rest w) actors) ≡ labels_of actors
 labels_at_rest w [] = refl
 labels_at_rest w (a ∷ as_) = ap (λ ls. ls ++ labels_of (map (at_rest w) as_)) (at_rest-labels w a) ∙ ap (λ ls. a.labels ++ ls) (labels_at_rest w as_)
 
-pub outcome_alike : (v w : WorldState) → settled v ≡ settled w → outcome_of v ≡ outcome_of w
+pub outcome_alike : (v w : WorldState) → all_at_rest v ≡ all_at_rest w → outcome_of v ≡ outcome_of w
 outcome_alike v w alike = sym (outcome_at_rest v) ∙ ap (λ (x : WorldState). outcome_of x) alike ∙ outcome_at_rest w
   where
-    outcome_at_rest : (x : WorldState) → outcome_of (settled x) ≡ outcome_of x
+    outcome_at_rest : (x : WorldState) → outcome_of (all_at_rest x) ≡ outcome_of x
     outcome_at_rest x =
-        ap (λ ls. record { actors = ls; streams = streams_of x.image (labels_of (settled x).actors) 0 x.cells.streams }) (lines_at_rest x x.image x.actors)
+        ap (λ ls. record { actors = ls; streams = streams_of x.image (labels_of (all_at_rest x).actors) 0 x.cells.streams }) (lines_at_rest x x.image x.actors)
         ∙ ap (λ labels. record { actors = lines_of x.image x.actors; streams = streams_of x.image labels 0 x.cells.streams }) (labels_at_rest x x.actors)
 
 -- ---- what every actor of a run is in as it rests
@@ -455,11 +455,11 @@ AllFew (b ∷ bs) = AreFew b.drafts × AllFew bs
 
 -- every actor rests at its request, at its end, or at none
 pub record AllReady (w : WorldState) : Type 0 where
-  pub actors : AllRead w.image (settled w).actors
-  pub drafts : AllFew (settled w).actors
+  pub actors : AllRead w.image (all_at_rest w).actors
+  pub drafts : AllFew (all_at_rest w).actors
   pub cells : AreCells w.image w.cells
 
-pub all_alike : (v w : WorldState) → settled v ≡ settled w → AllReady w → AllReady v
+pub all_alike : (v w : WorldState) → all_at_rest v ≡ all_at_rest w → AllReady w → AllReady v
 all_alike v w alike all = record {
   actors = subst (λ (x : WorldState). AllRead x.image x.actors) (sym alike) all.actors;
   drafts = subst (λ (x : WorldState). AllFew x.actors) (sym alike) all.drafts;
@@ -476,7 +476,7 @@ named_reads i (x ∷ xs) name b all e = first_reads i x b (actor_named xs name) 
 
 pub named_ready : (w : WorldState) (name : List ℕ) (a : ActorState) → AllReady w → actor_named w.actors name ≡ Some a → ReadsAs w.image (at_rest w a) (at_rest w a).phase
 named_ready w name a all named =
-    named_reads w.image (settled w).actors name (at_rest w a) all.actors (settled_named w name ∙ ap (option_map (at_rest w)) named)
+    named_reads w.image (all_at_rest w).actors name (at_rest w a) all.actors (settled_named w name ∙ ap (option_map (at_rest w)) named)
 
 named_few : (bs : List ActorState) (name : List ℕ) (b : ActorState) → AllFew bs → actor_named bs name ≡ Some b → AreFew b.drafts
 named_few [] name b all e = absurd cc
@@ -488,7 +488,7 @@ named_few (x ∷ xs) name b all e = by_name (same x.name name) e (named_few xs n
 
 pub actor_few : (w : WorldState) (name : List ℕ) (a : ActorState) → AllReady w → actor_named w.actors name ≡ Some a → AreFew (at_rest w a).drafts
 actor_few w name a all named =
-    named_few (settled w).actors name (at_rest w a) all.drafts (settled_named w name ∙ ap (option_map (at_rest w)) named)
+    named_few (all_at_rest w).actors name (at_rest w a) all.drafts (settled_named w name ∙ ap (option_map (at_rest w)) named)
 
 put_few : (bs : List ActorState) (x : ActorState) → AllFew bs → AreFew x.drafts → AllFew (put_actor bs x)
 put_few [] x all h = (h, tt)
@@ -530,7 +530,7 @@ run_begins i b run kept (phase.Waiting k) c is = absurd cc
 run_begins i b run kept (phase.Ending e) c is = absurd cc
 run_begins i b run kept (phase.Ended e) c is = absurd cc
 
-begins_ready : (i : Image) (b : ActorState) (e : Event) (c : ActorState) → begun i b e ≡ Some c → ReadsAs i c c.phase × AreFew c.drafts
+begins_ready : (i : Image) (b : ActorState) (e : Event) (c : ActorState) → actor_begun i b e ≡ Some c → ReadsAs i c c.phase × AreFew c.drafts
 begins_ready i b (event.Start child) c is =
     let same_child : child_of i b child ≡ c = cc in
     subst (λ (x : ActorState). ReadsAs i x x.phase × AreFew x.drafts) same_child (tt, tt)
@@ -586,16 +586,16 @@ turn_ready w name e new all t =
     let b = at_rest w p.actor in
     let is : rest w.image p.parts.actor ≡ b = ap (rest w.image) p.is in
     let x = takes w.image b e in
-    let u = (happened (settled w) b e).world in
+    let u = (apply_event (all_at_rest w) b e).world in
     let there = turned_there w name p.actor p.named in
-    let live = sym (at_rest-ended w p.actor) ∙ wants_live b p.parts.want (ap (λ (y : ActorState). wanted y) (sym is) ∙ p.parts.wants) in
+    let live = sym (at_rest-ended w p.actor) ∙ wants_live b p.parts.want (ap (λ (y : ActorState). current_want y) (sym is) ∙ p.parts.wants) in
     let happens_so : Happens (resumed w p.actor) b e = subst (λ y. Happens (resumed w p.actor) y e) is (turn_happens w name e new all p) in
     let reads = takes_reads (resumed w p.actor) b e all.cells.places all.cells.numbers happens_so in
     let few = takes_few w.image b e (actor_few w name p.actor all p.named) in
-    let same_world : settled new ≡ settled u = ap settled (p.parts.new_is ∙ ap (λ (y : ActorState). (happened (resumed w p.actor) y e).world) is) ∙ settles_after w p.actor e there live in
+    let same_world : all_at_rest new ≡ all_at_rest u = ap all_at_rest (p.parts.new_is ∙ ap (λ (y : ActorState). (apply_event (resumed w p.actor) y e).world) is) ∙ settles_after w p.actor e there live in
     record {
-      actors = subst (λ (y : WorldState). AllRead y.image y.actors) (sym same_world) (map_reads u u.actors (begun_reads w.image (put_actor (settled w).actors x) (begun w.image b e) (put_reads w.image (settled w).actors x all.actors reads) (λ c h. (begins_ready w.image b e c h).0)));
-      drafts = subst (λ (y : WorldState). AllFew y.actors) (sym same_world) (map_few u u.actors (begun_few (put_actor (settled w).actors x) (begun w.image b e) (put_few (settled w).actors x all.drafts few) (λ c h. (begins_ready w.image b e c h).1)));
+      actors = subst (λ (y : WorldState). AllRead y.image y.actors) (sym same_world) (map_reads u u.actors (begun_reads w.image (put_actor (all_at_rest w).actors x) (actor_begun w.image b e) (put_reads w.image (all_at_rest w).actors x all.actors reads) (λ c h. (begins_ready w.image b e c h).0)));
+      drafts = subst (λ (y : WorldState). AllFew y.actors) (sym same_world) (map_few u u.actors (begun_few (put_actor (all_at_rest w).actors x) (actor_begun w.image b e) (put_few (all_at_rest w).actors x all.drafts few) (λ c h. (begins_ready w.image b e c h).1)));
       cells = subst (λ (y : WorldState). AreCells y.image y.cells) (sym same_world) (cells_kept w.image w.cells e all.cells);
     }
 
@@ -620,11 +620,11 @@ nothings_length X n = replicate_length X n
 filled_length : (X : Type 0) (xs : List (Option X)) (n m : ℕ) → length xs ≡ n → length (xs ++ nothings {X = X} m) ≡ n + m
 filled_length X xs n m is = length-append xs (nothings m) ∙ (ap (λ k. k + length (nothings {X = X} m)) is ∙ ap (λ k. n + k) (nothings_length X m))
 
-pub opening_ready : (i : Image) → AllReady (opening i)
+pub opening_ready : (i : Image) → AllReady (initial_state i)
 unfolding root
 opening_ready i = record {
-  actors = map_reads (opening i) (root i ∷ []) (tt, tt);
-  drafts = map_few (opening i) (root i ∷ []) (tt, tt);
+  actors = map_reads (initial_state i) (root i ∷ []) (tt, tt);
+  drafts = map_few (initial_state i) (root i ∷ []) (tt, tt);
   cells = record {
     places = (enough most_slots (length i.tags), some (length i.tags) (most_slots - length i.tags), tt);
     slots = filled_length Segment (declared_slots 0 i.tags) (length i.tags) (most_slots - length i.tags) (declared_length 0 i.tags);
@@ -643,5 +643,5 @@ runs_ready : (old : WorldState) (turns : List Turn) (new : WorldState) → AllRe
 runs_ready old [] new all run = subst AllReady (sym run) all
 runs_ready old (t ∷ ts) new all run = runs_ready run.0 ts new (turn_ready old t.actor t.event run.0 all run.1) run.2
 
-pub run_ready : (i : Image) (turns : List Turn) (new : WorldState) → Runs (opening i) turns new → AllReady new
-run_ready i turns new run = runs_ready (opening i) turns new (opening_ready i) run
+pub run_ready : (i : Image) (turns : List Turn) (new : WorldState) → Runs (initial_state i) turns new → AllReady new
+run_ready i turns new run = runs_ready (initial_state i) turns new (opening_ready i) run

@@ -18,7 +18,7 @@ use Rattle.run_laws.specs.Families.{IsChild, IsRun}
 use Rattle.sthread_life.specs.Lending.{sheet_lent}
 use Rattle.sthread_life.specs.Local.{is_running, step, run_local, rest}
 use Rattle.run_laws.specs.Occupancy.{slot_known, GateHasIn, HasIn}
-use Rattle.run_laws.specs.Worlds.{opening}
+use Rattle.run_laws.specs.Worlds.{initial_state}
 use Rattle.run_laws.proofs.GateRuns.{held_is}
 use Rattle.run_laws.proofs.KnownGates.{Grows, Keeps, Adds, step_grows}
 use Rattle.sthread_life.proofs.Resting.{steps_step, stays, goes_on}
@@ -81,7 +81,7 @@ run_has i (suc n) a true e tag slot h =
     let b = step i a in
     let s = steps_step i a in
     let later = run_has i n b _ refl tag slot (subst (λ (x : ActorState). HasIn x tag slot) (goes_on i n a e) h) in
-    grown_has a b s.sheet (ap (λ (m : Made). m.tags) s.made) (step_grows (opening i) a e) tag slot later
+    grown_has a b s.sheet (ap (λ (m : Made). m.tags) s.made) (step_grows (initial_state i) a e) tag slot later
 
 pub rest_has : (i : Image) (a : ActorState) (tag slot : ℕ) → HasIn (rest i a) tag slot → HasIn a tag slot
 unfolding rest

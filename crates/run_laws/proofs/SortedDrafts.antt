@@ -8,9 +8,9 @@ use Rattle.wedge_events.specs.declared.events.Turn.{Turn}
 use Rattle.sthread_life.specs.Actors.{ActorState, root}
 use Rattle.sthread_life.specs.Children.{child_name}
 use Rattle.sthread_life.specs.Local.{rest, run_local}
-use Rattle.sthread_life.specs.Taking.{next_start, takes, begun, child_of, run_by}
+use Rattle.sthread_life.specs.Taking.{next_start, takes, actor_begun, child_of, run_by}
 use Rattle.run_laws.specs.Laws.{DraftsAreSorted}
-use Rattle.run_laws.specs.Worlds.{WorldState, opening, actor_named, put_actor, with_begun, Runs, ready, resumed}
+use Rattle.run_laws.specs.Worlds.{WorldState, initial_state, actor_named, put_actor, with_begun, Runs, ready, resumed}
 use Rattle.run_laws.proofs.Between.{takes_name}
 use Rattle.run_laws.proofs.DraftsFit.{AreFew, get_few, run_few, rest_few, takes_few}
 use Rattle.run_laws.proofs.FamilyRuns.{Acts, ActsAlone, Starts, Enters, Joins, acts, one_begins}
@@ -38,17 +38,17 @@ few_begun actors (Some c) few h m y found = by_place (found_or_last actors c m y
     by_place (inr one) = subst (λ (z : ActorState). AreFew z.drafts) (sym one) (few c refl)
 
 -- whoever begins has no drafts
-begun_few : (w : WorldState) (b : ActorState) (e : Event) (c : ActorState) → Acts w b e → begun w.image b e ≡ Some c → AreFew c.drafts
+begun_few : (w : WorldState) (b : ActorState) (e : Event) (c : ActorState) → Acts w b e → actor_begun w.image b e ≡ Some c → AreFew c.drafts
 begun_few w b e c (ActsAlone one) begins = let none : None ≡ Some c = sym (one_begins w.image b e one) ∙ begins in absurd cc
 begun_few w b e c (Starts s) begins =
-    let two : Some (child_of w.image b (child_name b.name (next_start b))) ≡ Some c = sym (ap (begun w.image b) s.is) ∙ begins in
+    let two : Some (child_of w.image b (child_name b.name (next_start b))) ≡ Some c = sym (ap (actor_begun w.image b) s.is) ∙ begins in
     let one : child_of w.image b (child_name b.name (next_start b)) ≡ c = cc in
     subst (λ (x : ActorState). AreFew x.drafts) one tt
 begun_few w b e c (Enters y) begins =
     let two : Some (run_by b (child_name b.name (next_start b)) y.kept y.entrance) ≡ Some c = sym y.begins ∙ begins in
     let one : run_by b (child_name b.name (next_start b)) y.kept y.entrance ≡ c = cc in
     subst (λ (x : ActorState). AreFew x.drafts) one tt
-begun_few w b e c (Joins k listed j) begins = let none : None ≡ Some c = sym (ap (begun w.image b) j.is) ∙ begins in absurd cc
+begun_few w b e c (Joins k listed j) begins = let none : None ≡ Some c = sym (ap (actor_begun w.image b) j.is) ∙ begins in absurd cc
 
 ready_few : (actors : List ActorState) (a : ActorState) → AreFew a.drafts → AreFew (ready actors a).drafts
 ready_few actors a h = ready_is (λ (x : ActorState). AreFew x.drafts) actors a h (λ k e fuel. h)
@@ -65,13 +65,13 @@ turn_few w name e new all p h =
     let put : IsPut v.actors a x = record { name = takes_name w.image b e ∙ rest-name w.image a; there = turned_there v name a p.parts.named } in
     let after = few_put v.actors a x put (takes_few w.image b e (rest_few w.image a (goes name a p.parts.named))) goes in
     subst (λ (z : WorldState). FewDrafts z.actors) (sym p.parts.new_is)
-    (few_begun (put_actor v.actors x) (begun w.image b e) (λ c begins. begun_few v b e c (acts v b e (turn_happens w name e new all p)) begins) after)
+    (few_begun (put_actor v.actors x) (actor_begun w.image b e) (λ c begins. begun_few v b e c (acts v b e (turn_happens w name e new all p)) begins) after)
 
 runs_few : (old : WorldState) (turns : List Turn) (new : WorldState) → AllReady old → FewDrafts old.actors → Runs old turns new → FewDrafts new.actors
 runs_few old [] new all h run = subst (λ (w : WorldState). FewDrafts w.actors) (sym run) h
 runs_few old (t ∷ ts) new all h run = runs_few run.0 ts new (turn_ready old t.actor t.event run.0 all run.1) (turn_few old t.actor t.event run.0 all (turn_from old t.actor t.event run.0 run.1) h) run.2
 
-opening_few : (i : Image) → FewDrafts (opening i).actors
+opening_few : (i : Image) → FewDrafts (initial_state i).actors
 unfolding root
 opening_few i m x found = by_name (same root_name m) found
   where
@@ -81,6 +81,6 @@ opening_few i m x found = by_name (same root_name m) found
 
 pub drafts_sorted : DraftsAreSorted
 drafts_sorted i turns w run name a named n k d found =
-    let few = runs_few (opening i) turns w (opening_ready i) (opening_few i) run name a named in
+    let few = runs_few (initial_state i) turns w (opening_ready i) (opening_few i) run name a named in
     let f = get_few (run_local w.image n (ready w.actors a)).drafts k d (run_few w.image n (ready w.actors a) _ refl (ready_few w.actors a few)) found in
     (record { tags = f.tags; fds = f.fds; gates = f.gates }, f.few)

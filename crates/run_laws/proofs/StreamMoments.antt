@@ -2,7 +2,7 @@
 use Rattle.std.proofs.Common.{◌≡◌, ℕ, Bool, true, false, List, refl, sym, ap, subst, ◌∙◌}
 use Rattle.std.specs.Prelude.{Option, Some, None, not, ◌&&◌, slice_set, if◌then◌else◌}
 use Rattle.wedge_base.specs.Rights.{read_bit, append_bit, bits_within}
-use Rattle.wedge_events.specs.Streams.{Stream, read_reply, append_reply, closing_bit, live_reply, stream_reply as stream_reply_of, stream_after}
+use Rattle.wedge_events.specs.Streams.{Stream, read_reply, append_reply, closing_bit, live_stream_reply, stream_reply as stream_reply_of, stream_after}
 use Rattle.wedge_base.specs.declared.rights.FdBits.{FdBits}
 use Rattle.wedge_base.specs.declared.rights.Denial.TheVariants as denial
 use Rattle.wedge_base.specs.declared.rights.Code.TheVariants as code
@@ -35,8 +35,8 @@ unfolding takes
 dead_answered w b fd s q = (kept w (record w.cells { streams = slice_set w.cells.streams fd (stream_after s q reply.NoSuch) }) b (refuses b code.NoSuch) refl refl, refl)
 
 live_answered : (w : WorldState) (b : ActorState) (fd : ℕ) (s : Stream) (q : StreamAsk) (of : Stream → Request) (v : Bool)
-    → IsAnswered (with_actor w b) b (event.Fd fd q (live_reply s q)) (Some (of s)) (stream_world w b fd (Some s) q (live_reply s q))
-    → IsAnswered (with_actor w b) b (event.Fd fd q (if v then live_reply s q else reply.NoSuch)) (if v then Some (of s) else None) (stream_world w b fd (Some s) q (if v then live_reply s q else reply.NoSuch))
+    → IsAnswered (with_actor w b) b (event.Fd fd q (live_stream_reply s q)) (Some (of s)) (stream_world w b fd (Some s) q (live_stream_reply s q))
+    → IsAnswered (with_actor w b) b (event.Fd fd q (if v then live_stream_reply s q else reply.NoSuch)) (if v then Some (of s) else None) (stream_world w b fd (Some s) q (if v then live_stream_reply s q else reply.NoSuch))
 live_answered w b fd s q of false live = dead_answered w b fd (Some s) q
 live_answered w b fd s q of true live = live
 
@@ -202,7 +202,7 @@ close_refused w b fd code None there told =
 close_refused w b fd code (Some s) there told = by_tests s.live told
   where
     by_tests : (v : Bool) → (if v then None else Some no_such) ≡ Some code
-        → stream_world w b fd (Some s) (stream_ask.Close (bits_of b fd)) (if v then live_reply s (stream_ask.Close (bits_of b fd)) else reply.NoSuch) ≡ with_actor (with_actor w b) (refused b code)
+        → stream_world w b fd (Some s) (stream_ask.Close (bits_of b fd)) (if v then live_stream_reply s (stream_ask.Close (bits_of b fd)) else reply.NoSuch) ≡ with_actor (with_actor w b) (refused b code)
     by_tests false h = let same : 5 ≡ code = cc in subst (λ n. stream_world w b fd (Some s) (stream_ask.Close (bits_of b fd)) reply.NoSuch ≡ with_actor (with_actor w b) (refused b n)) same (stayed w b _ _ (same_streams w fd (Some s) there) refl)
     by_tests true h = absurd cc
 

@@ -32,12 +32,12 @@ use Rattle.rv_hart.specs.declared.Need.TheVariants as need
 use Rattle.rv_hart.specs.Local.{local}
 use Rattle.sthread_life.specs.declared.phase.Phase.TheVariants as phase
 use Rattle.sthread_life.specs.Actors.{ActorState, right_of, answers, refuses, wants}
-use Rattle.run_laws.specs.Allowed.{may_use, answered}
+use Rattle.run_laws.specs.Allowed.{may_use, answered_hart}
 use Rattle.sthread_life.specs.Calls.{a0, a7, are_pages, serves}
 use Rattle.run_laws.specs.Cells.{slot_in, tag_in}
 use Rattle.sthread_life.specs.Children.{is_child}
 use Rattle.run_laws.specs.Families.{answered_twice}
-use Rattle.sthread_life.specs.Local.{needed, executed, fuelled, fetched, step}
+use Rattle.sthread_life.specs.Local.{step_with_need, step_with_instr, step_with_fuel, step_with_word, step}
 use Rattle.run_laws.specs.Moments.{NothingDenied, is_use, gap_in, IsPlaced, IsClosed, IsChecked, IsAnswered}
 use Rattle.run_laws.specs.Refusals.{full, no_such, bad, is_left, slots_refusal, close_refusal, gap_refusal, place_refusal, block_refusal, slot_refuses, is_refusal, refused}
 use Rattle.run_laws.specs.Requests.{Deletes, Allots, Frees}
@@ -212,7 +212,7 @@ place_held w b a slot tag size (Some g) named there = by_tests (g.tag == tag) (f
           let f : Some place ≡ Some offset = sym gap_is ∙ gap in
           let same : place ≡ offset = cc in (
             ap (λ n. event.Slot slot (slot_ask.Smalloc tag size) (slot_reply.Placed n)) same,
-            put_there w b (answers b (address_of slot place)) a named refl ∙ ap (λ n. Some (record b { hart = answered b (address_of slot n) 0; phase = phase.Running })) same,
+            put_there w b (answers b (address_of slot place)) a named refl ∙ ap (λ n. Some (record b { hart = answered_hart b (address_of slot n) 0; phase = phase.Running })) same,
           );
       none = λ gap. let f : Some place ≡ None = sym gap_is ∙ gap in absurd cc;
     }
@@ -347,7 +347,7 @@ call_wants i p n q told = by_two (n == 2) refl (n == 3) refl told
         (new_wants (are_pages (a0 p)) (ap (λ t. if t then Some (want.Slots directory_ask.Claim) else None) (sym (pages_tests (a0 p))) ∙ told))
     by_two false e false f told = absurd cc
 
-need_wants : (i : Image) (ins : Instr) (p : ActorState) (h : Hart) (n : Need) (q : Want) → need_want p n ≡ Some q → needed i ins p h n ≡ wants p q
+need_wants : (i : Image) (ins : Instr) (p : ActorState) (h : Hart) (n : Need) (q : Want) → need_want p n ≡ Some q → step_with_need i ins p h n ≡ wants p q
 need_wants i ins p h need.Done q told = absurd cc
 need_wants i ins p h (need.Load address width s) q told = absurd cc
 need_wants i ins p h (need.Store address width value) q told = absurd cc
@@ -355,15 +355,15 @@ need_wants i ins p h need.Call q told = call_wants i p (a7 p) q told
 need_wants i ins p h need.Break q told = absurd cc
 need_wants i ins p h need.JumpMisaligned q told = absurd cc
 
-instr_wants : (i : Image) (p : ActorState) (ins : Option Instr) (q : Want) → instr_want p ins ≡ Some q → executed i p ins ≡ wants p q
+instr_wants : (i : Image) (p : ActorState) (ins : Option Instr) (q : Want) → instr_want p ins ≡ Some q → step_with_instr i p ins ≡ wants p q
 instr_wants i p None q told = absurd cc
 instr_wants i p (Some ins) q told = need_wants i ins p (local ins p.hart).hart (local ins p.hart).need q told
 
-word_wants : (i : Image) (b : ActorState) (n : ℕ) (o : Option ℕ) (q : Want) → b.fuel ≡ suc n → word_want (record b { fuel = n }) o ≡ Some q → fetched i b o ≡ record b { fuel = n; phase = phase.Within q }
+word_wants : (i : Image) (b : ActorState) (n : ℕ) (o : Option ℕ) (q : Want) → b.fuel ≡ suc n → word_want (record b { fuel = n }) o ≡ Some q → step_with_word i b o ≡ record b { fuel = n; phase = phase.Within q }
 word_wants i b n None q has told = absurd cc
 word_wants i b n (Some word) q has told =
     let left : b.fuel - 1 ≡ n = omega (arith, has) in
-    ap (fuelled i b word) has ∙ (ap (λ m. executed i (record b { fuel = m }) (decode word)) left ∙ instr_wants i (record b { fuel = n }) (decode word) q told)
+    ap (step_with_fuel i b word) has ∙ (ap (λ m. step_with_instr i (record b { fuel = m }) (decode word)) left ∙ instr_wants i (record b { fuel = n }) (decode word) q told)
 
 step_wants : (i : Image) (b : ActorState) (n : ℕ) (q : Want) → b.fuel ≡ suc n → want_at i (record b { fuel = n }) ≡ Some q → step i b ≡ record b { fuel = n; phase = phase.Within q }
 unfolding step

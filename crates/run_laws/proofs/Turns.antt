@@ -9,7 +9,7 @@ use Rattle.sthread_life.specs.declared.phase.Phase.TheVariants as phase
 use Rattle.sthread_life.specs.Actors.{ActorState, answers_more}
 use Rattle.sthread_life.specs.Children.{child_name, without_child}
 use Rattle.sthread_life.specs.Local.{rest, end_reached, has_ended}
-use Rattle.sthread_life.specs.Taking.{wanted, end_value, end_number, answered_end}
+use Rattle.sthread_life.specs.Taking.{current_want, end_value, end_number, answered_end}
 use Rattle.run_laws.specs.Worlds.{WorldState, actor_named, ended_with, resumes, ready_at, ready, resumed, turn_with, turn_of}
 use Rattle.run_laws.proofs.Between.{TurnParts, parts_wanting}
 use Rattle.run_laws.proofs.Named.{named_put, found_name}
@@ -132,7 +132,7 @@ by_actor : (w : WorldState) (name : List ℕ) (o : Option ActorState) (e : Event
 by_actor w name None e new named t = absurd cc
 by_actor w name (Some a) e new named t =
     let b = ready w.actors a in
-    turned w name a e new (parts_wanting (resumed w a) name b (wanted (rest w.image b)) e new (ready_named w name a named) refl t) named
+    turned w name a e new (parts_wanting (resumed w a) name b (current_want (rest w.image b)) e new (ready_named w name a named) refl t) named
 
 pub turn_from : (w : WorldState) (name : List ℕ) (e : Event) (new : WorldState) → turn_of w name ≡ Some (record { event = e; world = new }) → Turned w name e new
 unfolding turn_of

@@ -3,7 +3,7 @@ use Rattle.std.proofs.Common.{◌≡◌, ℕ, ◌+◌, ◌<◌, Bool, true, fals
 use Rattle.std.specs.Prelude.{Some, ◌⊎◌, if◌then◌else◌}
 use Rattle.wedge_base.specs.Images.{Image}
 use Rattle.wedge_base.specs.Names.{same}
-use Rattle.wedge_events.specs.Journals.{asked}
+use Rattle.wedge_events.specs.Journals.{event_ask}
 use Rattle.wedge_events.specs.declared.events.Ask.{Ask}
 use Rattle.wedge_events.specs.declared.events.Ask.TheVariants as ask
 use Rattle.wedge_events.specs.declared.events.Want.{Want}
@@ -15,10 +15,10 @@ use Rattle.sthread_life.specs.declared.phase.Phase.{Phase}
 use Rattle.sthread_life.specs.declared.phase.Phase.TheVariants as phase
 use Rattle.sthread_life.specs.Actors.{ActorState, root}
 use Rattle.sthread_life.specs.Local.{rest, is_running}
-use Rattle.sthread_life.specs.Taking.{asks, takes, begun, wanted, wanted_at, answered_end}
+use Rattle.sthread_life.specs.Taking.{asks, takes, actor_begun, current_want, wanted_at, answered_end}
 use Rattle.sthread_life.specs.Children.{without_child}
 use Rattle.run_laws.specs.Cells.{Cells, live_at, event_of}
-use Rattle.run_laws.specs.Worlds.{WorldState, opening, actor_named, put_actor, ready, resumed, event_at, turn_of, Runs}
+use Rattle.run_laws.specs.Worlds.{WorldState, initial_state, actor_named, put_actor, ready, resumed, event_at, turn_of, Runs}
 use Rattle.run_laws.specs.Walks.{Asks, GoesOnBy, IsWalk, entries_in, RootsWalk}
 use Rattle.sthread_life.proofs.Resting.{rest-name, rest-stays}
 use Rattle.run_laws.proofs.Between.{comes_of, takes_name}
@@ -27,7 +27,7 @@ use Rattle.run_laws.proofs.Waits.{IsAwake}
 use Rattle.run_laws.proofs.Named.{same_equal, found_name, named_put, named_put_other, named_begun}
 
 -- an event is that of the ask of which it came
-asked_of : (c : Cells) (q : Ask) (e : Event) → event_of c q ≡ Some e → asked e ≡ q
+asked_of : (c : Cells) (q : Ask) (e : Event) → event_of c q ≡ Some e → event_ask e ≡ q
 asked_of c (ask.Slots q) e at = cc
 asked_of c (ask.Slot slot q) e at = cc
 asked_of c (ask.Fds q) e at = cc
@@ -40,17 +40,17 @@ asked_of c (ask.Enter run) e at = absurd cc
 asked_of c (ask.Leave end) e at = absurd cc
 
 -- and so is the event of what an actor wants
-asked_at : (w : WorldState) (b : ActorState) (q : Want) (e : Event) → event_at w b q ≡ Some e → asked e ≡ asks b (live_at w.cells q) q
-asked_at w b (want.Start child) e at = ap asked (comes_of w b (want.Start child) e at)
-asked_at w b (want.Join k) e at = ap asked (comes_of w b (want.Join k) e at).is
+asked_at : (w : WorldState) (b : ActorState) (q : Want) (e : Event) → event_at w b q ≡ Some e → event_ask e ≡ asks b (live_at w.cells q) q
+asked_at w b (want.Start child) e at = ap event_ask (comes_of w b (want.Start child) e at)
+asked_at w b (want.Join k) e at = ap event_ask (comes_of w b (want.Join k) e at).is
 asked_at w b (want.Slots q) e at = asked_of w.cells _ e at
 asked_at w b (want.Slot slot q) e at = asked_of w.cells _ e at
 asked_at w b (want.Fds q) e at = asked_of w.cells _ e at
 asked_at w b (want.Fd fd q) e at = asked_of w.cells _ e at
 asked_at w b (want.Lives q) e at = asked_of w.cells _ e at
-asked_at w b (want.Gate id q) e at = ap asked (comes_of w b (want.Gate id q) e at).1
-asked_at w b (want.Enter run) e at = ap asked (comes_of w b (want.Enter run) e at)
-asked_at w b (want.Leave end) e at = ap asked (comes_of w b (want.Leave end) e at)
+asked_at w b (want.Gate id q) e at = ap event_ask (comes_of w b (want.Gate id q) e at).1
+asked_at w b (want.Enter run) e at = ap event_ask (comes_of w b (want.Enter run) e at)
+asked_at w b (want.Leave end) e at = ap event_ask (comes_of w b (want.Leave end) e at)
 
 -- an actor that waits for no run goes on as it is; and one that takes a turn goes on
 goes_as_is : (a : ActorState) (p : Phase) → IsAwake p → GoesOnBy a p a
@@ -66,13 +66,13 @@ goes_as_is a (phase.Waiting k) h = absurd (h k refl)
 goes_as_is a (phase.Ending e) h = refl
 goes_as_is a (phase.Ended e) h = refl
 
-goes_on_by : (i : Image) (actors : List ActorState) (a : ActorState) (q : Want) → wanted (rest i (ready actors a)) ≡ Some q → GoesOnBy a a.phase (ready actors a)
+goes_on_by : (i : Image) (actors : List ActorState) (a : ActorState) (q : Want) → current_want (rest i (ready actors a)) ≡ Some q → GoesOnBy a a.phase (ready actors a)
 goes_on_by i actors a q wants = by_case (readies actors a)
   where
     stays_so : ready actors a ≡ a → ((k : ℕ) × (a.phase ≡ phase.Waiting k)) ⊎ ((k : ℕ) → a.phase ≡ phase.Waiting k → ⊥) → GoesOnBy a a.phase (ready actors a)
     stays_so is (inl (k, at)) =
         let rests_so : rest i (ready actors a) ≡ a = ap (rest i) is ∙ rest-stays i a (ap is_running at) in
-        let none = sym (ap (λ (x : ActorState). wanted x) rests_so ∙ ap (wanted_at a) at) ∙ wants in
+        let none = sym (ap (λ (x : ActorState). current_want x) rests_so ∙ ap (wanted_at a) at) ∙ wants in
         absurd cc
     stays_so is (inr none) = subst (GoesOnBy a a.phase) (sym is) (goes_as_is a a.phase none)
 
@@ -108,10 +108,10 @@ own_turn w name a e new named is t =
     let put : actor_named (put_actor v.actors x) a.name ≡ Some x = subst (λ n. actor_named (put_actor v.actors x) n ≡ Some x) own (named_put v.actors x p.actor (ap (actor_named v.actors) own ∙ there)) in
     record {
       on = p.actor;
-      goes = subst (GoesOnBy a a.phase) (sym on_is) (goes_on_by w.image w.actors a p.want (ap (λ (y : ActorState). wanted (rest w.image y)) (sym on_is) ∙ p.wants));
+      goes = subst (GoesOnBy a a.phase) (sym on_is) (goes_on_by w.image w.actors a p.want (ap (λ (y : ActorState). current_want (rest w.image y)) (sym on_is) ∙ p.wants));
       name = name_is;
       event = record { want = p.want; live = live_at w.cells p.want; wants = p.wants; asks_it = asked_at v b p.want e p.comes };
-      now = ap (λ (y : WorldState). actor_named y.actors a.name) p.new_is ∙ named_begun (put_actor v.actors x) (begun w.image b e) a.name x put;
+      now = ap (λ (y : WorldState). actor_named y.actors a.name) p.new_is ∙ named_begun (put_actor v.actors x) (actor_begun w.image b e) a.name x put;
       image = ap (λ (y : WorldState). y.image) p.new_is;
     }
 
@@ -133,7 +133,7 @@ other_turn w doer a e new named apart t =
     let still : actor_named v.actors a.name ≡ Some a = named_put_other w.actors (ready w.actors turn.actor) a.name (ap (λ n. same n a.name) first ∙ apart) ∙ named in
     let put : actor_named (put_actor v.actors x) a.name ≡ Some a = named_put_other v.actors x a.name (ap (λ n. same n a.name) own ∙ apart) ∙ still in
     record {
-      now = ap (λ (y : WorldState). actor_named y.actors a.name) p.new_is ∙ named_begun (put_actor v.actors x) (begun w.image b e) a.name a put;
+      now = ap (λ (y : WorldState). actor_named y.actors a.name) p.new_is ∙ named_begun (put_actor v.actors x) (actor_begun w.image b e) a.name a put;
       image = ap (λ (y : WorldState). y.image) p.new_is;
     }
 
@@ -177,5 +177,5 @@ actor_walks old (t ∷ ts) new a clock stamp above named run =
 pub roots_walk : RootsWalk
 unfolding root
 roots_walk i turns new run =
-    let w = actor_walks (opening i) turns new (root i) 0 1 (omega arith) refl run in
+    let w = actor_walks (initial_state i) turns new (root i) 0 1 (omega arith) refl run in
     record { last = w.last; walk = w.walk; leads = w.leads }

@@ -37,13 +37,13 @@ use Rattle.sthread_life.specs.Actors.{ActorState, pristine, root}
 use Rattle.sthread_life.specs.Between.{IsBetween}
 use Rattle.sthread_life.specs.Children.{Children, child_name, is_number, fuel_given, is_child, with_child, without_child}
 use Rattle.run_laws.specs.FamilyTrees.{Family, WaitsForOwn}
-use Rattle.sthread_life.specs.Copying.{Preparation, copied_from, prepared, behind_first}
+use Rattle.sthread_life.specs.Copying.{Preparation, copied_from, prepare_copies, behind_first}
 use Rattle.run_laws.specs.Cells.{slot_in}
 use Rattle.run_laws.specs.Fuel.{unit_work, units_of, opening_work, phase_work, tasks_of, tasks_in, work_left, most_turns, units_of_turn}
 use Rattle.run_laws.specs.Laws.{RunsEnd}
 use Rattle.sthread_life.specs.Local.{is_running, rest}
-use Rattle.sthread_life.specs.Taking.{next_start, answered_end, copies_asked, has_snapped, takes, begun, copied_on, run_by}
-use Rattle.run_laws.specs.Worlds.{WorldState, opening, actor_named, put_actor, with_begun, turn_of, Runs, ready, resumed}
+use Rattle.sthread_life.specs.Taking.{next_start, answered_end, copies_asked, has_snapped, takes, actor_begun, copied_on, run_by}
+use Rattle.run_laws.specs.Worlds.{WorldState, initial_state, actor_named, put_actor, with_begun, turn_of, Runs, ready, resumed}
 use Rattle.wedge_base.specs.Names.{same}
 use Rattle.run_laws.proofs.Between.{IsPreparing, MayPrepare, MayNumber, Leaves, numbered_is, opened_is, takes_between, takes_name, IsMaking, MayWait, entered_by}
 use Rattle.run_laws.proofs.DraftsFit.{AreFew, few_copies}
@@ -124,7 +124,7 @@ record IsPaid (a b : ActorState) (units : ℕ) : Type 0 where
   within : (q : Want) → b.phase ≡ phase.Within q → 5 + most_grants ≤ unit_work * units + phase_work a.phase
   starting : (p : Preparation) → b.phase ≡ phase.Starting p → 4 + length p.left ≤ unit_work * units + phase_work a.phase
   making : (p : Preparation) → length p.left ≤ most_grants → b.phase ≡ phase.MakingGate p → 4 + length p.left ≤ unit_work * units + phase_work a.phase
-  opening : (slot tag : ℕ) → b.phase ≡ phase.Opening slot tag → 4 ≤ unit_work * units + phase_work a.phase
+  initial_state : (slot tag : ℕ) → b.phase ≡ phase.Opening slot tag → 4 ≤ unit_work * units + phase_work a.phase
   releasing : (slot : ℕ) → b.phase ≡ phase.Releasing slot → 4 ≤ unit_work * units + phase_work a.phase
   file : (o : FileOpening) → b.phase ≡ phase.OpeningFile o → opening_work o.number ≤ unit_work * units + phase_work a.phase
   entering : (x : Entrance) → b.phase ≡ phase.Entering x → 4 ≤ unit_work * units + phase_work a.phase
@@ -253,7 +253,7 @@ work_without (phase.Ended e) h none few = omega arith
 claimed_left : (i : Image) (b : ActorState) (pre : Preparation) → AreFew b.drafts → (takes i b (event.Lives lives_ask.Claim lives_reply.Claimed)).phase ≡ phase.Starting pre → length pre.left ≤ most_grants
 unfolding takes
 claimed_left i b pre few is =
-    let begins = prepared b.sheet b.made b.memory.copies (pristine i) (copies_asked b) in
+    let begins = prepare_copies b.sheet b.made b.memory.copies (pristine i) (copies_asked b) in
     let same : begins ≡ pre = cc in
     let left : length begins.left ≡ length pre.left = ap (λ (x : Preparation). length x.left) same in
     let fewer = prepared_left b.sheet b.made b.memory.copies (pristine i) (copies_asked b) in
@@ -275,7 +275,7 @@ snapped_work : (b : ActorState) (p : Preparation) (slot : ℕ) (gs : List CopyGr
     → phase_work (has_snapped b b.phase slot o).phase ≤ 4 + length (behind_first gs)
 snapped_work b p slot gs o at left =
     let fewer = prepared_left b.sheet b.made b.memory.copies (copied_from o slot p.memory) (behind_first p.left) in
-    let work : phase_work (has_snapped b b.phase slot o).phase ≡ 4 + length (prepared b.sheet b.made b.memory.copies (copied_from o slot p.memory) (behind_first p.left)).left = ap (λ ph. phase_work (has_snapped b ph slot o).phase) at in
+    let work : phase_work (has_snapped b b.phase slot o).phase ≡ 4 + length (prepare_copies b.sheet b.made b.memory.copies (copied_from o slot p.memory) (behind_first p.left)).left = ap (λ ph. phase_work (has_snapped b ph slot o).phase) at in
     let same : length (behind_first p.left) ≡ length (behind_first gs) = ap (λ l. length (behind_first l)) left in
     omega (arith, fewer, work, same)
 
@@ -309,9 +309,9 @@ gate_snap_work i b p slot tag grant others g at left =
 
 -- the tasks of the doer and of a child after the event, against those before and the units
 record IsLess (i : Image) (b : ActorState) (e : Event) (n : ℕ) : Type 0 where
-  less : tasks_of (takes i b e) + begun_tasks (begun i b e) < n
+  less : tasks_of (takes i b e) + begun_tasks (actor_begun i b e) < n
 
-started_tasks : (i : Image) (b : ActorState) (child : List ℕ) → tasks_of (takes i b (event.Start child)) + begun_tasks (begun i b (event.Start child)) ≤ 3 + length b.unjoined
+started_tasks : (i : Image) (b : ActorState) (child : List ℕ) → tasks_of (takes i b (event.Start child)) + begun_tasks (actor_begun i b (event.Start child)) ≤ 3 + length b.unjoined
 unfolding takes
 started_tasks i b child = let h = count_with b.unjoined (next_start b) (reg b.hart.regs 13) in omega (arith, h)
 
@@ -353,12 +353,12 @@ file_work : (i : Image) (b : ActorState) (fd : ℕ) (q : StreamAsk) → phase_wo
 unfolding takes
 file_work i b fd q = opened_is (λ x. phase_work x.phase ≤ 2) b b.phase fd (omega arith) (λ o. omega arith)
 
-entered_tasks : (w : WorldState) (b : ActorState) (e : Event) → IsEntry w b e → tasks_of (takes w.image b e) + begun_tasks (begun w.image b e) ≤ 3 + length b.unjoined
+entered_tasks : (w : WorldState) (b : ActorState) (e : Event) → IsEntry w b e → tasks_of (takes w.image b e) + begun_tasks (actor_begun w.image b e) ≤ 3 + length b.unjoined
 entered_tasks w b e y =
     let x = y.entrance in
     let h = count_with b.unjoined (next_start b) x.gate.fuel in
     let first : tasks_of (takes w.image b e) ≡ tasks_of (entered_by b x) = ap tasks_of y.takes_so in
-    let second : begun_tasks (begun w.image b e) ≡ begun_tasks (Some (run_by b (child_name b.name (next_start b)) y.kept x)) = ap begun_tasks y.begins in
+    let second : begun_tasks (actor_begun w.image b e) ≡ begun_tasks (Some (run_by b (child_name b.name (next_start b)) y.kept x)) = ap begun_tasks y.begins in
     omega (arith, h, first, second)
 
 left_tasks : (i : Image) (b : ActorState) (x : End) → tasks_of (takes i b (event.Leave x)) ≡ length b.unjoined
@@ -370,7 +370,7 @@ unfolding takes
 recycled_left_tasks i b x id m = omega arith
 
 entry_less : (w : WorldState) (a : ActorState) (e : Event) → IsEntry w (rest w.image a) e
-    → tasks_of (takes w.image (rest w.image a) e) + begun_tasks (begun w.image (rest w.image a) e) < unit_work * units_of w.image (a.fuel + 1) a + tasks_of a
+    → tasks_of (takes w.image (rest w.image a) e) + begun_tasks (actor_begun w.image (rest w.image a) e) < unit_work * units_of w.image (a.fuel + 1) a + tasks_of a
 entry_less w a e y =
     let b = rest w.image a in
     let k = kept_at_rest w.image a _ refl in
@@ -380,7 +380,7 @@ entry_less w a e y =
     omega (arith, paid, few, count)
 
 event_less : (w : WorldState) (a : ActorState) (e : Event) → AreFew (rest w.image a).drafts → Happens w (rest w.image a) e
-    → tasks_of (takes w.image (rest w.image a) e) + begun_tasks (begun w.image (rest w.image a) e) < unit_work * units_of w.image (a.fuel + 1) a + tasks_of a
+    → tasks_of (takes w.image (rest w.image a) e) + begun_tasks (actor_begun w.image (rest w.image a) e) < unit_work * units_of w.image (a.fuel + 1) a + tasks_of a
 event_less w a e drafts (Requested r) =
     let b = rest w.image a in
     let one = subst IsOfOne (sym r.is) (request_of_one _ w.cells b r.want r.own) in
@@ -388,7 +388,7 @@ event_less w a e drafts (Requested r) =
     let k = kept_at_rest w.image a _ refl in
     let paid = (rest_paid w.image a _ refl).within r.want r.at in
     let few = request_work w b e r.want r.at drafts in
-    let none : begun_tasks (begun w.image b e) ≡ 0 = ap begun_tasks (one_begins w.image b e one) in
+    let none : begun_tasks (actor_begun w.image b e) ≡ 0 = ap begun_tasks (one_begins w.image b e one) in
     let count : length (takes w.image b e).unjoined ≡ length a.unjoined = ap length (s.unjoined ∙ k.unjoined) in
     omega (arith, paid, few, none, count)
 event_less w a e drafts (Joined j) =
@@ -401,7 +401,7 @@ event_less w a e drafts (Joined j) =
     let fewer = count_less b.unjoined j.number j.listed in
     let count : length b.unjoined ≡ length a.unjoined = ap length k.unjoined in
     omega (arith, paid, few, left, fewer, count) in
-    subst (λ y. tasks_of (takes w.image b y) + begun_tasks (begun w.image b y) < unit_work * units_of w.image (a.fuel + 1) a + tasks_of a) (sym j.join.is) less
+    subst (λ y. tasks_of (takes w.image b y) + begun_tasks (actor_begun w.image b y) < unit_work * units_of w.image (a.fuel + 1) a + tasks_of a) (sym j.join.is) less
 event_less w a e drafts (Opens o) =
     let b = rest w.image a in
     let one = subst IsOfOne (sym o.is) tt in
@@ -409,7 +409,7 @@ event_less w a e drafts (Opens o) =
     let k = kept_at_rest w.image a _ refl in
     let paid = (rest_paid w.image a _ refl).opening o.slot o.tag o.at in
     let few : phase_work (takes w.image b e).phase ≤ 2 = between_work (takes w.image b e).phase (subst (λ y. Leaves y (takes w.image b e).phase) o.is (takes_between w.image b e)) in
-    let none : begun_tasks (begun w.image b e) ≡ 0 = ap begun_tasks (one_begins w.image b e one) in
+    let none : begun_tasks (actor_begun w.image b e) ≡ 0 = ap begun_tasks (one_begins w.image b e one) in
     let count : length (takes w.image b e).unjoined ≡ length a.unjoined = ap length (s.unjoined ∙ k.unjoined) in
     omega (arith, paid, few, none, count)
 event_less w a e drafts (Releases r) =
@@ -419,7 +419,7 @@ event_less w a e drafts (Releases r) =
     let k = kept_at_rest w.image a _ refl in
     let paid = (rest_paid w.image a _ refl).releasing r.slot r.at in
     let few : phase_work (takes w.image b e).phase ≤ 2 = between_work (takes w.image b e).phase (subst (λ y. Leaves y (takes w.image b e).phase) r.is (takes_between w.image b e)) in
-    let none : begun_tasks (begun w.image b e) ≡ 0 = ap begun_tasks (one_begins w.image b e one) in
+    let none : begun_tasks (actor_begun w.image b e) ≡ 0 = ap begun_tasks (one_begins w.image b e one) in
     let count : length (takes w.image b e).unjoined ≡ length a.unjoined = ap length (s.unjoined ∙ k.unjoined) in
     omega (arith, paid, few, none, count)
 event_less w a e drafts (Numbers n) =
@@ -430,7 +430,7 @@ event_less w a e drafts (Numbers n) =
     let paid = (rest_paid w.image a _ refl).file n.opening n.at in
     let work : opening_work n.opening.number ≡ 5 = ap opening_work n.none in
     let few : phase_work (takes w.image b e).phase ≤ 4 = subst (λ y. phase_work (takes w.image b y).phase ≤ 4) (sym n.is) (number_work w.image b _) in
-    let none : begun_tasks (begun w.image b e) ≡ 0 = ap begun_tasks (one_begins w.image b e one) in
+    let none : begun_tasks (actor_begun w.image b e) ≡ 0 = ap begun_tasks (one_begins w.image b e one) in
     let count : length (takes w.image b e).unjoined ≡ length a.unjoined = ap length (s.unjoined ∙ k.unjoined) in
     omega (arith, paid, work, few, none, count)
 event_less w a e drafts (OpensFile f) =
@@ -441,7 +441,7 @@ event_less w a e drafts (OpensFile f) =
     let paid = (rest_paid w.image a _ refl).file f.opening f.at in
     let work : opening_work f.opening.number ≡ 4 = ap opening_work f.some in
     let few : phase_work (takes w.image b e).phase ≤ 2 = subst (λ y. phase_work (takes w.image b y).phase ≤ 2) (sym f.is) (file_work w.image b f.fd _) in
-    let none : begun_tasks (begun w.image b e) ≡ 0 = ap begun_tasks (one_begins w.image b e one) in
+    let none : begun_tasks (actor_begun w.image b e) ≡ 0 = ap begun_tasks (one_begins w.image b e one) in
     let count : length (takes w.image b e).unjoined ≡ length a.unjoined = ap length (s.unjoined ∙ k.unjoined) in
     omega (arith, paid, work, few, none, count)
 event_less w a e drafts (Snaps s) =
@@ -453,7 +453,7 @@ event_less w a e drafts (Snaps s) =
     let left : length s.preparation.left ≡ suc (length s.others) = ap length s.left in
     let count : length (takes w.image b asked).unjoined ≡ length a.unjoined = ap length ((takes_same w.image b asked tt).unjoined ∙ k.unjoined) in
     let less : tasks_of (takes w.image b asked) + 0 < unit_work * units_of w.image (a.fuel + 1) a + tasks_of a = omega (arith, paid, few, left, count) in
-    subst (λ y. tasks_of (takes w.image b y) + begun_tasks (begun w.image b y) < unit_work * units_of w.image (a.fuel + 1) a + tasks_of a) (sym s.is) less
+    subst (λ y. tasks_of (takes w.image b y) + begun_tasks (actor_begun w.image b y) < unit_work * units_of w.image (a.fuel + 1) a + tasks_of a) (sym s.is) less
 event_less w a e drafts (GateSnaps s) =
     let b = rest w.image a in
     let k = kept_at_rest w.image a _ refl in
@@ -463,14 +463,14 @@ event_less w a e drafts (GateSnaps s) =
     let left : length s.preparation.left ≡ suc (length s.others) = ap length s.left in
     let count : length (takes w.image b asked).unjoined ≡ length a.unjoined = ap length ((takes_same w.image b asked tt).unjoined ∙ k.unjoined) in
     let less : tasks_of (takes w.image b asked) + 0 < unit_work * units_of w.image (a.fuel + 1) a + tasks_of a = omega (arith, paid, few, left, count) in
-    subst (λ y. tasks_of (takes w.image b y) + begun_tasks (begun w.image b y) < unit_work * units_of w.image (a.fuel + 1) a + tasks_of a) (sym s.is) less
+    subst (λ y. tasks_of (takes w.image b y) + begun_tasks (actor_begun w.image b y) < unit_work * units_of w.image (a.fuel + 1) a + tasks_of a) (sym s.is) less
 event_less w a e drafts (Started s) =
     let b = rest w.image a in
     let k = kept_at_rest w.image a _ refl in
     let paid = (rest_paid w.image a _ refl).starting s.preparation s.at in
     let few = started_tasks w.image b (child_name b.name (next_start b)) in
     let count : length b.unjoined ≡ length a.unjoined = ap length k.unjoined in
-    subst (λ y. tasks_of (takes w.image b y) + begun_tasks (begun w.image b y) < unit_work * units_of w.image (a.fuel + 1) a + tasks_of a) (sym s.is) (omega (arith, paid, few, count))
+    subst (λ y. tasks_of (takes w.image b y) + begun_tasks (actor_begun w.image b y) < unit_work * units_of w.image (a.fuel + 1) a + tasks_of a) (sym s.is) (omega (arith, paid, few, count))
 event_less w a e drafts (LastJoined j) =
     let b = rest w.image a in
     let k = kept_at_rest w.image a _ refl in
@@ -481,7 +481,7 @@ event_less w a e drafts (LastJoined j) =
     let fewer = count_less b.unjoined j.first.0 (subst (λ cs. is_child cs j.first.0 ≡ true) (sym j.left) (first_child j.first j.others)) in
     let count : length b.unjoined ≡ length a.unjoined = ap length k.unjoined in
     omega (arith, paid, few, left, fewer, count) in
-    subst (λ y. tasks_of (takes w.image b y) + begun_tasks (begun w.image b y) < unit_work * units_of w.image (a.fuel + 1) a + tasks_of a) (sym j.join.is) less
+    subst (λ y. tasks_of (takes w.image b y) + begun_tasks (actor_begun w.image b y) < unit_work * units_of w.image (a.fuel + 1) a + tasks_of a) (sym j.join.is) less
 event_less w a e drafts (EntersGate x) = entry_less w a e (fresh_entry w (rest w.image a) e x)
 event_less w a e drafts (EntersRecycled x) = entry_less w a e (recycled_entry w (rest w.image a) e x)
 event_less w a e drafts (LeavesRecycled l) =
@@ -489,19 +489,19 @@ event_less w a e drafts (LeavesRecycled l) =
     let paid = (rest_paid w.image a _ refl).ending l.end_ l.at in
     let few = recycled_left_tasks w.image b l.end_ l.gate.id b.memory in
     let none : length b.unjoined ≡ 0 = ap length l.left in
-    subst (λ y. tasks_of (takes w.image b y) + begun_tasks (begun w.image b y) < unit_work * units_of w.image (a.fuel + 1) a + tasks_of a) (sym l.is) (omega (arith, paid, few, none))
+    subst (λ y. tasks_of (takes w.image b y) + begun_tasks (actor_begun w.image b y) < unit_work * units_of w.image (a.fuel + 1) a + tasks_of a) (sym l.is) (omega (arith, paid, few, none))
 event_less w a e drafts (LeavesGate l) =
     let b = rest w.image a in
     let paid = (rest_paid w.image a _ refl).ending l.end_ l.at in
     let few = left_tasks w.image b l.end_ in
     let none : length b.unjoined ≡ 0 = ap length l.left in
-    subst (λ y. tasks_of (takes w.image b y) + begun_tasks (begun w.image b y) < unit_work * units_of w.image (a.fuel + 1) a + tasks_of a) (sym l.is) (omega (arith, paid, few, none))
+    subst (λ y. tasks_of (takes w.image b y) + begun_tasks (actor_begun w.image b y) < unit_work * units_of w.image (a.fuel + 1) a + tasks_of a) (sym l.is) (omega (arith, paid, few, none))
 event_less w a e drafts (Ended f) =
     let b = rest w.image a in
     let paid = (rest_paid w.image a _ refl).ending f.end_ f.at in
     let few = ended_tasks w.image b f.end_ in
     let none : length b.unjoined ≡ 0 = ap length f.left in
-    subst (λ y. tasks_of (takes w.image b y) + begun_tasks (begun w.image b y) < unit_work * units_of w.image (a.fuel + 1) a + tasks_of a) (sym f.is) (omega (arith, paid, few, none))
+    subst (λ y. tasks_of (takes w.image b y) + begun_tasks (actor_begun w.image b y) < unit_work * units_of w.image (a.fuel + 1) a + tasks_of a) (sym f.is) (omega (arith, paid, few, none))
 
 -- an actor that goes on has no more to do than it had
 goes_working : (w : WorldState) (a : ActorState) → Family w.actors → actor_named w.actors a.name ≡ Some a → tasks_in (resumed w a).actors ≤ tasks_in w.actors
@@ -526,8 +526,8 @@ turn_works w name e new all f t =
     let x = takes w.image b e in
     let there : actor_named v.actors a.name ≡ Some a = ap (actor_named v.actors) (found_name v.actors name a p.parts.named) ∙ p.parts.named in
     let put = tasks_put v.actors a x (takes_name w.image b e ∙ rest-name w.image a) there in
-    let more = tasks_begun (put_actor v.actors x) (begun w.image b e) in
-    let is : tasks_in new.actors ≡ tasks_in (with_begun (put_actor v.actors x) (begun w.image b e)) = ap (λ (v : WorldState). tasks_in v.actors) p.parts.new_is in
+    let more = tasks_begun (put_actor v.actors x) (actor_begun w.image b e) in
+    let is : tasks_in new.actors ≡ tasks_in (with_begun (put_actor v.actors x) (actor_begun w.image b e)) = ap (λ (v : WorldState). tasks_in v.actors) p.parts.new_is in
     let few = subst (λ (y : ActorState). AreFew (rest w.image y).drafts) (sym p.is) (actor_few w name p.actor all p.named) in
     let less = event_less v a e few (turn_happens w name e new all p) in
     let goes = goes_working w p.actor f (turned_there w name p.actor p.named) in
@@ -542,9 +542,9 @@ runs_work old (t ∷ ts) new all f run =
     let less = turn_works old t.actor t.event run.0 all f run.1 in
     omega (arith, others, less)
 
-work_at_first : (i : Image) → work_left (opening i) ≡ most_turns i.fuel
+work_at_first : (i : Image) → work_left (initial_state i) ≡ most_turns i.fuel
 unfolding root
 work_at_first i = omega arith
 
 pub runs_end : RunsEnd
-runs_end i turns new run = let few = runs_work (opening i) turns new (opening_ready i) (opening_family i) run in let work = work_at_first i in omega (arith, few, work)
+runs_end i turns new run = let few = runs_work (initial_state i) turns new (opening_ready i) (opening_family i) run in let work = work_at_first i in omega (arith, few, work)

@@ -2,12 +2,12 @@
 use Rattle.std.proofs.Common.{◌≡◌, ◌+◌, ℕ, ◌<◌, ◌==◌, Bool, true, false, true≢false, List, [], ◌∷◌, ◌++◌, length, refl, sym, ap, subst, ◌∙◌}
 use Rattle.std.proofs.lemmas.Bool.{eqb-true}
 use Rattle.std.specs.Prelude.{Option, Some, None, option_map, not, nat_lt, if◌then◌else◌}
-use Rattle.wedge_base.specs.Bytes.{written, bytes_of}
+use Rattle.wedge_base.specs.Bytes.{overwrite, bytes_of}
 use Rattle.wedge_base.specs.Images.{Image}
 use Rattle.wedge_base.specs.Rights.{at_least, append_bit}
 use Rattle.wedge_base.specs.Sheets.{right_on, bits_on}
-use Rattle.wedge_events.specs.Slots.{Segment, slot_reply as slot_reply_of, slot_after, opened, stored, placed, freed}
-use Rattle.wedge_events.specs.Streams.{Stream, opened as stream_opened, stream_reply as stream_reply_of, stream_after, append_reply, moved, grown, closed}
+use Rattle.wedge_events.specs.Slots.{Segment, slot_reply as slot_reply_of, slot_after, new_segment, write_segment, with_placed_block, with_freed_block}
+use Rattle.wedge_events.specs.Streams.{Stream, new_stream as stream_opened, stream_reply as stream_reply_of, stream_after, append_reply, with_bytes_read, with_more_bytes, closed_stream}
 use Rattle.wedge_events.specs.Histories.{Flow, flow, bytes_by, bytes_after_event, bytes_after, flow_by, flow_after_event, flow_after}
 use Rattle.wedge_base.specs.declared.rights.Right.TheVariants as right
 use Rattle.wedge_base.specs.declared.rights.StreamKind.{StreamKind}
@@ -34,10 +34,10 @@ use Rattle.sthread_life.specs.Local.{rest, is_running}
 use Rattle.sthread_life.specs.Calls.{a0}
 use Rattle.sthread_life.specs.Taking.{pair}
 use Rattle.run_laws.specs.Cells.{Cells, held, slot_in, stream_in, cells_after}
-use Rattle.run_laws.specs.Worlds.{WorldState, opening, turn_of, ready, resumed, at_rest, Runs}
+use Rattle.run_laws.specs.Worlds.{WorldState, initial_state, turn_of, ready, resumed, at_rest, Runs}
 use Rattle.run_laws.specs.Allowed.{may_use}
 use Rattle.run_laws.specs.Moments.{EachTurn}
-use Rattle.run_laws.specs.Written.{bytes_in, BytesFollow, stores_in, TurnWritesOwn, flow_in, FlowsFollow, appends_to, TurnAppendsOwn}
+use Rattle.run_laws.specs.Written.{slot_bytes, BytesFollow, stores_in, TurnWritesOwn, flow_in, FlowsFollow, appends_to, TurnAppendsOwn}
 use Rattle.run_laws.specs.Laws.{RunsWriteTheirOwn}
 use Rattle.sthread_life.proofs.Resting.{rests, rest-stays}
 use Rattle.run_laws.proofs.Between.{event_for}
@@ -54,16 +54,16 @@ use Rattle.run_laws.proofs.CellChanging.{turn_cells, cells_follow}
 abbrev bytes_of_tag : Option Segment → Option (List ℕ)
 bytes_of_tag g = option_map (λ x. x.bytes) g
 
-stored_bytes : (offset width value : ℕ) (g : Option Segment) → bytes_of_tag (option_map (stored offset width value) g) ≡ option_map (λ b. written b offset (bytes_of width value)) (bytes_of_tag g)
+stored_bytes : (offset width value : ℕ) (g : Option Segment) → bytes_of_tag (option_map (write_segment offset width value) g) ≡ option_map (λ b. overwrite b offset (bytes_of width value)) (bytes_of_tag g)
 stored_bytes offset width value None = refl
 stored_bytes offset width value (Some g) = refl
 
 -- a block that is placed or freed leaves the bytes
-placed_bytes : (offset size : ℕ) (g : Option Segment) → bytes_of_tag (option_map (placed offset size) g) ≡ bytes_of_tag g
+placed_bytes : (offset size : ℕ) (g : Option Segment) → bytes_of_tag (option_map (with_placed_block offset size) g) ≡ bytes_of_tag g
 placed_bytes offset size None = refl
 placed_bytes offset size (Some g) = refl
 
-freed_bytes : (offset : ℕ) (g : Option Segment) → bytes_of_tag (option_map (freed offset) g) ≡ bytes_of_tag g
+freed_bytes : (offset : ℕ) (g : Option Segment) → bytes_of_tag (option_map (with_freed_block offset) g) ≡ bytes_of_tag g
 freed_bytes offset None = refl
 freed_bytes offset (Some g) = refl
 
@@ -83,15 +83,15 @@ tag_shows g (slot_ask.Snap tag) r = refl
 abbrev flow_of : Option Stream → Option Flow
 flow_of s = option_map (λ x. flow x.bytes x.position) s
 
-grown_flow : (bytes : List ℕ) (s : Option Stream) → flow_of (option_map (grown bytes) s) ≡ option_map (λ g. flow (g.bytes ++ bytes) g.taken) (flow_of s)
+grown_flow : (bytes : List ℕ) (s : Option Stream) → flow_of (option_map (with_more_bytes bytes) s) ≡ option_map (λ g. flow (g.bytes ++ bytes) g.taken) (flow_of s)
 grown_flow bytes None = refl
 grown_flow bytes (Some s) = refl
 
-moved_flow : (count : ℕ) (s : Option Stream) → flow_of (option_map (moved count) s) ≡ option_map (λ g. flow g.bytes (g.taken + count)) (flow_of s)
+moved_flow : (count : ℕ) (s : Option Stream) → flow_of (option_map (with_bytes_read count) s) ≡ option_map (λ g. flow g.bytes (g.taken + count)) (flow_of s)
 moved_flow count None = refl
 moved_flow count (Some s) = refl
 
-closed_flow : (s : Option Stream) → flow_of (option_map closed s) ≡ flow_of s
+closed_flow : (s : Option Stream) → flow_of (option_map closed_stream s) ≡ flow_of s
 closed_flow None = refl
 closed_flow (Some s) = refl
 
@@ -107,7 +107,7 @@ stream_shows b fd (stream_ask.Close bits) s own =
 -- ---- what an event that an actor comes to makes of each tag and of each stream
 
 record IsFollowed (c : Cells) (e : Event) : Type 0 where
-  tags : (slot : ℕ) → bytes_in (cells_after c e) slot ≡ bytes_after_event slot (bytes_in c slot) e
+  tags : (slot : ℕ) → slot_bytes (cells_after c e) slot ≡ bytes_after_event slot (slot_bytes c slot) e
   streams : (fd : ℕ) → flow_in (cells_after c e) fd ≡ flow_after_event fd (flow_in c fd) e
 
 -- what is asked of a slot in which no tag lives leaves it so, but for an opening
@@ -137,7 +137,7 @@ slot_follows c s q k =
 
 open_follows : (c : Cells) (s tag pages : ℕ) → s < length c.slots → IsFollowed c (event.Slot s (slot_ask.Open tag pages) slot_reply.Opened)
 open_follows c s tag pages inside = record {
-  tags = λ slot. follows_in bytes_of_tag (λ x. bytes_by x (slot_ask.Open tag pages) slot_reply.Opened) c.slots s slot (Some (opened tag pages)) _ inside refl refl;
+  tags = λ slot. follows_in bytes_of_tag (λ x. bytes_by x (slot_ask.Open tag pages) slot_reply.Opened) c.slots s slot (Some (new_segment tag pages)) _ inside refl refl;
   streams = λ fd. refl;
 }
 
@@ -181,7 +181,7 @@ event_follows w b e cells (LeavesGate l) = subst (IsFollowed w.cells) (sym l.is)
 event_follows w b e cells (LeavesRecycled l) = subst (IsFollowed w.cells) (sym l.is) (record { tags = λ slot. refl; streams = λ fd. refl })
 
 record TurnFollows (w : WorldState) (e : Event) (new : WorldState) : Type 0 where
-  tags : (slot : ℕ) → bytes_in new.cells slot ≡ bytes_after_event slot (bytes_in w.cells slot) e
+  tags : (slot : ℕ) → slot_bytes new.cells slot ≡ bytes_after_event slot (slot_bytes w.cells slot) e
   streams : (fd : ℕ) → flow_in new.cells fd ≡ flow_after_event fd (flow_in w.cells fd) e
 
 turn_follows : (w : WorldState) (t : Turn) (new : WorldState) → AllReady w → turn_of w t.actor ≡ Some (record { event = t.event; world = new }) → TurnFollows w t.event new
@@ -190,12 +190,12 @@ turn_follows w t new all e =
     let cells = turn_cells w t new e in
     let f = event_follows (resumed w p.actor) (rest w.image p.parts.actor) t.event all.cells (turn_happens w t.actor t.event new all p) in
     record {
-      tags = λ slot. ap (λ (c : Cells). bytes_in c slot) cells ∙ f.tags slot;
+      tags = λ slot. ap (λ (c : Cells). slot_bytes c slot) cells ∙ f.tags slot;
       streams = λ fd. ap (λ (c : Cells). flow_in c fd) cells ∙ f.streams fd;
     }
 
 bytes_follow : (old : WorldState) (turns : List Turn) (new : WorldState) → AllReady old → Runs old turns new → BytesFollow old.cells turns new.cells
-bytes_follow old [] new all run slot = ap (λ (w : WorldState). bytes_in w.cells slot) run
+bytes_follow old [] new all run slot = ap (λ (w : WorldState). slot_bytes w.cells slot) run
 bytes_follow old (t ∷ ts) new all run slot =
     bytes_follow run.0 ts new (turn_ready old t.actor t.event run.0 all run.1) run.2 slot ∙ ap (λ bytes. bytes_after slot bytes ts) ((turn_follows old t run.0 all run.1).tags slot)
 
@@ -341,9 +341,9 @@ each_appends_own old (t ∷ ts) new all run = (run.0, run.1, turn_appends_own ol
 
 pub runs_write_their_own : RunsWriteTheirOwn
 runs_write_their_own i turns new run = record {
-  follow = bytes_follow (opening i) turns new (opening_ready i) run;
-  writers = each_writes_own (opening i) turns new (opening_ready i) run;
-  flows = flows_follow (opening i) turns new (opening_ready i) run;
-  appenders = each_appends_own (opening i) turns new (opening_ready i) run;
-  cells = cells_follow (opening i) turns new (opening_ready i) run;
+  follow = bytes_follow (initial_state i) turns new (opening_ready i) run;
+  writers = each_writes_own (initial_state i) turns new (opening_ready i) run;
+  flows = flows_follow (initial_state i) turns new (opening_ready i) run;
+  appenders = each_appends_own (initial_state i) turns new (opening_ready i) run;
+  cells = cells_follow (initial_state i) turns new (opening_ready i) run;
 }

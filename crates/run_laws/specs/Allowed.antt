@@ -151,8 +151,8 @@ living_for a x = living_as a x.living.tag
 abbrev pub comes_to : ActorState → Want → Option ActorState
 comes_to a q = Some (record a { phase = phase.Within q })
 
-abbrev pub answered : ActorState → ℕ → ℕ → Hart
-answered a value code = record { pc = next_word a; regs = slice_set (slice_set a.hart.regs 10 value) 11 code }
+abbrev pub answered_hart : ActorState → ℕ → ℕ → Hart
+answered_hart a value code = record { pc = next_word a; regs = slice_set (slice_set a.hart.regs 10 value) 11 code }
 
 -- the address of an offset in the window of a slot: windows are 65,536 bytes each, from 0x40000000
 -- on
@@ -169,7 +169,7 @@ opened_as path f b = record { path = path; kind = f.kind; bytes = f.content; bit
 
 -- an actor that has made a gate: it knows it, holds it at its entry, and is answered 0
 abbrev pub with_gate_made : ActorState → Gate → ActorState
-with_gate_made a g = record a { made = made_gate a.made g.entry g.id; gates = a.gates ++ g ∷ []; hart = answered a 0 0; phase = phase.Running }
+with_gate_made a g = record a { made = made_gate a.made g.entry g.id; gates = a.gates ++ g ∷ []; hart = answered_hart a 0 0; phase = phase.Running }
 
 -- it has made the gate, or the gate waits for copies of tags
 abbrev pub HasBegunGate : ActorState → Draft → ActorState → Type 0
@@ -190,17 +190,17 @@ IsDone a (Stores x value) e now =
 IsDone a (Reads fd s n) e now =
     (e ≡ Some (event.Fd fd (stream_ask.Read (bits_of a fd) n) (stream_reply.Given (next_bytes s n))))
     × (now ≡ Some (record a {
-      hart = answered a (length (next_bytes s n)) 0;
+      hart = answered_hart a (length (next_bytes s n)) 0;
       fuel = a.fuel - length (next_bytes s n);
       memory = record a.memory { ranges = write_at a.memory.ranges (reg a.hart.regs 11) (next_bytes s n) };
       phase = phase.Running;
     }))
 IsDone a (Appends fd s bytes) e now =
     (e ≡ Some (event.Fd fd (stream_ask.Append (bits_of a fd) bytes) stream_reply.Appended))
-    × (now ≡ Some (record a { hart = answered a (reg a.hart.regs 12) 0; fuel = a.fuel - reg a.hart.regs 12; phase = phase.Running }))
+    × (now ≡ Some (record a { hart = answered_hart a (reg a.hart.regs 12) 0; fuel = a.fuel - reg a.hart.regs 12; phase = phase.Running }))
 IsDone a (Closes fd s) e now =
     (e ≡ Some (event.Fd fd (stream_ask.Close (bits_of a fd)) stream_reply.Closed))
-    × (now ≡ Some (record a { hart = answered a 0 0; phase = phase.Running }))
+    × (now ≡ Some (record a { hart = answered_hart a 0 0; phase = phase.Running }))
 IsDone a (Opens path f b) e now = (e ≡ None) × (now ≡ Some (record a { phase = phase.OpeningFile (opened_as path f b) }))
 IsDone a (Creates d) e now = (e ≡ None) × (now ≡ comes_to a (want.Lives lives_ask.Claim))
 IsDone a (Makes d) e now = (e ≡ None) × IsSomeAnd now (HasBegunGate a d)
@@ -209,7 +209,7 @@ IsDone a (Deletes tag) e now = (e ≡ None) × IsSomeAnd (slot_on a.sheet a.made
 IsDone a (Allots tag size) e now = (e ≡ None) × IsSomeAnd (slot_on a.sheet a.made tag) (λ slot. now ≡ comes_to a (want.Slot slot (slot_want.Smalloc tag size)))
 IsDone a (Frees p g) e now =
     (e ≡ Some (event.Slot p.slot (slot_ask.Sfree p.offset (living_as a g.tag)) slot_reply.Freed))
-    × (now ≡ Some (record a { hart = answered a 0 0; phase = phase.Running }))
+    × (now ≡ Some (record a { hart = answered_hart a 0 0; phase = phase.Running }))
 
 -- What a denial leaves: it stands last among the actor's, with the pc of the instruction; a load or
 -- store ends its actor, and a call answers 0 with the code 1.
@@ -220,7 +220,7 @@ abbrev pub ended_denied : ActorState → Denial → ActorState
 ended_denied a d = record a { denials = with_denial a d; phase = phase.Ending end_.Denied }
 
 abbrev pub answered_denied : ActorState → Denial → ActorState
-answered_denied a d = record a { denials = with_denial a d; hart = answered a 0 1; phase = phase.Running }
+answered_denied a d = record a { denials = with_denial a d; hart = answered_hart a 0 1; phase = phase.Running }
 
 abbrev pub denied : ActorState → Request → Denial → ActorState
 denied a (Loads x rd s) d = ended_denied a d

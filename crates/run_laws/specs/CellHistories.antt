@@ -53,24 +53,24 @@ occupant_after_event slot t (event.Slot s q r) = if s == slot then occupant_by t
 occupant_after_event slot t e = t
 
 -- the kind of a stream, and whether it is open
-pub record Mode : Type 0 where
+pub record StreamMode : Type 0 where
   pub kind : StreamKind
   pub open_ : Bool
 
-abbrev pub mode : StreamKind → Bool → Mode
+abbrev pub mode : StreamKind → Bool → StreamMode
 mode kind open_ = record { kind = kind; open_ = open_ }
 
-abbrev pub mode_in : Cells → ℕ → Option Mode
+abbrev pub mode_in : Cells → ℕ → Option StreamMode
 mode_in c fd = option_map (λ s. mode s.kind s.live) (stream_in c fd)
 
 -- an opening gives the stream its kind, a closing closes it, and nothing else, no read and no
 -- append, changes either of them
-abbrev pub mode_by : Option Mode → StreamAsk → StreamReply → Option Mode
+abbrev pub mode_by : Option StreamMode → StreamAsk → StreamReply → Option StreamMode
 mode_by k (stream_ask.Open kind bytes) r = Some (mode kind true)
 mode_by k (stream_ask.Close bits) stream_reply.Closed = option_map (λ x. mode x.kind false) k
 mode_by k q r = k
 
-abbrev pub mode_after_event : ℕ → Option Mode → Event → Option Mode
+abbrev pub mode_after_event : ℕ → Option StreamMode → Event → Option StreamMode
 mode_after_event fd k (event.Fd n q r) = if n == fd then mode_by k q r else k
 mode_after_event fd k e = k
 

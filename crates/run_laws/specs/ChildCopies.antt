@@ -10,7 +10,7 @@ use Rattle.wedge_base.specs.Bytes.{zeros}
 use Rattle.wedge_base.specs.Images.{Image}
 use Rattle.wedge_base.specs.Maps.{Map}
 use Rattle.wedge_base.specs.Pages.{PageAt, pages_of}
-use Rattle.wedge_base.specs.Sheets.{granted, empty_draft}
+use Rattle.wedge_base.specs.Sheets.{sheet_of_draft, empty_draft}
 use Rattle.wedge_events.specs.Slots.{Segment}
 use Rattle.wedge_events.specs.declared.cells.LivesAsk.TheVariants as lives_ask
 use Rattle.wedge_events.specs.declared.cells.LivesReply.TheVariants as lives_reply
@@ -41,7 +41,7 @@ abbrev pub copies_in : Map Grant → List CopyGrant
 copies_in gs = filter_map (λ e. copy_asked e.0 e.1.slot e.1.right) gs
 
 abbrev pub grants_asked : ActorState → List CopyGrant
-grants_asked a = copies_in (granted a.sheet a.made (unwrap_or (slice_get a.drafts (reg a.hart.regs 10)) empty_draft)).tags
+grants_asked a = copies_in (sheet_of_draft a.sheet a.made (unwrap_or (slice_get a.drafts (reg a.hart.regs 10)) empty_draft)).tags
 
 -- what the starter's own copies give at a slot, by grants in order, of which the last counts
 abbrev pub own_at : Copies → ℕ → List CopyGrant → Option (List ℕ)

@@ -15,7 +15,7 @@ use Rattle.rv_hart.specs.declared.Need.TheVariants as need
 use Rattle.rv_hart.specs.Local.{local, reg}
 use Rattle.sthread_life.specs.Actors.{ActorState}
 use Rattle.sthread_life.specs.declared.phase.Phase.TheVariants as phase
-use Rattle.run_laws.specs.Allowed.{answered}
+use Rattle.run_laws.specs.Allowed.{answered_hart}
 use Rattle.run_laws.specs.Refusals.{new_refusal, right_refusal, bits_refusal, gate_refusal, user_refusal, root_refusal, draft_refusal}
 use Rattle.run_laws.specs.Requests.{path_at}
 use Rattle.run_laws.specs.Worlds.{WorldState, actor_named, with_actor}
@@ -87,7 +87,7 @@ draft_value a n = if n == 7 then length a.drafts else 0
 -- to no event, and nothing else changes.
 abbrev pub AnswersDraft : WorldState → ActorState → ℕ → WorldState → Type 0
 AnswersDraft old a n new = is_draft_call n ≡ true → draft_refusal old.image a a.hart.regs n ≡ None
-    → (fuel : ℕ) × (new ≡ with_actor old (record a { drafts = drafts_by_call old.image a a.hart.regs n; fuel = fuel; hart = answered a (draft_value a n) 0; phase = phase.Running }))
+    → (fuel : ℕ) × (new ≡ with_actor old (record a { drafts = drafts_by_call old.image a a.hart.regs n; fuel = fuel; hart = answered_hart a (draft_value a n) 0; phase = phase.Running }))
 
 abbrev pub AnswersNeed : WorldState → ActorState → Need → WorldState → Type 0
 AnswersNeed old a need.Call new = AnswersDraft old a (reg a.hart.regs 17) new

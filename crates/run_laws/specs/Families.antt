@@ -1,7 +1,7 @@
 -- Starts, entries of gates, joins and ends, read off the registers, the drafts and the child: a second
 -- statement, beside the step.
 use Rattle.std.specs.Prelude.{◌≡◌, ℕ, ◌+◌, ◌-◌, true, List, [], ◌∷◌, ◌++◌, replicate, slice_get, slice_set, Option, Some, None, IsSomeAnd, IfSome, false, unwrap_or}
-use Rattle.wedge_base.specs.Sheets.{Made, Draft, nothing_made, made_tag, made_fd, first_excess, granted}
+use Rattle.wedge_base.specs.Sheets.{Made, Draft, nothing_made, made_tag, made_fd, first_excess, sheet_of_draft}
 use Rattle.wedge_base.specs.declared.rights.End.{End}
 use Rattle.wedge_base.specs.declared.rights.End.TheVariants as end_
 use Rattle.wedge_events.specs.declared.events.Want.{Want}
@@ -20,7 +20,7 @@ use Rattle.sthread_life.specs.declared.files.StreamLabel.{StreamLabel}
 use Rattle.sthread_life.specs.declared.phase.Phase.{Phase}
 use Rattle.sthread_life.specs.declared.phase.Phase.TheVariants as phase
 use Rattle.sthread_life.specs.Actors.{ActorState, but_gates}
-use Rattle.run_laws.specs.Allowed.{answered}
+use Rattle.run_laws.specs.Allowed.{answered_hart}
 use Rattle.sthread_life.specs.Children.{Children, is_child, with_child, without_child}
 use Rattle.sthread_life.specs.Copying.{Preparation}
 use Rattle.run_laws.specs.Ends.{is_end_event}
@@ -50,7 +50,7 @@ pub record IsChild (a c : ActorState) : Type 0 where
   pub draft : Draft
   pub drafted : slice_get a.drafts (reg a.hart.regs 10) ≡ Some draft
   pub allowed : first_excess a.sheet a.made draft ≡ None
-  pub sheet : c.sheet ≡ granted a.sheet a.made draft
+  pub sheet : c.sheet ≡ sheet_of_draft a.sheet a.made draft
   pub asked : IsDrafted a.sheet a.made draft c.sheet
   pub within : IsWithin a.sheet a.made c.sheet
   pub name : c.name ≡ a.name ++ (a.starts + 1) ∷ []
@@ -66,9 +66,9 @@ pub record IsChild (a c : ActorState) : Type 0 where
   pub fresh : IsFresh c
 
 -- its starter: it is answered the child's number, and the child's fuel goes from its own
-abbrev pub started : ActorState → ActorState
-started a = record a {
-  hart = answered a (a.starts + 1) 0;
+abbrev pub after_start : ActorState → ActorState
+after_start a = record a {
+  hart = answered_hart a (a.starts + 1) 0;
   starts = a.starts + 1;
   unjoined = with_child a.unjoined (a.starts + 1) (reg a.hart.regs 13);
   fuel = a.fuel - reg a.hart.regs 13;
@@ -79,7 +79,7 @@ pub record IsStart (old : WorldState) (a : ActorState) (name : List ℕ) (new : 
   pub child : ActorState
   pub begins : IsChild a child
   pub named : name ≡ child.name
-  pub actors : new.actors ≡ put_actor old.actors (started a) ++ child ∷ []
+  pub actors : new.actors ≡ put_actor old.actors (after_start a) ++ child ∷ []
 
 -- ---- the entry of a gate
 
@@ -118,8 +118,8 @@ pub record IsRun (a r : ActorState) : Type 0 where
   pub fresh : IsFresh r
 
 -- its caller: the gate's fuel goes from its own, and it waits for the run
-abbrev pub entered : ActorState → ℕ → ActorState
-entered a fuel = record a {
+abbrev pub after_enter : ActorState → ℕ → ActorState
+after_enter a fuel = record a {
   starts = a.starts + 1;
   unjoined = with_child a.unjoined (a.starts + 1) fuel;
   fuel = a.fuel - fuel;
@@ -131,13 +131,13 @@ pub record IsEnter (old : WorldState) (a : ActorState) (e : Event) (name : List 
   pub begins : IsRun a run
   pub memory : BeginsWith old.cells begins.entrance.gate e run.memory
   pub named : name ≡ run.name
-  pub actors : new.actors ≡ put_actor old.actors (entered a run.fuel) ++ run ∷ []
+  pub actors : new.actors ≡ put_actor old.actors (after_enter a run.fuel) ++ run ∷ []
 
 -- ---- a join
 
 -- a call answered with a value, the code 0 and one value more
 abbrev pub answered_twice : ActorState → ℕ → ℕ → Hart
-answered_twice a value more = record { pc = (answered a value 0).pc; regs = slice_set (answered a value 0).regs 12 more }
+answered_twice a value more = record { pc = (answered_hart a value 0).pc; regs = slice_set (answered_hart a value 0).regs 12 more }
 
 -- the value of an end, and its number
 abbrev pub joined_value : End → ℕ
@@ -158,9 +158,9 @@ joined_number end_.FuelOut = 9
 
 -- The joiner: the child's fuel comes back to it. A call is answered the child's value and the
 -- number of its end; an actor whose end is decided goes on with it.
-abbrev pub joined : ActorState → Phase → ℕ → End → ℕ → ActorState
-joined a (phase.Ending x) k e fuel = record a { fuel = a.fuel + fuel; unjoined = without_child a.unjoined k }
-joined a p k e fuel = record a { hart = answered_twice a (joined_value e) (joined_number e); fuel = a.fuel + fuel; unjoined = without_child a.unjoined k; phase = phase.Running }
+abbrev pub after_join : ActorState → Phase → ℕ → End → ℕ → ActorState
+after_join a (phase.Ending x) k e fuel = record a { fuel = a.fuel + fuel; unjoined = without_child a.unjoined k }
+after_join a p k e fuel = record a { hart = answered_twice a (joined_value e) (joined_number e); fuel = a.fuel + fuel; unjoined = without_child a.unjoined k; phase = phase.Running }
 
 -- the first of children, which are in the order of their numbers
 abbrev pub IsFirst : Children → ℕ → Type 0
@@ -179,7 +179,7 @@ pub record IsJoined (old : WorldState) (a : ActorState) (k : ℕ) (e : End) (fue
   pub listed : is_child a.unjoined k ≡ true
   pub child : IsSomeAnd (actor_named old.actors (a.name ++ k ∷ [])) (λ c. (c.phase ≡ phase.Ended e) × (c.fuel ≡ fuel))
   pub due : IsToJoin a a.phase k
-  pub actors : new.actors ≡ put_actor old.actors (joined a a.phase k e fuel)
+  pub actors : new.actors ≡ put_actor old.actors (after_join a a.phase k e fuel)
 
 -- ---- anything else
 

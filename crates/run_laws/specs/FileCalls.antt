@@ -13,7 +13,7 @@ use Rattle.wedge_events.specs.declared.events.Event.TheVariants as event
 use Rattle.rv_hart.specs.Local.{reg}
 use Rattle.sthread_life.specs.declared.phase.Phase.TheVariants as phase
 use Rattle.sthread_life.specs.Actors.{ActorState, bits_of}
-use Rattle.run_laws.specs.Allowed.{answered}
+use Rattle.run_laws.specs.Allowed.{answered_hart}
 use Rattle.sthread_life.specs.Opening.{FileOpening}
 use Rattle.run_laws.specs.Worlds.{WorldState, put_actor}
 
@@ -38,7 +38,7 @@ OpensFile old a o fd e new =
       actors = put_actor old.actors (record a {
         made = made_fd a.made fd o.bits;
         labels = a.labels ++ record { number = fd; path = o.path } ∷ [];
-        hart = answered a fd 0;
+        hart = answered_hart a fd 0;
         fuel = a.fuel - reg a.hart.regs 11;
         phase = phase.Running;
       });

@@ -5,7 +5,7 @@ use Rattle.std.specs.Prelude.{◌≡◌, ℕ, zero, suc, List, [], ◌∷◌, sl
 use Rattle.cow_pages.specs.Listed.{bytes_listed}
 use Rattle.cow_pages.specs.PrivateMemory.{PrivateMemory}
 use Rattle.wedge_base.specs.Images.{Image}
-use Rattle.wedge_base.specs.Sheets.{Draft, empty_draft, granted}
+use Rattle.wedge_base.specs.Sheets.{Draft, empty_draft, sheet_of_draft}
 use Rattle.wedge_events.specs.declared.cells.SlotAsk.TheVariants as slot_ask
 use Rattle.wedge_events.specs.declared.events.Event.{Event}
 use Rattle.wedge_base.specs.declared.rights.Denial.{Denial}
@@ -49,7 +49,7 @@ pub record PreparesGate (a : ActorState) (d : Draft) (m : PrivateMemory) (gs : L
 -- ---- in the instruction, once its unit of fuel is taken: a call that may make its gate begins
 -- with the image's data and the draft's grants of copies
 abbrev pub BeginsGate : Image → ActorState → Draft → ActorState → Type 0
-BeginsGate i a d b = PreparesGate a d (memory_of_image i) (copies_in (granted a.sheet a.made d).tags) b
+BeginsGate i a d b = PreparesGate a d (memory_of_image i) (copies_in (sheet_of_draft a.sheet a.made d).tags) b
 
 abbrev pub BeginsUnless : Image → ActorState → Draft → Option Denial → ActorState → Type 0
 BeginsUnless i a d None b = BeginsGate i a d b

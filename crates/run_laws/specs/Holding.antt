@@ -5,7 +5,7 @@ use Rattle.std.specs.Prelude.{◌≡◌, ℕ, ◌==◌, Bool, true, not, ◌&&�
 use Rattle.std.specs.List.{list_any}
 use Rattle.std.specs.Option.{option_or}
 use Rattle.wedge_base.specs.Maps.{at, is_among}
-use Rattle.wedge_base.specs.Sheets.{Sheet, Made, Draft, first_excess, granted, is_copy}
+use Rattle.wedge_base.specs.Sheets.{Sheet, Made, Draft, first_excess, sheet_of_draft, is_copy}
 use Rattle.wedge_base.specs.declared.rights.Denial.{Denial}
 use Rattle.callgate.specs.Gates.{gate_named}
 use Rattle.callgate.specs.declared.gate.Gate.{Gate}
@@ -19,7 +19,7 @@ gate_for a entry = option_and_then (gate_named a.gates) (option_or (at a.made.ga
 -- the sheet of what is lent, and the first part of it that its lender may not give
 abbrev pub loan : ActorState → Option Draft → Option Sheet
 loan a None = None
-loan a (Some d) = Some (granted a.sheet a.made d)
+loan a (Some d) = Some (sheet_of_draft a.sheet a.made d)
 
 abbrev pub loan_lacks : ActorState → Option Draft → Option Denial
 loan_lacks a None = None

@@ -12,9 +12,9 @@ use Rattle.wedge_base.specs.declared.grants.GateId.{GateId}
 use Rattle.wedge_events.specs.Gates.{gate_opening}
 use Rattle.run_laws.specs.Cells.{opening_cells, slot_in, stream_in, kept_in}
 use Rattle.sthread_life.specs.Local.{has_ended, run_local}
-use Rattle.wedge_base.specs.Sheets.{Draft, grants, most_grants}
+use Rattle.wedge_base.specs.Sheets.{Draft, grant_count, most_grants}
 use Rattle.grant_sheet.specs.Missing.{IsSortedDraft}
-use Rattle.run_laws.specs.Worlds.{WorldState, opening, actor_named, with_actor, ready, Runs, is_complete}
+use Rattle.run_laws.specs.Worlds.{WorldState, initial_state, actor_named, with_actor, ready, Runs, is_complete}
 use Rattle.run_laws.specs.Names.{AreDistinct}
 use Rattle.run_laws.specs.Fuel.{fuel_of, most_turns, TakesItsUnits}
 use Rattle.run_laws.specs.Bounds.{IsWithinRoot}
@@ -63,41 +63,41 @@ pub record IsLawful (old : WorldState) (a : ActorState) (e : Option Event) (new 
 
 -- each moment of each run is lawful
 abbrev pub MomentsAreLawful : Type 0
-MomentsAreLawful = (i : Image) (turns : List Turn) (new : WorldState) → Runs (opening i) turns new → EachMoment IsLawful (opening i) turns
+MomentsAreLawful = (i : Image) (turns : List Turn) (new : WorldState) → Runs (initial_state i) turns new → EachMoment IsLawful (initial_state i) turns
 
 -- and so is each instruction that an actor of a world of a run can carry out before its next event,
 -- whether a turn of it can be taken there or not
 abbrev pub InstructionsAreLawful : Type 0
-InstructionsAreLawful = (i : Image) (turns : List Turn) (w : WorldState) → Runs (opening i) turns w → (name : List ℕ) (a : ActorState) → actor_named w.actors name ≡ Some a
+InstructionsAreLawful = (i : Image) (turns : List Turn) (w : WorldState) → Runs (initial_state i) turns w → (name : List ℕ) (a : ActorState) → actor_named w.actors name ≡ Some a
     → (b : ActorState) → GoesOnAs w.actors a a.phase b → EachInstructionOf IsLawful (with_actor w b) b
 
 -- in every world of a run the count of live sthreads is that of the lives which its actors hold, and
 -- there are no more than may live at a time
 abbrev pub LivesAreCounted : Type 0
-LivesAreCounted = (i : Image) (turns : List Turn) (w : WorldState) → Runs (opening i) turns w → (w.cells.lives ≡ lives_in w.actors) × (lives_in w.actors ≤ most_lives)
+LivesAreCounted = (i : Image) (turns : List Turn) (w : WorldState) → Runs (initial_state i) turns w → (w.cells.lives ≡ lives_in w.actors) × (lives_in w.actors ≤ most_lives)
 
 -- after each run the bytes in each slot are those that the image declares, with what the run wrote
 -- over them in order, and in each turn of it whoever stores into a slot may store to the tag that
 -- lives there; each stream is as the image declares it, with what the run added and took, and
 -- whoever appends to it may; and whatever else the cells hold is changed by their own events alone
 pub record IsWrittenByOwners (i : Image) (turns : List Turn) (new : WorldState) : Type 0 where
-  pub follow : BytesFollow (opening i).cells turns new.cells
-  pub writers : EachTurn TurnWritesOwn (opening i) turns
-  pub flows : FlowsFollow (opening i).cells turns new.cells
-  pub appenders : EachTurn TurnAppendsOwn (opening i) turns
-  pub cells : CellsFollow (opening i).cells turns new.cells
+  pub follow : BytesFollow (initial_state i).cells turns new.cells
+  pub writers : EachTurn TurnWritesOwn (initial_state i) turns
+  pub flows : FlowsFollow (initial_state i).cells turns new.cells
+  pub appenders : EachTurn TurnAppendsOwn (initial_state i) turns
+  pub cells : CellsFollow (initial_state i).cells turns new.cells
 
 abbrev pub RunsWriteTheirOwn : Type 0
-RunsWriteTheirOwn = (i : Image) (turns : List Turn) (new : WorldState) → Runs (opening i) turns new → IsWrittenByOwners i turns new
+RunsWriteTheirOwn = (i : Image) (turns : List Turn) (new : WorldState) → Runs (initial_state i) turns new → IsWrittenByOwners i turns new
 
 -- in each turn of a run, whoever loads from a slot may load from the tag that lives there, and
 -- whoever is given bytes of a descriptor may read it
 pub record IsReadByHolders (i : Image) (turns : List Turn) : Type 0 where
-  pub loaders : EachTurn TurnLoadsOwn (opening i) turns
-  pub readers : EachTurn TurnReadsOwn (opening i) turns
+  pub loaders : EachTurn TurnLoadsOwn (initial_state i) turns
+  pub readers : EachTurn TurnReadsOwn (initial_state i) turns
 
 abbrev pub RunsReadTheirOwn : Type 0
-RunsReadTheirOwn = (i : Image) (turns : List Turn) (new : WorldState) → Runs (opening i) turns new → IsReadByHolders i turns
+RunsReadTheirOwn = (i : Image) (turns : List Turn) (new : WorldState) → Runs (initial_state i) turns new → IsReadByHolders i turns
 
 -- as a run begins, each cell is as the rule of its own kind has it: there are 4,096 slots and 1,024
 -- descriptors, and each recycled gate is free, with nothing kept
@@ -111,49 +111,49 @@ pub record CellsOpen (i : Image) : Type 0 where
 
 -- no two actors of a world have one name
 abbrev pub NamesAreDistinct : Type 0
-NamesAreDistinct = (i : Image) (turns : List Turn) (new : WorldState) → Runs (opening i) turns new → AreDistinct new.actors
+NamesAreDistinct = (i : Image) (turns : List Turn) (new : WorldState) → Runs (initial_state i) turns new → AreDistinct new.actors
 
 -- in each run the fuel of the actors that are not joined is in sum that of the image, and each turn
 -- lowers the sum by exactly the units that it takes
 abbrev pub FuelIsKept : Type 0
-FuelIsKept = (i : Image) (turns : List Turn) (new : WorldState) → Runs (opening i) turns new → (fuel_of (opening i) ≡ i.fuel) × EachTurn TakesItsUnits (opening i) turns
+FuelIsKept = (i : Image) (turns : List Turn) (new : WorldState) → Runs (initial_state i) turns new → (fuel_of (initial_state i) ≡ i.fuel) × EachTurn TakesItsUnits (initial_state i) turns
 
 -- in each world of a run no actor has a right on a declared tag, or bits on a declared descriptor,
 -- that the root did not begin with, nor a user or a root directory that the root could not give
 abbrev pub RootBounds : Type 0
-RootBounds = (i : Image) (turns : List Turn) (new : WorldState) → Runs (opening i) turns new → (name : List ℕ) (a : ActorState) → actor_named new.actors name ≡ Some a → IsWithinRoot i a
+RootBounds = (i : Image) (turns : List Turn) (new : WorldState) → Runs (initial_state i) turns new → (name : List ℕ) (a : ActorState) → actor_named new.actors name ≡ Some a → IsWithinRoot i a
 
 -- in each run the slots and the tags are as they should be: after each run, and as each turn asks
 pub record AreSlotsKept (i : Image) (turns : List Turn) (new : WorldState) : Type 0 where
   pub occupied : AreOccupied new.cells new.actors
-  pub suit : EachTurn SlotsSuit (opening i) turns
+  pub suit : EachTurn SlotsSuit (initial_state i) turns
 
 abbrev pub SlotsAreOccupied : Type 0
-SlotsAreOccupied = (i : Image) (turns : List Turn) (new : WorldState) → Runs (opening i) turns new → AreSlotsKept i turns new
+SlotsAreOccupied = (i : Image) (turns : List Turn) (new : WorldState) → Runs (initial_state i) turns new → AreSlotsKept i turns new
 
 -- in each world of a run, each private copy of an actor is at the slot of a grant of a copy on its
 -- sheet, and each copy with which the runs of a gate begin that it knows is at the slot of one on
 -- the gate's sheet
 abbrev pub CopiesAreGranted : Type 0
-CopiesAreGranted = (i : Image) (turns : List Turn) (new : WorldState) → Runs (opening i) turns new → (name : List ℕ) (a : ActorState) → actor_named new.actors name ≡ Some a
+CopiesAreGranted = (i : Image) (turns : List Turn) (new : WorldState) → Runs (initial_state i) turns new → (name : List ℕ) (a : ActorState) → actor_named new.actors name ≡ Some a
     → HasCopiesGranted a
 
 -- in each world of a run, actors know the gates that they hold, as their makers made them
 abbrev pub GatesAreKept : Type 0
-GatesAreKept = (i : Image) (turns : List Turn) (new : WorldState) → Runs (opening i) turns new → AreGatesKept new.actors
+GatesAreKept = (i : Image) (turns : List Turn) (new : WorldState) → Runs (initial_state i) turns new → AreGatesKept new.actors
 
 -- in each world of a run each run of a gate has its gate's sheet with what was lent to it, and is
 -- alone in a recycled one
 abbrev pub RunsAreAlone : Type 0
-RunsAreAlone = (i : Image) (turns : List Turn) (new : WorldState) → Runs (opening i) turns new → AreRunsAlone new.cells new.actors
+RunsAreAlone = (i : Image) (turns : List Turn) (new : WorldState) → Runs (initial_state i) turns new → AreRunsAlone new.cells new.actors
 
 -- in each world of a run no actor at or under a run of a gate holds that gate
 abbrev pub NoneRunsWithin : Type 0
-NoneRunsWithin = (i : Image) (turns : List Turn) (new : WorldState) → Runs (opening i) turns new → NoneHoldsItsOwn new.actors
+NoneRunsWithin = (i : Image) (turns : List Turn) (new : WorldState) → Runs (initial_state i) turns new → NoneHoldsItsOwn new.actors
 
 -- and each gate that it holds is older than that one, or was made at or under the run
 abbrev pub GatesHeldAreOlder : Type 0
-GatesHeldAreOlder = (i : Image) (turns : List Turn) (new : WorldState) → Runs (opening i) turns new → AreHeldOlder new.actors
+GatesHeldAreOlder = (i : Image) (turns : List Turn) (new : WorldState) → Runs (initial_state i) turns new → AreHeldOlder new.actors
 
 -- what an actor loads, stores, reads and appends goes by what it may see, and by nothing else
 abbrev pub AccessesAreIsolated : Type 0
@@ -161,21 +161,21 @@ AccessesAreIsolated = (v w : WorldState) (name : List ℕ) (a : ActorState) (q :
 
 -- so every run ends: it has at most so many turns
 abbrev pub RunsEnd : Type 0
-RunsEnd = (i : Image) (turns : List Turn) (new : WorldState) → Runs (opening i) turns new → length turns ≤ most_turns i.fuel
+RunsEnd = (i : Image) (turns : List Turn) (new : WorldState) → Runs (initial_state i) turns new → length turns ≤ most_turns i.fuel
 
 -- in each world of a run an actor that has ended has joined everyone that it began
 abbrev pub EndedHaveJoinedAll : Type 0
-EndedHaveJoinedAll = (i : Image) (turns : List Turn) (new : WorldState) → Runs (opening i) turns new → (name : List ℕ) (a : ActorState) → actor_named new.actors name ≡ Some a → has_ended a.phase ≡ true
+EndedHaveJoinedAll = (i : Image) (turns : List Turn) (new : WorldState) → Runs (initial_state i) turns new → (name : List ℕ) (a : ActorState) → actor_named new.actors name ≡ Some a → has_ended a.phase ≡ true
     → a.unjoined ≡ []
 
 -- so once the root has ended, every actor has
 abbrev pub AllHaveEnded : Type 0
-AllHaveEnded = (i : Image) (turns : List Turn) (last : WorldState) → Runs (opening i) turns last → is_complete last ≡ true → (name : List ℕ) (a : ActorState) → actor_named last.actors name ≡ Some a
+AllHaveEnded = (i : Image) (turns : List Turn) (last : WorldState) → Runs (initial_state i) turns last → is_complete last ≡ true → (name : List ℕ) (a : ActorState) → actor_named last.actors name ≡ Some a
     → has_ended a.phase ≡ true
 
 -- whoever's turn comes next in a world of a run, its drafts have their items in order, and at most
 -- 1,024 grants each, after each of the instructions of that turn: so their first excess is what is
 -- missing of them first
 abbrev pub DraftsAreSorted : Type 0
-DraftsAreSorted = (i : Image) (turns : List Turn) (w : WorldState) → Runs (opening i) turns w → (name : List ℕ) (a : ActorState) → actor_named w.actors name ≡ Some a
-    → (n k : ℕ) (d : Draft) → slice_get (run_local w.image n (ready w.actors a)).drafts k ≡ Some d → IsSortedDraft d × (grants d ≤ most_grants)
+DraftsAreSorted = (i : Image) (turns : List Turn) (w : WorldState) → Runs (initial_state i) turns w → (name : List ℕ) (a : ActorState) → actor_named w.actors name ≡ Some a
+    → (n k : ℕ) (d : Draft) → slice_get (run_local w.image n (ready w.actors a)).drafts k ≡ Some d → IsSortedDraft d × (grant_count d ≤ most_grants)

@@ -1,7 +1,7 @@
 -- The gate that a call makes, read off the draft and the registers: a second statement, beside the
 -- step.
 use Rattle.std.specs.Prelude.{◌≡◌, ℕ, ◌+◌, ◌==◌, if◌then◌else◌}
-use Rattle.wedge_base.specs.Sheets.{Draft, granted}
+use Rattle.wedge_base.specs.Sheets.{Draft, sheet_of_draft}
 use Rattle.wedge_base.specs.declared.grants.GateKind.{GateKind}
 use Rattle.wedge_base.specs.declared.grants.GateKind.TheVariants as gate_kind
 use Rattle.callgate.specs.declared.gate.Gate.{Gate}
@@ -20,7 +20,7 @@ kind_of_number n = if n == 0 then gate_kind.Fresh else gate_kind.Recycled
 pub record IsGateOf (a : ActorState) (d : Draft) (g : Gate) : Type 0 where
   pub id : g.id ≡ record { maker = a.name; number = a.made.count + 1 }
   pub entry : g.entry ≡ reg a.hart.regs 11
-  pub sheet : g.sheet ≡ granted a.sheet a.made d
+  pub sheet : g.sheet ≡ sheet_of_draft a.sheet a.made d
   pub asked : IsDrafted a.sheet a.made d g.sheet
   pub within : IsWithin a.sheet a.made g.sheet
   pub user : g.sheet.user ≡ a.sheet.user

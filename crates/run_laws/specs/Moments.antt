@@ -26,8 +26,8 @@ use Rattle.run_laws.specs.Cells.{slot_in, tag_in}
 use Rattle.sthread_life.specs.Local.{is_running, run_local}
 use Rattle.run_laws.specs.Worlds.{WorldState, actor_named, turn_of, with_actor}
 use Rattle.run_laws.specs.Requests.{Request, Deletes, Allots, request_at}
-use Rattle.run_laws.specs.Allowed.{lacks, is_refused, is_checked_at_event, IsDone, denied, answered, window_address}
-use Rattle.run_laws.specs.Families.{joined}
+use Rattle.run_laws.specs.Allowed.{lacks, is_refused, is_checked_at_event, IsDone, denied, answered_hart, window_address}
+use Rattle.run_laws.specs.Families.{after_join}
 use Rattle.wedge_base.specs.declared.rights.End.{End}
 use Rattle.wedge_base.specs.declared.rights.End.TheVariants as end_
 
@@ -51,7 +51,7 @@ pub record EachMomentOf (P : WorldState → ActorState → Option Event → Worl
 -- which has ended; any other goes on as it is.
 abbrev pub GoesOnAs : List ActorState → ActorState → Phase → ActorState → Type 0
 GoesOnAs actors a (phase.Waiting k) b =
-    IsSomeAnd (actor_named actors (a.name ++ k ∷ [])) (λ c. (e : End) × (c.phase ≡ phase.Ended e) × (b ≡ joined a (phase.Waiting k) k e c.fuel))
+    IsSomeAnd (actor_named actors (a.name ++ k ∷ [])) (λ c. (e : End) × (c.phase ≡ phase.Ended e) × (b ≡ after_join a (phase.Waiting k) k e c.fuel))
 GoesOnAs actors a p b = b ≡ a
 
 abbrev pub TurnHas : (WorldState → ActorState → Option Event → WorldState → Type 0) → WorldState → Turn → WorldState → Type 0
@@ -122,7 +122,7 @@ gap_in (Some g) tag size = if g.tag == tag then first_fit 0 (rounded size) (leng
 pub record IsPlaced (old : WorldState) (a : ActorState) (slot tag size : ℕ) (e : Event) (new : WorldState) : Type 0 where
   pub quiet : NothingDenied old new
   pub done : (offset : ℕ) → gap_in (slot_in old.cells slot) tag size ≡ Some offset
-      → (e ≡ event.Slot slot (slot_ask.Smalloc tag size) (slot_reply.Placed offset)) × (actor_named new.actors a.name ≡ Some (record a { hart = answered a (window_address slot offset) 0; phase = phase.Running }))
+      → (e ≡ event.Slot slot (slot_ask.Smalloc tag size) (slot_reply.Placed offset)) × (actor_named new.actors a.name ≡ Some (record a { hart = answered_hart a (window_address slot offset) 0; phase = phase.Running }))
   pub none : gap_in (slot_in old.cells slot) tag size ≡ None → (is_use e ≡ false) × (new.cells ≡ old.cells)
 
 -- A tag that lives is closed, and its slot is to be released; where it lives no more, nothing is

@@ -25,13 +25,13 @@ abbrev pub with_line : ActorLine → List ActorLine → List ActorLine
 with_line l [] = l ∷ []
 with_line l (m ∷ ms) = if is_lt (slice_cmp nat_cmp l.name m.name) then l ∷ m ∷ ms else m ∷ with_line l ms
 
-abbrev pub with_actor : Image → ActorState → Phase → List ActorLine → List ActorLine
-with_actor i a (phase.Ended e) ls = with_line (line_of i a e) ls
-with_actor i a p ls = ls
+abbrev pub with_actor_line : Image → ActorState → Phase → List ActorLine → List ActorLine
+with_actor_line i a (phase.Ended e) ls = with_line (line_of i a e) ls
+with_actor_line i a p ls = ls
 
 abbrev pub lines_of : Image → List ActorState → List ActorLine
 lines_of i [] = []
-lines_of i (a ∷ as_) = with_actor i a a.phase (lines_of i as_)
+lines_of i (a ∷ as_) = with_actor_line i a a.phase (lines_of i as_)
 
 -- the name under which a descriptor was declared, or else the path under which an actor opened it
 abbrev pub labels_of : List ActorState → List StreamLabel

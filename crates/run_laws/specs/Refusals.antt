@@ -33,8 +33,8 @@ use Rattle.sthread_life.specs.Actors.{ActorState, bits_of, slot_held}
 use Rattle.run_laws.specs.Cells.{Cells, slot_in, stream_in}
 use Rattle.sthread_life.specs.Children.{is_child}
 use Rattle.run_laws.specs.Worlds.{WorldState, with_actor}
-use Rattle.run_laws.specs.Requests.{bytes_at, path_at, is_room, bits_to_open, file_of, suits_gate, lent_of}
-use Rattle.run_laws.specs.Allowed.{may_use, may_be_opened, is_source, fits_kind, answered}
+use Rattle.run_laws.specs.Requests.{buffer_bytes, path_at, is_room, bits_to_open, file_of, suits_gate, lent_of}
+use Rattle.run_laws.specs.Allowed.{may_use, may_be_opened, is_source, fits_kind, answered_hart}
 use Rattle.run_laws.specs.Holding.{gate_for, loan_lacks, is_loan}
 use Rattle.callgate.specs.declared.gate.Gate.{Gate}
 
@@ -196,7 +196,7 @@ call_refusal i a regs n =
     else if n == 13 then make_refusal i (reg regs 11) (reg regs 14) (slice_get a.drafts (reg regs 10))
     else if n == 14 then enter_refusal a (gate_for a (reg regs 10)) (lent_of a.drafts (reg regs 12))
     else if n == 15 then read_refusal a (reg regs 10) (reg regs 12) (is_room a (reg regs 11) (reg regs 12))
-    else if n == 16 then append_refusal a (reg regs 10) (reg regs 12) (bytes_at i a (reg regs 11) (reg regs 12))
+    else if n == 16 then append_refusal a (reg regs 10) (reg regs 12) (buffer_bytes i a (reg regs 11) (reg regs 12))
     else if n == 17 then number_refusal (reg regs 10)
     else if n == 18 then open_refusal i a (reg regs 11) (bits_to_open (reg regs 12)) (path_at i a (reg regs 10) (reg regs 11))
     else draft_refusal i a regs n
@@ -306,7 +306,7 @@ refusal_after i c a = word_refusal_after c a (fetch i a.hart.pc)
 
 -- ---- what a refusal leaves: its caller is answered 0 and the code, and all else is as before
 abbrev pub refused : ActorState → ℕ → ActorState
-refused a code = record a { hart = answered a 0 code; phase = phase.Running }
+refused a code = record a { hart = answered_hart a 0 code; phase = phase.Running }
 
 abbrev pub RefusesIn : WorldState → ActorState → ℕ → WorldState → Type 0
 RefusesIn old a zero new = Unit {0}

@@ -37,13 +37,13 @@ abbrev pub byte_in : List MemoryRange → ℕ → ℕ → Option ℕ
 byte_in rs k address = option_and_then (byte_at address) (slice_get rs k)
 
 -- the bytes at an address, where they lie in one range
-abbrev pub bytes_in : List MemoryRange → ℕ → ℕ → Option (List ℕ)
-bytes_in rs address n = option_map (λ r. read_range r address n) (range_at rs address n)
+abbrev pub range_bytes_at : List MemoryRange → ℕ → ℕ → Option (List ℕ)
+range_bytes_at rs address n = option_map (λ r. read_range r address n) (range_at rs address n)
 
 -- bytes are written at an address: they are read there, and each other byte of each range is as
 -- before
 pub record AreWritten (old new : List MemoryRange) (address : ℕ) (bytes : List ℕ) : Type 0 where
-  pub read : bytes_in new address (length bytes) ≡ Some bytes
+  pub read : range_bytes_at new address (length bytes) ≡ Some bytes
   pub others : (k x : ℕ) → (x < address) ⊎ (address + length bytes ≤ x) → byte_in new k x ≡ byte_in old k x
 
 -- the byte at an offset of the copy at a slot, and the bytes at a place of the windows, where they
@@ -65,19 +65,19 @@ pub record AreCopied (old new : Copies) (p : Place) (bytes : List ℕ) : Type 0 
 -- ---- an instruction, once its unit of fuel is taken: from the actor a to b
 
 -- a load of these bytes
-abbrev pub Loads : ActorState → ℕ → Bool → ℕ → List ℕ → ActorState → Type 0
-Loads a rd s width bytes b = b ≡ record a { hart = record { pc = next_word a; regs = put a.hart.regs rd (extended width s (number_of bytes)) } }
+abbrev pub LoadsBytes : ActorState → ℕ → Bool → ℕ → List ℕ → ActorState → Type 0
+LoadsBytes a rd s width bytes b = b ≡ record a { hart = record { pc = next_word a; regs = put a.hart.regs rd (extended width s (number_of bytes)) } }
 
 abbrev pub LoadGives : ActorState → ℕ → Bool → ℕ → Option (List ℕ) → ActorState → Type 0
 LoadGives a rd s width None b = b.memory ≡ a.memory
-LoadGives a rd s width (Some bytes) b = Loads a rd s width bytes b
+LoadGives a rd s width (Some bytes) b = LoadsBytes a rd s width bytes b
 
 -- the bytes that a load finds in the text or in private memory, where it is aligned
 abbrev pub found_by_load : Image → ActorState → ℕ → ℕ → Option (List ℕ)
 found_by_load i a address width =
     if not (address % width == 0) then None
     else if in_text i address width then Some (read_text i address width)
-    else option_or (bytes_in a.memory.ranges address width) (copied_bytes a.memory.copies width (slot_of address))
+    else option_or (range_bytes_at a.memory.ranges address width) (copied_bytes a.memory.copies width (slot_of address))
 
 -- where a store goes: into a private range, into a private copy, or neither
 pub data Target : Type 0 where

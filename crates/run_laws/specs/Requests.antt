@@ -72,15 +72,15 @@ abbrev pub bytes_in_range : Image → ℕ → ℕ → Option MemoryRange → Opt
 bytes_in_range i pointer n (Some r) = Some (read_range r pointer n)
 bytes_in_range i pointer n None = if in_text i pointer n then Some (read_text i pointer n) else None
 
-abbrev pub bytes_at : Image → ActorState → ℕ → ℕ → Option (List ℕ)
-bytes_at i a pointer n =
+abbrev pub buffer_bytes : Image → ActorState → ℕ → ℕ → Option (List ℕ)
+buffer_bytes i a pointer n =
     if not (nat_le n 256) then None
     else if n == 0 then Some []
     else bytes_in_range i pointer n (range_at a.memory.ranges pointer n)
 
 -- the path that such bytes are, under the actor's root directory
 abbrev pub path_at : Image → ActorState → ℕ → ℕ → Option (List ℕ)
-path_at i a pointer n = option_and_then (resolve a.sheet.root) (bytes_at i a pointer n)
+path_at i a pointer n = option_and_then (resolve a.sheet.root) (buffer_bytes i a pointer n)
 
 -- of the stream behind a descriptor, where it is live
 abbrev pub in_stream : (Stream → Request) → Option Stream → Option Request
@@ -166,7 +166,7 @@ call_request i c a regs n =
     else if n == 13 then make_of i (reg regs 11) (reg regs 14) (slice_get a.drafts (reg regs 10))
     else if n == 14 then enter_of (reg regs 10) (gate_for a (reg regs 10)) (lent_of a.drafts (reg regs 12))
     else if n == 15 then read_of c a (reg regs 10) (reg regs 11) (reg regs 12)
-    else if n == 16 then append_of c a (reg regs 10) (reg regs 12) (bytes_at i a (reg regs 11) (reg regs 12))
+    else if n == 16 then append_of c a (reg regs 10) (reg regs 12) (buffer_bytes i a (reg regs 11) (reg regs 12))
     else if n == 17 then close_of c (reg regs 10)
     else if n == 18 then open_of i a (reg regs 11) (bits_to_open (reg regs 12)) (path_at i a (reg regs 10) (reg regs 11))
     else None

@@ -24,7 +24,7 @@ use Rattle.rv_hart.specs.Local.{local, reg}
 use Rattle.sthread_life.specs.declared.phase.Phase.{Phase}
 use Rattle.sthread_life.specs.declared.phase.Phase.TheVariants as phase
 use Rattle.sthread_life.specs.Actors.{ActorState, right_of}
-use Rattle.run_laws.specs.Allowed.{answered, window_address}
+use Rattle.run_laws.specs.Allowed.{answered_hart, window_address}
 use Rattle.sthread_life.specs.Children.{is_child}
 use Rattle.run_laws.specs.Families.{answered_twice}
 use Rattle.run_laws.specs.FileCalls.{OpensAt}
@@ -97,7 +97,7 @@ OpensTag old a slot tag e new =
 abbrev pub ReleasesSlot : WorldState → ActorState → ℕ → Event → WorldState → Type 0
 ReleasesSlot old a slot e new =
     (e ≡ event.Slots (directory_ask.Release slot) directory_reply.Released)
-    × (new.actors ≡ put_actor old.actors (record a { hart = answered a 0 0; phase = phase.Running }))
+    × (new.actors ≡ put_actor old.actors (record a { hart = answered_hart a 0 0; phase = phase.Running }))
 
 -- an event that opens a tag or a stream, or claims a slot or a number, or releases one
 abbrev pub is_making : Event → Bool

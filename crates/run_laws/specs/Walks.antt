@@ -4,15 +4,15 @@
 use Rattle.std.specs.Prelude.{◌≡◌, ◌<◌, ℕ, List, [], ◌∷◌, Option, Some, if◌then◌else◌}
 use Rattle.wedge_base.specs.Images.{Image}
 use Rattle.wedge_base.specs.Names.{same, root_name}
-use Rattle.wedge_events.specs.Journals.{asked, numbered}
+use Rattle.wedge_events.specs.Journals.{event_ask, numbered}
 use Rattle.wedge_events.specs.declared.events.Want.{Want}
 use Rattle.wedge_events.specs.declared.events.Event.{Event}
 use Rattle.wedge_events.specs.declared.events.LogEntry.{LogEntry}
 use Rattle.wedge_events.specs.declared.events.Turn.{Turn}
 use Rattle.sthread_life.specs.Actors.{ActorState, root}
 use Rattle.sthread_life.specs.Local.{rest}
-use Rattle.sthread_life.specs.Taking.{wanted, asks, takes, has_joined}
-use Rattle.run_laws.specs.Worlds.{WorldState, opening, actor_named, Runs}
+use Rattle.sthread_life.specs.Taking.{current_want, asks, takes, has_joined}
+use Rattle.run_laws.specs.Worlds.{WorldState, initial_state, actor_named, Runs}
 use Rattle.wedge_base.specs.declared.rights.End.{End}
 use Rattle.sthread_life.specs.declared.phase.Phase.{Phase}
 use Rattle.sthread_life.specs.declared.phase.Phase.TheVariants as phase
@@ -21,8 +21,8 @@ use Rattle.sthread_life.specs.declared.phase.Phase.TheVariants as phase
 pub record Asks (a : ActorState) (e : Event) : Type 0 where
   pub want : Want
   pub live : Option ℕ
-  pub wants : wanted a ≡ Some want
-  pub asks_it : asked e ≡ asks a live want
+  pub wants : current_want a ≡ Some want
+  pub asks_it : event_ask e ≡ asks a live want
 
 -- an entry of an actor at rest, with a stamp above its clock
 pub record IsEntryOf (a : ActorState) (clock : ℕ) (e : LogEntry) : Type 0 where
@@ -58,4 +58,4 @@ pub record Walked (i : Image) (turns : List Turn) (new : WorldState) : Type 0 wh
   pub leads : actor_named new.actors root_name ≡ Some last
 
 abbrev pub RootsWalk : Type 0
-RootsWalk = (i : Image) (turns : List Turn) (new : WorldState) → Runs (opening i) turns new → Walked i turns new
+RootsWalk = (i : Image) (turns : List Turn) (new : WorldState) → Runs (initial_state i) turns new → Walked i turns new

@@ -15,7 +15,7 @@ use Rattle.sthread_life.specs.Actors.{ActorState, root}
 use Rattle.run_laws.specs.Cells.{Cells, opening_cells, live_at, event_of, cells_after, kept_in}
 use Rattle.sthread_life.specs.Children.{child_name}
 use Rattle.sthread_life.specs.Local.{rest, has_ended, end_reached}
-use Rattle.sthread_life.specs.Taking.{wanted, asks, takes, begun, has_joined}
+use Rattle.sthread_life.specs.Taking.{current_want, asks, takes, actor_begun, has_joined}
 use Rattle.wedge_base.specs.declared.rights.End.{End}
 use Rattle.sthread_life.specs.declared.phase.Phase.{Phase}
 use Rattle.sthread_life.specs.declared.phase.Phase.TheVariants as phase
@@ -27,8 +27,8 @@ pub record WorldState : Type 0 where
   pub actors : List ActorState
 
 -- the world as a run of the image begins: the root alone
-abbrev pub opening : Image → WorldState
-opening i = record { image = i; cells = opening_cells i; actors = root i ∷ [] }
+abbrev pub initial_state : Image → WorldState
+initial_state i = record { image = i; cells = opening_cells i; actors = root i ∷ [] }
 
 -- the actor of a name
 abbrev pub actor_named : List ActorState → List ℕ → Option ActorState
@@ -54,10 +54,10 @@ with_begun actors None = actors
 with_begun actors (Some a) = actors ++ a ∷ []
 
 -- an event takes place: its cell goes on, the actor takes the reply, and an actor may begin by it
-abbrev pub happened : WorldState → ActorState → Event → Taken
-happened w a e = record {
+abbrev pub apply_event : WorldState → ActorState → Event → Taken
+apply_event w a e = record {
   event = e;
-  world = record w { cells = cells_after w.cells e; actors = with_begun (put_actor w.actors (takes w.image a e)) (begun w.image a e) };
+  world = record w { cells = cells_after w.cells e; actors = with_begun (put_actor w.actors (takes w.image a e)) (actor_begun w.image a e) };
 }
 
 -- the end of an actor that is there and has ended, and the fuel that it has left
@@ -87,7 +87,7 @@ event_at w a q = event_of w.cells (asks a (live_at w.cells q) q)
 
 abbrev pub wanting : WorldState → ActorState → Option Want → Option Taken
 wanting w a None = None
-wanting w a (Some q) = option_map (happened w a) (event_at w a q)
+wanting w a (Some q) = option_map (apply_event w a) (event_at w a q)
 
 -- an actor that waits for the run of a gate goes on once the run has ended: with its end and its
 -- fuel, as from a join
@@ -107,7 +107,7 @@ abbrev pub resumed : WorldState → ActorState → WorldState
 resumed w a = with_actor w (ready w.actors a)
 
 abbrev pub turn_in : WorldState → ActorState → Option Taken
-turn_in w a = (let b = rest w.image a in wanting w b (wanted b))
+turn_in w a = (let b = rest w.image a in wanting w b (current_want b))
 
 abbrev pub turn_with : WorldState → Option ActorState → Option Taken
 turn_with w None = None
@@ -136,5 +136,5 @@ abbrev pub at_rest : WorldState → ActorState → ActorState
 at_rest w a = rest w.image (ready w.actors a)
 
 -- the world with every actor at rest: two worlds that are equal so differ in local steps alone
-abbrev pub settled : WorldState → WorldState
-settled w = record w { actors = map (at_rest w) w.actors }
+abbrev pub all_at_rest : WorldState → WorldState
+all_at_rest w = record w { actors = map (at_rest w) w.actors }

@@ -16,12 +16,12 @@ use Rattle.wedge_base.specs.declared.rights.Right.TheVariants as right
 use Rattle.run_laws.specs.Allowed.{may_use}
 
 -- the bytes of the tag that lives in a slot
-abbrev pub bytes_in : Cells → ℕ → Option (List ℕ)
-bytes_in c slot = option_map (λ g. g.bytes) (slot_in c slot)
+abbrev pub slot_bytes : Cells → ℕ → Option (List ℕ)
+slot_bytes c slot = option_map (λ g. g.bytes) (slot_in c slot)
 
 -- the bytes in each slot are those before, with what these turns wrote over them in order
 abbrev pub BytesFollow : Cells → List Turn → Cells → Type 0
-BytesFollow old turns new = (slot : ℕ) → bytes_in new slot ≡ bytes_after slot (bytes_in old slot) turns
+BytesFollow old turns new = (slot : ℕ) → slot_bytes new slot ≡ bytes_after slot (slot_bytes old slot) turns
 
 -- the actor of a name may store to a tag
 abbrev pub MayStore : List ActorState → List ℕ → ℕ → Type 0

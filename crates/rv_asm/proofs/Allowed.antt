@@ -6,7 +6,7 @@ use Rattle.rv_isa.specs.declared.Form.{Form}
 use Rattle.rv_isa.specs.declared.Form.TheVariants as form
 use Rattle.rv_isa.specs.Numbers.{word_of}
 use Rattle.rv_isa.specs.Ranges.{Ranges, ranges}
-use Rattle.rv_asm.specs.Assembly.{is_within, allowed, is_allowed, placed}
+use Rattle.rv_asm.specs.Assembly.{is_within, allowed, is_allowed, instr_immediate}
 
 le_there : (a b : ℤ) → int_le a b ≡ true → a ≤ℤ b
 le_there a b h = grind (arith, ints)
@@ -25,7 +25,7 @@ allowed_plain form.Upper h = absurd (h refl)
 allowed_plain form.Jump h = refl
 allowed_plain _ h = refl
 
-pub placed_plain : (f : Form) (z : ℤ) → f ≢ form.Upper → placed f z ≡ z
+pub placed_plain : (f : Form) (z : ℤ) → f ≢ form.Upper → instr_immediate f z ≡ z
 placed_plain form.Upper z h = absurd (h refl)
 placed_plain form.Jump z h = refl
 placed_plain _ z h = refl

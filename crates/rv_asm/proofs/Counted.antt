@@ -4,7 +4,7 @@ use Rattle.std.specs.Prelude.{ℤ, Result, Ok, Err, if◌then◌else◌}
 use Rattle.rv_isa.specs.Table.{form_of}
 use Rattle.rv_asm.specs.Statements.{Statement, Template}
 use Rattle.rv_asm.specs.Statements as statement
-use Rattle.rv_asm.specs.Assembly.{Equates, Labels, ◌>>=◌, integer, address_of, wanted, immediate, instruction, demand, is_word, is_small, load_two, load_number, label_line, is_taken, words, number_size, size}
+use Rattle.rv_asm.specs.Assembly.{Equates, Labels, ◌>>=◌, integer, label_address, operand_value, checked_immediate, instruction, or_out_of_range, is_word, is_small, load_two, load_number, label_line, is_taken, words, number_size, size}
 use Rattle.rv_asm.specs.Laws.{WordsAreCounted}
 use Rattle.rv_asm.specs.declared.fault.Why.{Why}
 use Rattle.rv_isa.specs.declared.Form.{Form}
@@ -19,11 +19,11 @@ label_long true sound = refl
 label_long false true = refl
 label_long false false = refl
 
-demand_long : (test : Bool) (ws : List ℕ) (n : ℕ) → length ws ≡ n → long (demand test ws) n ≡ n
+demand_long : (test : Bool) (ws : List ℕ) (n : ℕ) → length ws ≡ n → long (or_out_of_range test ws) n ≡ n
 demand_long true ws n e = e
 demand_long false ws n e = refl
 
-word_long : (r : Result ℤ Why) (f : ℤ → ℕ) → long (r >>= λ z. demand (is_word z) (f z ∷ [])) 1 ≡ 1
+word_long : (r : Result ℤ Why) (f : ℤ → ℕ) → long (r >>= λ z. or_out_of_range (is_word z) (f z ∷ [])) 1 ≡ 1
 word_long (Ok z) f = demand_long (is_word z) (f z ∷ []) 1 refl
 word_long (Err w) f = refl
 
@@ -31,8 +31,8 @@ encoded_long : (r : Result ℤ Why) (f : ℤ → ℕ) → long (r >>= λ imm. Ok
 encoded_long (Ok z) f = refl
 encoded_long (Err w) f = refl
 
-placed_long : (r : Result ℤ Why) (form : Form) (f : ℤ → ℕ) → long (r >>= λ z. immediate form z >>= λ imm. Ok (f imm ∷ [])) 1 ≡ 1
-placed_long (Ok z) form f = encoded_long (immediate form z) f
+placed_long : (r : Result ℤ Why) (form : Form) (f : ℤ → ℕ) → long (r >>= λ z. checked_immediate form z >>= λ imm. Ok (f imm ∷ [])) 1 ≡ 1
+placed_long (Ok z) form f = encoded_long (checked_immediate form z) f
 placed_long (Err w) form f = refl
 
 number_words : (small : Bool) (rd n a : ℕ) → length (if small then a ∷ [] else load_two rd n) ≡ (if small then 1 else 2)
@@ -40,7 +40,7 @@ unfolding load_two
 number_words true rd n a = refl
 number_words false rd n a = refl
 
-number_long : (r : Result ℤ Why) (rd : ℕ) → long (r >>= λ z. demand (is_word z) (load_number rd z)) (number_size r) ≡ number_size r
+number_long : (r : Result ℤ Why) (rd : ℕ) → long (r >>= λ z. or_out_of_range (is_word z) (load_number rd z)) (number_size r) ≡ number_size r
 unfolding load_number
 number_long (Ok z) rd = demand_long (is_word z) (load_number rd z) _ (number_words (is_small z) rd _ _)
 number_long (Err w) rd = refl
@@ -56,9 +56,9 @@ statement_long es ls line at statement.Blank = refl
 statement_long es ls line at (statement.Label name sound) = label_long (is_taken es ls line name) sound
 statement_long es ls line at (statement.Procedure name sound) = label_long (is_taken es ls line name) sound
 statement_long es ls line at (statement.Word n) = word_long (integer es n) _
-statement_long es ls line at (statement.Instruction t) = placed_long (wanted (form_of t.op) es ls at t.imm) (form_of t.op) _
+statement_long es ls line at (statement.Instruction t) = placed_long (operand_value (form_of t.op) es ls at t.imm) (form_of t.op) _
 statement_long es ls line at (statement.LoadNumber rd n) = number_long (integer es n) rd
-statement_long es ls line at (statement.LoadAddress rd name) = address_long (address_of ls name) rd
+statement_long es ls line at (statement.LoadAddress rd name) = address_long (label_address ls name) rd
 statement_long es ls line at (statement.Service s) = refl
 statement_long es ls line at (statement.Faulty w n) = refl
 statement_long es ls line at (statement.FaultyLoad n) = refl

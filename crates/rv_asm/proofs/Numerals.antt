@@ -11,7 +11,7 @@ use Rattle.std.proofs.lemmas.Int.{ints}
 use Rattle.std.proofs.lemmas.Str.Parse.{digit_from_value}
 use Rattle.rv_asm.specs.Operands.{is_opening}
 use Rattle.wedge_base.specs.Texts.{starts_name, is_name}
-use Rattle.rv_asm.specs.Numbers.{past_all, is_digit, natural, decimal, magnitude, literal, Number, number}
+use Rattle.rv_asm.specs.Numbers.{past_all, is_digit, natural, decimal, magnitude, literal, Number, parse_number}
 use Rattle.rv_asm.specs.Numbers as numbers
 use Rattle.rv_asm.proofs.Plain.{is_plain, none_pass}
 use Rattle.rv_asm.proofs.Pieces.{IsOperand, operand_plain}
@@ -99,21 +99,21 @@ digit_starts c h =
     let d : (c == 95) ≡ false = ne_eqb c 95 (λ e. absurd (omega (arith, range))) in
     rw (a, b, d) refl
 
-number_digits : (ds : List ℕ) (n : ℕ) → 0 < length ds → AllDigits 10 ds → magnitude ds ≡ Some n → number ds ≡ Some (numbers.Literal (pos n))
-unfolding number literal
+number_digits : (ds : List ℕ) (n : ℕ) → 0 < length ds → AllDigits 10 ds → magnitude ds ≡ Some n → parse_number ds ≡ Some (numbers.Literal (pos n))
+unfolding parse_number literal
 number_digits [] n l h e = absurd (omega arith)
 number_digits (c ∷ cs) n l h e =
     let minus : (c == 45) ≡ false = digit_is_not c 45 (omega (arith, h.0)) (omega arith) in
     rw (no_name c cs (digit_starts c h.0), minus, e) refl
 
-number_minus : (ds : List ℕ) (n : ℕ) → magnitude ds ≡ Some (suc n) → number (45 ∷ ds) ≡ Some (numbers.Literal (negsuc n))
-unfolding number literal
+number_minus : (ds : List ℕ) (n : ℕ) → magnitude ds ≡ Some (suc n) → parse_number (45 ∷ ds) ≡ Some (numbers.Literal (negsuc n))
+unfolding parse_number literal
 number_minus ds n e =
     let less : pos 0 -ℤ pos (suc n) ≡ negsuc n = omega (arith, ints) in
     rw (no_name 45 ds refl, e) (ap (λ z. Some (numbers.Literal z)) less)
 
 -- a signed number, read back
-pub number_signed : (z : ℤ) → negsuc (2 ^ 31 - 1) ≤ℤ z → z ≤ℤ pos (2 ^ 31 - 1) → number (signed_decimal z) ≡ Some (numbers.Literal z)
+pub number_signed : (z : ℤ) → negsuc (2 ^ 31 - 1) ≤ℤ z → z ≤ℤ pos (2 ^ 31 - 1) → parse_number (signed_decimal z) ≡ Some (numbers.Literal z)
 number_signed (pos n) low high =
     let small : n < 2 ^ 31 = omega (arith, ints) in
     let m = decimal_is_IsNumeral n (omega arith) in
@@ -122,12 +122,12 @@ number_signed (negsuc n) low high =
     let small : n < 2 ^ 31 = omega (arith, ints) in
     number_minus (digits 10 false (suc n)) n (magnitude_decimal (suc n) (omega arith))
 
-hex_read : (ds : List ℕ) (n : ℕ) → natural 16 ds ≡ Some n → number (48 ∷ 120 ∷ ds) ≡ Some (numbers.Literal (pos n))
-unfolding number literal magnitude
+hex_read : (ds : List ℕ) (n : ℕ) → natural 16 ds ≡ Some n → parse_number (48 ∷ 120 ∷ ds) ≡ Some (numbers.Literal (pos n))
+unfolding parse_number literal magnitude
 hex_read ds n e = rw (no_name 48 (120 ∷ ds) refl, e) refl
 
 -- hexadecimal digits, read back
-pub number_hex : (n : ℕ) → n < 2 ^ 32 → number (48 ∷ 120 ∷ digits 16 false n) ≡ Some (numbers.Literal (pos n))
+pub number_hex : (n : ℕ) → n < 2 ^ 32 → parse_number (48 ∷ 120 ∷ digits 16 false n) ≡ Some (numbers.Literal (pos n))
 number_hex n small =
     let m = digits_is_IsNumeral 16 false (omega arith) (omega arith) n (omega arith) in
     hex_read (digits 16 false n) n (natural_is 16 (digits 16 false n) n m.0.0 m.0.1 m.1 (omega arith))

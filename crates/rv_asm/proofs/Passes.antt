@@ -8,10 +8,10 @@ use Rattle.rv_asm.specs.Lexing.{lines}
 use Rattle.rv_asm.specs.Parsing.{statement_of}
 use Rattle.rv_asm.specs.declared.fault.Fault.{Fault}
 use Rattle.rv_asm.specs.declared.fault.Why.{Why}
-use Rattle.rv_asm.specs.Assembly.{Equates, Labels, equates_of, no_labels, nothing, assembled, labels_from, given, name_given, after, assembled_from, words, procedures, grown, on_line, ◌>>=◌}
+use Rattle.rv_asm.specs.Assembly.{Equates, Labels, equates_of, no_labels, nothing, assembled, labels_from, define_label, name_given, address_after, assembled_from, words, procedures, with_line_words, on_line, ◌>>=◌}
 
 module _ {X : Type 0} (view : X → Statement) (es : Equates) (xs : List X) where
-  pub labels_step : (ls : Labels) (line at i : ℕ) (x : X) → i < length xs → x ≡ get_or xs i x → labels_from es ls line at (map view (drop i xs)) ≡ labels_from es (given es line at ls (name_given (view x))) (line + 1) (after es at (view x)) (map view (drop (i + 1) xs))
+  pub labels_step : (ls : Labels) (line at i : ℕ) (x : X) → i < length xs → x ≡ get_or xs i x → labels_from es ls line at (map view (drop i xs)) ≡ labels_from es (define_label es line at ls (name_given (view x))) (line + 1) (address_after es at (view x)) (map view (drop (i + 1) xs))
   unfolding labels_from
   labels_step ls line at i x h e = ap (λ ys. labels_from es ls line at (map view ys)) (drop_more xs i x h ∙ ap (λ y. y ∷ drop (i + 1) xs) (sym e))
 
@@ -21,14 +21,14 @@ module _ {X : Type 0} (view : X → Statement) (es : Equates) (xs : List X) wher
 
   module _ (ls : Labels) where
     next_line : Assembled → ℕ → ℕ → ℕ → Statement → Result (List ℕ) Why → Result Assembled Fault
-    next_line front line at i s r = on_line line r >>= λ ws. assembled_from es ls (grown front ws (procedures at s)) (line + 1) (after es at s) (map view (drop (i + 1) xs))
+    next_line front line at i s r = on_line line r >>= λ ws. assembled_from es ls (with_line_words front ws (procedures at s)) (line + 1) (address_after es at s) (map view (drop (i + 1) xs))
 
     step : (front : Assembled) (line at i : ℕ) (x : X) → i < length xs → x ≡ get_or xs i x → assembled_from es ls front line at (map view (drop i xs)) ≡ next_line front line at i (view x) (words es ls line at (view x))
     unfolding assembled_from next_line
     step front line at i x h e = ap (λ ys. assembled_from es ls front line at (map view ys)) (drop_more xs i x h ∙ ap (λ y. y ∷ drop (i + 1) xs) (sym e))
 
     -- a line with words
-    pub assembled_step : (front : Assembled) (line at i : ℕ) (x : X) (ws : List ℕ) → i < length xs → x ≡ get_or xs i x → Ok ws ≡ words es ls line at (view x) → assembled_from es ls front line at (map view (drop i xs)) ≡ assembled_from es ls (grown front ws (procedures at (view x))) (line + 1) (after es at (view x)) (map view (drop (i + 1) xs))
+    pub assembled_step : (front : Assembled) (line at i : ℕ) (x : X) (ws : List ℕ) → i < length xs → x ≡ get_or xs i x → Ok ws ≡ words es ls line at (view x) → assembled_from es ls front line at (map view (drop i xs)) ≡ assembled_from es ls (with_line_words front ws (procedures at (view x))) (line + 1) (address_after es at (view x)) (map view (drop (i + 1) xs))
     unfolding next_line
     assembled_step front line at i x ws h e w = step front line at i x h e ∙ ap (next_line front line at i (view x)) (sym w)
 

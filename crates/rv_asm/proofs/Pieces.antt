@@ -5,7 +5,7 @@ use Rattle.std.proofs.Math.Seq.{take-append_seam, take-length, drop-append_seam}
 use Rattle.std.proofs.lemmas.List.{append_assoc, length-append, drop_all}
 use Rattle.std.proofs.lemmas.List.Elements.{All-head, All-tail}
 use Rattle.std.proofs.lemmas.List.Splits.{slice_split_none, slice_split_at}
-use Rattle.rv_asm.specs.Lexing.{is_blank, is_comma, trim, trim_start, lines, content, first_word, following, operands}
+use Rattle.rv_asm.specs.Lexing.{is_blank, is_comma, trim, trim_start, lines, without_comment, first_word, following, operands}
 use Rattle.rv_asm.proofs.Plain.{is_said, is_complete, is_plain, plain_blank, plain_whole, whole_comma, whole_said, said_comment, said_end, none_pass, each_passes, all_append, IsTight, trim_tight, trim_space, start_tight, tight_between, tight_plain}
 
 module _ (p : ℕ → Bool) where
@@ -85,8 +85,8 @@ content_spaced m t h k =
 pub line_alone : (t : List ℕ) → IsContent t → lines t ≡ t ∷ []
 line_alone t h = slice_split_none (λ c. c == 10) t (none_pass is_said (λ c. c == 10) said_end t h.each)
 
-pub content_is : (t : List ℕ) → IsContent t → content t ≡ t
-unfolding content
+pub content_is : (t : List ℕ) → IsContent t → without_comment t ≡ t
+unfolding without_comment
 content_is t h = ap trim (before_none (λ c. c == 35) t (none_pass is_said (λ c. c == 35) said_comment t h.each)) ∙ trim_tight t h.tight
 
 -- its first word, and the rest

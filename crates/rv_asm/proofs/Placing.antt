@@ -7,12 +7,12 @@ use Rattle.rv_isa.specs.declared.Form.{Form}
 use Rattle.rv_isa.specs.declared.Form.TheVariants as form
 use Rattle.rv_isa.specs.declared.Instr.{Instr}
 use Rattle.rv_isa.specs.Numbers.{word_of}
-use Rattle.rv_isa.specs.Ranges.{Ranges, ranges, IsWithin}
+use Rattle.rv_isa.specs.Ranges.{Ranges, ranges, HasOperandsIn}
 use Rattle.rv_isa.specs.Table.{form_of}
 use Rattle.rv_isa.specs.Encoding.{encoded}
 use Rattle.rv_asm.specs.Numbers as number
 use Rattle.rv_asm.specs.Statements.{template}
-use Rattle.rv_asm.specs.Assembly.{Equates, Labels, allowed, is_allowed, immediate, wanted, instruction}
+use Rattle.rv_asm.specs.Assembly.{Equates, Labels, allowed, is_allowed, checked_immediate, operand_value, instruction}
 
 -- the number that a text of a form has
 abbrev pub written : Form → ℤ → ℤ
@@ -31,7 +31,7 @@ upper_back z low high step = grind (arith, ints)
 upper_small : (z : ℤ) → word_of z < 2 ^ 32
 upper_small z = grind arith
 
-pub immediate_written : (f : Form) (i : Instr) → IsWithin (ranges f) i → immediate f (written f i.imm) ≡ Ok i.imm
+pub immediate_written : (f : Form) (i : Instr) → HasOperandsIn (ranges f) i → checked_immediate f (written f i.imm) ≡ Ok i.imm
 immediate_written form.Upper i h =
     let small = upper_small i.imm in
     let u = word_of i.imm / 2 ^ 12 in
@@ -46,11 +46,11 @@ immediate_written form.Shift i h = rw (test_allowed (ranges form.Shift) i.imm h.
 immediate_written form.Register i h = rw (test_allowed (ranges form.Register) i.imm h.low h.high h.step) refl
 immediate_written form.Whole i h = rw (test_allowed (ranges form.Whole) i.imm h.low h.high h.step) refl
 
-wanted_literal : (f : Form) (es : Equates) (ls : Labels) (at : ℕ) (z : ℤ) → wanted f es ls at (number.Literal z) ≡ Ok z
+wanted_literal : (f : Form) (es : Equates) (ls : Labels) (at : ℕ) (z : ℤ) → operand_value f es ls at (number.Literal z) ≡ Ok z
 wanted_literal form.Jump es ls at z = refl
 wanted_literal _ es ls at z = refl
 
 -- an instruction with that number, whatever the names are
-pub instruction_written : (i : Instr) (es : Equates) (ls : Labels) (at : ℕ) → IsWithin (ranges (form_of i.op)) i → instruction es ls at (template i.op i.rd i.rs1 i.rs2 (number.Literal (written (form_of i.op) i.imm))) ≡ Ok (encoded i ∷ [])
+pub instruction_written : (i : Instr) (es : Equates) (ls : Labels) (at : ℕ) → HasOperandsIn (ranges (form_of i.op)) i → instruction es ls at (template i.op i.rd i.rs1 i.rs2 (number.Literal (written (form_of i.op) i.imm))) ≡ Ok (encoded i ∷ [])
 unfolding instruction
 instruction_written i es ls at h = rw (wanted_literal (form_of i.op) es ls at (written (form_of i.op) i.imm), immediate_written (form_of i.op) i h) refl

@@ -8,7 +8,7 @@ use Rattle.rv_isa.specs.declared.Form.{Form}
 use Rattle.rv_isa.specs.declared.Form.TheVariants as form
 use Rattle.rv_isa.specs.declared.Instr.{Instr}
 use Rattle.rv_isa.specs.Table.{form_of}
-use Rattle.rv_isa.specs.Ranges.{ranges, IsInRange, IsWithin}
+use Rattle.rv_isa.specs.Ranges.{ranges, IsInRange, HasOperandsIn}
 use Rattle.rv_isa.specs.Encoding.{encoded}
 use Rattle.rv_isa.specs.Text.{mnemonic, operand_text, text}
 use Rattle.rv_isa.proofs.Rows.{IsInRange-of_row}
@@ -92,7 +92,7 @@ record IsLine (i : Instr) : Type 0 where
   pub content : IsContent (text i)
   pub is : statement_of (text i) ≡ statement.Instruction (template_of (form_of i.op) i)
 
-line_whole : (i : Instr) → form_of i.op ≡ form.Whole → IsWithin (ranges form.Whole) i → IsLine i
+line_whole : (i : Instr) → form_of i.op ≡ form.Whole → HasOperandsIn (ranges form.Whole) i → IsLine i
 line_whole i e h =
     let o = i.op in
     let same : text i ≡ mnemonic o = ap (λ f. mnemonic o ++ operand_text f i) e ∙ append-nil (mnemonic o) in
@@ -117,7 +117,7 @@ line_spaced i k h =
 line_is : (i : Instr) → IsInRange i → IsLine i
 line_is i h =
     elim (whole_or (form_of i.op)) [
-      | inl e ↦ line_whole i e (subst (λ (f : Form). IsWithin (ranges f) i) e h)
+      | inl e ↦ line_whole i e (subst (λ (f : Form). HasOperandsIn (ranges f) i) e h)
       | inr k ↦ line_spaced i k h
     ]
 

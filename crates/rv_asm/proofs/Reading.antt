@@ -6,7 +6,7 @@ use Rattle.std.proofs.lemmas.List.{append_assoc}
 use Rattle.rv_isa.specs.declared.Form.{Form}
 use Rattle.rv_isa.specs.declared.Form.TheVariants as form
 use Rattle.rv_isa.specs.declared.Instr.{Instr}
-use Rattle.rv_isa.specs.Ranges.{ranges, IsWithin}
+use Rattle.rv_isa.specs.Ranges.{ranges, HasOperandsIn}
 use Rattle.rv_isa.specs.Text.{register_name, operand_text, upper}
 use Rattle.rv_asm.specs.Numbers as number
 use Rattle.rv_asm.specs.Operands.{based, register_base, two_registers_number}
@@ -58,10 +58,10 @@ pub record IsRead (f : Form) (i : Instr) : Type 0 where
   pub template : with_form f i.op rest ≡ Some (template_of f i)
 
 -- the number of an instruction is a signed word
-low : (f : Form) (i : Instr) → IsWithin (ranges f) i → negsuc (2 ^ 31 - 1) ≤ℤ i.imm
+low : (f : Form) (i : Instr) → HasOperandsIn (ranges f) i → negsuc (2 ^ 31 - 1) ≤ℤ i.imm
 low f i h = omega (arith, ints, low_fits f, h.low)
 
-high : (f : Form) (i : Instr) → IsWithin (ranges f) i → i.imm ≤ℤ pos (2 ^ 31 - 1)
+high : (f : Form) (i : Instr) → HasOperandsIn (ranges f) i → i.imm ≤ℤ pos (2 ^ 31 - 1)
 high f i h = omega (arith, ints, high_fits f, h.high)
 
 none : (n : ℕ) → n < 1 → n ≡ 0
@@ -74,7 +74,7 @@ module _ (i : Instr) where
   name : (n : ℕ) → n < 32 → IsContent (register_name n)
   name n h = content_operand (register_name n) (name_operand n h)
 
-  read_upper : IsWithin (ranges form.Upper) i → IsRead form.Upper i
+  read_upper : HasOperandsIn (ranges form.Upper) i → IsRead form.Upper i
   unfolding with_form
   read_upper h =
       let a = register_name i.rd in
@@ -88,7 +88,7 @@ module _ (i : Instr) where
         template = rw (register_number_is a b (name_operand i.rd h.rd) o i.rd (name_read i.rd h.rd) (number.Literal (pos (upper i))) (number_hex (upper i) small), none i.rs1 h.rs1, none i.rs2 h.rs2) refl;
       }
 
-  read_register : IsWithin (ranges form.Register) i → IsRead form.Register i
+  read_register : HasOperandsIn (ranges form.Register) i → IsRead form.Register i
   unfolding with_form
   read_register h =
       let a = register_name i.rd in
@@ -123,7 +123,7 @@ module _ (i : Instr) where
     two_content : (a b : ℕ) → a < 32 → b < 32 → IsContent (pair (register_name a) (pair (register_name b) (signed_decimal i.imm)))
     two_content a b h k = content_pair (register_name a) (pair (register_name b) (signed_decimal i.imm)) (name a h) (content_pair (register_name b) (signed_decimal i.imm) (name b k) (content_operand (signed_decimal i.imm) signed))
 
-    read_jump : IsWithin (ranges form.Jump) i → IsRead form.Jump i
+    read_jump : HasOperandsIn (ranges form.Jump) i → IsRead form.Jump i
     unfolding with_form
     read_jump h =
         let a = register_name i.rd in
@@ -135,7 +135,7 @@ module _ (i : Instr) where
           template = rw (register_number_is a b (name_operand i.rd h.rd) signed i.rd (name_read i.rd h.rd) (number.Literal i.imm) (number_signed i.imm least greatest), none i.rs1 h.rs1, none i.rs2 h.rs2) refl;
         }
 
-    read_branch : IsWithin (ranges form.Branch) i → IsRead form.Branch i
+    read_branch : HasOperandsIn (ranges form.Branch) i → IsRead form.Branch i
     unfolding with_form
     read_branch h =
         record {
@@ -145,7 +145,7 @@ module _ (i : Instr) where
           template = rw (two_and_number i.rs1 i.rs2 h.rs1 h.rs2, none i.rd h.rd) refl;
         }
 
-    read_immediate : IsWithin (ranges form.Immediate) i → IsRead form.Immediate i
+    read_immediate : HasOperandsIn (ranges form.Immediate) i → IsRead form.Immediate i
     unfolding with_form
     read_immediate h =
         record {
@@ -155,7 +155,7 @@ module _ (i : Instr) where
           template = rw (two_and_number i.rd i.rs1 h.rd h.rs1, none i.rs2 h.rs2) refl;
         }
 
-    read_shift : IsWithin (ranges form.Shift) i → IsRead form.Shift i
+    read_shift : HasOperandsIn (ranges form.Shift) i → IsRead form.Shift i
     unfolding with_form
     read_shift h =
         record {
@@ -165,7 +165,7 @@ module _ (i : Instr) where
           template = rw (two_and_number i.rd i.rs1 h.rd h.rs1, none i.rs2 h.rs2) refl;
         }
 
-    read_offset : IsWithin (ranges form.Offset) i → IsRead form.Offset i
+    read_offset : HasOperandsIn (ranges form.Offset) i → IsRead form.Offset i
     unfolding with_form
     read_offset h =
         record {
@@ -175,7 +175,7 @@ module _ (i : Instr) where
           template = rw (based_pair i.rd i.rs1 h.rd h.rs1, none i.rs2 h.rs2) refl;
         }
 
-    read_store : IsWithin (ranges form.Store) i → IsRead form.Store i
+    read_store : HasOperandsIn (ranges form.Store) i → IsRead form.Store i
     unfolding with_form
     read_store h =
         record {
@@ -186,7 +186,7 @@ module _ (i : Instr) where
         }
 
 -- the operands of each form are read back
-pub read_back : (f : Form) (i : Instr) → f ≢ form.Whole → IsWithin (ranges f) i → IsRead f i
+pub read_back : (f : Form) (i : Instr) → f ≢ form.Whole → HasOperandsIn (ranges f) i → IsRead f i
 read_back form.Upper i k h = read_upper i h
 read_back form.Jump i k h = read_jump i (low form.Jump i h) (high form.Jump i h) h
 read_back form.Branch i k h = read_branch i (low form.Branch i h) (high form.Branch i h) h

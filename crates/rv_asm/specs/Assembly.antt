@@ -47,8 +47,8 @@ abbrev pub with_label : List ℕ → Label → Labels → Labels
 with_label name l ls asked = if bytes_eq name asked then Some l else ls asked
 
 -- whether a name is defined, by an equate or by a label
-abbrev pub is_known : Equates → Labels → List ℕ → Bool
-is_known es ls name = is_some (es name) || is_some (ls name)
+abbrev pub is_defined : Equates → Labels → List ℕ → Bool
+is_defined es ls name = is_some (es name) || is_some (ls name)
 
 -- whether a label is of a line before this one
 abbrev pub is_earlier : ℕ → Option Label → Bool
@@ -74,8 +74,8 @@ abbrev pub integer : Equates → Number → Result ℤ Why
 integer es (number.Literal z) = Ok z
 integer es (number.Named name) = or_unknown (option_map pos (es name))
 
-abbrev pub address_of : Labels → List ℕ → Result ℕ Why
-address_of ls name = or_unknown (option_map (λ l. l.address) (ls name))
+abbrev pub label_address : Labels → List ℕ → Result ℕ Why
+label_address ls name = or_unknown (option_map (λ l. l.address) (ls name))
 
 -- the distance from one address to another: their difference modulo 2^32, as a signed 32-bit number
 abbrev pub distance : ℕ → ℕ → ℤ
@@ -93,8 +93,8 @@ target es ls at (number.Named name) = distance_or (es name) at (ls name)
 abbrev pub is_within : ℤ → ℤ → ℤ → Bool
 is_within low high z = int_le low z && int_le z high
 
-abbrev pub demand : {X : Type 0} → Bool → X → Result X Why
-demand test x = if test then Ok x else Err why.Range
+abbrev pub or_out_of_range : {X : Type 0} → Bool → X → Result X Why
+or_out_of_range test x = if test then Ok x else Err why.Range
 
 -- whether a number fits 32 bits, signed or unsigned
 abbrev pub is_word : ℤ → Bool
@@ -112,23 +112,23 @@ abbrev pub is_allowed : Ranges → ℤ → Bool
 is_allowed r z = is_within r.low r.high z && word_of z % r.step == 0
 
 -- the immediate that a written number gives
-abbrev pub placed : Form → ℤ → ℤ
-placed form.Upper z = cast_signed w32 (word_of z * 2 ^ 12 % 2 ^ 32)
-placed f z = z
+abbrev pub instr_immediate : Form → ℤ → ℤ
+instr_immediate form.Upper z = cast_signed w32 (word_of z * 2 ^ 12 % 2 ^ 32)
+instr_immediate f z = z
 
-abbrev pub immediate : Form → ℤ → Result ℤ Why
-immediate f z = demand (is_allowed (allowed f) z) (placed f z)
+abbrev pub checked_immediate : Form → ℤ → Result ℤ Why
+checked_immediate f z = or_out_of_range (is_allowed (allowed f) z) (instr_immediate f z)
 
 -- the value of an instruction's last operand, by its form
-abbrev pub wanted : Form → Equates → Labels → ℕ → Number → Result ℤ Why
-wanted form.Jump es ls at n = target es ls at n
-wanted form.Branch es ls at n = target es ls at n
-wanted f es ls at n = integer es n
+abbrev pub operand_value : Form → Equates → Labels → ℕ → Number → Result ℤ Why
+operand_value form.Jump es ls at n = target es ls at n
+operand_value form.Branch es ls at n = target es ls at n
+operand_value f es ls at n = integer es n
 
 unfoldable pub instruction : Equates → Labels → ℕ → Template → Result (List ℕ) Why
 instruction es ls at t =
-    wanted (form_of t.op) es ls at t.imm >>= λ z.
-    immediate (form_of t.op) z >>= λ imm.
+    operand_value (form_of t.op) es ls at t.imm >>= λ z.
+    checked_immediate (form_of t.op) z >>= λ imm.
     Ok (encoded (instr t.op t.rd t.rs1 t.rs2 imm) ∷ [])
 
 -- the word of an ADDI
@@ -164,21 +164,21 @@ service_words n = add_word 17 0 (pos n) ∷ encoded (instr op.Ecall 0 0 0 (pos 0
 abbrev pub label_line : Bool → Bool → Result (List ℕ) Why
 label_line taken sound = if taken then Err why.Twice else (if sound then Ok [] else Err why.Operand)
 
-abbrev pub word : Equates → Number → Result (List ℕ) Why
-word es n = integer es n >>= λ z. demand (is_word z) (word_of z ∷ [])
+abbrev pub data_word : Equates → Number → Result (List ℕ) Why
+data_word es n = integer es n >>= λ z. or_out_of_range (is_word z) (word_of z ∷ [])
 
 abbrev pub number_loaded : Equates → ℕ → Number → Result (List ℕ) Why
-number_loaded es rd n = integer es n >>= λ z. demand (is_word z) (load_number rd z)
+number_loaded es rd n = integer es n >>= λ z. or_out_of_range (is_word z) (load_number rd z)
 
 abbrev pub address_loaded : Labels → ℕ → List ℕ → Result (List ℕ) Why
-address_loaded ls rd name = address_of ls name >>= λ a. Ok (load_two rd a)
+address_loaded ls rd name = label_address ls name >>= λ a. Ok (load_two rd a)
 
 -- the words of a statement on a line, at an address
 unfoldable pub words : Equates → Labels → ℕ → ℕ → Statement → Result (List ℕ) Why
 words es ls line at statement.Blank = Ok []
 words es ls line at (statement.Label name sound) = label_line (is_taken es ls line name) sound
 words es ls line at (statement.Procedure name sound) = label_line (is_taken es ls line name) sound
-words es ls line at (statement.Word n) = word es n
+words es ls line at (statement.Word n) = data_word es n
 words es ls line at (statement.Instruction t) = instruction es ls at t
 words es ls line at (statement.LoadNumber rd n) = number_loaded es rd n
 words es ls line at (statement.LoadAddress rd name) = address_loaded ls rd name
@@ -203,8 +203,8 @@ size es (statement.FaultyLoad n) = number_size (integer es n)
 size es s = 0
 
 -- the address after a statement
-unfoldable pub after : Equates → ℕ → Statement → ℕ
-after es at s = (at + 4 * size es s) % 2 ^ 32
+unfoldable pub address_after : Equates → ℕ → Statement → ℕ
+address_after es at s = (at + 4 * size es s) % 2 ^ 32
 
 -- the name that a well-formed label's line defines
 abbrev pub name_if : Bool → List ℕ → Option (List ℕ)
@@ -216,16 +216,16 @@ name_given (statement.Procedure name sound) = name_if sound name
 name_given s = None
 
 -- the labels with that of a line added, where its name is not yet defined
-abbrev pub given : Equates → ℕ → ℕ → Labels → Option (List ℕ) → Labels
-given es line at ls None = ls
-given es line at ls (Some name) =
-    if is_known es ls name then ls else with_label name (record { line = line; address = at }) ls
+abbrev pub define_label : Equates → ℕ → ℕ → Labels → Option (List ℕ) → Labels
+define_label es line at ls None = ls
+define_label es line at ls (Some name) =
+    if is_defined es ls name then ls else with_label name (record { line = line; address = at }) ls
 
 -- `ls` with the labels of these statements added. The first statement is on `line`, at the address
 -- `at`.
 unfoldable pub labels_from : Equates → Labels → ℕ → ℕ → List Statement → Labels
 labels_from es ls line at [] = ls
-labels_from es ls line at (s ∷ ss) = labels_from es (given es line at ls (name_given s)) (line + 1) (after es at s) ss
+labels_from es ls line at (s ∷ ss) = labels_from es (define_label es line at ls (name_given s)) (line + 1) (address_after es at s) ss
 
 -- ---- the whole
 
@@ -237,8 +237,8 @@ procedures at s = []
 abbrev pub nothing : Assembled
 nothing = record { words = []; procedures = [] }
 
-abbrev pub grown : Assembled → List ℕ → List Procedure → Assembled
-grown front ws ps = record { words = front.words ++ ws; procedures = front.procedures ++ ps }
+abbrev pub with_line_words : Assembled → List ℕ → List Procedure → Assembled
+with_line_words front ws ps = record { words = front.words ++ ws; procedures = front.procedures ++ ps }
 
 abbrev pub on_line : {X : Type 0} → ℕ → Result X Why → Result X Fault
 on_line line (Ok x) = Ok x
@@ -250,7 +250,7 @@ unfoldable pub assembled_from : Equates → Labels → Assembled → ℕ → ℕ
 assembled_from es ls front line at [] = Ok front
 assembled_from es ls front line at (s ∷ ss) =
     on_line line (words es ls line at s) >>= λ ws.
-    assembled_from es ls (grown front ws (procedures at s)) (line + 1) (after es at s) ss
+    assembled_from es ls (with_line_words front ws (procedures at s)) (line + 1) (address_after es at s) ss
 
 -- the meaning of a text: its first word has the address `base`, and `names` are the equates
 unfoldable pub assembled : List ℕ → ℕ → List Equate → Result Assembled Fault
@@ -263,12 +263,12 @@ assembled text base names =
 -- ---- answers
 
 -- the code's result, mapped by `view`, is exactly this one
-abbrev pub Gives : {X Y E : Type 0} → (X → Y) → Result X E → Result Y E → Type 0
-Gives view (Ok x) meant = Ok (view x) ≡ meant
-Gives view (Err e) meant = Err e ≡ meant
+abbrev pub HasView : {X Y E : Type 0} → (X → Y) → Result X E → Result Y E → Type 0
+HasView view (Ok x) meant = Ok (view x) ≡ meant
+HasView view (Err e) meant = Err e ≡ meant
 
 -- the result of `assemble` is exactly this one, unless memory ran out
-abbrev pub IsAnswer : Result Assembled AsmError → Result Assembled Fault → Type 0
-IsAnswer (Ok a) meant = Ok a ≡ meant
-IsAnswer (Err error.NoMemory) meant = Unit {0}
-IsAnswer (Err (error.Fault f)) meant = Err f ≡ meant
+abbrev pub IsAssemblyAnswer : Result Assembled AsmError → Result Assembled Fault → Type 0
+IsAssemblyAnswer (Ok a) meant = Ok a ≡ meant
+IsAssemblyAnswer (Err error.NoMemory) meant = Unit {0}
+IsAssemblyAnswer (Err (error.Fault f)) meant = Err f ≡ meant

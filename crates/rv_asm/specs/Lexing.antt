@@ -26,8 +26,8 @@ abbrev pub lines : List ℕ → List (List ℕ)
 lines text = slice_split (λ c. c == 10) text
 
 -- a line without its comment, which begins with `#`, and trimmed
-unfoldable pub content : List ℕ → List ℕ
-content line = trim (before_first (λ c. c == 35) line)
+unfoldable pub without_comment : List ℕ → List ℕ
+without_comment line = trim (before_first (λ c. c == 35) line)
 
 -- the first word, which ends before a space or tab, and the text after it
 abbrev pub first_word : List ℕ → List ℕ

@@ -43,5 +43,5 @@ pub data Number : Type 0 where
   Literal : ℤ → Number
   Named : List ℕ → Number
 
-unfoldable pub number : List ℕ → Option Number
-number text = if is_name text then Some (Named text) else option_map Literal (literal text)
+unfoldable pub parse_number : List ℕ → Option Number
+parse_number text = if is_name text then Some (Named text) else option_map Literal (literal text)

@@ -5,7 +5,7 @@ use Rattle.std.specs.Str.{bytes_eq}
 use Rattle.rv_isa.specs.Text.{register_names}
 use Rattle.rv_asm.specs.Lexing.{operands, one, two, three, second}
 use Rattle.wedge_base.specs.Texts.{is_name}
-use Rattle.rv_asm.specs.Numbers.{Number, number, decimal}
+use Rattle.rv_asm.specs.Numbers.{Number, parse_number, decimal}
 
 infixl 10 ◌>>=◌
 abbrev pub ◌>>=◌ : {X Y : Type 0} → Option X → (X → Option Y) → Option Y
@@ -41,22 +41,22 @@ closed_register text = if slice_index text (length text - 1) == 41 then register
 -- `N(rs1)`: an offset, and the base register to which it is added
 unfoldable pub based : List ℕ → Option (Number × ℕ)
 based text =
-    number (before_first is_opening text) >>= λ offset.
+    parse_number (before_first is_opening text) >>= λ offset.
     closed_register (after_first is_opening text) >>= λ base. Some (offset, base)
 
 -- the shapes of operands
 unfoldable pub one_number : List ℕ → Option Number
-one_number text = one (operands text) >>= number
+one_number text = one (operands text) >>= parse_number
 
 -- the second operand where it is a number or a name, whatever the others are
 unfoldable pub second_number : List ℕ → Option Number
-second_number text = second (operands text) >>= number
+second_number text = second (operands text) >>= parse_number
 
 unfoldable pub register_number : List ℕ → Option (ℕ × Number)
 register_number text =
     two (operands text) >>= λ p.
     register p.0 >>= λ a.
-    number p.1 >>= λ n. Some (a, n)
+    parse_number p.1 >>= λ n. Some (a, n)
 
 unfoldable pub register_base : List ℕ → Option (ℕ × Number × ℕ)
 register_base text =
@@ -80,7 +80,7 @@ two_registers_number text =
     three (operands text) >>= λ p.
     register p.0 >>= λ a.
     register p.1 >>= λ b.
-    number p.2 >>= λ n. Some (a, b, n)
+    parse_number p.2 >>= λ n. Some (a, b, n)
 
 unfoldable pub three_registers : List ℕ → Option (ℕ × ℕ × ℕ)
 three_registers text =

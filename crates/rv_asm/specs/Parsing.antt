@@ -8,7 +8,7 @@ use Rattle.rv_isa.specs.declared.Form.{Form}
 use Rattle.rv_isa.specs.declared.Form.TheVariants as form
 use Rattle.rv_isa.specs.Table.{ops, form_of}
 use Rattle.rv_isa.specs.Text.{mnemonic}
-use Rattle.rv_asm.specs.Lexing.{first_word, following, content, operands, one}
+use Rattle.rv_asm.specs.Lexing.{first_word, following, without_comment, operands, one}
 use Rattle.wedge_base.specs.Texts.{is_name}
 use Rattle.rv_asm.specs.Numbers.{Number}
 use Rattle.rv_asm.specs.Numbers as number
@@ -152,4 +152,4 @@ of_content (c ∷ cs) = of_words (first_word (c ∷ cs)) (following (c ∷ cs))
 
 -- the statement of a line
 unfoldable pub statement_of : List ℕ → Statement
-statement_of line = of_content (content line)
+statement_of line = of_content (without_comment line)

@@ -3,9 +3,9 @@ use Rattle.std.specs.Prelude.{ℕ, List, codes}
 use Rattle.rv_asm.specs.declared.fault.Why.{Why}
 use Rattle.rv_asm.specs.declared.fault.Why.TheVariants as why
 
-abbrev pub word : Why → List ℕ
-word why.Mnemonic = codes "mnemonic"
-word why.Operand = codes "operand"
-word why.Range = codes "range"
-word why.Label = codes "label"
-word why.Twice = codes "twice"
+abbrev pub asm_why_word : Why → List ℕ
+asm_why_word why.Mnemonic = codes "mnemonic"
+asm_why_word why.Operand = codes "operand"
+asm_why_word why.Range = codes "range"
+asm_why_word why.Label = codes "label"
+asm_why_word why.Twice = codes "twice"

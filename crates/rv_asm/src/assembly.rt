@@ -2,7 +2,7 @@
 
 ghost use Rattle.std.specs.Prelude.{◌≡◌, ◌++◌, map, option_map, IfOk, OnOk};
 ghost use Rattle.rv_asm.specs.Assembly as assembly;
-ghost use Rattle.rv_asm.specs.Assembly.{IsAnswer};
+ghost use Rattle.rv_asm.specs.Assembly.{IsAssemblyAnswer};
 ghost use Rattle.rv_asm.specs.Lexing.{lines};
 ghost use Rattle.rv_asm.specs.Parsing.{statement_of};
 ghost use Rattle.rv_asm.specs.Views.{statement_view, equates_view, labels_view, code_view};
@@ -35,7 +35,8 @@ fn statements_of<'a>(alloc: Global, lines: &[&'a [u8]]) -> Result<Vec<Statement<
 
 /// The name that a well-formed label's line defines.
 fn name_given<'a>(statement: &Statement<'a>) -> Option<&'a [u8]>
-    ensures { option_map (λ n. n.now) result ≡ assembly.name_given (statement_view statement.now) }
+    ensures { option_map (λ n. n.now) result
+        ≡ assembly.name_given (statement_view statement.now) }
 {
     match *statement {
         Statement::Label { name, sound } | Statement::Procedure { name, sound } if sound => {
@@ -53,7 +54,7 @@ fn note<'a>(
     statement: &Statement<'a>,
 ) -> Result<(), NoMemory>
     ensures { OnOk result (labels_view labels.new
-        ≡ assembly.given (equates_view equates.now) label.line label.address
+        ≡ assembly.define_label (equates_view equates.now) label.line label.address
         (labels_view labels.old) (assembly.name_given (statement_view statement.now))) }
 {
     let Some(name) = name_given(statement) else {
@@ -128,7 +129,7 @@ fn emitted(
     base: u32,
     statements: &[Statement<'_>],
 ) -> Result<Assembled, AsmError>
-    ensures { IsAnswer result (assembly.assembled_from (equates_view equates.now)
+    ensures { IsAssemblyAnswer result (assembly.assembled_from (equates_view equates.now)
         (labels_view labels.now) assembly.nothing 1 base (map statement_view statements.now)) }
 {
     let mut front = Assembled {
@@ -159,7 +160,7 @@ pub fn assemble(
     base: u32,
     names: &[Equate],
 ) -> Result<Assembled, AsmError>
-    ensures exact { IsAnswer result (assembly.assembled text.now base names.now) }
+    ensures exact { IsAssemblyAnswer result (assembly.assembled text.now base names.now) }
 {
     let lines = lines_of(alloc, text.as_bytes())?;
     let statements = statements_of(alloc, &lines)?;

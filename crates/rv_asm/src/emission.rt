@@ -2,7 +2,7 @@
 
 ghost use Rattle.std.specs.Prelude.{◌≡◌, ◌<◌, ◌≤◌, [], ◌∷◌};
 ghost use Rattle.rv_asm.specs.Assembly as assembly;
-ghost use Rattle.rv_asm.specs.Assembly.{Gives};
+ghost use Rattle.rv_asm.specs.Assembly.{HasView};
 ghost use Rattle.rv_asm.specs.Views.{number_view, template_view, statement_view, equates_view, labels_view, code_view};
 
 use crate::encoding::{add_word, call_word, distance, encoded, load_two, word_of};
@@ -63,7 +63,8 @@ fn wanted(
     at: u32,
     number: Number<'_>,
 ) -> Result<i64, Why>
-    ensures { result ≡ assembly.wanted form (equates_view equates.now) (labels_view labels.now) at
+    ensures { result
+        ≡ assembly.operand_value form (equates_view equates.now) (labels_view labels.now) at
         (number_view number.entry) }
 {
     match form {
@@ -80,7 +81,7 @@ fn instruction(
     at: u32,
     template: Template<'_>,
 ) -> Result<Code, Why>
-    ensures { Gives code_view result
+    ensures { HasView code_view result
         (assembly.instruction (equates_view equates.now) (labels_view labels.now) at
         (template_view template.entry)) }
 {
@@ -125,7 +126,7 @@ fn is_taken(equates: &Equates<'_>, labels: &Labels<'_>, line: usize, name: &[u8]
 
 /// The line of a label, which has no words.
 fn label_line(taken: bool, sound: bool) -> Result<Code, Why>
-    ensures { Gives code_view result (assembly.label_line taken sound) }
+    ensures { HasView code_view result (assembly.label_line taken sound) }
 {
     if taken {
         return Err(Why::Twice);
@@ -139,8 +140,8 @@ fn label_line(taken: bool, sound: bool) -> Result<Code, Why>
 
 /// A word.
 fn word(equates: &Equates<'_>, number: Number<'_>) -> Result<Code, Why>
-    ensures { Gives code_view result
-        (assembly.word (equates_view equates.now) (number_view number.entry)) }
+    ensures { HasView code_view result
+        (assembly.data_word (equates_view equates.now) (number_view number.entry)) }
 {
     let z = integer(equates, number)?;
     if !is_word(z) {
@@ -151,7 +152,7 @@ fn word(equates: &Equates<'_>, number: Number<'_>) -> Result<Code, Why>
 
 /// A register gets a number that is written.
 fn number_loaded(equates: &Equates<'_>, rd: Register, number: Number<'_>) -> Result<Code, Why>
-    ensures { Gives code_view result
+    ensures { HasView code_view result
         (assembly.number_loaded (equates_view equates.now) rd.number (number_view number.entry)) }
 {
     let z = integer(equates, number)?;
@@ -163,7 +164,7 @@ fn number_loaded(equates: &Equates<'_>, rd: Register, number: Number<'_>) -> Res
 
 /// A register gets the address of a label.
 fn address_loaded(labels: &Labels<'_>, rd: Register, name: &[u8]) -> Result<Code, Why>
-    ensures { Gives code_view result
+    ensures { HasView code_view result
         (assembly.address_loaded (labels_view labels.now) rd.number name.now) }
 {
     match labels.get(name) {
@@ -184,7 +185,7 @@ pub(crate) fn words(
     at: u32,
     statement: &Statement<'_>,
 ) -> Result<Code, Why>
-    ensures { Gives code_view result
+    ensures { HasView code_view result
         (assembly.words (equates_view equates.now) (labels_view labels.now) line at
         (statement_view statement.now)) }
 {
@@ -219,7 +220,8 @@ fn number_size(equates: &Equates<'_>, number: Number<'_>) -> u32
 
 /// How many words a statement counts, invalid or not.
 fn size(equates: &Equates<'_>, statement: &Statement<'_>) -> u32
-    ensures is { result ≡ assembly.size (equates_view equates.now) (statement_view statement.now) }
+    ensures is { result
+        ≡ assembly.size (equates_view equates.now) (statement_view statement.now) }
     ensures small { result ≤ 255 }
 {
     match *statement {
@@ -234,9 +236,10 @@ fn size(equates: &Equates<'_>, statement: &Statement<'_>) -> u32
 }
 
 /// The address after a statement.
-#[tactic(auto, unfolding(crate::specs::Assembly::after))]
+#[tactic(auto, unfolding(crate::specs::Assembly::address_after))]
 pub(crate) fn after(equates: &Equates<'_>, at: u32, statement: &Statement<'_>) -> u32
-    ensures { result ≡ assembly.after (equates_view equates.now) at (statement_view statement.now) }
+    ensures { result
+        ≡ assembly.address_after (equates_view equates.now) at (statement_view statement.now) }
 {
     at.wrapping_add(4 * size(equates, statement))
 }

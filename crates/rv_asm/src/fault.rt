@@ -26,7 +26,7 @@ impl Why {
 
     /// The reason as it is printed.
     pub fn word(self) -> &'static str
-        ensures { result.now ≡ words.word self }
+        ensures { result.now ≡ words.asm_why_word self }
     {
         match self {
             Why::Mnemonic => "mnemonic",

@@ -54,9 +54,9 @@ fn place_of_comment(line: &[u8]) -> Option<usize>
 }
 
 /// A line without its comment, which begins with `#`, and trimmed.
-#[tactic(auto, unfolding(crate::specs::Lexing::content))]
+#[tactic(auto, unfolding(crate::specs::Lexing::without_comment))]
 pub(crate) fn content(line: &[u8]) -> &[u8]
-    ensures { result.now ≡ lexing.content line.now }
+    ensures { result.now ≡ lexing.without_comment line.now }
 {
     match place_of_comment(line) {
         Some(place) => trim(&line[..place]),
@@ -110,7 +110,8 @@ pub(crate) fn one(text: &[u8]) -> Option<&[u8]>
 /// The operands of a text that has two.
 #[tactic(auto, using(crate::proofs::Commas::two_none, crate::proofs::Commas::two_comma, crate::proofs::Commas::two_alone))]
 pub(crate) fn two(text: &[u8]) -> Option<(&[u8], &[u8])>
-    ensures { option_map (λ x. (x.0.now, x.1.now)) result ≡ lexing.two (lexing.operands text.now) }
+    ensures { option_map (λ x. (x.0.now, x.1.now)) result
+        ≡ lexing.two (lexing.operands text.now) }
 {
     let (first, rest) = at_comma(text)?;
     if at_comma(rest).is_some() {

@@ -105,9 +105,9 @@ fn literal(text: &[u8]) -> Option<i64>
 }
 
 /// An operand where an integer is expected.
-#[tactic(auto, unfolding(crate::specs::Numbers::number))]
+#[tactic(auto, unfolding(crate::specs::Numbers::parse_number))]
 pub(crate) fn number(text: &[u8]) -> Option<Number<'_>>
-    ensures { option_map number_view result ≡ numbers.number text.now }
+    ensures { option_map number_view result ≡ numbers.parse_number text.now }
 {
     if is_name(text) {
         return Some(Number::Named(text));

@@ -68,7 +68,7 @@ fn narrow(z: i64) -> i32
 /// The immediate that a written number gives, by the form.
 #[tactic(auto, using(crate::proofs::Allowed::placed_plain, crate::proofs::Allowed::plain_low, crate::proofs::Allowed::plain_high, crate::proofs::Allowed::plain_step, crate::proofs::Allowed::least, crate::proofs::Allowed::greatest))]
 pub(crate) fn immediate(form: Form, z: i64) -> Result<i32, Why>
-    ensures is { result ≡ assembly.immediate form z }
+    ensures is { result ≡ assembly.checked_immediate form z }
     ensures low { IfOk result (λ imm. (ranges form).low ≤ℤ imm) }
     ensures high { IfOk result (λ imm. imm ≤ℤ (ranges form).high) }
     ensures step { IfOk result (λ imm. word_of imm % (ranges form).step ≡ 0) }

@@ -37,12 +37,12 @@ abbrev pub sets : Instr → HartState → ℕ → Began
 sets i h value = record { hart = record { pc = next_pc h.pc; regs = put h.regs i.rd value }; need = need.Done }
 
 -- the step is complete: pc advances by 4
-abbrev pub passes : HartState → Began
-passes h = record { hart = record h { pc = next_pc h.pc }; need = need.Done }
+abbrev pub advances_pc : HartState → Began
+advances_pc h = record { hart = record h { pc = next_pc h.pc }; need = need.Done }
 
 -- the step needs this first, and nothing is changed yet
-abbrev pub asks : HartState → Need → Began
-asks h n = record { hart = h; need = n }
+abbrev pub needs_first : HartState → Need → Began
+needs_first h n = record { hart = h; need = n }
 
 -- a jump: pc becomes the target, and rd the return address; where the target is no multiple of 4,
 -- nothing is changed
@@ -50,17 +50,17 @@ abbrev pub goes : Instr → HartState → ℕ → Began
 goes i h target =
     if target % 4 == 0
     then record { hart = record { pc = target; regs = put h.regs i.rd (next_pc h.pc) }; need = need.Done }
-    else asks h need.JumpMisaligned
+    else needs_first h need.JumpMisaligned
 
 -- a taken branch: the same without a return address
 abbrev pub turns : HartState → ℕ → Began
 turns h target =
     if target % 4 == 0 then record { hart = record h { pc = target }; need = need.Done }
-    else asks h need.JumpMisaligned
+    else needs_first h need.JumpMisaligned
 
 -- a branch, whose offset is from its own pc
 abbrev pub branches : Instr → HartState → Bool → Began
-branches i h taken = if taken then turns h (alu.as_word (pos h.pc +ℤ i.imm)) else passes h
+branches i h taken = if taken then turns h (alu.as_word (pos h.pc +ℤ i.imm)) else advances_pc h
 
 -- the values of rs1 and of rs2
 abbrev pub a : Instr → HartState → ℕ
@@ -75,14 +75,14 @@ abbrev pub address : Instr → HartState → ℕ
 address i h = alu.as_word (pos (reg h.regs i.rs1) +ℤ i.imm)
 
 -- the immediate as a word
-abbrev pub word : Instr → ℕ
-word i = alu.as_word i.imm
+abbrev pub imm_word : Instr → ℕ
+imm_word i = alu.as_word i.imm
 
 -- the step of an instruction, one line an operation
 unfoldable pub local : Instr → HartState → Began
 local i h = elim i.op [
-  | op.Lui ↦ sets i h (word i)
-  | op.Auipc ↦ sets i h (alu.add h.pc (word i))
+  | op.Lui ↦ sets i h (imm_word i)
+  | op.Auipc ↦ sets i h (alu.add h.pc (imm_word i))
   | op.Jal ↦ goes i h (alu.as_word (pos h.pc +ℤ i.imm))
   | op.Jalr ↦ goes i h (address i h / 2 * 2)
   | op.Beq ↦ branches i h (a i h == b i h)
@@ -91,23 +91,23 @@ local i h = elim i.op [
   | op.Bge ↦ branches i h (not (int_lt (alu.as_signed (a i h)) (alu.as_signed (b i h))))
   | op.Bltu ↦ branches i h (nat_lt (a i h) (b i h))
   | op.Bgeu ↦ branches i h (not (nat_lt (a i h) (b i h)))
-  | op.Lb ↦ asks h (need.Load (address i h) 1 true)
-  | op.Lh ↦ asks h (need.Load (address i h) 2 true)
-  | op.Lw ↦ asks h (need.Load (address i h) 4 false)
-  | op.Lbu ↦ asks h (need.Load (address i h) 1 false)
-  | op.Lhu ↦ asks h (need.Load (address i h) 2 false)
-  | op.Sb ↦ asks h (need.Store (address i h) 1 (b i h))
-  | op.Sh ↦ asks h (need.Store (address i h) 2 (b i h))
-  | op.Sw ↦ asks h (need.Store (address i h) 4 (b i h))
-  | op.Addi ↦ sets i h (alu.add (a i h) (word i))
-  | op.Slti ↦ sets i h (alu.slt (a i h) (word i))
-  | op.Sltiu ↦ sets i h (alu.sltu (a i h) (word i))
-  | op.Xori ↦ sets i h (bit_xor (a i h) (word i))
-  | op.Ori ↦ sets i h (bit_or (a i h) (word i))
-  | op.Andi ↦ sets i h (bit_and (a i h) (word i))
-  | op.Slli ↦ sets i h (alu.sll (a i h) (word i))
-  | op.Srli ↦ sets i h (alu.srl (a i h) (word i))
-  | op.Srai ↦ sets i h (alu.sra (a i h) (word i))
+  | op.Lb ↦ needs_first h (need.Load (address i h) 1 true)
+  | op.Lh ↦ needs_first h (need.Load (address i h) 2 true)
+  | op.Lw ↦ needs_first h (need.Load (address i h) 4 false)
+  | op.Lbu ↦ needs_first h (need.Load (address i h) 1 false)
+  | op.Lhu ↦ needs_first h (need.Load (address i h) 2 false)
+  | op.Sb ↦ needs_first h (need.Store (address i h) 1 (b i h))
+  | op.Sh ↦ needs_first h (need.Store (address i h) 2 (b i h))
+  | op.Sw ↦ needs_first h (need.Store (address i h) 4 (b i h))
+  | op.Addi ↦ sets i h (alu.add (a i h) (imm_word i))
+  | op.Slti ↦ sets i h (alu.slt (a i h) (imm_word i))
+  | op.Sltiu ↦ sets i h (alu.sltu (a i h) (imm_word i))
+  | op.Xori ↦ sets i h (bit_xor (a i h) (imm_word i))
+  | op.Ori ↦ sets i h (bit_or (a i h) (imm_word i))
+  | op.Andi ↦ sets i h (bit_and (a i h) (imm_word i))
+  | op.Slli ↦ sets i h (alu.sll (a i h) (imm_word i))
+  | op.Srli ↦ sets i h (alu.srl (a i h) (imm_word i))
+  | op.Srai ↦ sets i h (alu.sra (a i h) (imm_word i))
   | op.Add ↦ sets i h (alu.add (a i h) (b i h))
   | op.Sll ↦ sets i h (alu.sll (a i h) (b i h))
   | op.Slt ↦ sets i h (alu.slt (a i h) (b i h))
@@ -126,9 +126,9 @@ local i h = elim i.op [
   | op.Divu ↦ sets i h (alu.divu (a i h) (b i h))
   | op.Rem ↦ sets i h (alu.rem (a i h) (b i h))
   | op.Remu ↦ sets i h (alu.remu (a i h) (b i h))
-  | op.Fence ↦ passes h
-  | op.Ecall ↦ asks h need.Call
-  | op.Ebreak ↦ asks h need.Break
+  | op.Fence ↦ advances_pc h
+  | op.Ecall ↦ needs_first h need.Call
+  | op.Ebreak ↦ needs_first h need.Break
 ]
 
 -- a load or a store is of 1, 2 or 4 bytes
@@ -138,9 +138,9 @@ HasWidth (need.Store address width value) = (width ≡ 1) ⊎ (width ≡ 2) ⊎ 
 HasWidth n = Unit {0}
 
 -- whether a need is a load
-abbrev pub is_load : Need → Bool
-is_load (need.Load address width is_signed) = true
-is_load n = false
+abbrev pub is_load_need : Need → Bool
+is_load_need (need.Load address width is_signed) = true
+is_load_need n = false
 
 -- a loaded value of `width` bytes, extended to a word by its sign or by zeros
 abbrev pub extended : ℕ → Bool → ℕ → ℕ
@@ -153,23 +153,23 @@ loaded_value op.Lh value = extended 2 true value
 loaded_value o value = value
 
 -- the hart after a load: rd has the value, and pc advances by 4
-abbrev pub loaded : Instr → HartState → ℕ → HartState
-loaded i h value = record { pc = next_pc h.pc; regs = put h.regs i.rd value }
+abbrev pub hart_after_load : Instr → HartState → ℕ → HartState
+hart_after_load i h value = record { pc = next_pc h.pc; regs = put h.regs i.rd value }
 
 -- the hart after a store: pc advances by 4
-abbrev pub stored : HartState → HartState
-stored h = record h { pc = next_pc h.pc }
+abbrev pub hart_after_store : HartState → HartState
+hart_after_store h = record h { pc = next_pc h.pc }
 
 -- the hart after a call: a0 has the value, a1 the code and, where the call gives one, a2 a further
 -- value; pc advances by 4
-abbrev pub answered_with : HartState → ℕ → ℕ → Option ℕ → HartState
-answered_with h value code None = record { pc = next_pc h.pc; regs = put (put h.regs 10 value) 11 code }
-answered_with h value code (Some more) =
+abbrev pub hart_after_call_with : HartState → ℕ → ℕ → Option ℕ → HartState
+hart_after_call_with h value code None = record { pc = next_pc h.pc; regs = put (put h.regs 10 value) 11 code }
+hart_after_call_with h value code (Some more) =
     record { pc = next_pc h.pc; regs = put (put (put h.regs 10 value) 11 code) 12 more }
 
 -- the same where the call gives no further value
-abbrev pub answered : HartState → ℕ → ℕ → HartState
-answered h value code = answered_with h value code None
+abbrev pub hart_after_call : HartState → ℕ → ℕ → HartState
+hart_after_call h value code = hart_after_call_with h value code None
 
 -- whether a reply is of the kind that was needed
 abbrev pub is_reply_to : Need → Reply → Bool
@@ -180,8 +180,8 @@ is_reply_to n r = false
 
 -- The hart after its step, with the reply to what the step needed. A reply of another kind changes
 -- nothing; `finish` requires that there is none.
-abbrev pub finished : Instr → HartState → Need → Reply → HartState
-finished i h (need.Load address width is_signed) (reply.Loaded value) = loaded i h (extended width is_signed value)
-finished i h (need.Store address width value) reply.Stored = stored h
-finished i h need.Call (reply.Answered value code more) = answered_with h value code more
-finished i h n r = h
+abbrev pub hart_after_reply : Instr → HartState → Need → Reply → HartState
+hart_after_reply i h (need.Load address width is_signed) (reply.Loaded value) = hart_after_load i h (extended width is_signed value)
+hart_after_reply i h (need.Store address width value) reply.Stored = hart_after_store h
+hart_after_reply i h need.Call (reply.Answered value code more) = hart_after_call_with h value code more
+hart_after_reply i h n r = h

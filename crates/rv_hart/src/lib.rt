@@ -8,7 +8,7 @@ mod tests;
 
 ghost use Rattle.std.specs.Prelude.{◌≡◌, ◌≢◌, ◌<◌, ◌*◌, ◌^◌, replicate, IsTrue, nat_lt, pos, ◌-ℤ◌, if◌then◌else◌};
 ghost use Rattle.rv_isa.specs.Table.{HasRegisters};
-ghost use Rattle.rv_hart.specs.Local.{reg, put, a, b, address, local, sets, passes, goes, branches, loaded, stored, answered_with, finished, is_reply_to, is_load, loaded_value, HasWidth};
+ghost use Rattle.rv_hart.specs.Local.{reg, put, a, b, address, local, sets, advances_pc, goes, branches, hart_after_load, hart_after_store, hart_after_call_with, hart_after_reply, is_reply_to, is_load_need, loaded_value, HasWidth};
 ghost use Rattle.rv_hart.specs.Alu.{as_word};
 
 use alu::{div, divu, mulh, mulhsu, mulhu, offset, rem, remu, slt, sltu, sra};
@@ -94,7 +94,7 @@ impl Hart {
     /// Goes on to the next instruction.
     #[inline(always)]
     pub fn advance(&mut self)
-        ensures { self.new ≡ stored self.old }
+        ensures { self.new ≡ hart_after_store self.old }
     {
         self.pc = self.pc.wrapping_add(4);
     }
@@ -113,7 +113,7 @@ impl Hart {
     /// The step that only goes on to the next instruction.
     #[inline(always)]
     fn pass(&mut self) -> Need
-        ensures { record { hart = self.new; need = result } ≡ passes self.old }
+        ensures { record { hart = self.new; need = result } ≡ advances_pc self.old }
     {
         self.advance();
         Need::Done
@@ -251,7 +251,7 @@ impl Hart {
     #[inline(always)]
     #[tactic(auto, unfolding(crate::specs::Local::local))]
     pub fn needs_load(&self, instr: Instr) -> bool
-        ensures { result ≡ is_load (local instr self.now).need }
+        ensures { result ≡ is_load_need (local instr self.now).need }
     {
         match instr.op {
             Op::Lb | Op::Lh | Op::Lw | Op::Lbu | Op::Lhu => true,
@@ -266,7 +266,7 @@ impl Hart {
     pub fn finish(&mut self, instr: Instr, reply: Reply)
         requires registers { HasRegisters instr }
         requires needed { IsTrue (is_reply_to (local instr self.old).need reply) }
-        ensures { self.new ≡ finished instr self.old (local instr self.old).need reply }
+        ensures { self.new ≡ hart_after_reply instr self.old (local instr self.old).need reply }
     {
         match reply {
             Reply::Loaded(value) => self.load(instr, value),
@@ -279,7 +279,7 @@ impl Hart {
     #[inline(always)]
     fn load(&mut self, instr: Instr, value: u32)
         requires { HasRegisters instr }
-        ensures { self.new ≡ loaded instr self.old (loaded_value instr.op value) }
+        ensures { self.new ≡ hart_after_load instr self.old (loaded_value instr.op value) }
     {
         self.put(instr.rd, loaded_value(instr.op, value));
         self.advance();
@@ -289,7 +289,7 @@ impl Hart {
     /// a2.
     #[inline(never)]
     pub fn answer(&mut self, a0: u32, a1: u32, a2: Option<u32>)
-        ensures { self.new ≡ answered_with self.old a0 a1 a2 }
+        ensures { self.new ≡ hart_after_call_with self.old a0 a1 a2 }
     {
         self.put(10, a0);
         self.put(11, a1);

@@ -6,8 +6,8 @@ use Rattle.std.proofs.lemmas.Nat.{and_mask, and_block}
 use Rattle.std.proofs.lemmas.Bool.{and_parts, eqb-true}
 use Rattle.std.proofs.lemmas.Bool.Decides.{nat_tests}
 use Rattle.rv_isa.specs.Numbers.{field}
-use Rattle.rv_isa.specs.Table.{Row, rows, row_of, has_fields, form_of, operands, instr_at, decode}
-use Rattle.rv_isa.specs.Fields.{fits, op_at}
+use Rattle.rv_isa.specs.Table.{Row, rows, row_of, has_fields, form_of, instr_of_form, instr_at, decode}
+use Rattle.rv_isa.specs.Fields.{fits_row, op_at}
 use Rattle.rv_isa.specs.declared.Op.{Op}
 
 -- the bits that each mask keeps
@@ -44,7 +44,7 @@ rows_are_plain = refl
 
 -- whether the word has the fixed fields, by the fields that the decoder reads
 abbrev pub has_parts : ℕ → Row → Bool
-has_parts w r = fits (field w 0 7) (field w 12 3) (field w 25 7) w r
+has_parts w r = fits_row (field w 0 7) (field w 12 3) (field w 25 7) w r
 
 opcode_same : (w v : ℕ) → eqb (bit_and w 0x7f) v ≡ eqb (field w 0 7) v
 opcode_same w v = rw (opcode_kept w) (grind (arith, nat_tests))
@@ -86,11 +86,11 @@ pub row_of_is : (w : ℕ) → w < 2 ^ 32 → row_of w ≡ find (has_parts w) row
 unfolding row_of
 row_of_is w small = find_same (has_fields w) (has_parts w) is_plain (has_fields_is w small) rows rows_are_plain
 
-map_twice : (w : ℕ) (o : Option Row) → option_map (instr_at w) o ≡ option_map (λ o. operands (form_of o) o w) (option_map (λ r. r.op) o)
+map_twice : (w : ℕ) (o : Option Row) → option_map (instr_at w) o ≡ option_map (λ o. instr_of_form (form_of o) o w) (option_map (λ r. r.op) o)
 map_twice w None = refl
 map_twice w (Some r) = refl
 
 -- the instruction of a word, by the operation that its fields have
-pub decode_is : (w opcode funct3 funct7 : ℕ) (o : Option Op) → w < 2 ^ 32 → opcode ≡ field w 0 7 → funct3 ≡ field w 12 3 → funct7 ≡ field w 25 7 → o ≡ op_at opcode funct3 funct7 w → decode w ≡ option_map (λ p. operands (form_of p) p w) o
+pub decode_is : (w opcode funct3 funct7 : ℕ) (o : Option Op) → w < 2 ^ 32 → opcode ≡ field w 0 7 → funct3 ≡ field w 12 3 → funct7 ≡ field w 25 7 → o ≡ op_at opcode funct3 funct7 w → decode w ≡ option_map (λ p. instr_of_form (form_of p) p w) o
 decode_is w opcode funct3 funct7 o small h₁ h₂ h₃ is =
     rw (row_of_is w small, is, h₁, h₂, h₃) (map_twice w (find (has_parts w) rows))

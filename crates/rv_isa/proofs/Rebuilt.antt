@@ -6,9 +6,9 @@ use Rattle.rv_isa.specs.declared.Op.{Op}
 use Rattle.rv_isa.specs.declared.Form.{Form}
 use Rattle.rv_isa.specs.declared.Form.TheVariants as form
 use Rattle.rv_isa.specs.declared.Instr.{Instr}
-use Rattle.rv_isa.specs.Table.{instr, operands}
+use Rattle.rv_isa.specs.Table.{instr, instr_of_form}
 use Rattle.rv_isa.specs.Encoding.{operand_bits}
-use Rattle.rv_isa.specs.Ranges.{ranges, IsWithin}
+use Rattle.rv_isa.specs.Ranges.{ranges, HasOperandsIn}
 use Rattle.rv_isa.proofs.Bridge.{opcode_kept, funct3_kept, funct7_kept, word_kept}
 use Rattle.rv_isa.proofs.Words.{mask_of, low_13, low_21, low_32}
 
@@ -32,7 +32,7 @@ amount z low high = grind (arith, ints)
 pub record IsRebuilt (f : Form) (v : ℕ) (i : Instr) (w : ℕ) : Type 0 where
   pub small : w < 2 ^ 32
   pub fixed : bit_and w (mask_of f) ≡ v
-  pub is : operands f i.op w ≡ i
+  pub is : instr_of_form f i.op w ≡ i
 
 same_instr : (i : Instr) (rd rs1 rs2 : ℕ) (imm : ℤ) → rd ≡ i.rd → rs1 ≡ i.rs1 → rs2 ≡ i.rs2 → imm ≡ i.imm → instr i.op rd rs1 rs2 imm ≡ i
 same_instr i rd rs1 rs2 imm h₁ h₂ h₃ h₄ = rw (h₁, h₂, h₃, h₄) refl
@@ -51,7 +51,7 @@ funct3_plain v h = sym (funct3_kept v) ∙ h
 funct7_plain : (v : ℕ) → v < 2 ^ 32 → bit_and v 0xfe00707f ≡ v → v / 2 ^ 25 * 2 ^ 25 + (v / 2 ^ 12 % 2 ^ 3 * 2 ^ 12 + v % 2 ^ 7) ≡ v
 funct7_plain v small h = sym (funct7_kept v small) ∙ h
 
-pub rebuilt : (f : Form) (v : ℕ) (i : Instr) → v < 2 ^ 32 → bit_and v (mask_of f) ≡ v → IsWithin (ranges f) i → IsRebuilt f v i (v + operand_bits f i)
+pub rebuilt : (f : Form) (v : ℕ) (i : Instr) → v < 2 ^ 32 → bit_and v (mask_of f) ≡ v → HasOperandsIn (ranges f) i → IsRebuilt f v i (v + operand_bits f i)
 rebuilt form.Upper v i fits h r =
     let plain : v % 2 ^ 7 ≡ v = opcode_plain v h in
     let w : ℕ = v + operand_bits form.Upper i in
@@ -151,7 +151,7 @@ within_amount n h = (grind (arith, ints), grind (arith, ints))
 within_none : (pos 0 ≤ℤ pos 0) × (pos 0 ≤ℤ pos 0)
 within_none = (grind (arith, ints), grind (arith, ints))
 
-pub operands_within : (f : Form) (o : Op) (w : ℕ) → w < 2 ^ 32 → IsWithin (ranges f) (operands f o w)
+pub operands_within : (f : Form) (o : Op) (w : ℕ) → w < 2 ^ 32 → HasOperandsIn (ranges f) (instr_of_form f o w)
 operands_within form.Upper o w small =
     let n : ℕ = w / 2 ^ 12 * 2 ^ 12 in
     let b : (negsuc (2 ^ 31 - 1) ≤ℤ signed 32 n) × (signed 32 n ≤ℤ pos (2 ^ 31 - 2 ^ 12)) = within_32 n (omega arith) (omega arith) in

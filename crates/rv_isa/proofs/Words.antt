@@ -10,7 +10,7 @@ use Rattle.std.specs.List.{find}
 use Rattle.std.specs.Option.{option_map}
 use Rattle.rv_isa.specs.declared.Form.{Form}
 use Rattle.rv_isa.specs.declared.Form.TheVariants as form
-use Rattle.rv_isa.specs.Table.{Row, row_of, row_for, ops, has_fields, form_of, operands, instr_at, decode, HasRegisters, IsOfRow}
+use Rattle.rv_isa.specs.Table.{Row, row_of, row_for, ops, has_fields, form_of, instr_of_form, instr_at, decode, HasRegisters, IsOfRow}
 use Rattle.rv_isa.specs.Encoding.{operand_bits, encoded}
 use Rattle.rv_isa.proofs.Bridge.{opcode_kept, funct3_kept, funct7_kept, word_kept}
 
@@ -40,7 +40,7 @@ pub low_32 : (n : ℕ) → n < 2 ^ 32 → word_of (signed 32 n) ≡ n
 low_32 n fits = grind (arith, ints)
 
 -- a word is what its form fixes, and its operands
-pub whole : (f : Form) (o : Op) (w : ℕ) → w < 2 ^ 32 → bit_and w (mask_of f) + operand_bits f (operands f o w) ≡ w
+pub whole : (f : Form) (o : Op) (w : ℕ) → w < 2 ^ 32 → bit_and w (mask_of f) + operand_bits f (instr_of_form f o w) ≡ w
 whole form.Upper o w small = rw (opcode_kept w, low_32 (w / 2 ^ 12 * 2 ^ 12) (omega arith)) (omega arith)
 whole form.Jump o w small =
     let n : ℕ = field w 31 1 * 2 ^ 20 + field w 12 8 * 2 ^ 12 + field w 20 1 * 2 ^ 11 + field w 21 10 * 2 in
@@ -73,7 +73,7 @@ pub op_is : (o : Op) → (row_for o).op ≡ o
 op_is op.Lui = refl
 op_is _ = refl
 
-pub operands_op : (f : Form) (o : Op) (w : ℕ) → (operands f o w).op ≡ o
+pub operands_op : (f : Form) (o : Op) (w : ℕ) → (instr_of_form f o w).op ≡ o
 operands_op form.Whole o w = refl
 operands_op _ o w = refl
 
@@ -81,7 +81,7 @@ operands_op _ o w = refl
 pub record IsWord (w : ℕ) (i : Instr) : Type 0 where
   pub op : Op
   pub fixed : has_fields w (row_for op) ≡ true
-  pub is : i ≡ operands (form_of op) op w
+  pub is : i ≡ instr_of_form (form_of op) op w
 
 found_at : (w : ℕ) (o : Op) (i : Instr) (rest : Option Row) (b : Bool) → has_fields w (row_for o) ≡ b → option_map (instr_at w) (cond b (Some (row_for o)) rest) ≡ Some i → (option_map (instr_at w) rest ≡ Some i → IsWord w i) → IsWord w i
 found_at w o i rest true fits h later =
@@ -97,7 +97,7 @@ pub IsWord-decode : (w : ℕ) (i : Instr) → decode w ≡ Some i → IsWord w i
 unfolding row_of
 IsWord-decode w i h = found w ops i h
 
-encoded_at : (o : Op) (w : ℕ) → w < 2 ^ 32 → has_fields w (row_for o) ≡ true → encoded (operands (form_of o) o w) ≡ w
+encoded_at : (o : Op) (w : ℕ) → w < 2 ^ 32 → has_fields w (row_for o) ≡ true → encoded (instr_of_form (form_of o) o w) ≡ w
 encoded_at o w small fixed =
     let value : bit_and w (row_for o).mask ≡ (row_for o).value = eqb-true _ _ fixed in
     let value' : bit_and w (mask_of (form_of o)) ≡ (row_for o).value = rw (← mask_is o) value in
@@ -109,7 +109,7 @@ encoded_is w i small h =
     let d : IsWord w i = IsWord-decode w i h in
     rw d.is (encoded_at d.op w small d.fixed)
 
-operands_registers : (f : Form) (o : Op) (w : ℕ) → HasRegisters (operands f o w)
+operands_registers : (f : Form) (o : Op) (w : ℕ) → HasRegisters (instr_of_form f o w)
 operands_registers form.Upper o w = record { rd = omega arith; rs1 = omega arith; rs2 = omega arith }
 operands_registers form.Jump o w = record { rd = omega arith; rs1 = omega arith; rs2 = omega arith }
 operands_registers form.Branch o w = record { rd = omega arith; rs1 = omega arith; rs2 = omega arith }

@@ -4,8 +4,8 @@ use Rattle.rv_isa.specs.declared.Op.{Op}
 use Rattle.rv_isa.specs.Table.{Row, rows}
 
 -- whether a word with these fields has the row's fixed fields
-abbrev pub fits : ℕ → ℕ → ℕ → ℕ → Row → Bool
-fits opcode funct3 funct7 word r =
+abbrev pub fits_row : ℕ → ℕ → ℕ → ℕ → Row → Bool
+fits_row opcode funct3 funct7 word r =
     if r.mask == 0x7f then opcode == r.value
     else if r.mask == 0x707f then opcode == r.value % 2 ^ 7 && funct3 == r.value / 2 ^ 12
     else if r.mask == 0xfe00707f
@@ -14,4 +14,4 @@ fits opcode funct3 funct7 word r =
 
 -- the operation of a word with these fields
 abbrev pub op_at : ℕ → ℕ → ℕ → ℕ → Option Op
-op_at opcode funct3 funct7 word = option_map (λ r. r.op) (find (fits opcode funct3 funct7 word) rows)
+op_at opcode funct3 funct7 word = option_map (λ r. r.op) (find (fits_row opcode funct3 funct7 word) rows)

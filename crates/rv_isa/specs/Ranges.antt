@@ -31,7 +31,7 @@ ranges form.Shift = to 32 32 1 (pos 0) (pos 31) 1
 ranges form.Register = to 32 32 32 (pos 0) (pos 0) 1
 ranges form.Whole = to 1 1 1 (pos 0) (pos 0) 1
 
-pub record IsWithin (r : Ranges) (i : Instr) : Type 0 where
+pub record HasOperandsIn (r : Ranges) (i : Instr) : Type 0 where
   pub rd : i.rd < r.rd
   pub rs1 : i.rs1 < r.rs1
   pub rs2 : i.rs2 < r.rs2
@@ -41,4 +41,4 @@ pub record IsWithin (r : Ranges) (i : Instr) : Type 0 where
 
 -- each operand is in the range that the form has for it
 abbrev pub IsInRange : Instr → Type 0
-IsInRange i = IsWithin (ranges (form_of i.op)) i
+IsInRange i = HasOperandsIn (ranges (form_of i.op)) i

@@ -127,20 +127,20 @@ abbrev pub instr : Op → ℕ → ℕ → ℕ → ℤ → Instr
 instr op rd rs1 rs2 imm = record { op = op; rd = rd; rs1 = rs1; rs2 = rs2; imm = imm }
 
 -- the operands that a form takes from a word; one that it lacks is 0
-abbrev pub operands : Form → Op → ℕ → Instr
-operands form.Upper o w = instr o (rd w) 0 0 (upper_imm w)
-operands form.Jump o w = instr o (rd w) 0 0 (jump_imm w)
-operands form.Branch o w = instr o 0 (rs1 w) (rs2 w) (branch_imm w)
-operands form.Offset o w = instr o (rd w) (rs1 w) 0 (immediate w)
-operands form.Store o w = instr o 0 (rs1 w) (rs2 w) (store_imm w)
-operands form.Immediate o w = instr o (rd w) (rs1 w) 0 (immediate w)
-operands form.Shift o w = instr o (rd w) (rs1 w) 0 (pos (field w 20 5))
-operands form.Register o w = instr o (rd w) (rs1 w) (rs2 w) (pos 0)
-operands form.Whole o w = instr o 0 0 0 (pos 0)
+abbrev pub instr_of_form : Form → Op → ℕ → Instr
+instr_of_form form.Upper o w = instr o (rd w) 0 0 (upper_imm w)
+instr_of_form form.Jump o w = instr o (rd w) 0 0 (jump_imm w)
+instr_of_form form.Branch o w = instr o 0 (rs1 w) (rs2 w) (branch_imm w)
+instr_of_form form.Offset o w = instr o (rd w) (rs1 w) 0 (immediate w)
+instr_of_form form.Store o w = instr o 0 (rs1 w) (rs2 w) (store_imm w)
+instr_of_form form.Immediate o w = instr o (rd w) (rs1 w) 0 (immediate w)
+instr_of_form form.Shift o w = instr o (rd w) (rs1 w) 0 (pos (field w 20 5))
+instr_of_form form.Register o w = instr o (rd w) (rs1 w) (rs2 w) (pos 0)
+instr_of_form form.Whole o w = instr o 0 0 0 (pos 0)
 
 -- the instruction of a word that has this row
 abbrev pub instr_at : ℕ → Row → Instr
-instr_at word r = operands (form_of r.op) r.op word
+instr_at word r = instr_of_form (form_of r.op) r.op word
 
 -- the instruction that a word encodes, if the word has a row
 abbrev pub decode : ℕ → Option Instr

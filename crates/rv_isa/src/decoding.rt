@@ -3,7 +3,7 @@
 
 ghost use Rattle.std.specs.Prelude.{ℕ, ◌≡◌, IfSome};
 ghost use Rattle.rv_isa.specs.Fields.{op_at};
-ghost use Rattle.rv_isa.specs.Table.{decode, form_of, instr, operands, HasRegisters, IsOfRow};
+ghost use Rattle.rv_isa.specs.Table.{decode, form_of, instr, instr_of_form, HasRegisters, IsOfRow};
 
 use crate::immediates::{branch_imm, field, immediate, jump_imm, store_imm, upper_imm};
 use crate::{Form, Instr, Op};
@@ -140,7 +140,7 @@ fn instr(op: Op, rd: u8, rs1: u8, rs2: u8, imm: i32) -> Instr
 
 /// The operands of an operation in a word.
 fn operands(op: Op, word: u32) -> Instr
-    ensures { result ≡ operands (form_of op) op word }
+    ensures { result ≡ instr_of_form (form_of op) op word }
 {
     let rd = field(word, 7, 5) as u8;
     let rs1 = field(word, 15, 5) as u8;

@@ -99,7 +99,8 @@ fn operand_bits(instr: Instr) -> u32
 pub fn encode(instr: Instr) -> u32
     requires { IsOfRow instr }
     ensures is { decode result ≡ Some instr }
-    ensures only { (word : ℕ) → word < 2 ^ 32 → decode word ≡ Some instr → word ≡ result }
+    ensures only { (word : ℕ) → word < 2 ^ 32 → decode word ≡ Some instr
+        → word ≡ result }
 {
     fixed_fields(instr.op) + operand_bits(instr)
 }

@@ -19,7 +19,8 @@ pub fn field(word: u32, low: u32, width: u32) -> u32
 fn signed(number: u32, sign: u32) -> i32
     requires weight { sign ≤ 2 ^ 20 }
     requires fits { number < 2 * sign }
-    ensures { result ≡ (if nat_lt number sign then pos number else pos number -ℤ pos (2 * sign)) }
+    ensures { result
+        ≡ (if nat_lt number sign then pos number else pos number -ℤ pos (2 * sign)) }
 {
     if number < sign {
         number as i32

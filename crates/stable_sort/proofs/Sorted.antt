@@ -6,7 +6,7 @@ use Rattle.std.specs.Cmp.{IsStrictWeakOrder}
 use Rattle.std.specs.List.Sorted.{ties, IsSortedBy, IsStableBy}
 use Rattle.std.proofs.lemmas.List.Sorted.{sorted_far}
 use Rattle.std.proofs.lemmas.List.Elements.{filter-append}
-use Rattle.stable_sort.specs.Sorting.{put, sorted_onto, sorted}
+use Rattle.stable_sort.specs.Sorting.{insert_sorted, sorted_onto, sorted}
 
 module _ {X : Type 0} (lt : X → X → Bool) (o : IsStrictWeakOrder lt) where
   -- no item of a list is less than x
@@ -112,15 +112,15 @@ module _ {X : Type 0} (lt : X → X → Bool) (o : IsStrictWeakOrder lt) where
   low_put_at x y w ws ps true h low rest = (h, low)
   low_put_at x y w ws ps false h low rest = (low.0, rest)
 
-  low_put : (x y : X) (ys : List X) → lt x y ≡ false → IsLow y ys → IsLow y (put lt x ys)
+  low_put : (x y : X) (ys : List X) → lt x y ≡ false → IsLow y ys → IsLow y (insert_sorted lt x ys)
   low_put x y [] h low = (h, tt)
-  low_put x y (w ∷ ws) h low = low_put_at x y w ws (put lt x ws) (lt x w) h low (low_put x y ws h low.1)
+  low_put x y (w ∷ ws) h low = low_put_at x y w ws (insert_sorted lt x ws) (lt x w) h low (low_put x y ws h low.1)
 
-  rises_put_at : (x y : X) (ys : List X) (b : Bool) → lt x y ≡ b → Rises (y ∷ ys) → Rises (put lt x ys) → Rises (cond b (x ∷ y ∷ ys) (y ∷ put lt x ys))
+  rises_put_at : (x y : X) (ys : List X) (b : Bool) → lt x y ≡ b → Rises (y ∷ ys) → Rises (insert_sorted lt x ys) → Rises (cond b (x ∷ y ∷ ys) (y ∷ insert_sorted lt x ys))
   rises_put_at x y ys true e u rest = ((o.one_way x y e, low_more x y ys (o.one_way x y e) u.0), u)
   rises_put_at x y ys false e u rest = (low_put x y ys e u.0, rest)
 
-  rises_put : (x : X) (ys : List X) → Rises ys → Rises (put lt x ys)
+  rises_put : (x : X) (ys : List X) → Rises ys → Rises (insert_sorted lt x ys)
   rises_put x [] u = (tt, tt)
   rises_put x (y ∷ ys) u = rises_put_at x y ys (lt x y) refl u (rises_put x ys u.1)
 
@@ -145,24 +145,24 @@ module _ {X : Type 0} (lt : X → X → Bool) (o : IsStrictWeakOrder lt) where
       dropped_first (ties lt t) x (y ∷ ys) e
       ∙ sym (filter-append (ties lt t) (y ∷ ys) (x ∷ []) ∙ ap (λ (l : List X). filter (ties lt t) (y ∷ ys) ++ l) (dropped_first (ties lt t) x [] e) ∙ append-nil (filter (ties lt t) (y ∷ ys)))
 
-  ties_put_at : (t x y : X) (ys : List X) → IsLow y ys → filter (ties lt t) (put lt x ys) ≡ filter (ties lt t) (ys ++ x ∷ [])
-      → (b : Bool) → lt x y ≡ b → filter (ties lt t) (cond b (x ∷ y ∷ ys) (y ∷ put lt x ys)) ≡ filter (ties lt t) ((y ∷ ys) ++ x ∷ [])
+  ties_put_at : (t x y : X) (ys : List X) → IsLow y ys → filter (ties lt t) (insert_sorted lt x ys) ≡ filter (ties lt t) (ys ++ x ∷ [])
+      → (b : Bool) → lt x y ≡ b → filter (ties lt t) (cond b (x ∷ y ∷ ys) (y ∷ insert_sorted lt x ys)) ≡ filter (ties lt t) ((y ∷ ys) ++ x ∷ [])
   ties_put_at t x y ys low rest true e = front_at t x y ys e low (ties lt t x) refl
   ties_put_at t x y ys low rest false e = ap (λ (l : List X). cond (ties lt t y) (y ∷ l) l) rest
 
-  ties_put : (t x : X) (ys : List X) → Rises ys → filter (ties lt t) (put lt x ys) ≡ filter (ties lt t) (ys ++ x ∷ [])
+  ties_put : (t x : X) (ys : List X) → Rises ys → filter (ties lt t) (insert_sorted lt x ys) ≡ filter (ties lt t) (ys ++ x ∷ [])
   ties_put t x [] u = refl
   ties_put t x (y ∷ ys) u = ties_put_at t x y ys u.0 (ties_put t x ys u.1) (lt x y) refl
 
   pub rises_onto : (done xs : List X) → Rises done → Rises (sorted_onto lt done xs)
   rises_onto done [] u = u
-  rises_onto done (x ∷ xs) u = rises_onto (put lt x done) xs (rises_put x done u)
+  rises_onto done (x ∷ xs) u = rises_onto (insert_sorted lt x done) xs (rises_put x done u)
 
   ties_onto : (t : X) (done xs : List X) → Rises done → filter (ties lt t) (sorted_onto lt done xs) ≡ filter (ties lt t) (done ++ xs)
   ties_onto t done [] u = ap (filter (ties lt t)) (sym (append-nil done))
   ties_onto t done (x ∷ xs) u =
-      ties_onto t (put lt x done) xs (rises_put x done u)
-      ∙ filter-append (ties lt t) (put lt x done) xs
+      ties_onto t (insert_sorted lt x done) xs (rises_put x done u)
+      ∙ filter-append (ties lt t) (insert_sorted lt x done) xs
       ∙ ap (λ (l : List X). l ++ filter (ties lt t) xs) (ties_put t x done u)
       ∙ sym (filter-append (ties lt t) (done ++ x ∷ []) xs)
       ∙ ap (filter (ties lt t)) (append_assoc done (x ∷ []) xs)

@@ -10,13 +10,13 @@ use Rattle.wedge_base.specs.declared.rights.Code.TheVariants as code
 use Rattle.wedge_base.specs.declared.rights.Denial.{Denial}
 use Rattle.sthread_life.specs.declared.copy_grant.CopyGrant.{CopyGrant}
 use Rattle.sthread_life.specs.Actors.{ActorState, refuses}
-use Rattle.sthread_life.specs.Calls.{a0, draft_at, new_gate, has_gate, makes_or_waits, making, may_be_gate, make_checked, make_with, cgate_make}
+use Rattle.sthread_life.specs.Calls.{a0, draft_at, new_gate, has_gate, makes_or_waits, continue_gate, may_be_gate, make_checked, make_with, cgate_make}
 use Rattle.sthread_life.specs.Copying.{Preparation}
 use Rattle.sthread_life.proofs.PutBack.{get_at}
 use Rattle.sthread_life.specs.declared.phase.Phase.{Phase}
 
 -- with no copy left the gate is made now
-pub makes_now : (a : ActorState) (d : Draft) (p : Preparation) → p.left ≡ [] → has_gate a (new_gate a d p.memory) ≡ making a d p
+pub makes_now : (a : ActorState) (d : Draft) (p : Preparation) → p.left ≡ [] → has_gate a (new_gate a d p.memory) ≡ continue_gate a d p
 makes_now a d p none = ap (makes_or_waits a d p) (sym none)
 
 -- the draft of the number is there
@@ -46,7 +46,7 @@ module _ {X Z : Type 0} where
   shared (p ∷ ps) (q ∷ qs) h = let e = shared ps qs h.1 in let f : arc_value q ≡ arc_value p = h.0 in cc
 
 -- what the actor is at makes no difference to the gate that it makes
-pub making_at : (a : ActorState) (ph : Phase) (d : Draft) (p : Preparation) → making (record a { phase = ph }) d p ≡ making a d p
+pub making_at : (a : ActorState) (ph : Phase) (d : Draft) (p : Preparation) → continue_gate (record a { phase = ph }) d p ≡ continue_gate a d p
 making_at a ph d p = by_left p.left
   where
     by_left : (gs : List CopyGrant) → makes_or_waits (record a { phase = ph }) d p gs ≡ makes_or_waits a d p gs

@@ -44,7 +44,7 @@ use Rattle.sthread_life.specs.Copying.{Preparation}
 use Rattle.sthread_life.specs.Resting.{NotMaking}
 use Rattle.sthread_life.specs.declared.copy_grant.CopyGrant.{CopyGrant}
 use Rattle.sthread_life.specs.Calls.{serves, exit, is_procedure, create, create_with, create_checked, create_allowed, join, are_pages, tag_new, tag_delete, smalloc, free_at, sfree, fd_read, fd_append, fd_close, most_drafts, sc_new, right_asked, bits_asked, add_right, add_right_to, sc_mem_add, add_bits, add_bits_to, sc_fd_add, add_gate_to, sc_cgate_add, makes_or_waits, may_be_gate, make_checked, make_with, cgate_make, draft_call, a0, a1, a2, a3, a7, set_user, sc_user, path_in, set_root, sc_root, file_at, mode_asked, suits, open_file, open_path, file_open, enter_allowed, enter_checked, enter_lending, enter_held, cgate, lent_asked}
-use Rattle.sthread_life.specs.Local.{needed, executed, fuelled, fetched, step, is_running, has_ended, run_local, rest}
+use Rattle.sthread_life.specs.Local.{step_with_need, step_with_instr, step_with_fuel, step_with_word, step, is_running, has_ended, run_local, rest}
 use Rattle.sthread_life.specs.Lending.{may_lend, excess_lent}
 use Rattle.sthread_life.specs.Entrances.{Entrance}
 
@@ -389,7 +389,7 @@ abbrev pub instr_price : Image → ActorState → Option Instr → ℕ
 instr_price i a None = 0
 instr_price i a (Some ins) = need_price i a (local ins a.hart).need
 
-pub goes_needed : (i : Image) (ins : Instr) (a : ActorState) (h : Hart) (n : Need) → Goes (need_price i a n) (need_makes a n) a (needed i ins a h n)
+pub goes_needed : (i : Image) (ins : Instr) (a : ActorState) (h : Hart) (n : Need) → Goes (need_price i a n) (need_makes a n) a (step_with_need i ins a h n)
 goes_needed i ins a h need.Done = record { name = refl; compartment = refl; run_of = refl; sheet = refl; fuel = costs_nothing a.fuel; made = refl; labels = refl; starts = refl; unjoined = refl; live = λ h. h; calm = λ h. h; unmade = λ h. h }
 goes_needed i ins a h (need.Load address width s) = goes_load i ins s a address width
 goes_needed i ins a h (need.Store address width value) = goes_store i a address width value
@@ -397,7 +397,7 @@ goes_needed i ins a h need.Call = goes_call i a (a7 a)
 goes_needed i ins a h need.Break = goes_end a end_.Break
 goes_needed i ins a h need.JumpMisaligned = goes_end a end_.JumpMisaligned
 
-pub goes_executed : (i : Image) (a : ActorState) (ins : Option Instr) → Goes (instr_price i a ins) (instr_makes a ins) a (executed i a ins)
+pub goes_executed : (i : Image) (a : ActorState) (ins : Option Instr) → Goes (instr_price i a ins) (instr_makes a ins) a (step_with_instr i a ins)
 goes_executed i a None = goes_end a end_.BadInstruction
 goes_executed i a (Some ins) = let b = local ins a.hart in goes_needed i ins a b.hart b.need
 
@@ -434,13 +434,13 @@ pub record Steps (a b : ActorState) : Type 0 where
   pub live : has_ended a.phase ≡ false → has_ended b.phase ≡ false
   pub calm : IsCalm a.phase → IsCalm b.phase
 
-steps_fuelled : (i : Image) (a : ActorState) (word n : ℕ) → a.fuel ≡ n → Steps a (fuelled i a word n)
+steps_fuelled : (i : Image) (a : ActorState) (word n : ℕ) → a.fuel ≡ n → Steps a (step_with_fuel i a word n)
 steps_fuelled i a word zero e = record { name = refl; compartment = refl; run_of = refl; sheet = refl; spent = inr (refl, tt); made = refl; labels = refl; starts = refl; unjoined = refl; live = λ h. refl; calm = λ h. tt }
 steps_fuelled i a word (suc n) e =
     let g = goes_executed i (spends a 1) (decode word) in
     record { name = g.name; compartment = g.compartment; run_of = g.run_of; sheet = g.sheet; spent = inl (omega (arith, g.fuel, e)); made = but_gates_same (instr_makes (spends a 1) (decode word)) (spends a 1) _ g.made; labels = g.labels; starts = g.starts; unjoined = g.unjoined; live = g.live; calm = g.calm }
 
-steps_fetched : (i : Image) (a : ActorState) (word : Option ℕ) → Steps a (fetched i a word)
+steps_fetched : (i : Image) (a : ActorState) (word : Option ℕ) → Steps a (step_with_word i a word)
 steps_fetched i a None = record { name = refl; compartment = refl; run_of = refl; sheet = refl; spent = inr (refl, tt); made = refl; labels = refl; starts = refl; unjoined = refl; live = λ h. refl; calm = λ h. tt }
 steps_fetched i a (Some word) = steps_fuelled i a word a.fuel refl
 

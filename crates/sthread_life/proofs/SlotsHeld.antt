@@ -11,15 +11,15 @@ use Rattle.callgate.specs.Gates.{gate_named}
 use Rattle.callgate.specs.declared.gate.Gate.{Gate}
 use Rattle.wedge_base.specs.Identities.{same_gate}
 use Rattle.wedge_base.specs.Images.{slots}
-use Rattle.wedge_base.specs.Maps.{Map, at, has, with, joined}
-use Rattle.wedge_base.specs.Sheets.{Sheet, Made, Draft, is_copy, nothing_made, with_grant, root_tags, root_sheet, slot_on, tag_granted, granted, made_tag, lent_to}
+use Rattle.wedge_base.specs.Maps.{Map, at, has, with, map_union}
+use Rattle.wedge_base.specs.Sheets.{Sheet, Made, Draft, is_copy, nothing_made, with_grant, root_tags, root_sheet, slot_on, tag_granted, sheet_of_draft, made_tag, lent_to}
 use Rattle.wedge_base.specs.declared.image.TagEntry.{TagEntry}
 use Rattle.wedge_base.specs.declared.image.FdEntry.{FdEntry}
 use Rattle.wedge_base.specs.declared.grants.GateId.{GateId}
 use Rattle.wedge_base.specs.declared.rights.Grant.{Grant}
 use Rattle.wedge_base.specs.declared.rights.Right.{Right}
 use Rattle.sthread_life.specs.declared.copy_grant.CopyGrant.{CopyGrant}
-use Rattle.sthread_life.specs.Between.{AreInSlots, AreGatesPlaced, HoldsInSlots, IsPlaced}
+use Rattle.sthread_life.specs.Between.{AreInSlots, AreGatesPlaced, HoldsInSlots, HasValidSlots}
 use Rattle.sthread_life.specs.Copying.{copy_grants, behind_first}
 
 -- what is found among such entries is such
@@ -59,7 +59,7 @@ granted_entries : (s : Sheet) (m : Made) (es : Map Right) → HoldsInSlots s m �
 granted_entries s m [] h = tt
 granted_entries s m (e ∷ es) h = (held_inside s m e.0 h, granted_entries s m es h)
 
-pub granted_inside : (s : Sheet) (m : Made) (d : Draft) → HoldsInSlots s m → HoldsInSlots (granted s m d) nothing_made
+pub granted_inside : (s : Sheet) (m : Made) (d : Draft) → HoldsInSlots s m → HoldsInSlots (sheet_of_draft s m d) nothing_made
 granted_inside s m d h = (granted_entries s m d.tags h, tt)
 
 -- so are the copies that a child is to have
@@ -92,16 +92,16 @@ pub made_inside : (m new : Made) (tag slot : ℕ) → new ≡ made_tag m tag slo
 made_inside m new tag slot is inside all = subst (λ (x : Made). AllByRecursion (λ e. e.1 < slots) x.tags) (sym is) (with_entry (λ n. n) m.tags tag slot inside all)
 
 -- those of a gate that is found among others are where the others' are
-pub named_inside : (gates : List Gate) (id : GateId) (g : Gate) → Some g ≡ gate_named gates id → AreGatesPlaced gates → IsPlaced g.sheet
+pub named_inside : (gates : List Gate) (id : GateId) (g : Gate) → Some g ≡ gate_named gates id → AreGatesPlaced gates → HasValidSlots g.sheet
 named_inside [] id g is all = absurd cc
 named_inside (x ∷ xs) id g is all = by_name (same_gate x.id id) is (λ h. named_inside xs id g h all.1)
   where
-    by_name : (t : Bool) → Some g ≡ (if t then Some x else gate_named xs id) → (Some g ≡ gate_named xs id → IsPlaced g.sheet) → IsPlaced g.sheet
-    by_name true h others = let e : x ≡ g = cc in subst (λ (y : Gate). IsPlaced y.sheet) e all.0
+    by_name : (t : Bool) → Some g ≡ (if t then Some x else gate_named xs id) → (Some g ≡ gate_named xs id → HasValidSlots g.sheet) → HasValidSlots g.sheet
+    by_name true h others = let e : x ≡ g = cc in subst (λ (y : Gate). HasValidSlots y.sheet) e all.0
     by_name false h others = others h
 
 -- those of a run are where its gate's are, and those that are lent
-joined_entries : (es ls : Map Grant) → AllByRecursion (λ e. e.1.slot < slots) es → AllByRecursion (λ e. e.1.slot < slots) ls → AllByRecursion (λ e. e.1.slot < slots) (joined es ls)
+joined_entries : (es ls : Map Grant) → AllByRecursion (λ e. e.1.slot < slots) es → AllByRecursion (λ e. e.1.slot < slots) ls → AllByRecursion (λ e. e.1.slot < slots) (map_union es ls)
 joined_entries es [] all lent = all
 joined_entries es (l ∷ ls) all lent = joined_entries (if has es l.0 then es else with es l.0 l.1) ls (by_key (has es l.0)) lent.1
   where
@@ -109,9 +109,9 @@ joined_entries es (l ∷ ls) all lent = joined_entries (if has es l.0 then es el
     by_key true = all
     by_key false = with_entry (λ g. g.slot) es l.0 l.1 lent.0 all
 
-pub run_inside : (run gate : Sheet) (lent : Option Sheet) → run ≡ lent_to gate lent → IsPlaced gate → IfSome lent IsPlaced → IsPlaced run
-run_inside run gate lent is own others = subst IsPlaced (sym is) (by_lent lent others)
+pub run_inside : (run gate : Sheet) (lent : Option Sheet) → run ≡ lent_to gate lent → HasValidSlots gate → IfSome lent HasValidSlots → HasValidSlots run
+run_inside run gate lent is own others = subst HasValidSlots (sym is) (by_lent lent others)
   where
-    by_lent : (o : Option Sheet) → IfSome o IsPlaced → IsPlaced (lent_to gate o)
+    by_lent : (o : Option Sheet) → IfSome o HasValidSlots → HasValidSlots (lent_to gate o)
     by_lent None h = own
     by_lent (Some s) h = joined_entries gate.tags s.tags own h

@@ -15,7 +15,7 @@ use Rattle.wedge_base.specs.declared.rights.End.{End}
 use Rattle.wedge_events.specs.declared.events.Want.{Want}
 use Rattle.callgate.specs.declared.gate.Gate.{Gate}
 use Rattle.rv_hart.specs.declared.Hart.{Hart}
-use Rattle.rv_hart.specs.Local.{put, answered, answered_with}
+use Rattle.rv_hart.specs.Local.{put, hart_after_call, hart_after_call_with}
 use Rattle.sthread_life.specs.Children.{Children}
 use Rattle.sthread_life.specs.Copying.{with_declared}
 use Rattle.sthread_life.specs.declared.files.StreamLabel.{StreamLabel}
@@ -111,13 +111,13 @@ code_number code.Bad = 6
 
 -- a service call answered with a value, or with two, or refused with a code
 abbrev pub answers : ActorState → ℕ → ActorState
-answers a value = record a { hart = answered a.hart value (code_number code.Ok); phase = phase.Running }
+answers a value = record a { hart = hart_after_call a.hart value (code_number code.Ok); phase = phase.Running }
 
 abbrev pub answers_more : ActorState → ℕ → ℕ → ActorState
-answers_more a value more = record a { hart = answered_with a.hart value (code_number code.Ok) (Some more); phase = phase.Running }
+answers_more a value more = record a { hart = hart_after_call_with a.hart value (code_number code.Ok) (Some more); phase = phase.Running }
 
 abbrev pub refuses : ActorState → Code → ActorState
-refuses a c = record a { hart = answered a.hart 0 (code_number c); phase = phase.Running }
+refuses a c = record a { hart = hart_after_call a.hart 0 (code_number c); phase = phase.Running }
 
 -- a denial noted, with the address of the instruction
 abbrev pub notes : ActorState → Denial → ActorState

@@ -80,11 +80,11 @@ MayMake a = IsGranting a.sheet a.made a.drafts a.hart a.fuel a.starts a.unjoined
 
 -- the slots in which the tags of a sheet were opened are there; so it is for each gate that an
 -- actor knows
-abbrev pub IsPlaced : Sheet → Type 0
-IsPlaced sheet = AllByRecursion (λ e. e.1.slot < slots) sheet.tags
+abbrev pub HasValidSlots : Sheet → Type 0
+HasValidSlots sheet = AllByRecursion (λ e. e.1.slot < slots) sheet.tags
 
 abbrev pub AreGatesPlaced : List Gate → Type 0
-AreGatesPlaced gates = AllByRecursion (λ (g : Gate). IsPlaced g.sheet) gates
+AreGatesPlaced gates = AllByRecursion (λ (g : Gate). HasValidSlots g.sheet) gates
 
 -- An actor that is about to enter a gate: its name has room for one more part, it has the gate's
 -- fuel, and it has paid for one more start; and the slots of the run's sheet are there.
@@ -92,7 +92,7 @@ pub record IsEntering (name : List ℕ) (made : Made) (fuel starts : ℕ) (unjoi
   pub shallow : length name < most_parts
   pub enough : entrance.gate.fuel ≤ fuel
   pub paid : funds starts made.count fuel unjoined < most_fuel
-  pub placed : IsPlaced entrance.sheet
+  pub placed : HasValidSlots entrance.sheet
 
 abbrev pub EntersFrom : ActorState → Entrance → Type 0
 EntersFrom a entrance = IsEntering a.name a.made a.fuel a.starts a.unjoined entrance
@@ -107,7 +107,7 @@ AsksPages hart = (1 ≤ reg hart.regs 10) × (reg hart.regs 10 ≤ most_pages)
 
 -- the slots in which the tags that it holds were opened are there
 abbrev pub HoldsInSlots : Sheet → Made → Type 0
-HoldsInSlots sheet made = IsPlaced sheet × AllByRecursion (λ e. e.1 < slots) made.tags
+HoldsInSlots sheet made = HasValidSlots sheet × AllByRecursion (λ e. e.1 < slots) made.tags
 
 -- every slot of a directory is below a limit: those never used, and those released
 abbrev pub GivesBelow : ℕ → Directory → Type 0

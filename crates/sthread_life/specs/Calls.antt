@@ -8,7 +8,7 @@ use Rattle.wedge_base.specs.Services.{service_number}
 use Rattle.wedge_base.specs.declared.service.Service.TheVariants as service
 use Rattle.wedge_base.specs.Files.{may_open}
 use Rattle.wedge_base.specs.Names.{same, most_parts}
-use Rattle.wedge_base.specs.Sheets.{Draft, empty_draft, takes_tag, takes_fd, takes_gate, with_tag, with_fd, with_gate, first_excess, granted, made_gate, lent_to}
+use Rattle.wedge_base.specs.Sheets.{Draft, empty_draft, takes_tag, takes_fd, takes_gate, with_tag, with_fd, with_gate, first_excess, sheet_of_draft, made_gate, lent_to}
 use Rattle.wedge_events.specs.Streams.{most_fds}
 use Rattle.wedge_events.specs.declared.cells.LivesAsk.TheVariants as lives_ask
 use Rattle.wedge_base.specs.declared.address.Place.{Place}
@@ -33,7 +33,7 @@ use Rattle.cow_pages.specs.PrivateMemory.{PrivateMemory}
 use Rattle.rv_hart.specs.Local.{reg}
 use Rattle.sthread_life.specs.Actors.{ActorState, pristine, right_of, bits_of, slot_held, answers, refuses, denies, ends, wants, spends, gate_held}
 use Rattle.sthread_life.specs.Children.{is_child}
-use Rattle.sthread_life.specs.Copying.{Preparation, copy_grants, prepared}
+use Rattle.sthread_life.specs.Copying.{Preparation, copy_grants, prepare_copies}
 use Rattle.sthread_life.specs.Opening.{FileOpening}
 use Rattle.sthread_life.specs.declared.copy_grant.CopyGrant.{CopyGrant}
 use Rattle.sthread_life.specs.declared.phase.Phase.TheVariants as phase
@@ -217,14 +217,14 @@ right_asked n =
     else None
 
 -- the bits: 1 to read, 2 to append, and 3 for both
-abbrev pub bits : Bool → Bool → FdBits
-bits read append = record { read = read; append = append }
+abbrev pub read_append_bits : Bool → Bool → FdBits
+read_append_bits read append = record { read = read; append = append }
 
 abbrev pub bits_asked : ℕ → Option FdBits
 bits_asked n =
-    if n == 1 then Some (bits true false)
-    else if n == 2 then Some (bits false true)
-    else if n == 3 then Some (bits true true)
+    if n == 1 then Some (read_append_bits true false)
+    else if n == 2 then Some (read_append_bits false true)
+    else if n == 3 then Some (read_append_bits true true)
     else None
 
 -- sc_mem_add: draft, tag, right
@@ -309,7 +309,7 @@ abbrev pub new_gate : ActorState → Draft → PrivateMemory → Gate
 new_gate a d m = record {
   id = record { maker = a.name; number = a.made.count + 1 };
   entry = a1 a;
-  sheet = granted a.sheet a.made d;
+  sheet = sheet_of_draft a.sheet a.made d;
   argument = a2 a;
   fuel = a3 a;
   kind = kind_asked (a4 a);
@@ -327,8 +327,8 @@ abbrev pub makes_or_waits : ActorState → Draft → Preparation → List CopyGr
 makes_or_waits a d p [] = has_gate a (new_gate a d p.memory)
 makes_or_waits a d p (g ∷ gs) = record a { phase = phase.MakingGate p }
 
-abbrev pub making : ActorState → Draft → Preparation → ActorState
-making a d p = makes_or_waits a d p p.left
+abbrev pub continue_gate : ActorState → Draft → Preparation → ActorState
+continue_gate a d p = makes_or_waits a d p p.left
 
 -- cgate_make: draft, entry, argument, fuel, kind. The draft has no user and no root directory.
 abbrev pub may_be_gate : Image → ActorState → Draft → Bool
@@ -336,7 +336,7 @@ may_be_gate i a d = is_procedure i (a1 a) && (nat_le (a4 a) 1 && (is_none d.user
 
 abbrev pub make_checked : Image → ActorState → Draft → Option Denial → ActorState
 make_checked i a d (Some x) = denies a x
-make_checked i a d None = making a d (prepared a.sheet a.made a.memory.copies (pristine i) (copy_grants (granted a.sheet a.made d).tags))
+make_checked i a d None = continue_gate a d (prepare_copies a.sheet a.made a.memory.copies (pristine i) (copy_grants (sheet_of_draft a.sheet a.made d).tags))
 
 abbrev pub make_with : Image → ActorState → Option Draft → ActorState
 make_with i a None = refuses a code.NoSuch

@@ -44,10 +44,10 @@ copied_from (Some bytes) slot m = record m { copies = with_copy m.copies slot by
 -- Where the actor that prepares the memory has the right to a copy alone, the copy is made of its
 -- own one, if it has one. At the first tag on which it has a higher right this stops: that copy is
 -- to be made of the tag itself.
-abbrev pub prepared : Sheet → Made → Copies → PrivateMemory → List CopyGrant → Preparation
-prepared s made own m [] = record { memory = m; left = [] }
-prepared s made own m (g ∷ gs) =
-    if is_copy_alone (right_on s made g.tag) then prepared s made own (copied_from (copy_at own g.slot) g.slot m) gs
+abbrev pub prepare_copies : Sheet → Made → Copies → PrivateMemory → List CopyGrant → Preparation
+prepare_copies s made own m [] = record { memory = m; left = [] }
+prepare_copies s made own m (g ∷ gs) =
+    if is_copy_alone (right_on s made g.tag) then prepare_copies s made own (copied_from (copy_at own g.slot) g.slot m) gs
     else record { memory = m; left = g ∷ gs }
 
 -- the grants after the first

@@ -1,14 +1,14 @@
 -- What a caller lends to the run of a gate.
 
 use Rattle.std.specs.Prelude.{Bool, true, Option, Some, None}
-use Rattle.wedge_base.specs.Sheets.{Sheet, Draft, first_excess, granted, is_lendable}
+use Rattle.wedge_base.specs.Sheets.{Sheet, Draft, first_excess, sheet_of_draft, is_lendable}
 use Rattle.wedge_base.specs.declared.rights.Denial.{Denial}
 use Rattle.sthread_life.specs.Actors.{ActorState}
 
 -- nothing, or the sheet of a draft
 abbrev pub sheet_lent : ActorState → Option Draft → Option Sheet
 sheet_lent a None = None
-sheet_lent a (Some d) = Some (granted a.sheet a.made d)
+sheet_lent a (Some d) = Some (sheet_of_draft a.sheet a.made d)
 
 -- the first part of the draft that the caller may not give
 abbrev pub excess_lent : ActorState → Option Draft → Option Denial

@@ -16,36 +16,36 @@ use Rattle.sthread_life.specs.Private.{loads, stores}
 use Rattle.sthread_life.specs.Calls.{serves, a7}
 
 -- the hart's step is made, or first what it needs: a load, a store or a call
-abbrev pub needed : Image → Instr → ActorState → Hart → Need → ActorState
-needed i ins a hart need.Done = record a { hart = hart }
-needed i ins a hart (need.Load address width is_signed) = loads i ins is_signed a address width
-needed i ins a hart (need.Store address width value) = stores i a address width value
-needed i ins a hart need.Call = serves i a (a7 a)
-needed i ins a hart need.Break = ends a end_.Break
-needed i ins a hart need.JumpMisaligned = ends a end_.JumpMisaligned
+abbrev pub step_with_need : Image → Instr → ActorState → Hart → Need → ActorState
+step_with_need i ins a hart need.Done = record a { hart = hart }
+step_with_need i ins a hart (need.Load address width is_signed) = loads i ins is_signed a address width
+step_with_need i ins a hart (need.Store address width value) = stores i a address width value
+step_with_need i ins a hart need.Call = serves i a (a7 a)
+step_with_need i ins a hart need.Break = ends a end_.Break
+step_with_need i ins a hart need.JumpMisaligned = ends a end_.JumpMisaligned
 
 -- an instruction, from what the hart makes of it alone
 abbrev pub proceeds : Image → Instr → ActorState → Began → ActorState
-proceeds i ins a b = needed i ins a b.hart b.need
+proceeds i ins a b = step_with_need i ins a b.hart b.need
 
 -- a word that is no instruction ends the actor
-abbrev pub executed : Image → ActorState → Option Instr → ActorState
-executed i a None = ends a end_.BadInstruction
-executed i a (Some ins) = proceeds i ins a (local ins a.hart)
+abbrev pub step_with_instr : Image → ActorState → Option Instr → ActorState
+step_with_instr i a None = ends a end_.BadInstruction
+step_with_instr i a (Some ins) = proceeds i ins a (local ins a.hart)
 
 -- an instruction takes a unit of fuel
-abbrev pub fuelled : Image → ActorState → ℕ → ℕ → ActorState
-fuelled i a word zero = ends a end_.FuelOut
-fuelled i a word (suc n) = executed i (spends a 1) (decode word)
+abbrev pub step_with_fuel : Image → ActorState → ℕ → ℕ → ActorState
+step_with_fuel i a word zero = ends a end_.FuelOut
+step_with_fuel i a word (suc n) = step_with_instr i (spends a 1) (decode word)
 
 -- a pc outside the text ends the actor, before fuel is checked
-abbrev pub fetched : Image → ActorState → Option ℕ → ActorState
-fetched i a None = ends a end_.FetchFault
-fetched i a (Some word) = fuelled i a word a.fuel
+abbrev pub step_with_word : Image → ActorState → Option ℕ → ActorState
+step_with_word i a None = ends a end_.FetchFault
+step_with_word i a (Some word) = step_with_fuel i a word a.fuel
 
 -- one instruction of an actor that runs
 unfoldable pub step : Image → ActorState → ActorState
-step i a = fetched i a (fetch i a.hart.pc)
+step i a = step_with_word i a (fetch i a.hart.pc)
 
 abbrev pub is_running : Phase → Bool
 is_running phase.Running = true

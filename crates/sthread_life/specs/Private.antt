@@ -1,7 +1,7 @@
 -- Loads, stores and buffers: the text, private memory, and the windows of tags.
 use Rattle.std.specs.Prelude.{◌≡◌, ◌⊎◌, ℕ, ◌%◌, ◌==◌, Bool, not, ◌&&◌, ◌||◌, List, [], Option, Some, None, is_some, nat_le, if◌then◌else◌}
 use Rattle.cow_pages.specs.Copies.{copy_at, holds_copy, read_copy, with_copy}
-use Rattle.wedge_base.specs.Bytes.{number_of, bytes_of, written}
+use Rattle.wedge_base.specs.Bytes.{number_of, bytes_of, overwrite}
 use Rattle.wedge_base.specs.Memory.{range_at, read_range, write_at}
 use Rattle.wedge_base.specs.Images.{Image, in_text, read_text, slot_of}
 use Rattle.wedge_base.specs.declared.address.Place.{Place}
@@ -10,7 +10,7 @@ use Rattle.wedge_events.specs.declared.events.SlotWant.TheVariants as slot_want
 use Rattle.wedge_events.specs.declared.events.Want.TheVariants as want
 use Rattle.wedge_base.specs.declared.rights.End.TheVariants as end_
 use Rattle.rv_isa.specs.declared.Instr.{Instr}
-use Rattle.rv_hart.specs.Local.{extended, loaded, stored}
+use Rattle.rv_hart.specs.Local.{extended, hart_after_load, hart_after_store}
 use Rattle.sthread_life.specs.Actors.{ActorState, ends, wants}
 
 -- an access is of 1, 2 or 4 bytes
@@ -19,11 +19,11 @@ IsWidth width = (width ≡ 1) ⊎ (width ≡ 2) ⊎ (width ≡ 4)
 
 -- a load that gave this value
 abbrev pub has_loaded : Instr → Bool → ActorState → ℕ → ℕ → ActorState
-has_loaded ins is_signed a width value = record a { hart = loaded ins a.hart (extended width is_signed value) }
+has_loaded ins is_signed a width value = record a { hart = hart_after_load ins a.hart (extended width is_signed value) }
 
 -- a store that was made
 abbrev pub has_stored : ActorState → ActorState
-has_stored a = record a { hart = stored a.hart }
+has_stored a = record a { hart = hart_after_store a.hart }
 
 -- a load of a private copy: past its pages there is nothing
 abbrev pub load_bytes : Instr → Bool → ActorState → ℕ → Option (List ℕ) → ActorState
@@ -61,7 +61,7 @@ with_bytes a slot bytes = record a { memory = record a.memory { copies = with_co
 abbrev pub store_copy : ActorState → ℕ → ℕ → Place → Option (List ℕ) → ActorState
 store_copy a width value p None = wants a (want.Slot p.slot (slot_want.Store p.offset width value))
 store_copy a width value p (Some bytes) =
-    if holds_copy p.offset width bytes then has_stored (with_bytes a p.slot (written bytes p.offset (bytes_of width value)))
+    if holds_copy p.offset width bytes then has_stored (with_bytes a p.slot (overwrite bytes p.offset (bytes_of width value)))
     else ends a end_.Unmapped
 
 abbrev pub store_window : ActorState → ℕ → ℕ → Option Place → ActorState

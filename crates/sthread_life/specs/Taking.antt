@@ -5,7 +5,7 @@ use Rattle.cow_pages.specs.Listed.{bytes_listed}
 use Rattle.cow_pages.specs.PrivateMemory.{PrivateMemory, no_memory}
 use Rattle.wedge_base.specs.Images.{Image, fetch, address_of}
 use Rattle.wedge_base.specs.Memory.{write_at}
-use Rattle.wedge_base.specs.Sheets.{nothing_made, granted, made_tag, made_fd}
+use Rattle.wedge_base.specs.Sheets.{nothing_made, sheet_of_draft, made_tag, made_fd}
 use Rattle.wedge_events.specs.Wants.{asked_with}
 use Rattle.wedge_base.specs.declared.grants.GateKind.{GateKind}
 use Rattle.wedge_base.specs.declared.grants.GateKind.TheVariants as gate_kind
@@ -50,9 +50,9 @@ use Rattle.sthread_life.specs.declared.phase.Phase.{Phase}
 use Rattle.sthread_life.specs.declared.phase.Phase.TheVariants as phase
 use Rattle.sthread_life.specs.Actors.{ActorState, pristine, opening_hart, right_of, answers, answers_more, refuses, notes, denies, ends, spends}
 use Rattle.sthread_life.specs.Private.{has_loaded, has_stored}
-use Rattle.sthread_life.specs.Calls.{a0, a1, a2, a3, draft_at, making}
+use Rattle.sthread_life.specs.Calls.{a0, a1, a2, a3, draft_at, continue_gate}
 use Rattle.sthread_life.specs.Children.{Children, least_child, with_child, without_child, child_name}
-use Rattle.sthread_life.specs.Copying.{Preparation, copy_grants, copied_from, prepared, behind_first}
+use Rattle.sthread_life.specs.Copying.{Preparation, copy_grants, copied_from, prepare_copies, behind_first}
 use Rattle.sthread_life.specs.declared.copy_grant.CopyGrant.{CopyGrant}
 use Rattle.callgate.specs.declared.gate.Gate.{Gate}
 use Rattle.wedge_base.specs.declared.grants.GateId.{GateId}
@@ -116,8 +116,8 @@ wanted_at a (phase.Waiting number) = None
 wanted_at a (phase.Ending e) = Some (ending_want a.run_of a.memory a.unjoined e)
 wanted_at a (phase.Ended e) = None
 
-abbrev pub wanted : ActorState → Option Want
-wanted a = wanted_at a a.phase
+abbrev pub current_want : ActorState → Option Want
+current_want a = wanted_at a a.phase
 
 -- the tag that lives in a slot, with the actor's right on it
 abbrev pub pair : ActorState → Option ℕ → Option Live
@@ -156,11 +156,11 @@ has_opened a slot q = runs a
 -- of a gate are to begin, and the next ones are made, up to the first that is to be made of a tag;
 -- one that lives no more gives none
 abbrev pub copied_on : ActorState → Preparation → ℕ → Option (List ℕ) → Preparation
-copied_on a p slot bytes = prepared a.sheet a.made a.memory.copies (copied_from bytes slot p.memory) (behind_first p.left)
+copied_on a p slot bytes = prepare_copies a.sheet a.made a.memory.copies (copied_from bytes slot p.memory) (behind_first p.left)
 
 abbrev pub has_snapped : ActorState → Phase → ℕ → Option (List ℕ) → ActorState
 has_snapped a (phase.Starting p) slot bytes = record a { phase = phase.Starting (copied_on a p slot bytes) }
-has_snapped a (phase.MakingGate p) slot bytes = making a (draft_at a.drafts (a0 a)) (copied_on a p slot bytes)
+has_snapped a (phase.MakingGate p) slot bytes = continue_gate a (draft_at a.drafts (a0 a)) (copied_on a p slot bytes)
 has_snapped a p slot bytes = runs a
 
 -- A slot's reply, to what was asked of it. A tag that is closed has its slot released next.
@@ -226,13 +226,13 @@ takes_stream a fd stream_reply.Opened = has_opened_file a a.phase fd
 
 -- the grants of copies of the draft at hand
 abbrev pub copies_asked : ActorState → List CopyGrant
-copies_asked a = copy_grants (granted a.sheet a.made (draft_at a.drafts (a0 a))).tags
+copies_asked a = copy_grants (sheet_of_draft a.sheet a.made (draft_at a.drafts (a0 a))).tags
 
 -- a life that is claimed is for the child to be started, whose private memory is made first; and an
 -- actor that has ended keeps none
 abbrev pub takes_lives : Image → ActorState → LivesAsk → LivesReply → ActorState
 takes_lives i a (lives_ask.Release e) r = record a { memory = no_memory; phase = phase.Ended e }
-takes_lives i a lives_ask.Claim lives_reply.Claimed = record a { phase = phase.Starting (prepared a.sheet a.made a.memory.copies (pristine i) (copies_asked a)) }
+takes_lives i a lives_ask.Claim lives_reply.Claimed = record a { phase = phase.Starting (prepare_copies a.sheet a.made a.memory.copies (pristine i) (copies_asked a)) }
 takes_lives i a lives_ask.Claim lives_reply.Full = refuses a code.Full
 takes_lives i a lives_ask.Claim lives_reply.Released = runs a
 
@@ -279,10 +279,10 @@ abbrev pub has_joined : ActorState → ℕ → End → ℕ → ActorState
 has_joined a k e fuel = answered_end (record a { fuel = a.fuel + fuel; unjoined = without_child a.unjoined k }) a.phase e
 
 -- The cell of a recycled gate: who entered it waits for the run, and a run that left it has ended.
-abbrev pub takes_gate : ActorState → GateAsk → GateReply → ActorState
-takes_gate a (gate_ask.Enter run first) (gate_reply.Entered memory) = has_entered a a.phase
-takes_gate a (gate_ask.Enter run first) gate_reply.Left = runs a
-takes_gate a (gate_ask.Leave e memory) r = record a { memory = no_memory; phase = phase.Ended e }
+abbrev pub takes_gate_reply : ActorState → GateAsk → GateReply → ActorState
+takes_gate_reply a (gate_ask.Enter run first) (gate_reply.Entered memory) = has_entered a a.phase
+takes_gate_reply a (gate_ask.Enter run first) gate_reply.Left = runs a
+takes_gate_reply a (gate_ask.Leave e memory) r = record a { memory = no_memory; phase = phase.Ended e }
 
 -- what an event makes of the actor that did it
 unfoldable pub takes : Image → ActorState → Event → ActorState
@@ -295,7 +295,7 @@ takes i a (event.Start child) = has_started a
 takes i a (event.Join k e fuel) = has_joined a k e fuel
 takes i a (event.Enter run) = has_entered a a.phase
 takes i a (event.Leave e) = record a { memory = no_memory; phase = phase.Ended e }
-takes i a (event.Gate id q r) = takes_gate a q r
+takes i a (event.Gate id q r) = takes_gate_reply a q r
 
 -- ---- the actor that an event begins
 
@@ -311,7 +311,7 @@ child_of i a name = record {
   name = name;
   compartment = a1 a;
   run_of = None;
-  sheet = granted a.sheet a.made (draft_at a.drafts (a0 a));
+  sheet = sheet_of_draft a.sheet a.made (draft_at a.drafts (a0 a));
   made = nothing_made;
   gates = a.gates;
   labels = [];
@@ -355,8 +355,8 @@ begun_in a (gate_ask.Enter run first) (gate_reply.Entered memory) = run_at a run
 begun_in a q r = None
 
 -- the actor that an event of this one begins, if it begins one
-abbrev pub begun : Image → ActorState → Event → Option ActorState
-begun i a (event.Start child) = Some (child_of i a child)
-begun i a (event.Enter run) = run_at a run None a.phase
-begun i a (event.Gate id q r) = begun_in a q r
-begun i a e = None
+abbrev pub actor_begun : Image → ActorState → Event → Option ActorState
+actor_begun i a (event.Start child) = Some (child_of i a child)
+actor_begun i a (event.Enter run) = run_at a run None a.phase
+actor_begun i a (event.Gate id q r) = begun_in a q r
+actor_begun i a e = None

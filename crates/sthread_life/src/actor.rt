@@ -5,7 +5,7 @@ ghost use Rattle.std.specs.List.{AllByRecursion};
 ghost use Rattle.image_form.specs.Rules.{IsTag};
 ghost use Rattle.sthread_life.specs.Copying.{with_declared};
 ghost use Rattle.cow_pages.specs.PrivateMemory.{PrivateMemory};
-ghost use Rattle.rv_hart.specs.Local.{answered};
+ghost use Rattle.rv_hart.specs.Local.{hart_after_call};
 ghost use Rattle.sthread_life.specs.Between.{HoldsInSlots};
 ghost use Rattle.wedge_base.specs.Sheets.{root_sheet, nothing_made};
 ghost use Rattle.sthread_life.specs.declared.phase.Phase.TheVariants as phase;
@@ -243,7 +243,7 @@ impl Actor {
     /// Answers a service call with a value and a code.
     pub(crate) fn answer(&mut self, value: u32, code: u32)
         ensures { self.new ≡ record self.old
-            { hart = answered self.old.hart value code; phase = phase.Running } }
+            { hart = hart_after_call self.old.hart value code; phase = phase.Running } }
     {
         self.hart.answer(value, code, None);
         self.phase = Phase::Running;
@@ -252,7 +252,7 @@ impl Actor {
     /// Refuses a service call.
     pub(crate) fn refuse(&mut self, code: Code)
         ensures { self.new ≡ record self.old
-            { hart = answered self.old.hart 0 (actors.code_number code); phase = phase.Running } }
+            { hart = hart_after_call self.old.hart 0 (actors.code_number code); phase = phase.Running } }
     {
         self.answer(0, code_number(code));
     }

@@ -1,7 +1,7 @@
 //! Grants of copies of tags.
 
 ghost use Rattle.std.specs.Prelude.{◌≡◌, IfOk, false};
-ghost use Rattle.wedge_base.specs.Sheets.{granted, is_copy};
+ghost use Rattle.wedge_base.specs.Sheets.{sheet_of_draft, is_copy};
 ghost use Rattle.sthread_life.specs.Between.{AreInSlots, HoldsInSlots};
 ghost use Rattle.sthread_life.specs.Copying as copying;
 
@@ -25,7 +25,7 @@ pub(crate) fn copy_grants(
 ) -> Result<Vec<CopyGrant>, NoMemory>
     requires { HoldsInSlots sheet.now made.now }
     ensures is { IfOk result (λ v. v.items
-        ≡ copying.copy_grants (granted sheet.now made.now draft.now).tags) }
+        ≡ copying.copy_grants (sheet_of_draft sheet.now made.now draft.now).tags) }
     ensures placed { IfOk result (λ v. AreInSlots v.items) }
 {
     let mut grants = Vec::new(alloc);

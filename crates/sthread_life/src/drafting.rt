@@ -179,7 +179,7 @@ fn bits_asked(number: u32) -> Option<FdBits>
 
 /// Bits on a descriptor.
 fn bits(read: bool, append: bool) -> FdBits
-    ensures { result ≡ calls.bits read append }
+    ensures { result ≡ calls.read_append_bits read append }
 {
     FdBits { read, append }
 }

@@ -7,7 +7,7 @@ ghost use Rattle.image_form.specs.Rules.{most_fuel};
 ghost use Rattle.wedge_base.specs.Names.{most_parts};
 ghost use Rattle.wedge_base.specs.Sheets.{lent_to};
 ghost use Rattle.sthread_life.specs.Actors.{gate_held, whole};
-ghost use Rattle.sthread_life.specs.Between.{EntersFrom, IsAtGate, IsPlaced, WantFits, funds};
+ghost use Rattle.sthread_life.specs.Between.{EntersFrom, IsAtGate, HasValidSlots, WantFits, funds};
 ghost use Rattle.sthread_life.specs.Calls as calls;
 ghost use Rattle.sthread_life.specs.Children.{child_name, fuel_given, with_child};
 ghost use Rattle.sthread_life.specs.Lending as lending;
@@ -52,7 +52,7 @@ impl Actor {
     fn gate_held(&self, entry: u32) -> Result<Option<Arc<Gate>>, NoMemory>
         ensures is { IfOk result (λ g. (m : PrivateMemory) → option_map arc_value g
             ≡ gate_held (whole self.now m) entry) }
-        ensures placed { IfOk result (λ g. IfSome g (λ h. IsPlaced (arc_value h).sheet)) }
+        ensures placed { IfOk result (λ g. IfSome g (λ h. HasValidSlots (arc_value h).sheet)) }
     {
         let Some(id) = gate_at(&self.sheet, &self.made, entry) else {
             return Ok(None);
@@ -67,7 +67,7 @@ impl Actor {
     fn enter_held(&mut self, gate: Option<Arc<Gate>>) -> Result<(), NoMemory>
         requires paid { funds self.old.starts self.old.made.count self.old.fuel self.old.unjoined
             < most_fuel }
-        requires placed { IfSome gate (λ h. IsPlaced (arc_value h).sheet) }
+        requires placed { IfSome gate (λ h. HasValidSlots (arc_value h).sheet) }
         ensures { OnOk result ((m : PrivateMemory) → whole self.new m
             ≡ calls.enter_held (whole self.old m) (option_map arc_value gate)) }
     {
@@ -86,7 +86,7 @@ impl Actor {
     fn enter_lending(&mut self, gate: Arc<Gate>) -> Result<(), NoMemory>
         requires paid { funds self.old.starts self.old.made.count self.old.fuel self.old.unjoined
             < most_fuel }
-        requires placed { IsPlaced (arc_value gate).sheet }
+        requires placed { HasValidSlots (arc_value gate).sheet }
         ensures { OnOk result ((m : PrivateMemory) → whole self.new m
             ≡ calls.enter_lending (whole self.old m) (arc_value gate)
             (calls.lent_asked self.old.drafts (calls.a2 (whole self.old m)))) }
@@ -140,7 +140,7 @@ impl Actor {
     ) -> Result<(), NoMemory>
         requires paid { funds self.old.starts self.old.made.count self.old.fuel self.old.unjoined
             < most_fuel }
-        requires placed { IsPlaced (arc_value gate).sheet }
+        requires placed { HasValidSlots (arc_value gate).sheet }
         requires excess { excess ≡ lending.excess_lent (whole self.old no_memory)
             (unwrap_or (calls.lent_asked self.old.drafts number) None) }
         ensures { OnOk result ((m : PrivateMemory) → whole self.new m
@@ -159,7 +159,7 @@ impl Actor {
     fn enter_allowed(&mut self, gate: Arc<Gate>, number: u32) -> Result<(), NoMemory>
         requires paid { funds self.old.starts self.old.made.count self.old.fuel self.old.unjoined
             < most_fuel }
-        requires placed { IsPlaced (arc_value gate).sheet }
+        requires placed { HasValidSlots (arc_value gate).sheet }
         requires allowed { lending.excess_lent (whole self.old no_memory)
             (unwrap_or (calls.lent_asked self.old.drafts number) None) ≡ None }
         ensures { OnOk result ((m : PrivateMemory) → whole self.new m
@@ -183,13 +183,14 @@ impl Actor {
         requires enough { (arc_value gate).fuel ≤ self.old.fuel }
         requires paid { funds self.old.starts self.old.made.count self.old.fuel self.old.unjoined
             < most_fuel }
-        requires placed { IsPlaced (arc_value gate).sheet }
+        requires placed { HasValidSlots (arc_value gate).sheet }
         requires allowed { lending.excess_lent (whole self.old no_memory)
             (unwrap_or (calls.lent_asked self.old.drafts number) None) ≡ None }
-        ensures { OnOk result ((m : PrivateMemory) → whole self.new m ≡ record (whole self.old m) {
-          phase = phase.Entering (calls.entrance_of (whole self.old m) (arc_value gate)
-              (unwrap_or (calls.lent_asked self.old.drafts number) None));
-        }) }
+        ensures { OnOk result ((m : PrivateMemory) → whole self.new m
+            ≡ record (whole self.old m) {
+              phase = phase.Entering (calls.entrance_of (whole self.old m) (arc_value gate)
+                  (unwrap_or (calls.lent_asked self.old.drafts number) None));
+            }) }
     {
         let sheet = self.sheet_of_run(&gate, number)?;
         let entrance = Entrance::new(self.alloc, gate, sheet)?;
@@ -199,13 +200,13 @@ impl Actor {
 
     /// The sheet of a run of a gate: the gate's, with what a number lends.
     fn sheet_of_run(&self, gate: &Gate, number: u32) -> Result<Sheet, NoMemory>
-        requires placed { IsPlaced gate.now.sheet }
+        requires placed { HasValidSlots gate.now.sheet }
         requires allowed { lending.excess_lent (whole self.now no_memory)
             (unwrap_or (calls.lent_asked self.now.drafts number) None) ≡ None }
         ensures is { IfOk result (λ s. (m : PrivateMemory) → s ≡ lent_to gate.now.sheet
             (lending.sheet_lent (whole self.now m)
             (unwrap_or (calls.lent_asked self.now.drafts number) None))) }
-        ensures placed { IfOk result IsPlaced }
+        ensures placed { IfOk result HasValidSlots }
     {
         let lent = self.sheet_lent(number)?;
         Ok(run_sheet(self.alloc, gate, lent.as_ref())?)
@@ -219,7 +220,7 @@ impl Actor {
         ensures is { IfOk result (λ s. (m : PrivateMemory) → s
             ≡ lending.sheet_lent (whole self.now m)
             (unwrap_or (calls.lent_asked self.now.drafts number) None)) }
-        ensures placed { IfOk result (λ s. IfSome s IsPlaced) }
+        ensures placed { IfOk result (λ s. IfSome s HasValidSlots) }
     {
         match self.draft_lent(number) {
             Some(draft) => Ok(Some(sheet_of(self.alloc, &self.sheet, &self.made, draft)?)),

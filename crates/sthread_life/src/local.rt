@@ -10,7 +10,7 @@ ghost use Rattle.image_form.specs.Rules.{most_fuel};
 ghost use Rattle.cow_pages.specs.PrivateMemory.{PrivateMemory, no_memory};
 ghost use Rattle.sthread_life.specs.Between.{funds};
 ghost use Rattle.sthread_life.specs.Local.{end_reached, run_awaited};
-ghost use Rattle.sthread_life.specs.Taking.{wanted};
+ghost use Rattle.sthread_life.specs.Taking.{current_want};
 ghost use Rattle.sthread_life.specs.Resting.{want_in, end_in, run_in, NextFits};
 
 use crate::actor::Actor;
@@ -47,7 +47,7 @@ impl Actor {
     ) -> Result<Next, NoMemory>
         ensures rests { OnOk result (whole self.new memory.new
             ≡ local.rest program.now (whole self.old memory.old)) }
-        ensures next { IfOk result (λ n. want_in n ≡ wanted (whole self.new memory.new)) }
+        ensures next { IfOk result (λ n. want_in n ≡ current_want (whole self.new memory.new)) }
         ensures ended { IfOk result (λ n. end_in n ≡ end_reached self.new.phase) }
         ensures waits { IfOk result (λ n. run_in n ≡ run_awaited self.new.phase) }
         ensures name { OnOk result (self.new.name ≡ self.old.name) }
@@ -76,7 +76,7 @@ impl Actor {
     ) -> Result<Next, NoMemory>
         ensures rests { OnOk result (whole self.new memory.new
             ≡ local.rest program.now (whole self.old memory.old)) }
-        ensures next { IfOk result (λ n. want_in n ≡ wanted (whole self.new memory.new)) }
+        ensures next { IfOk result (λ n. want_in n ≡ current_want (whole self.new memory.new)) }
         ensures ended { IfOk result (λ n. end_in n ≡ end_reached self.new.phase) }
         ensures waits { IfOk result (λ n. run_in n ≡ run_awaited self.new.phase) }
         ensures name { OnOk result (self.new.name ≡ self.old.name) }
@@ -107,7 +107,7 @@ impl Actor {
     #[inline(always)]
     fn next(&self, memory: &PrivateView) -> Result<Next, NoMemory>
         requires { local.is_running self.now.phase ≡ false }
-        ensures wants { IfOk result (λ n. want_in n ≡ wanted (whole self.now memory.now)) }
+        ensures wants { IfOk result (λ n. want_in n ≡ current_want (whole self.now memory.now)) }
         ensures ended { IfOk result (λ n. end_in n ≡ end_reached self.now.phase) }
         ensures waits { IfOk result (λ n. run_in n ≡ run_awaited self.now.phase) }
         ensures fits { IfOk result (NextFits (whole self.now no_memory)) }

@@ -7,7 +7,7 @@ ghost use Rattle.image_form.specs.Rules.{most_fuel};
 ghost use Rattle.wedge_base.specs.Sheets as sheets;
 ghost use Rattle.sthread_life.specs.declared.phase.Phase.TheVariants as phase;
 ghost use Rattle.sthread_life.specs.Actors.{ActorState, whole};
-ghost use Rattle.sthread_life.specs.Between.{AreGatesPlaced, AreInSlots, IsPlaced, MayMake, WantFits, funds};
+ghost use Rattle.sthread_life.specs.Between.{AreGatesPlaced, AreInSlots, HasValidSlots, MayMake, WantFits, funds};
 ghost use Rattle.sthread_life.specs.Calls as calls;
 ghost use Rattle.sthread_life.specs.Taking as taking;
 
@@ -96,7 +96,7 @@ impl Actor {
         requires granting { MayMake (whole self.old no_memory) }
         requires placed { AreInSlots preparation.left }
         ensures takes { OnOk result ((m : PrivateMemory) → whole self.new m
-            ≡ calls.making (whole self.old m)
+            ≡ calls.continue_gate (whole self.old m)
             (calls.draft_at self.old.drafts (calls.a0 (whole self.old no_memory))) preparation) }
         ensures name { OnOk result (self.new.name ≡ self.old.name) }
     {
@@ -125,7 +125,7 @@ impl Actor {
     /// It has made a gate: it knows the gate, holds it at its entry, and is answered 0.
     fn keep_gate(&mut self, gate: Gate) -> Result<(), NoMemory>
         requires running { self.old.phase ≡ phase.Running }
-        requires placed { IsPlaced gate.sheet }
+        requires placed { HasValidSlots gate.sheet }
         requires paid { funds self.old.starts self.old.made.count self.old.fuel self.old.unjoined
             < most_fuel }
         ensures takes { OnOk result ((m : PrivateMemory) → whole self.new m
@@ -144,9 +144,10 @@ impl Actor {
     #[tactic(auto, using(crate::proofs::SlotsHeld::granted_inside))]
     fn new_gate(&self, memory: PrivateView) -> Result<Gate, NoMemory>
         requires { MayMake (whole self.now no_memory) }
-        ensures is { IfOk result (λ g. (m : PrivateMemory) → g ≡ calls.new_gate (whole self.now m)
+        ensures is { IfOk result
+            (λ g. (m : PrivateMemory) → g ≡ calls.new_gate (whole self.now m)
             (calls.draft_at self.now.drafts (calls.a0 (whole self.now no_memory))) memory) }
-        ensures placed { IfOk result (λ g. IsPlaced g.sheet) }
+        ensures placed { IfOk result (λ g. HasValidSlots g.sheet) }
     {
         let draft = &self.drafts[self.hart.reg(A0) as usize];
         let (maker, number) = (self.name.copy()?, self.made.count() + 1);
@@ -164,7 +165,7 @@ impl Actor {
 
 /// Adds a gate to those that an actor knows.
 fn add_gate(alloc: Global, gates: &mut Vec<Arc<Gate>>, gate: Gate) -> Result<(), NoMemory>
-    requires { IsPlaced gate.sheet }
+    requires { HasValidSlots gate.sheet }
     ensures is { OnOk result (map arc_value gates.new.items
         ≡ map arc_value gates.old.items ++ gate ∷ []) }
     ensures placed { AreGatesPlaced (map arc_value gates.old.items)

@@ -110,7 +110,8 @@ impl Preparation {
         made: &Made,
         own: &PrivateView,
     ) -> Result<(), NoMemory>
-        ensures is { OnOk result (self.new ≡ copying.prepared sheet.now made.now own.now.copies
+        ensures is { OnOk result (self.new
+            ≡ copying.prepare_copies sheet.now made.now own.now.copies
             (copying.copied_from pages slot self.old.memory) (copying.behind_first self.old.left)) }
         ensures placed { AreInSlots self.old.left → AreInSlots self.new.left }
     {
@@ -130,7 +131,8 @@ impl Preparation {
         made: &Made,
         own: &PrivateView,
     ) -> Result<(), NoMemory>
-        ensures is { OnOk result (self.new ≡ copying.prepared sheet.now made.now own.now.copies
+        ensures is { OnOk result (self.new
+            ≡ copying.prepare_copies sheet.now made.now own.now.copies
             self.old.memory self.old.left) }
         ensures placed { AreInSlots self.old.left → AreInSlots self.new.left }
     {

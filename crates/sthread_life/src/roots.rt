@@ -31,7 +31,8 @@ impl Actor {
     /// Sets the root directory of the draft that the call names, if there is one, to the path, if its buffer holds one.
     fn set_root(&mut self, path: Option<PathText>)
         requires { self.old.phase ≡ phase.Running }
-        ensures { (m : PrivateMemory) → whole self.new m ≡ calls.set_root (whole self.old m) path
+        ensures { (m : PrivateMemory) → whole self.new m
+            ≡ calls.set_root (whole self.old m) path
             (slice_get self.old.drafts (calls.a0 (whole self.old m))) }
     {
         let number = self.hart.reg(A0) as usize;

@@ -96,7 +96,8 @@ impl Actor {
         pointer: u32,
         length: u32,
     ) -> bool
-        ensures { result ≡ private.fits_read image.now (whole self.now memory.now) pointer length }
+        ensures { result
+            ≡ private.fits_read image.now (whole self.now memory.now) pointer length }
     {
         length <= MOST_BUFFER
             && (length == 0 || memory.holds(pointer, length) || image.is_in_text(pointer, length))

@@ -6,7 +6,7 @@ ghost use Rattle.cow_pages.specs.PrivateMemory.{PrivateMemory, no_memory};
 ghost use Rattle.sthread_life.specs.Actors.{whole, slot_held};
 ghost use Rattle.sthread_life.specs.Between.{WantFits};
 ghost use Rattle.sthread_life.specs.Calls as calls;
-ghost use Rattle.sthread_life.specs.Taking.{wanted};
+ghost use Rattle.sthread_life.specs.Taking.{current_want};
 ghost use Rattle.sthread_life.specs.declared.phase.Phase.TheVariants as phase;
 ghost use Rattle.wedge_events.specs.declared.events.Want.{Want as AWant};
 
@@ -95,7 +95,7 @@ impl Actor {
     /// What it wants once a slot is claimed for a tag: to open the tag there.
     pub(crate) fn opening_want(&self, slot: Slot, tag: TagNo) -> Want
         requires { self.now.phase ≡ phase.Opening slot tag }
-        ensures is { (m : PrivateMemory) → Some result ≡ wanted (whole self.now m) }
+        ensures is { (m : PrivateMemory) → Some result ≡ current_want (whole self.now m) }
         ensures fits { WantFits (whole self.now no_memory) result }
     {
         let pages = self.hart.reg(A0);

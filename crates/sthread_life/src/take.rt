@@ -37,7 +37,7 @@ impl Actor {
         ensures takes { OnOk result (whole self.new memory.new
             ≡ taking.takes program.now (whole self.old memory.old) event.now) }
         ensures begun { IfOk result (λ c. option_map (λ p. whole p.0 p.1) c
-            ≡ taking.begun program.now (whole self.old memory.old) event.now) }
+            ≡ taking.actor_begun program.now (whole self.old memory.old) event.now) }
         ensures begun_going { IfOk result (λ c. IfSome c (λ p. p.0.stopped ≡ false)) }
         ensures name { OnOk result (self.new.name ≡ self.old.name) }
         ensures going { OnOk result ((self.old.stopped ≡ false) × (self.new.stopped ≡ false)) }
@@ -64,7 +64,7 @@ impl Actor {
         ensures takes { OnOk result (whole self.new memory.new
             ≡ taking.takes program.now (whole self.old memory.old) event.now) }
         ensures begun { IfOk result (λ c. option_map (λ p. whole p.0 p.1) c
-            ≡ taking.begun program.now (whole self.old memory.old) event.now) }
+            ≡ taking.actor_begun program.now (whole self.old memory.old) event.now) }
         ensures begun_going { IfOk result (λ c. IfSome c (λ p. p.0.stopped ≡ false)) }
         ensures name { OnOk result (self.new.name ≡ self.old.name) }
     {
@@ -113,7 +113,7 @@ impl Actor {
         reply: &GateReply,
     ) -> Result<Option<(Actor, PrivateView)>, NoMemory>
         ensures takes { OnOk result (whole self.new memory.new
-            ≡ taking.takes_gate (whole self.old memory.old) ask.now reply.now) }
+            ≡ taking.takes_gate_reply (whole self.old memory.old) ask.now reply.now) }
         ensures begun { IfOk result (λ c. option_map (λ p. whole p.0 p.1) c
             ≡ taking.begun_in (whole self.old memory.old) ask.now reply.now) }
         ensures begun_going { IfOk result (λ c. IfSome c (λ p. p.0.stopped ≡ false)) }

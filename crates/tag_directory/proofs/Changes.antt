@@ -3,23 +3,23 @@ use Rattle.std.proofs.Common.{reverse, ◌≡◌, ◌≢◌, ℕ, ◌+◌, ◌<�
 use Rattle.std.proofs.lemmas.Bool.{lt-ltb, eq-eqb, ne_eqb, cases_eq, and_right}
 use Rattle.std.proofs.lemmas.List.{reverse-append, get_or-set_same, get_or-set_other, length-set}
 use Rattle.std.proofs.lemmas.List.Sums.{sum_by-set}
-use Rattle.wedge_events.specs.Directories.{is_among}
+use Rattle.wedge_events.specs.Directories.{contains_place}
 use Rattle.tag_directory.specs.Tables.{weight, IsKept}
 
 -- a write to the table leaves the other places
-told_other : (t : Bool) (unused x p : ℕ) (xs : List ℕ) (table : List Bool) → p ≢ x → get_or table p false ≡ (nat_lt p unused && not (is_among xs p)) → get_or (set table x t) p false ≡ (nat_lt p unused && not (is_among xs p))
+told_other : (t : Bool) (unused x p : ℕ) (xs : List ℕ) (table : List Bool) → p ≢ x → get_or table p false ≡ (nat_lt p unused && not (contains_place xs p)) → get_or (set table x t) p false ≡ (nat_lt p unused && not (contains_place xs p))
 told_other t unused x p xs table other told = get_or-set_other table x p t false other ∙ told
 
-among_other : (x p : ℕ) (xs : List ℕ) → p ≢ x → is_among (x ∷ xs) p ≡ is_among xs p
+among_other : (x p : ℕ) (xs : List ℕ) → p ≢ x → contains_place (x ∷ xs) p ≡ contains_place xs p
 among_other x p xs other = let apart : (x == p) ≡ false = ne_eqb x p (λ e. other (sym e)) in rw apart
 
-told_again : (unused x p : ℕ) (xs : List ℕ) (table : List Bool) → length table ≡ unused → x < unused → is_among xs x ≡ false → get_or table p false ≡ (nat_lt p unused && not (is_among (x ∷ xs) p)) → get_or (set table x true) p false ≡ (nat_lt p unused && not (is_among xs p))
+told_again : (unused x p : ℕ) (xs : List ℕ) (table : List Bool) → length table ≡ unused → x < unused → contains_place xs x ≡ false → get_or table p false ≡ (nat_lt p unused && not (contains_place (x ∷ xs) p)) → get_or (set table x true) p false ≡ (nat_lt p unused && not (contains_place xs p))
 told_again unused x p xs table sized below apart told = elim (cases_eq p x) [
   | inl here ↦ rw here (get_or-set_same table x true false (omega arith) ∙ sym (rw (lt-ltb x unused below, apart)))
   | inr other ↦ told_other true unused x p xs table other (told ∙ ap (λ b. nat_lt p unused && not b) (among_other x p xs other))
 ]
 
-released_tells : (unused x : ℕ) (xs : List ℕ) → (nat_lt x unused && not (is_among (x ∷ xs) x)) ≡ false
+released_tells : (unused x : ℕ) (xs : List ℕ) → (nat_lt x unused && not (contains_place (x ∷ xs) x)) ≡ false
 released_tells unused x xs = rw (eq-eqb x x refl) (and_right (nat_lt x unused) false refl)
 
 -- a place that was released is claimed

@@ -3,7 +3,7 @@ use Rattle.std.proofs.Common.{◌≡◌, ℕ, ◌+◌, Bool, true, false, List, 
 use Rattle.std.specs.Prelude.{Option, Some, None, nat_lt, if◌then◌else◌}
 use Rattle.wedge_events.specs.Directories.{Directory, Claim, no_number, claim, claim_from, claim_next, claim_reply, is_claimed, release}
 use Rattle.wedge_events.specs.declared.cells.DirectoryAsk.TheVariants as ask
-use Rattle.tag_directory.specs.Laws.{with_number, numbers_given, from_on, NumbersAreGivenOnce}
+use Rattle.tag_directory.specs.Laws.{with_reply_number, numbers_given, from_on, NumbersAreGivenOnce}
 
 -- what a claim leaves has the next number
 IsNext : Directory → Option Claim → Type 0
@@ -32,7 +32,7 @@ release_number d place false = refl
 
 -- numbers from the next one on, behind what a claim gives
 claimed_on : (d : Directory) (o : Option Claim) (ns : List ℕ) → IsNext d o → ns ≡ from_on (claim_next d o).number (length ns)
-    → with_number (claim_reply d o) ns ≡ from_on d.number (length (with_number (claim_reply d o) ns))
+    → with_reply_number (claim_reply d o) ns ≡ from_on d.number (length (with_reply_number (claim_reply d o) ns))
 unfolding IsNext
 claimed_on d None ns next rest = rest
 claimed_on d (Some c) ns next rest = ap (λ (l : List ℕ). d.number ∷ l) (rest ∙ ap (λ n. from_on n (length ns)) next)

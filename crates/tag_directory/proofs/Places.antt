@@ -3,7 +3,7 @@ use Rattle.std.proofs.Common.{◌≡◌, ℕ, ◌+◌, ◌≤◌, ◌==◌, Bool
 use Rattle.std.specs.Prelude.{Option, Some, None, nat_lt, ◌||◌, if◌then◌else◌}
 use Rattle.std.proofs.lemmas.Bool.{and_parts, eq-eqb}
 use borrow.Author.Tests.{ltb-true, ltb-false, lt-ltb, le-ltb}
-use Rattle.wedge_events.specs.Directories.{Directory, Claim, no_number, claim_from, claim_next, directory_next, is_among, is_claimed}
+use Rattle.wedge_events.specs.Directories.{Directory, Claim, no_number, claim_from, claim_next, directory_next, contains_place, is_claimed}
 use Rattle.wedge_events.specs.declared.cells.DirectoryAsk.{DirectoryAsk}
 use Rattle.wedge_events.specs.declared.cells.DirectoryAsk.TheVariants as ask
 use Rattle.tag_directory.specs.Laws.{AreReleased, IsClaimed, PlacesAreGivenApart}
@@ -30,16 +30,16 @@ below_next p u false e ne =
 
 unused_is : (d : Directory) → d.released ≡ [] → IsClaimed d (unused_claim d)
 unused_is d none = record {
-  free = ap (λ b. b && not (is_among d.released d.unused)) (le-ltb d.unused d.unused (omega arith));
+  free = ap (λ b. b && not (contains_place d.released d.unused)) (le-ltb d.unused d.unused (omega arith));
   taken = rw none (ap (λ b. b && true) (lt-ltb d.unused (d.unused + 1) (omega arith)));
-  others = λ p ne. ap (λ b. b && not (is_among d.released p)) (below_next p d.unused (ltb p d.unused) refl ne);
+  others = λ p ne. ap (λ b. b && not (contains_place d.released p)) (below_next p d.unused (ltb p d.unused) refl ne);
 }
 
-released_is : (d : Directory) (p : ℕ) (ps : List ℕ) → d.released ≡ p ∷ ps → (nat_lt p d.unused ≡ true) → is_among ps p ≡ false → IsClaimed d (released_claim d p ps)
+released_is : (d : Directory) (p : ℕ) (ps : List ℕ) → d.released ≡ p ∷ ps → (nat_lt p d.unused ≡ true) → contains_place ps p ≡ false → IsClaimed d (released_claim d p ps)
 released_is d p ps is used apart = record {
-  free = rw is (ap (λ b. nat_lt p d.unused && not (b || is_among ps p)) (eq-eqb p p refl) ∙ and_false (nat_lt p d.unused));
+  free = rw is (ap (λ b. nat_lt p d.unused && not (b || contains_place ps p)) (eq-eqb p p refl) ∙ and_false (nat_lt p d.unused));
   taken = (λ i. used i && not (apart i));
-  others = λ q ne. rw is (ap (λ b. nat_lt q d.unused && not (b || is_among ps q)) (sym ne));
+  others = λ q ne. rw is (ap (λ b. nat_lt q d.unused && not (b || contains_place ps q)) (sym ne));
 }
   where
     and_false : (b : Bool) → (b && false) ≡ false
@@ -94,8 +94,8 @@ not_true false e = refl
 release_keeps : (d : Directory) (place : ℕ) (b : Bool) → is_claimed d place ≡ b → Sound d → Sound (if b then record d { released = place ∷ d.released } else d)
 unfolding Sound
 release_keeps d place true e sound =
-    let both : (nat_lt place d.unused ≡ true) × (not (is_among d.released place) ≡ true) = and_parts (nat_lt place d.unused) (not (is_among d.released place)) e in
-    (both.0, not_true (is_among d.released place) both.1, sound)
+    let both : (nat_lt place d.unused ≡ true) × (not (contains_place d.released place) ≡ true) = and_parts (nat_lt place d.unused) (not (contains_place d.released place)) e in
+    (both.0, not_true (contains_place d.released place) both.1, sound)
 release_keeps d place false e sound = sound
 
 asks_keep : (d : Directory) (q : DirectoryAsk) → Sound d → Sound (directory_next d q)

@@ -1,19 +1,19 @@
 -- What holds of every list of asks to a directory.
 use Rattle.std.specs.Prelude.{◌≡◌, ℕ, zero, suc, ◌+◌, ◌==◌, true, false, List, [], ◌∷◌, length, Some, nat_lt}
-use Rattle.wedge_events.specs.Directories.{Directory, Claim, claim, directory, directory_reply, directory_next, is_among, is_claimed}
+use Rattle.wedge_events.specs.Directories.{Directory, Claim, claim, directory, directory_reply, directory_next, contains_place, is_claimed}
 use Rattle.wedge_events.specs.declared.cells.DirectoryAsk.{DirectoryAsk}
 use Rattle.wedge_events.specs.declared.cells.DirectoryReply.{DirectoryReply}
 use Rattle.wedge_events.specs.declared.cells.DirectoryReply.TheVariants as reply
 
 -- the number in a reply, if it has one, before others
-abbrev pub with_number : DirectoryReply → List ℕ → List ℕ
-with_number (reply.Claimed place number) ns = number ∷ ns
-with_number r ns = ns
+abbrev pub with_reply_number : DirectoryReply → List ℕ → List ℕ
+with_reply_number (reply.Claimed place number) ns = number ∷ ns
+with_reply_number r ns = ns
 
 -- the numbers in a directory's replies to these asks, one after another
 abbrev pub numbers_given : Directory → List DirectoryAsk → List ℕ
 numbers_given d [] = []
-numbers_given d (q ∷ qs) = with_number (directory_reply d q) (numbers_given (directory_next d q) qs)
+numbers_given d (q ∷ qs) = with_reply_number (directory_reply d q) (numbers_given (directory_next d q) qs)
 
 -- so many numbers from one on
 abbrev pub from_on : ℕ → ℕ → List ℕ
@@ -27,7 +27,7 @@ NumbersAreGivenOnce = (d : Directory) (asks : List DirectoryAsk) → numbers_giv
 -- each slot that is released was used, and is listed once
 abbrev pub AreReleased : ℕ → List ℕ → Type 0
 AreReleased unused [] = Unit {0}
-AreReleased unused (p ∷ ps) = (nat_lt p unused ≡ true) × (is_among ps p ≡ false) × AreReleased unused ps
+AreReleased unused (p ∷ ps) = (nat_lt p unused ≡ true) × (contains_place ps p ≡ false) × AreReleased unused ps
 
 -- a claim allocates a slot that was free, which is claimed then, and changes nothing of any other
 -- slot

@@ -38,7 +38,7 @@ impl Segment {
     /// A tag of so many pages, with zero bytes and no blocks.
     pub fn opened(alloc: Global, tag: TagNo, pages: u32) -> Result<Segment, NoMemory>
         requires { pages ≤ most_pages }
-        ensures { IfOk result (λ g. g ≡ slots.opened tag pages) }
+        ensures { IfOk result (λ g. g ≡ slots.new_segment tag pages) }
     {
         Ok(Segment {
             tag,
@@ -148,7 +148,8 @@ impl Segment {
     /// Places a block of at least so many bytes, if the tag is this one.
     pub fn smalloc(&mut self, tag: TagNo, size: u32) -> Result<SlotReply, NoMemory>
         requires { 1 ≤ size }
-        ensures is { IfOk result (λ r. r ≡ slots.live_reply self.old (SlotAsk.Smalloc tag size)) }
+        ensures is { IfOk result
+            (λ r. r ≡ slots.live_reply self.old (SlotAsk.Smalloc tag size)) }
         ensures after { let q = SlotAsk.Smalloc tag size
             in OnOk result (Some self.new ≡ slots.slot_next (Some self.old) q) }
         ensures err { OnErr result (self.new ≡ self.old) }

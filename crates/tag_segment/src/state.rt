@@ -200,7 +200,8 @@ impl SlotState {
     fn begin(&mut self, tag: TagNo, pages: u32) -> Result<SlotReply, NoMemory>
         requires { pages ≤ most_pages }
         ensures is { IfOk result (λ r. r ≡ slots.slot_reply self.old (SlotAsk.Open tag pages)) }
-        ensures after { OnOk result (self.new ≡ slots.slot_next self.old (SlotAsk.Open tag pages)) }
+        ensures after { OnOk result (self.new
+            ≡ slots.slot_next self.old (SlotAsk.Open tag pages)) }
         ensures err { OnErr result (self.new ≡ self.old) }
     {
         let segment = Segment::opened(self.alloc, tag, pages)?;
@@ -260,7 +261,8 @@ impl SlotState {
     /// Places a block.
     fn smalloc(&mut self, tag: TagNo, size: u32) -> Result<SlotReply, NoMemory>
         requires { 1 ≤ size }
-        ensures is { IfOk result (λ r. r ≡ slots.slot_reply self.old (SlotAsk.Smalloc tag size)) }
+        ensures is { IfOk result
+            (λ r. r ≡ slots.slot_reply self.old (SlotAsk.Smalloc tag size)) }
         ensures after { OnOk result (self.new
             ≡ slots.slot_next self.old (SlotAsk.Smalloc tag size)) }
         ensures err { OnErr result (self.new ≡ self.old) }

@@ -20,5 +20,5 @@ bytes_of zero n = []
 bytes_of (suc k) n = n % 256 ∷ bytes_of k (n / 256)
 
 -- the bytes with others written over them from an offset on
-abbrev pub written : List ℕ → ℕ → List ℕ → List ℕ
-written bytes place new = take place bytes ++ new ++ drop (place + length new) bytes
+abbrev pub overwrite : List ℕ → ℕ → List ℕ → List ℕ
+overwrite bytes place new = take place bytes ++ new ++ drop (place + length new) bytes

@@ -25,9 +25,9 @@ abbrev pub length_with : {X : Type 0} → Map X → ℕ → ℕ
 length_with m k = if has m k then length m else length m + 1
 
 -- the map with what another has at keys that it lacks
-abbrev pub joined : {X : Type 0} → Map X → Map X → Map X
-joined m [] = m
-joined m (e ∷ es) = joined (if has m e.0 then m else with m e.0 e.1) es
+abbrev pub map_union : {X : Type 0} → Map X → Map X → Map X
+map_union m [] = m
+map_union m (e ∷ es) = map_union (if has m e.0 then m else with m e.0 e.1) es
 
 -- at each key a map has what the first of two has, else what the second has
 abbrev pub AreJoined : {X : Type 0} → Map X → Map X → Map X → Type 0

@@ -1,6 +1,6 @@
 -- Ranges of memory: the private range and an image's data.
 use Rattle.std.specs.Prelude.{ℕ, ◌+◌, ◌-◌, Bool, ◌&&◌, List, [], ◌∷◌, length, find, slice_range, Option, nat_le, if◌then◌else◌}
-use Rattle.wedge_base.specs.Bytes.{written}
+use Rattle.wedge_base.specs.Bytes.{overwrite}
 use Rattle.wedge_base.specs.declared.image.MemoryRange.{MemoryRange}
 
 -- whether so many bytes from an address on lie in a range
@@ -17,7 +17,7 @@ read_range r address n = slice_range r.bytes (address - r.base) (address - r.bas
 
 -- the range with bytes written at an address
 abbrev pub write_range : ℕ → List ℕ → MemoryRange → MemoryRange
-write_range address new r = record r { bytes = written r.bytes (address - r.base) new }
+write_range address new r = record r { bytes = overwrite r.bytes (address - r.base) new }
 
 -- the memory with bytes written at an address, in the range in which they lie
 abbrev pub write_at : List MemoryRange → ℕ → List ℕ → List MemoryRange

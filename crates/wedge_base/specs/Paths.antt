@@ -23,12 +23,12 @@ text_of (p ∷ ps) = after_slashes (p ∷ ps)
 
 -- the parts after walking the pieces: an empty one and `.` add none, `..` drops the last, if any,
 -- and any other is added
-abbrev pub walked : List (List ℕ) → List (List ℕ) → List (List ℕ)
-walked kept [] = kept
-walked kept (p ∷ ps) =
-    if same p [] || same p (46 ∷ []) then walked kept ps
-    else if same p (46 ∷ 46 ∷ []) then walked (take (length kept - 1) kept) ps
-    else walked (kept ++ p ∷ []) ps
+abbrev pub resolve_parts : List (List ℕ) → List (List ℕ) → List (List ℕ)
+resolve_parts kept [] = kept
+resolve_parts kept (p ∷ ps) =
+    if same p [] || same p (46 ∷ []) then resolve_parts kept ps
+    else if same p (46 ∷ 46 ∷ []) then resolve_parts (take (length kept - 1) kept) ps
+    else resolve_parts (kept ++ p ∷ []) ps
 
 -- what a program passes as a path: 1 to 256 printed bytes, the first a slash
 abbrev pub is_path : List ℕ → Bool
@@ -37,7 +37,7 @@ is_path (b ∷ bs) = (b == 47) && nat_lt (length bs) 256 && list_all is_printed 
 
 -- the path under a root that a string names, if it may be passed as a path
 abbrev pub resolve : List ℕ → List ℕ → Option (List ℕ)
-resolve root path = if is_path path then Some (text_of (parts_of root ++ walked [] (pieces path))) else None
+resolve root path = if is_path path then Some (text_of (parts_of root ++ resolve_parts [] (pieces path))) else None
 
 -- whether the first list is a prefix of the second
 abbrev pub is_front : List (List ℕ) → List (List ℕ) → Bool

@@ -3,7 +3,7 @@
 use Rattle.std.specs.Prelude.{ℕ, ◌+◌, ◌==◌, Bool, true, false, not, ◌&&◌, ◌||◌, List, [], ◌∷◌, ◌++◌, length, map, find, filter_map, Option, Some, None, is_some, is_none, unwrap_or, option_map, nat_le, if◌then◌else◌}
 use Rattle.std.specs.Option.{option_or}
 use Rattle.std.specs.List.{list_any}
-use Rattle.wedge_base.specs.Maps.{Map, at, has, with, joined, with_number, is_among}
+use Rattle.wedge_base.specs.Maps.{Map, at, has, with, map_union, with_number, is_among}
 use Rattle.wedge_base.specs.Names.{same}
 use Rattle.wedge_base.specs.Paths.{under}
 use Rattle.wedge_base.specs.Rights.{at_least, no_bits, bits_within}
@@ -161,8 +161,8 @@ tag_granted s m e = (e.0, record { right = e.1; slot = unwrap_or (slot_on s m e.
 abbrev pub gate_granted : Sheet → Made → ℕ → Option (ℕ × GateId)
 gate_granted s m entry = option_map (λ id. (entry, id)) (gate_at s m entry)
 
-abbrev pub granted : Sheet → Made → Draft → Sheet
-granted s m d = record {
+abbrev pub sheet_of_draft : Sheet → Made → Draft → Sheet
+sheet_of_draft s m d = record {
   tags = map (tag_granted s m) d.tags;
   fds = d.fds;
   gates = filter_map (gate_granted s m) d.gates;
@@ -175,11 +175,11 @@ granted s m d = record {
 abbrev pub most_grants : ℕ
 most_grants = 1024
 
-abbrev pub grants : Draft → ℕ
-grants d = length d.tags + length d.fds + length d.gates
+abbrev pub grant_count : Draft → ℕ
+grant_count d = length d.tags + length d.fds + length d.gates
 
 abbrev pub is_full : Draft → Bool
-is_full d = nat_le most_grants (grants d)
+is_full d = nat_le most_grants (grant_count d)
 
 -- a draft takes a grant where it is not full, or has the item already
 abbrev pub takes_tag : Draft → ℕ → Bool
@@ -229,6 +229,6 @@ is_lendable d =
 abbrev pub lent_to : Sheet → Option Sheet → Sheet
 lent_to gate None = gate
 lent_to gate (Some lent) = record gate {
-  tags = joined gate.tags lent.tags;
-  fds = joined gate.fds lent.fds;
+  tags = map_union gate.tags lent.tags;
+  fds = map_union gate.fds lent.fds;
 }

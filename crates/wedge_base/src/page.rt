@@ -1,7 +1,7 @@
 //! A page of memory.
 
 ghost use Rattle.std.specs.Prelude.{◌≡◌, ◌+◌, ◌-◌, ◌≤◌, ◌⊎◌, ◌++◌, length, slice_range};
-ghost use Rattle.wedge_base.specs.Bytes.{written, number_of, bytes_of, zeros};
+ghost use Rattle.wedge_base.specs.Bytes.{overwrite, number_of, bytes_of, zeros};
 ghost use Rattle.wedge_base.specs.Images.{page};
 
 use std::alloc::AllocError;
@@ -61,7 +61,7 @@ impl Page {
     /// Writes bytes over those from an offset on.
     pub fn write(&mut self, place: usize, new: &[u8])
         requires { place + length new.now ≤ page }
-        ensures { self.new ≡ written self.old place new.now }
+        ensures { self.new ≡ overwrite self.old place new.now }
     {
         write_over(&mut self.bytes, place, new);
     }
@@ -71,7 +71,7 @@ impl Page {
     pub fn write_number(&mut self, place: usize, width: u8, value: u32)
         requires width { (width ≡ 1) ⊎ (width ≡ 2) ⊎ (width ≡ 4) }
         requires inside { place + width ≤ page }
-        ensures { self.new ≡ written self.old place (bytes_of width value) }
+        ensures { self.new ≡ overwrite self.old place (bytes_of width value) }
     {
         let bytes = value.to_le_bytes();
         match width {
@@ -94,7 +94,7 @@ impl Clone for Page {
 #[inline(always)]
 fn write_over(bytes: &mut [u8], place: usize, new: &[u8])
     requires { place + length new.now ≤ length bytes.old }
-    ensures { bytes.new ≡ written bytes.old place new.now }
+    ensures { bytes.new ≡ overwrite bytes.old place new.now }
 {
     let part = &mut bytes[place..place + new.len()];
     part.copy_from_slice(new);

@@ -8,13 +8,13 @@ use Rattle.wedge_base.specs.declared.outcome.Outcome.{Outcome}
 use Rattle.image_form.specs.Rules.{Encodes}
 use Rattle.report_text.specs.Reports.{report_of}
 use Rattle.report_text.specs.Schedules.{actors_of, names_in}
-use Rattle.run_laws.specs.Worlds.{opening}
-use Rattle.wedge_core.specs.Replay.{replayed, names_of}
+use Rattle.run_laws.specs.Worlds.{initial_state}
+use Rattle.wedge_core.specs.Replay.{replay_from, names_of}
 use Rattle.wedge_core.specs.Serial.{IsJournaledRun}
 use Rattle.wedge_core.proofs.Replays.{journals_replay}
 use Rattle.wedge_cli.specs.declared.loading.FileKind.TheVariants as kind
-use Rattle.wedge_cli.specs.Loading.{image_of, most_of}
-use Rattle.wedge_cli.specs.Replaying.{replay_text, replay_of, schedule_by, replay_report}
+use Rattle.wedge_cli.specs.Loading.{image_from_bytes, most_of}
+use Rattle.wedge_cli.specs.Replaying.{replay_text, report_of_replay, schedule_by, replay_report}
 use Rattle.wedge_cli.proofs.Replays.{text_within}
 
 -- the actors of entries are those of their turns
@@ -22,14 +22,14 @@ actors_are : (entries : List LogEntry) → actors_of entries ≡ names_of (turns
 actors_are [] = refl
 actors_are (e ∷ es) = ap (λ names. e.actor ∷ names) (actors_are es)
 
-pub schedule_replays : (i : Image) (bytes schedule : List ℕ) (entries : List LogEntry) (outcome : Outcome) → Encodes i bytes → image_of bytes ≡ Ok i → IsJournaledRun i entries outcome
+pub schedule_replays : (i : Image) (bytes schedule : List ℕ) (entries : List LogEntry) (outcome : Outcome) → Encodes i bytes → image_from_bytes bytes ≡ Ok i → IsJournaledRun i entries outcome
     → names_in schedule ≡ Ok (actors_of entries) → length schedule ≤ most_of kind.Schedule → replay_text bytes schedule ≡ Ok (report_of outcome)
 schedule_replays i bytes schedule entries outcome encoded accepted whole read short =
     let within : length bytes ≤ most_of kind.Image = omega (arith, ap length encoded.encoded, encoded.valid.small) in
     let replay = journals_replay i entries outcome whole in
     text_within bytes schedule within short
-    ∙ ap (λ m. replay_of m (schedule_by (names_in schedule))) accepted
-    ∙ ap (λ n. replay_of (Ok i) (schedule_by n)) read
-    ∙ ap (λ names. replay_report (replayed (opening i) 1 names)) (actors_are entries)
+    ∙ ap (λ m. report_of_replay m (schedule_by (names_in schedule))) accepted
+    ∙ ap (λ n. report_of_replay (Ok i) (schedule_by n)) read
+    ∙ ap (λ names. replay_report (replay_from (initial_state i) 1 names)) (actors_are entries)
     ∙ ap replay_report replay.1
     ∙ ap (λ (o : Outcome). Ok (report_of o)) (sym replay.2)

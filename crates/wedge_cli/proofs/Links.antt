@@ -11,8 +11,8 @@ use Rattle.elf_in.specs.declared.fault.ElfError.{ElfError}
 use Rattle.elf_in.specs.declared.fault.ElfError.TheVariants as elf_error
 use Rattle.elf_in.specs.Checks.{identity_check}
 use Rattle.elf_in.specs.Program.{Program}
-use Rattle.elf_in.specs.Reading.{reading}
-use Rattle.elf_in.specs.Steps.{Fails}
+use Rattle.elf_in.specs.Reading.{elf_program}
+use Rattle.elf_in.specs.Steps.{IsElfError}
 use Rattle.part_toml.specs.declared.fault.PartFault.{PartFault}
 use Rattle.part_toml.specs.declared.fault.PartFault.TheVariants as fault
 use Rattle.part_toml.specs.Faults.{Refusal as Meant}
@@ -27,7 +27,7 @@ use Rattle.wedge_cli.specs.Lines.{status_of}
 use Rattle.wedge_cli.specs.Refusals.{as_unjoined, elf_refusal_of, joining_refusal_of}
 use Rattle.wedge_cli.specs.Loading.{most_of, most_partition, long_elf, IsUnread, IsPartitionUnread}
 use Rattle.wedge_cli.specs.Replaying.{IsRefusalIn}
-use Rattle.wedge_cli.specs.Linking.{program_by, by_joining, joined_of, bytes_by, link_with, link_text, IsUnjoined}
+use Rattle.wedge_cli.specs.Linking.{program_by, by_joining, joined_of, encoding_by, link_with, link_text, IsUnjoined}
 use Rattle.wedge_cli.specs.Causes.{IsLinkAnswer, IsLinkRefused, IsElfRejected, IsUnreadable}
 use Rattle.wedge_cli.specs.Ended.{IsCutShort}
 use Rattle.wedge_cli.specs.Words.{Link}
@@ -36,12 +36,12 @@ use Rattle.wedge_cli.proofs.Partitions.{not_utf8}
 -- ---- the ELF file
 
 -- one of too many bytes is rejected
-pub long_file : (bytes : List ℕ) → most_of kind.Elf < length bytes → reading bytes ≡ Err long_elf
-unfolding reading identity_check
+pub long_file : (bytes : List ℕ) → most_of kind.Elf < length bytes → elf_program bytes ≡ Err long_elf
+unfolding elf_program identity_check
 long_file bytes lt = let long : nat_le (length bytes) (most_of kind.Elf) ≡ false = lt-leb (length bytes) (most_of kind.Elf) lt in rw long refl
 
 -- an error of the code is the fault that is meant
-pub rejected_by : (m : Result Program ElfFault) (e : ElfError) → Fails e m → IsRefusalIn (program_by m) (elf_refusal_of e)
+pub rejected_by : (m : Result Program ElfFault) (e : ElfError) → IsElfError e m → IsRefusalIn (program_by m) (elf_refusal_of e)
 rejected_by m elf_error.NoMemory h = tt
 rejected_by m (elf_error.Fault f) h = ap program_by h
 
@@ -107,14 +107,14 @@ of_joined p text s e = of_cases (nat_lt most_partition (length text)) (is_utf8 t
 -- ---- both
 
 -- of an ELF file that is accepted
-linked_by : (elf text : List ℕ) (p : Program) (answer : Result Image Refusal) → reading elf ≡ Ok p → joined_of p text ≡ answer → link_text elf text ≡ bytes_by answer
-linked_by elf text p answer accepted joined = ap (λ m. link_with (program_by m) text) accepted ∙ ap bytes_by joined
+linked_by : (elf text : List ℕ) (p : Program) (answer : Result Image Refusal) → elf_program elf ≡ Ok p → joined_of p text ≡ answer → link_text elf text ≡ encoding_by answer
+linked_by elf text p answer accepted joined = ap (λ m. link_with (program_by m) text) accepted ∙ ap encoding_by joined
 
-pub linked_text : (elf text bytes : List ℕ) (p : Program) → reading elf ≡ Ok p → bytes_by (joined_of p text) ≡ Ok bytes → link_text elf text ≡ Ok bytes
+pub linked_text : (elf text bytes : List ℕ) (p : Program) → elf_program elf ≡ Ok p → encoding_by (joined_of p text) ≡ Ok bytes → link_text elf text ≡ Ok bytes
 linked_text elf text bytes p accepted joined = ap (λ m. link_with (program_by m) text) accepted ∙ joined
 
 -- of one that is not
-rejected_with : (elf text : List ℕ) (f : ElfFault) → reading elf ≡ Err f → link_text elf text ≡ Err (refusal.Elf f)
+rejected_with : (elf text : List ℕ) (f : ElfFault) → elf_program elf ≡ Err f → link_text elf text ≡ Err (refusal.Elf f)
 rejected_with elf text f e = ap (λ m. link_with (program_by m) text) e
 
 fault_by : (m : Result Program ElfFault) (f : ElfFault) → program_by m ≡ Err (refusal.Elf f) → m ≡ Err f
@@ -158,23 +158,23 @@ module _ (elf part_name : List ℕ) (files : List ℕ → Option (List ℕ)) (be
   part_unread middle read (refusal.NoSuchName item) low same within h = absurd h
 
   -- the ELF file was rejected
-  pub elf_rejected : (read : List ℕ) (r : Refusal) → WhereExposed (files elf) (λ b. read ≡ b) → IsRefusalIn (program_by (reading read)) r → IsLinkRefused elf part_name files before after r
+  pub elf_rejected : (read : List ℕ) (r : Refusal) → WhereExposed (files elf) (λ b. read ≡ b) → IsRefusalIn (program_by (elf_program read)) r → IsLinkRefused elf part_name files before after r
   elf_rejected read refusal.NoMemory same h = tt
   elf_rejected read (refusal.Read file) same h = absurd h
-  elf_rejected read (refusal.Image fault) same h = absurd (no_image_by (reading read) (refusal.Image fault) (λ f e. cc) h)
-  elf_rejected read (refusal.Partition p) same h = absurd (no_image_by (reading read) (refusal.Partition p) (λ f e. cc) h)
-  elf_rejected read (refusal.Schedule s) same h = absurd (no_image_by (reading read) (refusal.Schedule s) (λ f e. cc) h)
+  elf_rejected read (refusal.Image fault) same h = absurd (no_image_by (elf_program read) (refusal.Image fault) (λ f e. cc) h)
+  elf_rejected read (refusal.Partition p) same h = absurd (no_image_by (elf_program read) (refusal.Partition p) (λ f e. cc) h)
+  elf_rejected read (refusal.Schedule s) same h = absurd (no_image_by (elf_program read) (refusal.Schedule s) (λ f e. cc) h)
   elf_rejected read (refusal.Trace fault) same h = absurd h
   elf_rejected read (refusal.Elf f) same h =
-      let is : reading read ≡ Err f = fault_by (reading read) f h in (
-        λ bytes text elf_is part_is. rejected_with bytes text f (ap reading (sym (same bytes elf_is)) ∙ is),
-        λ bytes elf_is. ap reading (sym (same bytes elf_is)) ∙ is,
+      let is : elf_program read ≡ Err f = fault_by (elf_program read) f h in (
+        λ bytes text elf_is part_is. rejected_with bytes text f (ap elf_program (sym (same bytes elf_is)) ∙ is),
+        λ bytes elf_is. ap elf_program (sym (same bytes elf_is)) ∙ is,
       )
   elf_rejected read (refusal.NoSuchName item) same h = absurd h
 
-  module _ (read : List ℕ) (p : Program) (same : WhereExposed (files elf) (λ b. read ≡ b)) (accepted : reading read ≡ Ok p) where
-    accepted_at : (bytes : List ℕ) → files elf ≡ Some bytes → reading bytes ≡ Ok p
-    accepted_at bytes elf_is = ap reading (sym (same bytes elf_is)) ∙ accepted
+  module _ (read : List ℕ) (p : Program) (same : WhereExposed (files elf) (λ b. read ≡ b)) (accepted : elf_program read ≡ Ok p) where
+    accepted_at : (bytes : List ℕ) → files elf ≡ Some bytes → elf_program bytes ≡ Ok p
+    accepted_at bytes elf_is = ap elf_program (sym (same bytes elf_is)) ∙ accepted
 
     -- it was accepted, and the partition is too long
     pub part_long : WhereExposed (files part_name) (λ b. most_partition < length b) → IsLinkRefused elf part_name files before after (refusal.Partition part.Limit)
@@ -199,18 +199,18 @@ module _ (elf part_name : List ℕ) (files : List ℕ → Option (List ℕ)) (be
 
 -- ---- statuses
 
-unjoined_of : (elf text : List ℕ) (p : Program) (j : Result Image Refusal) (r : Refusal) → reading elf ≡ Ok p → joined_of p text ≡ j → bytes_by j ≡ Err r → IsUnjoined elf text
+unjoined_of : (elf text : List ℕ) (p : Program) (j : Result Image Refusal) (r : Refusal) → elf_program elf ≡ Ok p → joined_of p text ≡ j → encoding_by j ≡ Err r → IsUnjoined elf text
 unjoined_of elf text p (Ok i) r is joined e = absurd cc
 unjoined_of elf text p (Err why) r is joined e = record { program = p; accepted = is; why = why; rejected = joined }
 
 unjoined_at : (elf text : List ℕ) (m : Result Program ElfFault) (r : Refusal) → ((f : ElfFault) → r ≡ refusal.Elf f → ⊥)
-    → reading elf ≡ m → link_with (program_by m) text ≡ Err r → IsUnjoined elf text
+    → elf_program elf ≡ m → link_with (program_by m) text ≡ Err r → IsUnjoined elf text
 unjoined_at elf text (Err f) r unlike is e = absurd (unlike f (let same : refusal.Elf f ≡ r = cc in sym same))
 unjoined_at elf text (Ok p) r unlike is e = unjoined_of elf text p (joined_of p text) r is refl e
 
 -- a link that is refused with another status than 10 has an ELF file that is accepted
 unjoined : (elf text : List ℕ) (r : Refusal) → ((f : ElfFault) → r ≡ refusal.Elf f → ⊥) → link_text elf text ≡ Err r → IsUnjoined elf text
-unjoined elf text r unlike e = unjoined_at elf text (reading elf) r unlike refl e
+unjoined elf text r unlike e = unjoined_at elf text (elf_program elf) r unlike refl e
 
 module _ (elf part_name : List ℕ) (files : List ℕ → Option (List ℕ)) (before after : List ℕ → ℕ) where
   pub unfit_link : (r : Refusal) → IsLinkRefused elf part_name files before after r → status_of r ≡ 3

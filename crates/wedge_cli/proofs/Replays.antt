@@ -8,24 +8,24 @@ use Rattle.image_form.specs.declared.fault.Fault.{Fault}
 use Rattle.elf_in.specs.declared.fault.Fault.{Fault as ElfFault}
 use Rattle.image_form.specs.Reading.{reading}
 use Rattle.report_text.specs.Schedules.{names_in}
-use Rattle.run_laws.specs.Worlds.{WorldState, opening}
+use Rattle.run_laws.specs.Worlds.{WorldState, initial_state}
 use Rattle.wedge_core.specs.declared.error.Why.{Why}
-use Rattle.wedge_core.specs.Replay.{replayed}
+use Rattle.wedge_core.specs.Replay.{replay_from}
 use Rattle.wedge_cli.specs.declared.loading.FileKind.TheVariants as kind
 use Rattle.wedge_cli.specs.declared.refusal.Refusal.{Refusal}
 use Rattle.wedge_cli.specs.declared.refusal.Refusal.TheVariants as refusal
 use Rattle.wedge_cli.specs.declared.refusal.PartRefusal.{PartRefusal}
 use Rattle.wedge_cli.specs.declared.refusal.ScheduleRefusal.{ScheduleRefusal}
 use Rattle.wedge_cli.specs.declared.refusal.ScheduleRefusal.TheVariants as schedule
-use Rattle.wedge_cli.specs.Loading.{image_of, image_by, most_of, too_long, IsRefusalOf, IsUnread}
-use Rattle.wedge_cli.specs.Replaying.{replay_text, replay_of, schedule_by, replay_report, IsRefusalIn}
+use Rattle.wedge_cli.specs.Loading.{image_from_bytes, image_by, most_of, too_long, IsRefusalOf, IsUnread}
+use Rattle.wedge_cli.specs.Replaying.{replay_text, report_of_replay, schedule_by, replay_report, IsRefusalIn}
 use Rattle.wedge_cli.specs.Causes.{IsReplayAnswer, IsReplayRefused}
 use Rattle.wedge_cli.proofs.TooLong.{long_image}
 
 -- ---- the text
 
 -- of files that are not too long
-pub text_within : (a b : List ℕ) → length a ≤ most_of kind.Image → length b ≤ most_of kind.Schedule → replay_text a b ≡ replay_of (image_of a) (schedule_by (names_in b))
+pub text_within : (a b : List ℕ) → length a ≤ most_of kind.Image → length b ≤ most_of kind.Schedule → replay_text a b ≡ report_of_replay (image_from_bytes a) (schedule_by (names_in b))
 unfolding replay_text
 text_within a b la lb =
     let short_a : nat_lt (most_of kind.Image) (length a) ≡ false = le-ltb (most_of kind.Image) (length a) la in
@@ -47,24 +47,24 @@ long_second a b la lt =
 
 -- ---- refusals of the text
 
-pub image_refused : (m : Result Image Refusal) (n : Result (List (List ℕ)) Refusal) (r : Refusal) → IsRefusalOf m r → IsRefusalIn (replay_of m n) r
+pub image_refused : (m : Result Image Refusal) (n : Result (List (List ℕ)) Refusal) (r : Refusal) → IsRefusalOf m r → IsRefusalIn (report_of_replay m n) r
 image_refused m n refusal.NoMemory h = tt
 image_refused m n (refusal.Read file) h = absurd h
-image_refused m n (refusal.Image fault) h = ap (λ x. replay_of x n) h
-image_refused m n (refusal.Partition p) h = ap (λ x. replay_of x n) h
+image_refused m n (refusal.Image fault) h = ap (λ x. report_of_replay x n) h
+image_refused m n (refusal.Partition p) h = ap (λ x. report_of_replay x n) h
 image_refused m n (refusal.Schedule s) h = absurd h
 image_refused m n (refusal.Trace fault) h = absurd h
 image_refused m n (refusal.Elf fault) h = absurd h
 image_refused m n (refusal.NoSuchName item) h = absurd h
 
-pub names_refused : (m : Result Image Refusal) (i : Image) (n : Result (List (List ℕ)) Refusal) (r : Refusal) → m ≡ Ok i → IsRefusalIn n r → IsRefusalIn (replay_of m n) r
+pub names_refused : (m : Result Image Refusal) (i : Image) (n : Result (List (List ℕ)) Refusal) (r : Refusal) → m ≡ Ok i → IsRefusalIn n r → IsRefusalIn (report_of_replay m n) r
 names_refused m i n refusal.NoMemory is h = tt
 names_refused m i n (refusal.Read file) is h = absurd h
-names_refused m i n (refusal.Image fault) is h = ap (λ x. replay_of x n) is ∙ ap (λ x. replay_of (Ok i) x) h
-names_refused m i n (refusal.Partition p) is h = ap (λ x. replay_of x n) is ∙ ap (λ x. replay_of (Ok i) x) h
-names_refused m i n (refusal.Schedule s) is h = ap (λ x. replay_of x n) is ∙ ap (λ x. replay_of (Ok i) x) h
+names_refused m i n (refusal.Image fault) is h = ap (λ x. report_of_replay x n) is ∙ ap (λ x. report_of_replay (Ok i) x) h
+names_refused m i n (refusal.Partition p) is h = ap (λ x. report_of_replay x n) is ∙ ap (λ x. report_of_replay (Ok i) x) h
+names_refused m i n (refusal.Schedule s) is h = ap (λ x. report_of_replay x n) is ∙ ap (λ x. report_of_replay (Ok i) x) h
 names_refused m i n (refusal.Trace fault) is h = absurd h
-names_refused m i n (refusal.Elf fault) is h = ap (λ x. replay_of x n) is ∙ ap (λ x. replay_of (Ok i) x) h
+names_refused m i n (refusal.Elf fault) is h = ap (λ x. report_of_replay x n) is ∙ ap (λ x. report_of_replay (Ok i) x) h
 names_refused m i n (refusal.NoSuchName item) is h = absurd h
 
 -- ---- which refusals come of the image
@@ -74,10 +74,10 @@ report_cause (Ok w) r unlike e = cc
 report_cause (Err f) r unlike e = unlike (schedule.Replay f.0 f.1) (let is : refusal.Schedule (schedule.Replay f.0 f.1) ≡ r = cc in sym is)
 
 image_cause : (m : Result Image Refusal) (n : Result (List (List ℕ)) ℕ) (r : Refusal) → ((s : ScheduleRefusal) → r ≡ refusal.Schedule s → ⊥)
-    → replay_of m (schedule_by n) ≡ Err r → m ≡ Err r
+    → report_of_replay m (schedule_by n) ≡ Err r → m ≡ Err r
 image_cause (Err why) n r unlike e = let is : why ≡ r = cc in ap (λ x. Err x) is
 image_cause (Ok i) (Err at) r unlike e = absurd (unlike (schedule.Form at) (let is : refusal.Schedule (schedule.Form at) ≡ r = cc in sym is))
-image_cause (Ok i) (Ok names) r unlike e = absurd (report_cause (replayed (opening i) 1 names) r unlike e)
+image_cause (Ok i) (Ok names) r unlike e = absurd (report_cause (replay_from (initial_state i) 1 names) r unlike e)
 
 no_elf_by : (m : Result Image Fault) (f : ElfFault) → image_by m ≡ Err (refusal.Elf f) → ⊥
 no_elf_by (Ok i) f e = cc
@@ -128,9 +128,9 @@ answered image schedule files bytes names answer same same_names h = λ a b imag
 
 image_meant : (files_image : Option (List ℕ)) (bytes names : List ℕ) (r : Refusal) → ((s : ScheduleRefusal) → r ≡ refusal.Schedule s → ⊥)
     → WhereExposed files_image (λ b. bytes ≡ b) → length bytes ≤ most_of kind.Image → length names ≤ most_of kind.Schedule → replay_text bytes names ≡ Err r
-    → WhereExposed files_image (λ b. image_of b ≡ Err r)
+    → WhereExposed files_image (λ b. image_from_bytes b ≡ Err r)
 image_meant files_image bytes names r unlike same within within_names h = λ b exposed.
-    subst (λ x. image_of x ≡ Err r) (same b exposed) (image_cause (image_of bytes) (names_in names) r unlike (sym (text_within bytes names within within_names) ∙ h))
+    subst (λ x. image_from_bytes x ≡ Err r) (same b exposed) (image_cause (image_from_bytes bytes) (names_in names) r unlike (sym (text_within bytes names within within_names) ∙ h))
 
 pub both_read : (image schedule : List ℕ) (files : List ℕ → Option (List ℕ)) (before after : List ℕ → ℕ) (bytes names : List ℕ) (r : Refusal)
     → WhereExposed (files image) (λ b. bytes ≡ b) → WhereExposed (files schedule) (λ b. names ≡ b)
@@ -143,10 +143,10 @@ both_read image schedule files before after bytes names (refusal.Image fault) sa
   image_meant (files image) bytes names (refusal.Image fault) (λ s e. cc) same within within_names h,
 )
 both_read image schedule files before after bytes names (refusal.Partition p) same same_names within within_names h =
-    no_partition_by (reading bytes) p (image_cause (image_of bytes) (names_in names) (refusal.Partition p) (λ s e. cc) (sym (text_within bytes names within within_names) ∙ h))
+    no_partition_by (reading bytes) p (image_cause (image_from_bytes bytes) (names_in names) (refusal.Partition p) (λ s e. cc) (sym (text_within bytes names within within_names) ∙ h))
 both_read image schedule files before after bytes names (refusal.Schedule s) same same_names within within_names h =
     answered image schedule files bytes names (Err (refusal.Schedule s)) same same_names h
 both_read image schedule files before after bytes names (refusal.Trace fault) same same_names within within_names h = absurd h
 both_read image schedule files before after bytes names (refusal.Elf fault) same same_names within within_names h =
-    no_elf_by (reading bytes) fault (image_cause (image_of bytes) (names_in names) (refusal.Elf fault) (λ s e. cc) (sym (text_within bytes names within within_names) ∙ h))
+    no_elf_by (reading bytes) fault (image_cause (image_from_bytes bytes) (names_in names) (refusal.Elf fault) (λ s e. cc) (sym (text_within bytes names within within_names) ∙ h))
 both_read image schedule files before after bytes names (refusal.NoSuchName item) same same_names within within_names h = absurd h

@@ -10,7 +10,7 @@ use Rattle.wedge_cli.specs.declared.refusal.Refusal.{Refusal}
 use Rattle.wedge_cli.specs.declared.refusal.Refusal.TheVariants as refusal
 use Rattle.wedge_cli.specs.declared.writing.Text.{Text}
 use Rattle.wedge_cli.specs.Lines.{line, usage_line, refusal_text, status_of}
-use Rattle.wedge_cli.specs.Loading.{image_of, built_of, IsRefusedBy}
+use Rattle.wedge_cli.specs.Loading.{image_from_bytes, built_of, IsRefusedBy}
 use Rattle.wedge_cli.specs.Replaying.{replay_text}
 use Rattle.wedge_cli.specs.Linking.{link_text, IsLinkedImage}
 use Rattle.wedge_cli.specs.Words.{Asked, Run, Show, Build, Link, Replay, Derive, Analyze}
@@ -92,10 +92,10 @@ unfit_by meant name content before after (refusal.Elf fault) h e = absurd h
 unfit_by meant name content before after (refusal.NoSuchName item) h e = absurd h
 
 unfit_replay : (image schedule : List ℕ) (files : List ℕ → Option (List ℕ)) (before after : List ℕ → ℕ) (r : Refusal)
-    → IsReplayRefused image schedule files before after r → status_of r ≡ 3 → WhereExposed (files image) (λ bytes. IsErr (image_of bytes))
+    → IsReplayRefused image schedule files before after r → status_of r ≡ 3 → WhereExposed (files image) (λ bytes. IsErr (image_from_bytes bytes))
 unfit_replay image schedule files before after refusal.NoMemory h e = absurd (omega arith)
 unfit_replay image schedule files before after (refusal.Read file) h e = absurd (omega arith)
-unfit_replay image schedule files before after (refusal.Image fault) h e = λ bytes exposed. is_err_of (image_of bytes) (refusal.Image fault) (h.1 bytes exposed)
+unfit_replay image schedule files before after (refusal.Image fault) h e = λ bytes exposed. is_err_of (image_from_bytes bytes) (refusal.Image fault) (h.1 bytes exposed)
 unfit_replay image schedule files before after (refusal.Partition p) h e = absurd h
 unfit_replay image schedule files before after (refusal.Schedule s) h e = absurd (omega arith)
 unfit_replay image schedule files before after (refusal.Trace fault) h e = absurd h
@@ -125,8 +125,8 @@ unfit_query query name trace content before after (refusal.Elf fault) h e = absu
 unfit_query query name trace content before after (refusal.NoSuchName item) h e = absurd (omega arith)
 
 unfit : (a : Asked) (files : List ℕ → Option (List ℕ)) (before after : List ℕ → ℕ) (r : Refusal) → IsRefused a files before after r → status_of r ≡ 3 → IsUnfit a files
-unfit (Run image flag) files before after r h e = unfit_by image_of image (files image) (before image) (after image) r h e
-unfit (Show image) files before after r h e = unfit_by image_of image (files image) (before image) (after image) r h e
+unfit (Run image flag) files before after r h e = unfit_by image_from_bytes image (files image) (before image) (after image) r h e
+unfit (Show image) files before after r h e = unfit_by image_from_bytes image (files image) (before image) (after image) r h e
 unfit (Build part) files before after r h e = unfit_by built_of part (files part) (before part) (after part) r h e
 unfit (Link elf part) files before after r h e = unfit_link elf part files before after r h e
 unfit (Replay image schedule) files before after r h e = unfit_replay image schedule files before after r h e
@@ -185,8 +185,8 @@ unread_query query name trace content before after (refusal.Elf fault) h e = abs
 unread_query query name trace content before after (refusal.NoSuchName item) h e = absurd (omega arith)
 
 unread : (a : Asked) (files : List ℕ → Option (List ℕ)) (before after : List ℕ → ℕ) (r : Refusal) → IsRefused a files before after r → status_of r ≡ 4 → IsUnreadable a before after
-unread (Run image flag) files before after r h e = unread_by image_of image (files image) (before image) (after image) r h e
-unread (Show image) files before after r h e = unread_by image_of image (files image) (before image) (after image) r h e
+unread (Run image flag) files before after r h e = unread_by image_from_bytes image (files image) (before image) (after image) r h e
+unread (Show image) files before after r h e = unread_by image_from_bytes image (files image) (before image) (after image) r h e
 unread (Build part) files before after r h e = unread_by built_of part (files part) (before part) (after part) r h e
 unread (Link elf part) files before after r h e = unread_link elf part files before after r h e
 unread (Replay image schedule) files before after r h e = unread_replay image schedule files before after r h e
@@ -244,8 +244,8 @@ rejected_query query name trace content before after (refusal.Elf fault) h e = a
 rejected_query query name trace content before after (refusal.NoSuchName item) h e = absurd (omega arith)
 
 rejected : (a : Asked) (files : List ℕ → Option (List ℕ)) (before after : List ℕ → ℕ) (r : Refusal) → IsRefused a files before after r → status_of r ≡ 8 → IsRejected a files
-rejected (Run image flag) files before after r h e = rejected_by image_of image (files image) (before image) (after image) r h e
-rejected (Show image) files before after r h e = rejected_by image_of image (files image) (before image) (after image) r h e
+rejected (Run image flag) files before after r h e = rejected_by image_from_bytes image (files image) (before image) (after image) r h e
+rejected (Show image) files before after r h e = rejected_by image_from_bytes image (files image) (before image) (after image) r h e
 rejected (Build part) files before after r h e = rejected_by built_of part (files part) (before part) (after part) r h e
 rejected (Link elf part) files before after r h e = no_other_link elf part files before after r h (inl e)
 rejected (Replay image schedule) files before after r h e = rejected_replay image schedule files before after r h e
@@ -304,8 +304,8 @@ unknown_query query name trace content before after (refusal.Elf fault) h e = ab
 unknown_query query name trace content before after (refusal.NoSuchName item) h e = h.1
 
 unknown : (a : Asked) (files : List ℕ → Option (List ℕ)) (before after : List ℕ → ℕ) (r : Refusal) → IsRefused a files before after r → status_of r ≡ 9 → IsUnknown a files
-unknown (Run image flag) files before after r h e = known_by image_of image (files image) (before image) (after image) r h e
-unknown (Show image) files before after r h e = known_by image_of image (files image) (before image) (after image) r h e
+unknown (Run image flag) files before after r h e = known_by image_from_bytes image (files image) (before image) (after image) r h e
+unknown (Show image) files before after r h e = known_by image_from_bytes image (files image) (before image) (after image) r h e
 unknown (Build part) files before after r h e = known_by built_of part (files part) (before part) (after part) r h e
 unknown (Link elf part) files before after r h e = no_other_link elf part files before after r h (inr e)
 unknown (Replay image schedule) files before after r h e = known_replay image schedule files before after r h e
@@ -364,8 +364,8 @@ not_elf_query query name trace content before after (refusal.Elf fault) h e = h
 not_elf_query query name trace content before after (refusal.NoSuchName item) h e = omega arith
 
 elf_rejected : (a : Asked) (files : List ℕ → Option (List ℕ)) (before after : List ℕ → ℕ) (r : Refusal) → IsRefused a files before after r → status_of r ≡ 10 → IsElfRejected a files
-elf_rejected (Run image flag) files before after r h e = not_elf image_of image (files image) (before image) (after image) r h e
-elf_rejected (Show image) files before after r h e = not_elf image_of image (files image) (before image) (after image) r h e
+elf_rejected (Run image flag) files before after r h e = not_elf image_from_bytes image (files image) (before image) (after image) r h e
+elf_rejected (Show image) files before after r h e = not_elf image_from_bytes image (files image) (before image) (after image) r h e
 elf_rejected (Build part) files before after r h e = not_elf built_of part (files part) (before part) (after part) r h e
 elf_rejected (Link elf part) files before after r h e = rejected_elf elf part files before after r h e
 elf_rejected (Replay image schedule) files before after r h e = not_elf_replay image schedule files before after r h e
@@ -464,7 +464,7 @@ run_done image bytes ended before after (inr d) exposed is = done_0 image bytes 
 -- ---- a run with its schedule and the status 0
 
 scheduled : (i : Image) (kept : Option Journal) (texts : List Text) (bytes : List ℕ) (s u : Sinks)
-    → Encodes i bytes → image_of bytes ≡ Ok i → IsReported i Schedule kept texts → AreTaken texts s u → IsScheduleDone bytes kept s u
+    → Encodes i bytes → image_from_bytes bytes ≡ Ok i → IsReported i Schedule kept texts → AreTaken texts s u → IsScheduleDone bytes kept s u
 scheduled i None texts bytes s u encoded accepted r taken = absurd r
 scheduled i (Some journal) texts bytes s u encoded accepted r taken =
     let schedule = schedule_of (actors_of journal.entries) in

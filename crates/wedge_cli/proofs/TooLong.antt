@@ -13,10 +13,10 @@ use Rattle.wedge_cli.specs.declared.loading.FileKind.TheVariants as kind
 use Rattle.wedge_cli.specs.declared.refusal.ScheduleRefusal.{ScheduleRefusal}
 use Rattle.wedge_cli.specs.declared.refusal.Refusal.{Refusal}
 use Rattle.wedge_cli.specs.declared.refusal.Refusal.TheVariants as refusal
-use Rattle.wedge_cli.specs.Loading.{image_of, built_of, most_of, most_partition, too_long, IsRefusalOf, IsUnread, IsRefusedBy}
+use Rattle.wedge_cli.specs.Loading.{image_from_bytes, built_of, most_of, most_partition, too_long, IsRefusalOf, IsUnread, IsRefusedBy}
 
 -- files of too many bytes are refused
-pub long_image : (bytes : List ℕ) → most_of kind.Image < length bytes → image_of bytes ≡ Err (too_long kind.Image)
+pub long_image : (bytes : List ℕ) → most_of kind.Image < length bytes → image_from_bytes bytes ≡ Err (too_long kind.Image)
 unfolding reading
 long_image bytes lt = let long : nat_le (length bytes) most_bytes ≡ false = lt-leb (length bytes) most_bytes lt in rw long refl
 

@@ -7,7 +7,7 @@ use Rattle.wedge_cli.specs.declared.writing.SinkName.{SinkName}
 use Rattle.wedge_cli.specs.declared.writing.SinkName.TheVariants as sink
 use Rattle.wedge_cli.specs.declared.writing.Text.{Text}
 use Rattle.wedge_cli.specs.Lines.{write_fault_line}
-use Rattle.wedge_cli.specs.Outside.{Device, Sinks, Rises, Takes, Fails, Tried}
+use Rattle.wedge_cli.specs.Outside.{Device, Sinks, Rises, Takes, IsFailedWrite, Tried}
 use Rattle.wedge_cli.specs.Ended.{on_out, on_err, on_both, TakesOn, FailsOn, AreTaken, OneFails, TellsFault, IsWritten, IsSaid}
 
 -- a fault of one of the sinks
@@ -80,7 +80,7 @@ took_both a b s u h =
 
 -- a line on the error stream that failed
 pub said_fault : (status : ℕ) (text : List ℕ) (ended : Ended) (e m f : Device) → ended.journal ≡ None → ended.status ≡ 5
-    → Fails text e m → Tried write_fault_line m f → IsSaid status text ended e f
+    → IsFailedWrite text e m → Tried write_fault_line m f → IsSaid status text ended e f
 said_fault status text ended e m f none is fails tried = λ out. record {
   journal = none;
   cases = inr (record { between = record { out = out; err = m }; one = inl (fails, refl); other = (tried, refl) }, is);

@@ -10,15 +10,15 @@ use Rattle.wedge_cli.specs.Outside.{Device, Outside}
 use Rattle.wedge_cli.specs.Lines.{line, usage_line, refusal_text, status_of}
 use Rattle.wedge_cli.specs.declared.loading.FileKind.TheVariants as kind
 use Rattle.wedge_cli.specs.declared.refusal.ScheduleRefusal.{ScheduleRefusal}
-use Rattle.wedge_cli.specs.Loading.{image_of, built_of, most_of, IsReadFault, IsRefusedBy}
+use Rattle.wedge_cli.specs.Loading.{image_from_bytes, built_of, most_of, IsReadFault, IsRefusedBy}
 use Rattle.trace_form.specs.declared.fault.TraceFault.{TraceFault}
 use Rattle.wedge_cli.specs.Replaying.{replay_text}
 use Rattle.elf_in.specs.declared.fault.Fault.{Fault as ElfFault}
-use Rattle.elf_in.specs.Reading.{reading as elf_reading}
+use Rattle.elf_in.specs.Reading.{elf_program as elf_reading}
 use Rattle.wedge_cli.specs.Linking.{link_text, IsUnjoined}
 use Rattle.wedge_cli.specs.Traces.{trace_fault, IsUnknownIn, IsTraceRefused, IsQueryRefused}
 use Rattle.wedge_cli.specs.Words.{Asked, Run, Show, Build, Link, Replay, Derive, Analyze}
-use Rattle.wedge_cli.specs.Ended.{IsAnswered, IsWritten, IsSaid}
+use Rattle.wedge_cli.specs.Ended.{IsCommandOutput, IsWritten, IsSaid}
 
 -- a read of one of the two files failed; where it is the second, the first is not too long
 abbrev pub IsReplayFault : List ℕ → List ℕ → (List ℕ → Option (List ℕ)) → (List ℕ → ℕ) → (List ℕ → ℕ) → List ℕ → Type 0
@@ -37,7 +37,7 @@ abbrev pub IsReplayRefused : List ℕ → List ℕ → (List ℕ → Option (Lis
 IsReplayRefused image schedule files before after refusal.NoMemory = Unit {0}
 IsReplayRefused image schedule files before after (refusal.Read file) = IsReplayFault image schedule files before after file
 IsReplayRefused image schedule files before after (refusal.Image fault) =
-    IsReplayAnswer image schedule files (Err (refusal.Image fault)) × WhereExposed (files image) (λ bytes. image_of bytes ≡ Err (refusal.Image fault))
+    IsReplayAnswer image schedule files (Err (refusal.Image fault)) × WhereExposed (files image) (λ bytes. image_from_bytes bytes ≡ Err (refusal.Image fault))
 IsReplayRefused image schedule files before after (refusal.Partition p) = ⊥
 IsReplayRefused image schedule files before after (refusal.Schedule s) = IsReplayAnswer image schedule files (Err (refusal.Schedule s))
 IsReplayRefused image schedule files before after (refusal.Trace fault) = ⊥
@@ -73,8 +73,8 @@ IsLinkRefused elf part files before after (refusal.NoSuchName item) = ⊥
 
 -- why a command is not done, of the files and of their counts of failed reads before and after
 abbrev pub IsRefused : Asked → (List ℕ → Option (List ℕ)) → (List ℕ → ℕ) → (List ℕ → ℕ) → Refusal → Type 0
-IsRefused (Run image flag) files before after why = IsRefusedBy image_of image (files image) (before image) (after image) why
-IsRefused (Show image) files before after why = IsRefusedBy image_of image (files image) (before image) (after image) why
+IsRefused (Run image flag) files before after why = IsRefusedBy image_from_bytes image (files image) (before image) (after image) why
+IsRefused (Show image) files before after why = IsRefusedBy image_from_bytes image (files image) (before image) (after image) why
 IsRefused (Build part) files before after why = IsRefusedBy built_of part (files part) (before part) (after part) why
 IsRefused (Link elf part) files before after why = IsLinkRefused elf part files before after why
 IsRefused (Replay image schedule) files before after why = IsReplayRefused image schedule files before after why
@@ -83,11 +83,11 @@ IsRefused (Analyze trace query name) files before after why = IsQueryRefused que
 
 -- its image or its partition is rejected, or the two files of a link make no image
 abbrev pub IsUnfit : Asked → (List ℕ → Option (List ℕ)) → Type 0
-IsUnfit (Run image flag) files = WhereExposed (files image) (λ bytes. IsErr (image_of bytes))
-IsUnfit (Show image) files = WhereExposed (files image) (λ bytes. IsErr (image_of bytes))
+IsUnfit (Run image flag) files = WhereExposed (files image) (λ bytes. IsErr (image_from_bytes bytes))
+IsUnfit (Show image) files = WhereExposed (files image) (λ bytes. IsErr (image_from_bytes bytes))
 IsUnfit (Build part) files = WhereExposed (files part) (λ bytes. IsErr (built_of bytes))
 IsUnfit (Link elf part) files = (bytes text : List ℕ) → files elf ≡ Some bytes → files part ≡ Some text → IsUnjoined bytes text
-IsUnfit (Replay image schedule) files = WhereExposed (files image) (λ bytes. IsErr (image_of bytes))
+IsUnfit (Replay image schedule) files = WhereExposed (files image) (λ bytes. IsErr (image_from_bytes bytes))
 IsUnfit (Derive trace) files = ⊥
 IsUnfit (Analyze trace query name) files = ⊥
 
@@ -147,7 +147,7 @@ pub record IsRefusal (a : Asked) (ended : Ended) (before after : Outside) : Type
 pub record IsCommandDone (a : Asked) (ended : Ended) (before after : Outside) : Type 0 where
   pub kept : Option Journal
   pub texts : List Text
-  pub made : IsAnswered a before.files kept texts
+  pub made : IsCommandOutput a before.files kept texts
   pub written : IsWritten 0 kept texts ended before.sinks after.sinks
 
 -- the arguments are no command: out is left alone, and err takes the line of that

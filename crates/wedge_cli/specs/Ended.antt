@@ -18,10 +18,10 @@ use Rattle.wedge_cli.specs.declared.refusal.Refusal.{Refusal}
 use Rattle.wedge_cli.specs.declared.writing.SinkName.TheVariants as sink
 use Rattle.wedge_cli.specs.declared.writing.SinkName.{SinkName}
 use Rattle.wedge_cli.specs.declared.writing.Text.{Text}
-use Rattle.wedge_cli.specs.Outside.{Device, Sinks, Takes, Fails, Tried}
+use Rattle.wedge_cli.specs.Outside.{Device, Sinks, Takes, IsFailedWrite, Tried}
 use Rattle.wedge_cli.specs.Lines.{line, write_fault_line, refusal_text, status_of}
 use Rattle.wedge_cli.specs.Listing.{listing}
-use Rattle.wedge_cli.specs.Loading.{image_of, built_of, most_of}
+use Rattle.wedge_cli.specs.Loading.{image_from_bytes, built_of, most_of}
 use Rattle.wedge_cli.specs.Replaying.{replay_text}
 use Rattle.wedge_cli.specs.Linking.{link_text, IsLinkedImage}
 use Rattle.wedge_cli.specs.Traces.{derive_text, analyze_text}
@@ -68,13 +68,13 @@ IsReported i flag (Some journal) texts = IsReportOf i flag journal texts
 pub record RunsImage (flag : RunFlag) (content : Option (List ℕ)) (kept : Option Journal) (texts : List Text) : Type 0 where
   pub image : Image
   pub encoded : WhereExposed content (λ bytes. Encodes image bytes)
-  pub accepted : WhereExposed content (λ bytes. image_of bytes ≡ Ok image)
+  pub accepted : WhereExposed content (λ bytes. image_from_bytes bytes ≡ Ok image)
   pub reported : IsReported image flag kept texts
 
 pub record IsShown (content : Option (List ℕ)) (kept : Option Journal) (texts : List Text) : Type 0 where
   pub image : Image
   pub encoded : WhereExposed content (λ bytes. Encodes image bytes)
-  pub accepted : WhereExposed content (λ bytes. image_of bytes ≡ Ok image)
+  pub accepted : WhereExposed content (λ bytes. image_from_bytes bytes ≡ Ok image)
   pub kept_is : kept ≡ None
   pub are : texts ≡ on_out (listing image)
 
@@ -115,14 +115,14 @@ pub record IsTraceAnswer (meaning : List ℕ → Result (List ℕ) Refusal) (tra
   pub are : texts ≡ on_out text
 
 -- the journal that a command keeps, and the texts that it writes
-abbrev pub IsAnswered : Asked → (List ℕ → Option (List ℕ)) → Option Journal → List Text → Type 0
-IsAnswered (Run image flag) files kept texts = RunsImage flag (files image) kept texts
-IsAnswered (Show image) files kept texts = IsShown (files image) kept texts
-IsAnswered (Build part) files kept texts = IsBuilt (files part) kept texts
-IsAnswered (Link elf part) files kept texts = IsLinked (files elf) (files part) kept texts
-IsAnswered (Replay image schedule) files kept texts = IsPairAnswer replay_text (files image) (files schedule) kept texts
-IsAnswered (Derive trace) files kept texts = IsTraceAnswer derive_text (files trace) kept texts
-IsAnswered (Analyze trace query name) files kept texts = IsTraceAnswer (analyze_text query name) (files trace) kept texts
+abbrev pub IsCommandOutput : Asked → (List ℕ → Option (List ℕ)) → Option Journal → List Text → Type 0
+IsCommandOutput (Run image flag) files kept texts = RunsImage flag (files image) kept texts
+IsCommandOutput (Show image) files kept texts = IsShown (files image) kept texts
+IsCommandOutput (Build part) files kept texts = IsBuilt (files part) kept texts
+IsCommandOutput (Link elf part) files kept texts = IsLinked (files elf) (files part) kept texts
+IsCommandOutput (Replay image schedule) files kept texts = IsPairAnswer replay_text (files image) (files schedule) kept texts
+IsCommandOutput (Derive trace) files kept texts = IsTraceAnswer derive_text (files trace) kept texts
+IsCommandOutput (Analyze trace query name) files kept texts = IsTraceAnswer (analyze_text query name) (files trace) kept texts
 
 -- ---- how texts are written
 
@@ -136,8 +136,8 @@ TakesText t before after = TakesOn t.sink t.bytes before after
 
 -- it fails over the text: it has taken a prefix, and the other is left alone
 abbrev pub FailsOn : SinkName → List ℕ → Sinks → Sinks → Type 0
-FailsOn sink.Out bytes before after = Fails bytes before.out after.out × (after.err ≡ before.err)
-FailsOn sink.Err bytes before after = Fails bytes before.err after.err × (after.out ≡ before.out)
+FailsOn sink.Out bytes before after = IsFailedWrite bytes before.out after.out × (after.err ≡ before.err)
+FailsOn sink.Err bytes before after = IsFailedWrite bytes before.err after.err × (after.out ≡ before.out)
 
 abbrev pub FailsText : Text → Sinks → Sinks → Type 0
 FailsText t before after = FailsOn t.sink t.bytes before after

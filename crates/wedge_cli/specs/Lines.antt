@@ -31,7 +31,7 @@ refused_at place word = codes "image refused at " ++ decimal place ++ codes ": "
 
 -- what is wrong with an ELF file, at an offset
 abbrev pub elf_text : ElfFault → List ℕ
-elf_text fault = codes "elf refused at " ++ decimal fault.at ++ codes ": " ++ elf.word fault.why
+elf_text fault = codes "elf refused at " ++ decimal fault.at ++ codes ": " ++ elf.elf_why_word fault.why
 
 -- what is wrong with a partition
 abbrev pub part_text : PartRefusal → List ℕ
@@ -39,17 +39,17 @@ part_text part.Limit = codes "limit"
 part_text part.Toml = codes "toml"
 part_text (part.Key name) = codes "key " ++ name
 part_text (part.Kind name) = codes "kind " ++ name
-part_text (part.Asm line why) = codes "line " ++ decimal line ++ codes " " ++ asm.word why
-part_text (part.Image at why) = codes "image at " ++ decimal at ++ codes ": " ++ image.word why
+part_text (part.Asm line why) = codes "line " ++ decimal line ++ codes " " ++ asm.asm_why_word why
+part_text (part.Image at why) = codes "image at " ++ decimal at ++ codes ": " ++ image.image_why_word why
 
 -- what is wrong with a schedule, at a line
-abbrev pub why_word : Why → List ℕ
-why_word why.Unknown = codes "unknown"
-why_word why.Ended = codes "ended"
-why_word why.Waits = codes "waits"
-why_word why.Busy = codes "busy"
-why_word why.Short = codes "short"
-why_word why.Extra = codes "extra"
+abbrev pub replay_why_word : Why → List ℕ
+replay_why_word why.Unknown = codes "unknown"
+replay_why_word why.Ended = codes "ended"
+replay_why_word why.Waits = codes "waits"
+replay_why_word why.Busy = codes "busy"
+replay_why_word why.Short = codes "short"
+replay_why_word why.Extra = codes "extra"
 
 abbrev pub schedule_at : ℕ → List ℕ → List ℕ
 schedule_at line word = codes "schedule refused at " ++ decimal line ++ codes ": " ++ word
@@ -57,7 +57,7 @@ schedule_at line word = codes "schedule refused at " ++ decimal line ++ codes ":
 abbrev pub schedule_text : ScheduleRefusal → List ℕ
 schedule_text schedule.Limit = schedule_at 0 (codes "limit")
 schedule_text (schedule.Form at) = schedule_at at (codes "form")
-schedule_text (schedule.Replay at why) = schedule_at at (why_word why)
+schedule_text (schedule.Replay at why) = schedule_at at (replay_why_word why)
 
 -- what is wrong with a trace, at a line
 abbrev pub trace_fault_text : TraceFault → List ℕ
@@ -68,7 +68,7 @@ trace_fault_text fault =
 abbrev pub refusal_text : Refusal → List ℕ
 refusal_text refusal.NoMemory = codes "out of memory"
 refusal_text (refusal.Read file) = codes "read fault: " ++ file
-refusal_text (refusal.Image fault) = refused_at fault.at (image.word fault.why)
+refusal_text (refusal.Image fault) = refused_at fault.at (image.image_why_word fault.why)
 refusal_text (refusal.Partition p) = codes "partition refused: " ++ part_text p
 refusal_text (refusal.Schedule s) = schedule_text s
 refusal_text (refusal.Trace fault) = trace_fault_text fault

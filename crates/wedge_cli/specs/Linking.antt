@@ -6,7 +6,7 @@ use Rattle.wedge_base.specs.Images.{Image}
 use Rattle.image_form.specs.Encoding.{encoding}
 use Rattle.image_form.specs.Rules.{Encodes}
 use Rattle.elf_in.specs.Program.{Program}
-use Rattle.elf_in.specs.Reading.{reading}
+use Rattle.elf_in.specs.Reading.{elf_program}
 use Rattle.elf_in.specs.Laws.{KeepsLoads}
 use Rattle.elf_in.specs.declared.fault.Fault.{Fault as ElfFault}
 use Rattle.part_toml.specs.Faults.{Refusal as Meant}
@@ -33,22 +33,22 @@ joined_of program bytes =
     else if is_utf8 bytes then by_joining (partition_with program bytes)
     else Err (refusal.Partition part.Toml)
 
-abbrev pub bytes_by : Result Image Refusal → Result (List ℕ) Refusal
-bytes_by (Ok i) = Ok (encoding i)
-bytes_by (Err why) = Err why
+abbrev pub encoding_by : Result Image Refusal → Result (List ℕ) Refusal
+encoding_by (Ok i) = Ok (encoding i)
+encoding_by (Err why) = Err why
 
 abbrev pub link_with : Result Program Refusal → List ℕ → Result (List ℕ) Refusal
-link_with (Ok program) bytes = bytes_by (joined_of program bytes)
+link_with (Ok program) bytes = encoding_by (joined_of program bytes)
 link_with (Err why) bytes = Err why
 
 -- the checks of the ELF file come first, then those of the partition, and then those of the image
 abbrev pub link_text : List ℕ → List ℕ → Result (List ℕ) Refusal
-link_text elf bytes = link_with (program_by (reading elf)) bytes
+link_text elf bytes = link_with (program_by (elf_program elf)) bytes
 
 -- a partition that can't be joined to the program of an ELF file
 pub record IsUnjoined (elf bytes : List ℕ) : Type 0 where
   pub program : Program
-  pub accepted : reading elf ≡ Ok program
+  pub accepted : elf_program elf ≡ Ok program
   pub why : Refusal
   pub rejected : joined_of program bytes ≡ Err why
 
@@ -61,6 +61,6 @@ pub record IsJoinedImage (program : Program) (bytes : List ℕ) : Type 0 where
 -- and that program is the one of an ELF file: its text and data have the bytes of the file's loads
 pub record IsLinkedImage (elf bytes : List ℕ) : Type 0 where
   pub program : Program
-  pub accepted : reading elf ≡ Ok program
+  pub accepted : elf_program elf ≡ Ok program
   pub keeps : KeepsLoads elf program
   pub joined : IsJoinedImage program bytes

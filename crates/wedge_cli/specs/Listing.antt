@@ -10,13 +10,13 @@ use Rattle.report_text.specs.Reports.{address_text}
 abbrev pub colon : ℕ
 colon = 58
 
-abbrev pub line_end : ℕ
-line_end = 10
+abbrev pub newline : ℕ
+newline = 10
 
 -- the name of a procedure, on a line of its own where it begins
 abbrev pub heading : List ℕ → List ℕ
 heading [] = []
-heading (c ∷ cs) = (c ∷ cs) ++ colon ∷ line_end ∷ []
+heading (c ∷ cs) = (c ∷ cs) ++ colon ∷ newline ∷ []
 
 -- an instruction as the assembler takes it; a word that is none, as a word
 abbrev pub word_text : ℕ → Option Instr → List ℕ
@@ -32,7 +32,7 @@ column n = address_text n ++ codes " "
 
 -- the word at an address
 unfoldable pub word_line : ℕ → ℕ → List ℕ
-word_line address w = column address ++ column w ++ says w ++ line_end ∷ []
+word_line address w = column address ++ column w ++ says w ++ newline ∷ []
 
 -- the lines of words from an address on
 abbrev pub lines_from : Image → ℕ → List ℕ → List ℕ

@@ -5,7 +5,7 @@ use Rattle.wedge_base.specs.Images.{Image}
 use Rattle.host_io.specs.Exposed.{WhereExposed}
 use Rattle.elf_in.specs.declared.fault.Fault.{Fault as ElfFault}
 use Rattle.elf_in.specs.declared.fault.Why.TheVariants as elf_why
-use Rattle.elf_in.specs.Checks.{most_bytes as most_elf}
+use Rattle.elf_in.specs.Checks.{most_elf_bytes as most_elf}
 use Rattle.image_form.specs.declared.fault.Fault.{Fault}
 use Rattle.image_form.specs.Reading.{reading}
 use Rattle.image_form.specs.Encoding.{most_bytes}
@@ -29,8 +29,8 @@ abbrev pub image_by : Result Image Fault → Result Image Refusal
 image_by (Ok i) = Ok i
 image_by (Err fault) = Err (refusal.Image fault)
 
-abbrev pub image_of : List ℕ → Result Image Refusal
-image_of bytes = image_by (reading bytes)
+abbrev pub image_from_bytes : List ℕ → Result Image Refusal
+image_from_bytes bytes = image_by (reading bytes)
 
 -- the most bytes of a partition's file
 abbrev pub most_partition : ℕ

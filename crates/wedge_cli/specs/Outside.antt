@@ -36,10 +36,10 @@ abbrev pub Rises : Device → Device → Type 0
 Rises before after = before.faults < after.faults
 
 -- it took a prefix of these bytes, not all of them, and failed
-pub record Fails (bytes : List ℕ) (before after : Device) : Type 0 where
+pub record IsFailedWrite (bytes : List ℕ) (before after : Device) : Type 0 where
   pub rises : Rises before after
   pub part : (n : ℕ) × (n < length bytes) × (after.written ≡ grown_by before.written (take n bytes))
 
 -- it was given these bytes once, and took them or failed
 abbrev pub Tried : List ℕ → Device → Device → Type 0
-Tried bytes before after = Takes bytes before after ⊎ Fails bytes before after
+Tried bytes before after = Takes bytes before after ⊎ IsFailedWrite bytes before after

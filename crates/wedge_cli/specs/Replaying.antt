@@ -3,15 +3,15 @@ use Rattle.std.specs.Prelude.{◌≡◌, ℕ, List, length, Result, Ok, Err, nat
 use Rattle.wedge_base.specs.Images.{Image}
 use Rattle.report_text.specs.Reports.{report_of}
 use Rattle.report_text.specs.Schedules.{names_in}
-use Rattle.run_laws.specs.Worlds.{WorldState, opening}
+use Rattle.run_laws.specs.Worlds.{WorldState, initial_state}
 use Rattle.run_laws.specs.Outcomes.{outcome_of}
 use Rattle.wedge_core.specs.declared.error.Why.{Why}
-use Rattle.wedge_core.specs.Replay.{replayed}
+use Rattle.wedge_core.specs.Replay.{replay_from}
 use Rattle.wedge_cli.specs.declared.loading.FileKind.TheVariants as kind
 use Rattle.wedge_cli.specs.declared.refusal.Refusal.{Refusal}
 use Rattle.wedge_cli.specs.declared.refusal.Refusal.TheVariants as refusal
 use Rattle.wedge_cli.specs.declared.refusal.ScheduleRefusal.TheVariants as schedule
-use Rattle.wedge_cli.specs.Loading.{image_of, most_of, too_long}
+use Rattle.wedge_cli.specs.Loading.{image_from_bytes, most_of, too_long}
 
 -- the report of the state that a schedule leads to
 abbrev pub replay_report : Result WorldState (ℕ × Why) → Result (List ℕ) Refusal
@@ -24,17 +24,17 @@ schedule_by (Ok names) = Ok names
 schedule_by (Err at) = Err (refusal.Schedule (schedule.Form at))
 
 -- the report of an image and a schedule that were read
-abbrev pub replay_of : Result Image Refusal → Result (List (List ℕ)) Refusal → Result (List ℕ) Refusal
-replay_of (Ok i) (Ok names) = replay_report (replayed (opening i) 1 names)
-replay_of (Ok i) (Err why) = Err why
-replay_of (Err why) names = Err why
+abbrev pub report_of_replay : Result Image Refusal → Result (List (List ℕ)) Refusal → Result (List ℕ) Refusal
+report_of_replay (Ok i) (Ok names) = replay_report (replay_from (initial_state i) 1 names)
+report_of_replay (Ok i) (Err why) = Err why
+report_of_replay (Err why) names = Err why
 
 -- the limits of both files, the image's form, the schedule's, and then the run
 unfoldable pub replay_text : List ℕ → List ℕ → Result (List ℕ) Refusal
 replay_text image names =
     if nat_lt (most_of kind.Image) (length image) then Err (too_long kind.Image)
     else if nat_lt (most_of kind.Schedule) (length names) then Err (too_long kind.Schedule)
-    else replay_of (image_of image) (schedule_by (names_in names))
+    else report_of_replay (image_from_bytes image) (schedule_by (names_in names))
 
 -- what is meant is this refusal, unless memory ran out
 abbrev pub IsRefusalIn : {X : Type 0} → Result X Refusal → Refusal → Type 0

@@ -34,21 +34,21 @@ abbrev pub texts : {A : Type 0} → List (String A) → List (List ℕ)
 texts words = map string_bytes words
 
 -- whether an argument can name a file: it is not empty and does not begin with `-`
-abbrev pub is_plain : List ℕ → Bool
-is_plain [] = false
-is_plain (c ∷ cs) = not (c == 45)
+abbrev pub is_plain_argument : List ℕ → Bool
+is_plain_argument [] = false
+is_plain_argument (c ∷ cs) = not (c == 45)
 
 -- the one argument, if it can name a file
-abbrev pub file_of : List (List ℕ) → Option (List ℕ)
-file_of (name ∷ []) = if is_plain name then Some name else None
-file_of arguments = None
+abbrev pub file_argument : List (List ℕ) → Option (List ℕ)
+file_argument (name ∷ []) = if is_plain_argument name then Some name else None
+file_argument arguments = None
 
 -- whether an argument is the flag
 abbrev pub is_schedule : List ℕ → Bool
 is_schedule argument = bytes_eq argument (codes "--schedule")
 
 abbrev pub run_with : RunFlag → List ℕ → Option Asked
-run_with flag image = if is_plain image then Some (Run image flag) else None
+run_with flag image = if is_plain_argument image then Some (Run image flag) else None
 
 -- the arguments after each command; the flag of `run` may be before the image or after it
 abbrev pub run_of : List (List ℕ) → Option Asked
@@ -60,21 +60,21 @@ run_of (one ∷ other ∷ []) =
 run_of arguments = None
 
 abbrev pub show_of : List (List ℕ) → Option Asked
-show_of arguments = option_map Show (file_of arguments)
+show_of arguments = option_map Show (file_argument arguments)
 
 abbrev pub build_of : List (List ℕ) → Option Asked
-build_of arguments = option_map Build (file_of arguments)
+build_of arguments = option_map Build (file_argument arguments)
 
 abbrev pub link_of : List (List ℕ) → Option Asked
-link_of (elf ∷ part ∷ []) = if is_plain elf && is_plain part then Some (Link elf part) else None
+link_of (elf ∷ part ∷ []) = if is_plain_argument elf && is_plain_argument part then Some (Link elf part) else None
 link_of arguments = None
 
-abbrev pub replay_of : List (List ℕ) → Option Asked
-replay_of (image ∷ schedule ∷ []) = if is_plain image && is_plain schedule then Some (Replay image schedule) else None
-replay_of arguments = None
+abbrev pub replay_command : List (List ℕ) → Option Asked
+replay_command (image ∷ schedule ∷ []) = if is_plain_argument image && is_plain_argument schedule then Some (Replay image schedule) else None
+replay_command arguments = None
 
 abbrev pub derive_of : List (List ℕ) → Option Asked
-derive_of arguments = option_map Derive (file_of arguments)
+derive_of arguments = option_map Derive (file_argument arguments)
 
 -- what is asked of a trace
 abbrev pub query_of : List ℕ → Option Query
@@ -86,7 +86,7 @@ query_of argument =
 
 abbrev pub analyze_with : List ℕ → List ℕ → Option Query → Option Asked
 analyze_with trace name query =
-    if is_plain trace && is_plain name then option_map (λ q. Analyze trace q name) query else None
+    if is_plain_argument trace && is_plain_argument name then option_map (λ q. Analyze trace q name) query else None
 
 abbrev pub analyze_of : List (List ℕ) → Option Asked
 analyze_of (trace ∷ query ∷ name ∷ []) = analyze_with trace name (query_of query)
@@ -100,7 +100,7 @@ command_of (command ∷ arguments) =
     else if bytes_eq command (codes "show") then show_of arguments
     else if bytes_eq command (codes "build") then build_of arguments
     else if bytes_eq command (codes "link") then link_of arguments
-    else if bytes_eq command (codes "replay") then replay_of arguments
+    else if bytes_eq command (codes "replay") then replay_command arguments
     else if bytes_eq command (codes "derive") then derive_of arguments
     else if bytes_eq command (codes "analyze") then analyze_of arguments
     else None

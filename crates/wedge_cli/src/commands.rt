@@ -2,9 +2,9 @@
 
 ghost use Rattle.std.specs.Prelude.{◌≡◌, ◌≤◌, ℕ, List, Some, None, IfOk, IfErr};
 ghost use Rattle.wedge_cli.specs.Words as asking;
-ghost use Rattle.wedge_cli.specs.Loading.{IsRefusedBy, image_of, built_of};
+ghost use Rattle.wedge_cli.specs.Loading.{IsRefusedBy, image_from_bytes, built_of};
 ghost use Rattle.wedge_cli.specs.Causes.{IsLinkRefused, IsReplayRefused, IsRefused};
-ghost use Rattle.wedge_cli.specs.Ended.{on_out, on_both, IsReported, RunsImage, IsShown, IsBuilt, IsLinked, IsPairAnswer, IsTraceAnswer, IsAnswered};
+ghost use Rattle.wedge_cli.specs.Ended.{on_out, on_both, IsReported, RunsImage, IsShown, IsBuilt, IsLinked, IsPairAnswer, IsTraceAnswer, IsCommandOutput};
 ghost use Rattle.wedge_cli.specs.Replaying as replays;
 ghost use Rattle.wedge_cli.specs.Traces.{derive_text, analyze_text, IsTraceRefused, IsQueryRefused};
 
@@ -31,11 +31,12 @@ pub(crate) fn prepare<F: Files>(
     command: Command<'_>,
     files: &mut F,
 ) -> Result<Ready, Refusal>
-    ensures made { IfOk result (λ r. IsAnswered (asking.asked_by command.entry)
+    ensures made { IfOk result (λ r. IsCommandOutput (asking.asked_by command.entry)
         (F.content files.old) r.journal r.texts.items) }
     ensures refused { IfErr result (IsRefused (asking.asked_by command.entry) (F.content files.old)
         (F.faults files.old) (F.faults files.new)) }
-    ensures content { (other : List ℕ) → F.content files.new other ≡ F.content files.old other }
+    ensures content { (other : List ℕ) → F.content files.new other
+        ≡ F.content files.old other }
     ensures rises { (other : List ℕ) → F.faults files.old other ≤ F.faults files.new other }
 {
     match command {
@@ -53,9 +54,11 @@ pub(crate) fn prepare<F: Files>(
 fn run<F: Files>(alloc: Global, files: &mut F, name: &str, flag: RunFlag) -> Result<Ready, Refusal>
     ensures made { IfOk result
         (λ r. RunsImage flag (F.content files.old name.now) r.journal r.texts.items) }
-    ensures refused { IfErr result (IsRefusedBy image_of name.now (F.content files.old name.now)
+    ensures refused { IfErr result
+        (IsRefusedBy image_from_bytes name.now (F.content files.old name.now)
         (F.faults files.old name.now) (F.faults files.new name.now)) }
-    ensures content { (other : List ℕ) → F.content files.new other ≡ F.content files.old other }
+    ensures content { (other : List ℕ) → F.content files.new other
+        ≡ F.content files.old other }
     ensures rises { (other : List ℕ) → F.faults files.old other ≤ F.faults files.new other }
 {
     let image = load_image(alloc, files, name)?;
@@ -82,9 +85,11 @@ fn run_image(alloc: Global, image: &Image, flag: RunFlag) -> Result<Ready, NoMem
 fn show<F: Files>(alloc: Global, files: &mut F, name: &str) -> Result<Ready, Refusal>
     ensures made { IfOk result
         (λ r. IsShown (F.content files.old name.now) r.journal r.texts.items) }
-    ensures refused { IfErr result (IsRefusedBy image_of name.now (F.content files.old name.now)
+    ensures refused { IfErr result
+        (IsRefusedBy image_from_bytes name.now (F.content files.old name.now)
         (F.faults files.old name.now) (F.faults files.new name.now)) }
-    ensures content { (other : List ℕ) → F.content files.new other ≡ F.content files.old other }
+    ensures content { (other : List ℕ) → F.content files.new other
+        ≡ F.content files.old other }
     ensures rises { (other : List ℕ) → F.faults files.old other ≤ F.faults files.new other }
 {
     let image = load_image(alloc, files, name)?;
@@ -99,7 +104,8 @@ fn build<F: Files>(alloc: Global, files: &mut F, name: &str) -> Result<Ready, Re
         (λ r. IsBuilt (F.content files.old name.now) r.journal r.texts.items) }
     ensures refused { IfErr result (IsRefusedBy built_of name.now (F.content files.old name.now)
         (F.faults files.old name.now) (F.faults files.new name.now)) }
-    ensures content { (other : List ℕ) → F.content files.new other ≡ F.content files.old other }
+    ensures content { (other : List ℕ) → F.content files.new other
+        ≡ F.content files.old other }
     ensures rises { (other : List ℕ) → F.faults files.old other ≤ F.faults files.new other }
 {
     let image = load_built(alloc, files, name)?;
@@ -114,7 +120,8 @@ fn link<F: Files>(alloc: Global, files: &mut F, elf: &str, part: &str) -> Result
         (F.content files.old part.now) r.journal r.texts.items) }
     ensures refused { IfErr result (IsLinkRefused elf.now part.now (F.content files.old)
         (F.faults files.old) (F.faults files.new)) }
-    ensures content { (other : List ℕ) → F.content files.new other ≡ F.content files.old other }
+    ensures content { (other : List ℕ) → F.content files.new other
+        ≡ F.content files.old other }
     ensures rises { (other : List ℕ) → F.faults files.old other ≤ F.faults files.new other }
 {
     let elf = read_file(alloc, files, FileKind::Elf, elf)?;
@@ -140,7 +147,8 @@ fn replay<F: Files>(
         (F.content files.old schedule.now) r.journal r.texts.items) }
     ensures refused { IfErr result (IsReplayRefused image.now schedule.now (F.content files.old)
         (F.faults files.old) (F.faults files.new)) }
-    ensures content { (other : List ℕ) → F.content files.new other ≡ F.content files.old other }
+    ensures content { (other : List ℕ) → F.content files.new other
+        ≡ F.content files.old other }
     ensures rises { (other : List ℕ) → F.faults files.old other ≤ F.faults files.new other }
 {
     let bytes = read_file(alloc, files, FileKind::Image, image)?;
@@ -156,7 +164,8 @@ fn derive<F: Files>(alloc: Global, files: &mut F, trace: &str) -> Result<Ready, 
         r.journal r.texts.items) }
     ensures refused { IfErr result (IsTraceRefused trace.now (F.content files.old trace.now)
         (F.faults files.old trace.now) (F.faults files.new trace.now)) }
-    ensures content { (other : List ℕ) → F.content files.new other ≡ F.content files.old other }
+    ensures content { (other : List ℕ) → F.content files.new other
+        ≡ F.content files.old other }
     ensures rises { (other : List ℕ) → F.faults files.old other ≤ F.faults files.new other }
 {
     let bytes = load_trace(alloc, files, trace)?;
@@ -178,7 +187,8 @@ fn analyze<F: Files>(
     ensures refused { IfErr result (IsQueryRefused query name.now trace.now
         (F.content files.old trace.now) (F.faults files.old trace.now)
         (F.faults files.new trace.now)) }
-    ensures content { (other : List ℕ) → F.content files.new other ≡ F.content files.old other }
+    ensures content { (other : List ℕ) → F.content files.new other
+        ≡ F.content files.old other }
     ensures rises { (other : List ℕ) → F.faults files.old other ≤ F.faults files.new other }
 {
     let bytes = load_trace(alloc, files, trace)?;

@@ -124,7 +124,7 @@ fn no_such_name_line(alloc: Global, name: &[u8]) -> Result<Vec<u8>, AllocError>
 
 /// The word for why an actor has no turn.
 fn why_word(why: Why) -> &'static str
-    ensures { result.now ≡ lines.why_word why }
+    ensures { result.now ≡ lines.replay_why_word why }
 {
     match why {
         Why::Unknown => "unknown",

@@ -3,10 +3,10 @@
 ghost use Rattle.std.specs.Prelude.{◌≡◌, ◌≤◌, ◌<◌, ℕ, List, length, vec_len, Ok, IfOk, IfErr, IfSome, MatchOption};
 ghost use Rattle.host_io.specs.Exposed.{WhereExposed};
 ghost use Rattle.elf_in.specs.Laws.{KeepsLoads};
-ghost use Rattle.elf_in.specs.Reading.{reading};
+ghost use Rattle.elf_in.specs.Reading.{elf_program};
 ghost use Rattle.part_toml.specs.Joining.{Joins};
 ghost use Rattle.wedge_cli.specs.Linking as linked;
-ghost use Rattle.wedge_cli.specs.Linking.{IsJoinedImage, program_by, bytes_by};
+ghost use Rattle.wedge_cli.specs.Linking.{IsJoinedImage, program_by, encoding_by};
 ghost use Rattle.wedge_cli.specs.Loading.{most_partition, IsPartitionUnread};
 ghost use Rattle.wedge_cli.specs.Replaying.{IsRefusalIn};
 
@@ -31,7 +31,8 @@ pub(crate) fn read_partition_file<F: Files>(
     ensures within { IfOk result (λ o. IfSome o (λ v. vec_len v ≤ most_partition)) }
     ensures refused { IfErr result (IsPartitionUnread name.now
         (F.faults files.old name.now) (F.faults files.new name.now)) }
-    ensures content { (other : List ℕ) → F.content files.new other ≡ F.content files.old other }
+    ensures content { (other : List ℕ) → F.content files.new other
+        ≡ F.content files.old other }
     ensures rises { (other : List ℕ) → F.faults files.old other ≤ F.faults files.new other }
 {
     match read_file(alloc, files, FileKind::Partition, name) {
@@ -43,9 +44,9 @@ pub(crate) fn read_partition_file<F: Files>(
 
 /// The program of an ELF file.
 pub(crate) fn program_of(alloc: Global, elf: &[u8]) -> Result<ElfProgram<'_>, Refusal>
-    ensures accepted { IfOk result (λ p. reading elf.now ≡ Ok p) }
+    ensures accepted { IfOk result (λ p. elf_program elf.now ≡ Ok p) }
     ensures keeps { IfOk result (KeepsLoads elf.now) }
-    ensures rejected { IfErr result (IsRefusalIn (program_by (reading elf.now))) }
+    ensures rejected { IfErr result (IsRefusalIn (program_by (elf_program elf.now))) }
 {
     match read_elf(alloc, elf) {
         Ok(program) => Ok(program),
@@ -78,7 +79,7 @@ pub(crate) fn link_text(
 ) -> Result<Vec<u8>, Refusal>
     requires { length bytes.now ≤ most_partition }
     ensures text { IfOk result (λ v.
-        bytes_by (linked.joined_of program.now bytes.now) ≡ Ok v.items) }
+        encoding_by (linked.joined_of program.now bytes.now) ≡ Ok v.items) }
     ensures image { IfOk result (λ v. IsJoinedImage program.now v.items) }
     ensures rejected { IfErr result (IsRefusalIn (linked.joined_of program.now bytes.now)) }
 {

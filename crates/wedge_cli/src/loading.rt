@@ -1,7 +1,7 @@
 //! From the name of a file to the image that is run, listed or written.
 
 ghost use Rattle.std.specs.Prelude.{◌≡◌, ◌≤◌, ◌<◌, ℕ, List, length, vec_len, IfOk, IfErr, Ok};
-ghost use Rattle.wedge_cli.specs.Loading.{IsUnread, IsRefusedBy, IsRefusalOf, image_of, built_of, most_of, most_partition, too_long};
+ghost use Rattle.wedge_cli.specs.Loading.{IsUnread, IsRefusedBy, IsRefusalOf, image_from_bytes, built_of, most_of, most_partition, too_long};
 ghost use Rattle.host_io.specs.Exposed.{WhereExposed};
 ghost use Rattle.image_form.specs.Rules.{Encodes};
 ghost use Rattle.part_toml.specs.Partition.{partition};
@@ -52,7 +52,8 @@ pub(crate) fn read_file<F: Files>(
     ensures within { IfOk result (λ v. vec_len v ≤ most_of kind) }
     ensures refused { IfErr result (IsUnread kind name.now (F.content files.old name.now)
         (F.faults files.old name.now) (F.faults files.new name.now)) }
-    ensures content { (other : List ℕ) → F.content files.new other ≡ F.content files.old other }
+    ensures content { (other : List ℕ) → F.content files.new other
+        ≡ F.content files.old other }
     ensures rises { (other : List ℕ) → F.faults files.old other ≤ F.faults files.new other }
 {
     match read_whole(alloc, files, name, most_of(kind)) {
@@ -110,10 +111,12 @@ pub(crate) fn load_image<F: Files>(
     ensures encoded { IfOk result (λ i. WhereExposed (F.content files.old name.now)
         (λ bytes. Encodes i bytes)) }
     ensures accepted { IfOk result (λ i. WhereExposed (F.content files.old name.now)
-        (λ bytes. image_of bytes ≡ Ok i)) }
-    ensures refused { IfErr result (IsRefusedBy image_of name.now (F.content files.old name.now)
+        (λ bytes. image_from_bytes bytes ≡ Ok i)) }
+    ensures refused { IfErr result
+        (IsRefusedBy image_from_bytes name.now (F.content files.old name.now)
         (F.faults files.old name.now) (F.faults files.new name.now)) }
-    ensures content { (other : List ℕ) → F.content files.new other ≡ F.content files.old other }
+    ensures content { (other : List ℕ) → F.content files.new other
+        ≡ F.content files.old other }
     ensures rises { (other : List ℕ) → F.faults files.old other ≤ F.faults files.new other }
 {
     let bytes = read_file(alloc, files, FileKind::Image, name)?;
@@ -132,7 +135,8 @@ pub(crate) fn load_built<F: Files>(
         (λ bytes. built_of bytes ≡ Ok i)) }
     ensures refused { IfErr result (IsRefusedBy built_of name.now (F.content files.old name.now)
         (F.faults files.old name.now) (F.faults files.new name.now)) }
-    ensures content { (other : List ℕ) → F.content files.new other ≡ F.content files.old other }
+    ensures content { (other : List ℕ) → F.content files.new other
+        ≡ F.content files.old other }
     ensures rises { (other : List ℕ) → F.faults files.old other ≤ F.faults files.new other }
 {
     let bytes = read_file(alloc, files, FileKind::Partition, name)?;
@@ -142,8 +146,8 @@ pub(crate) fn load_built<F: Files>(
 /// The image that bytes encode.
 pub(crate) fn image_of(alloc: Global, bytes: &[u8]) -> Result<Image, Refusal>
     ensures encoded { IfOk result (λ i. Encodes i bytes.now) }
-    ensures accepted { IfOk result (λ i. image_of bytes.now ≡ Ok i) }
-    ensures refused { IfErr result (IsRefusalOf (image_of bytes.now)) }
+    ensures accepted { IfOk result (λ i. image_from_bytes bytes.now ≡ Ok i) }
+    ensures refused { IfErr result (IsRefusalOf (image_from_bytes bytes.now)) }
 {
     match read_image(alloc, bytes) {
         Ok(image) => Ok(image),

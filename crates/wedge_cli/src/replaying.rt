@@ -2,8 +2,8 @@
 
 ghost use Rattle.std.specs.Prelude.{◌≡◌, ◌≤◌, length, IfOk, IfErr, Ok};
 ghost use Rattle.report_text.specs.Schedules.{names_in};
-ghost use Rattle.run_laws.specs.Worlds.{opening};
-ghost use Rattle.wedge_core.specs.Replay.{replayed};
+ghost use Rattle.run_laws.specs.Worlds.{initial_state};
+ghost use Rattle.wedge_core.specs.Replay.{replay_from};
 ghost use Rattle.wedge_cli.specs.Loading.{most_of};
 ghost use Rattle.wedge_cli.specs.Replaying as replays;
 ghost use Rattle.wedge_cli.specs.Replaying.{schedule_by, replay_report, IsRefusalIn};
@@ -43,10 +43,11 @@ fn schedule_of(alloc: Global, bytes: &[u8]) -> Result<Vec<ActorName>, Refusal>
 
 /// The report of the state to which the turns of these actors lead.
 fn report_of(alloc: Global, image: &Image, names: &[ActorName]) -> Result<Vec<u8>, Refusal>
-    ensures text { IfOk result (λ v. replay_report (replayed (opening image.now) 1 names.now)
+    ensures text { IfOk result
+        (λ v. replay_report (replay_from (initial_state image.now) 1 names.now)
         ≡ Ok v.items) }
     ensures rejected { IfErr result
-        (IsRefusalIn (replay_report (replayed (opening image.now) 1 names.now))) }
+        (IsRefusalIn (replay_report (replay_from (initial_state image.now) 1 names.now))) }
 {
     match replay(alloc, image, names) {
         Ok(world) => {

@@ -115,20 +115,26 @@ pub fn wedge<R: Threads + Wait + Sync, F: Files, O: Sink, E: Sink, P: Pace + Syn
         (sinks (O.written out.old) (O.faults out.old) (E.written err.old) (E.faults err.old)))
         (outside (F.content files.new) (F.faults files.new)
         (sinks (O.written out.new) (O.faults out.new) (E.written err.new) (E.faults err.new))) }
-    ensures content { (other : List ℕ) → F.content files.new other ≡ F.content files.old other }
+    ensures content { (other : List ℕ) → F.content files.new other
+        ≡ F.content files.old other }
     ensures rises { (other : List ℕ) → F.faults files.old other ≤ F.faults files.new other }
 
     // why each status comes
     ensures usage_only { result.status ≡ 2 → command_of (texts words.now) ≡ None }
-    ensures image_only { (a : Asked) → command_of (texts words.now) ≡ Some a → result.status ≡ 3
+    ensures image_only { (a : Asked) → command_of (texts words.now) ≡ Some a
+        → result.status ≡ 3
         → IsUnfit a (F.content files.old) }
-    ensures rejected_only { (a : Asked) → command_of (texts words.now) ≡ Some a → result.status ≡ 8
+    ensures rejected_only { (a : Asked) → command_of (texts words.now) ≡ Some a
+        → result.status ≡ 8
         → IsRejected a (F.content files.old) }
-    ensures elf_only { (a : Asked) → command_of (texts words.now) ≡ Some a → result.status ≡ 10
+    ensures elf_only { (a : Asked) → command_of (texts words.now) ≡ Some a
+        → result.status ≡ 10
         → IsElfRejected a (F.content files.old) }
-    ensures name_only { (a : Asked) → command_of (texts words.now) ≡ Some a → result.status ≡ 9
+    ensures name_only { (a : Asked) → command_of (texts words.now) ≡ Some a
+        → result.status ≡ 9
         → IsUnknown a (F.content files.old) }
-    ensures read_only { (a : Asked) → command_of (texts words.now) ≡ Some a → result.status ≡ 4
+    ensures read_only { (a : Asked) → command_of (texts words.now) ≡ Some a
+        → result.status ≡ 4
         → IsUnreadable a (F.faults files.old) (F.faults files.new) }
     ensures write_only { result.status ≡ 5
         → (O.faults out.old < O.faults out.new) ⊎ (E.faults err.old < E.faults err.new) }
@@ -159,7 +165,8 @@ fn does<F: Files, O: Sink, E: Sink>(
         (sinks (O.written out.old) (O.faults out.old) (E.written err.old) (E.faults err.old)))
         (outside (F.content files.new) (F.faults files.new)
         (sinks (O.written out.new) (O.faults out.new) (E.written err.new) (E.faults err.new))) }
-    ensures content { (other : List ℕ) → F.content files.new other ≡ F.content files.old other }
+    ensures content { (other : List ℕ) → F.content files.new other
+        ≡ F.content files.old other }
     ensures rises { (other : List ℕ) → F.faults files.old other ≤ F.faults files.new other }
 {
     match read_words(words) {

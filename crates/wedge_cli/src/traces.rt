@@ -5,7 +5,7 @@ ghost use Rattle.std.specs.List.{flat_map};
 ghost use Rattle.host_io.specs.Exposed.{WhereExposed};
 ghost use Rattle.trace_form.specs.Grammar.{with_end};
 ghost use Rattle.trace_form.specs.Records.{records_of};
-ghost use Rattle.cb_analyze.specs.Queries.{Fails};
+ghost use Rattle.cb_analyze.specs.Queries.{IsQueryFault};
 ghost use Rattle.wedge_cli.specs.Loading.{most_trace};
 ghost use Rattle.wedge_cli.specs.Traces.{trace_fault, derive_text, query_lines, answer_text, IsTraceRefused};
 
@@ -29,7 +29,8 @@ pub(crate) fn load_trace<F: Files>(
     ensures accepted { IfOk result (λ v. trace_fault v.items ≡ None) }
     ensures refused { IfErr result (IsTraceRefused name.now (F.content files.old name.now)
         (F.faults files.old name.now) (F.faults files.new name.now)) }
-    ensures content { (other : List ℕ) → F.content files.new other ≡ F.content files.old other }
+    ensures content { (other : List ℕ) → F.content files.new other
+        ≡ F.content files.old other }
     ensures rises { (other : List ℕ) → F.faults files.old other ≤ F.faults files.new other }
 {
     let bytes = read_file(alloc, files, FileKind::Trace, name)?;
@@ -74,7 +75,7 @@ pub(crate) fn query_text(
     ensures { MatchResult result
         (λ text. option_map answer_text (query_lines query name.now (records_of bytes.now))
         ≡ Some text.items)
-        (λ e. Fails e (query_lines query name.now (records_of bytes.now))) }
+        (λ e. IsQueryFault e (query_lines query name.now (records_of bytes.now))) }
 {
     let lines = lines_of(alloc, bytes, query, name)?;
     Ok(join_lines(alloc, lines.as_slice())?)
@@ -86,7 +87,7 @@ fn lines_of(alloc: Global, bytes: &[u8], query: Query, name: &[u8]) -> Result<Ve
     requires { trace_fault bytes.now ≡ None }
     ensures { MatchResult result
         (λ lines. query_lines query name.now (records_of bytes.now) ≡ Some lines.items)
-        (λ e. Fails e (query_lines query name.now (records_of bytes.now))) }
+        (λ e. IsQueryFault e (query_lines query name.now (records_of bytes.now))) }
 {
     match query {
         Query::Accessed => accessed_by(alloc, bytes, name),

@@ -162,7 +162,8 @@ fn link_in(arguments: &[String]) -> Option<Command<'_>>
 
 /// The command of the arguments after `replay`.
 fn replay_in(arguments: &[String]) -> Option<Command<'_>>
-    ensures { option_map asking.asked_by result ≡ asking.replay_of (asking.texts arguments.now) }
+    ensures { option_map asking.asked_by result
+        ≡ asking.replay_command (asking.texts arguments.now) }
 {
     match arguments {
         [image, schedule] if is_plain(image.as_str()) && is_plain(schedule.as_str()) => {
@@ -214,7 +215,8 @@ fn query_in(argument: &str) -> Option<Query>
 
 /// The one argument, if it can name a file.
 fn file_in(arguments: &[String]) -> Option<&str>
-    ensures { option_map (λ n. n.now) result ≡ asking.file_of (asking.texts arguments.now) }
+    ensures { option_map (λ n. n.now) result
+        ≡ asking.file_argument (asking.texts arguments.now) }
 {
     match arguments {
         [name] if is_plain(name.as_str()) => Some(name.as_str()),
@@ -224,7 +226,7 @@ fn file_in(arguments: &[String]) -> Option<&str>
 
 /// Whether an argument can name a file: it is not empty and does not begin with `-`.
 fn is_plain(word: &str) -> bool
-    ensures { result ≡ asking.is_plain word.now }
+    ensures { result ≡ asking.is_plain_argument word.now }
 {
     match word.as_bytes() {
         [] => false,

@@ -10,10 +10,10 @@ use Rattle.wedge_events.specs.declared.events.LogEntry.{LogEntry}
 use Rattle.wedge_events.specs.declared.events.Turn.{Turn}
 use Rattle.sthread_life.specs.Actors.{ActorState}
 use Rattle.run_laws.specs.Cells.{Cells}
-use Rattle.run_laws.specs.Worlds.{WorldState, opening, actor_named, at_rest, Runs, settled}
+use Rattle.run_laws.specs.Worlds.{WorldState, initial_state, actor_named, at_rest, Runs, all_at_rest}
 use Rattle.run_laws.specs.FamilyTrees.{Family}
 use Rattle.sthread_life.specs.Local.{has_ended}
-use Rattle.sthread_life.specs.Taking.{wanted, wanted_at}
+use Rattle.sthread_life.specs.Taking.{current_want, wanted_at}
 use Rattle.run_laws.proofs.FamilyRuns.{turn_family}
 use Rattle.run_laws.proofs.GrantedCopies.{runs_alone}
 use Rattle.run_laws.proofs.Settling.{AllReady, all_alike, run_ready}
@@ -67,7 +67,7 @@ kept_rested i cells new_cells actors new entries new_entries name stopped a name
       run = record {
         last = k.run.last;
         run = k.run.run;
-        current = λ going. (ap settled rests ∙ rested_settled w name a named) ∙ k.run.current going;
+        current = λ going. (ap all_at_rest rests ∙ rested_settled w name a named) ∙ k.run.current going;
       };
       family = λ going. subst Family (sym (ap (λ (x : WorldState). x.actors) rests ∙ ap (rested_in i actors) named)) (family_at_rest w name a (k.family going) named lives);
     })
@@ -124,8 +124,8 @@ busy_waits_not w name busy waits = elim waits.awaits [
     two : Some busy.actor ≡ Some waits.actor
     two = sym busy.named ∙ waits.named
 
-    same_one : wanted (at_rest w busy.actor) ≡ wanted (at_rest w waits.actor)
-    same_one = let one : busy.actor ≡ waits.actor = cc in ap (λ x. wanted (at_rest w x)) one
+    same_one : current_want (at_rest w busy.actor) ≡ current_want (at_rest w waits.actor)
+    same_one = let one : busy.actor ≡ waits.actor = cc in ap (λ x. current_want (at_rest w x)) one
 
 -- ---- a turn whose event can't be copied
 
@@ -164,10 +164,10 @@ last_is (y ∷ []) (suc n) x before t len at is = absurd (omega (arith, len))
 last_is (y ∷ z ∷ zs) (suc n) x [] t len at is = absurd cc
 last_is (y ∷ z ∷ zs) (suc n) x (b ∷ bs) t len at is = last_is (z ∷ zs) n x bs t (omega (arith, len)) at (let tails : turns_of (z ∷ zs) ≡ bs ++ t ∷ [] = cc in tails)
 
-pub stopped_run : (i j : Image) (cells : Cells) (actors : List ActorState) (turns back : List Turn) (last : WorldState) → j ≡ i → back ≡ turns → Runs (opening i) turns last
+pub stopped_run : (i j : Image) (cells : Cells) (actors : List ActorState) (turns back : List Turn) (last : WorldState) → j ≡ i → back ≡ turns → Runs (initial_state i) turns last
     → IsRunSoFar (record { state = state_of j cells actors; turns = back; stopped = true })
 stopped_run i j cells actors turns back last image same run = record {
   last = last;
-  run = subst (λ k. Runs (opening k) back last) (sym image) (subst (λ ts. Runs (opening i) ts last) (sym same) run);
+  run = subst (λ k. Runs (initial_state k) back last) (sym image) (subst (λ ts. Runs (initial_state i) ts last) (sym same) run);
   current = λ e. absurd cc;
 }

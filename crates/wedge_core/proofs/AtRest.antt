@@ -12,7 +12,7 @@ use Rattle.run_laws.specs.Cells.{Cells, kept_in}
 use Rattle.run_laws.specs.FamilyTrees.{Family}
 use Rattle.sthread_life.specs.Local.{rest, is_running, has_ended, end_reached, run_awaited}
 use Rattle.run_laws.specs.RecycledGates.{IsInside}
-use Rattle.run_laws.specs.Worlds.{WorldState, actor_named, put_actor, is_ended, ended_with, ready, resumed, at_rest, settled}
+use Rattle.run_laws.specs.Worlds.{WorldState, actor_named, put_actor, is_ended, ended_with, ready, resumed, at_rest, all_at_rest}
 use Rattle.run_laws.proofs.FamilyKept.{family_alone}
 use Rattle.run_laws.proofs.FamilyRuns.{kept_at_rest, rest_units, resumed_family}
 use Rattle.run_laws.proofs.Named.{put_put, found_name}
@@ -140,7 +140,7 @@ at_rest_inside w a id h = record {
 at_rest_back : (w : WorldState) (a : ActorState) (id : GateId) → IsInside id (at_rest w a) → IsInside id a
 at_rest_back w a id h = inside_back a (at_rest w a) id (rest_run_of w.image (ready w.actors a) ∙ ready_run_of w.actors a) (at_rest-ended w a) h
 
-pub recorded_alike : (v w : WorldState) → settled v ≡ settled w → AreRecorded w.cells w.actors → AreRecorded v.cells v.actors
+pub recorded_alike : (v w : WorldState) → all_at_rest v ≡ all_at_rest w → AreRecorded w.cells w.actors → AreRecorded v.cells v.actors
 recorded_alike v w alike recorded name a named id h =
     ap (λ (x : WorldState). (kept_in x.cells id).entered) alike
     ∙ by_other (actor_named w.actors name) refl

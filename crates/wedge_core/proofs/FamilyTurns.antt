@@ -25,7 +25,7 @@ use Rattle.run_laws.specs.Cells.{Cells, cells_after, event_of, kept_in}
 use Rattle.sthread_life.specs.Children.{fuel_given, is_child, child_name}
 use Rattle.run_laws.specs.FamilyTrees.{worth, Family}
 use Rattle.sthread_life.specs.Local.{rest, has_ended, end_reached}
-use Rattle.sthread_life.specs.Taking.{wanted, wanted_at, takes, begun, child_of, run_by, run_at}
+use Rattle.sthread_life.specs.Taking.{current_want, wanted_at, takes, actor_begun, child_of, run_by, run_at}
 use Rattle.run_laws.specs.Worlds.{WorldState, actor_named, put_actor, with_begun, event_at, join_event, is_ended, ended_with, ready}
 use Rattle.run_laws.proofs.Between.{takes_name}
 use Rattle.run_laws.proofs.FamilyKept.{brings_back, next_is_new}
@@ -66,7 +66,7 @@ none_set (y ∷ ys) place a new m there own none = by_name (same y.name m) refl 
 pub begun_fresh : (i : Image) (actors : List ActorState) (place : ℕ) (e : Event) (c : ActorState) (mid : List ActorState) → IsBeginning i actors place e → HasTaken i actors place e (Some c) mid → actor_named mid c.name ≡ None
 begun_fresh i actors place e c mid b t =
     let is : t.actor ≡ b.actor = one_of (sym t.there ∙ b.there) in
-    let same_one : b.begun_ ≡ c = one_of (sym b.begins ∙ (ap (λ x. begun i x e) (sym is) ∙ sym t.begins)) in
+    let same_one : b.begun_ ≡ c = one_of (sym b.begins ∙ (ap (λ x. actor_begun i x e) (sym is) ∙ sym t.begins)) in
     ap (λ as_. actor_named as_ c.name) t.new_is ∙ none_set actors place t.actor (takes i t.actor e) c.name t.there (takes_name i t.actor e) (ap (λ (x : ActorState). actor_named actors x.name) (sym same_one) ∙ b.fresh)
   where
     one_of : {x y : ActorState} → Some x ≡ Some y → x ≡ y
@@ -76,7 +76,7 @@ begun_fresh i actors place e c mid b t =
 pub begins_some : (i : Image) (actors : List ActorState) (place : ℕ) (e : Event) (o : Option ActorState) (mid : List ActorState) → IsBeginning i actors place e → HasTaken i actors place e o mid → o ≡ None → ⊥
 begins_some i actors place e o mid b t none =
     let is : t.actor ≡ b.actor = one_of (sym t.there ∙ b.there) in
-    let f : Some b.begun_ ≡ None = sym b.begins ∙ (ap (λ x. begun i x e) (sym is) ∙ (sym t.begins ∙ none)) in
+    let f : Some b.begun_ ≡ None = sym b.begins ∙ (ap (λ x. actor_begun i x e) (sym is) ∙ (sym t.begins ∙ none)) in
     absurd cc
   where
     one_of : {x y : ActorState} → Some x ≡ Some y → x ≡ y
@@ -99,7 +99,7 @@ alone_done i actors place e o new name entries new_entries g t noted =
     record {
       actor = t.actor;
       there = t.there;
-      new_is = t.new_is ∙ ap (with_begun (slice_set actors place (takes i t.actor e))) (sym (ap (λ x. begun i x e) is ∙ g.begins_none));
+      new_is = t.new_is ∙ ap (with_begun (slice_set actors place (takes i t.actor e))) (sym (ap (λ x. actor_begun i x e) is ∙ g.begins_none));
       noted = noted;
     }
   where
@@ -202,7 +202,7 @@ starting i cells actors place name child w = record {
 
 -- one that is about to enter a gate may, in a run of its next name
 run_begins : (i : Image) (cells : Cells) (actors : List ActorState) (place : ℕ) (name run : List ℕ) (q : Want) (e : Event) (kept : Option PrivateMemory) (w : WantsOfFamily i cells actors place name q) → run ≡ child_name w.actor.name (w.actor.starts + 1)
-    → ((a : ActorState) → TakesFit a e) → ((a : ActorState) → begun i a e ≡ run_at a run kept a.phase) → (p : Phase) → w.actor.phase ≡ p → IsAtGate p → IsBeginning i actors place e
+    → ((a : ActorState) → TakesFit a e) → ((a : ActorState) → actor_begun i a e ≡ run_at a run kept a.phase) → (p : Phase) → w.actor.phase ≡ p → IsAtGate p → IsBeginning i actors place e
 run_begins i cells actors place name run q e kept w next fits begins (phase.Entering x) at gate = record {
   actor = w.actor;
   inside = w.inside;
@@ -320,7 +320,7 @@ module _ (i : Image) (cells new_cells : Cells) (actors new : List ActorState) (p
           actor = a;
           number = child;
           named = found.named;
-          awaits = inl (ap (λ (x : ActorState). wanted x) at_rest_so ∙ (left.wants ∙ ap (λ x. Some x) join));
+          awaits = inl (ap (λ (x : ActorState). current_want x) at_rest_so ∙ (left.wants ∙ ap (λ x. Some x) join));
           not_ended = sym (ended_alike (put_actor actors (rest i a)) actors (child_name name child) ends) ∙ (ap (λ as_. is_ended (actor_named as_ (child_name name child))) (sym put_so) ∙ not_ended);
         };
         rests = rested_so is same_cells;
@@ -335,7 +335,7 @@ module _ (i : Image) (cells new_cells : Cells) (actors new : List ActorState) (p
       run = busy.run;
       first = busy.first;
       named = found.named;
-      wants = ap (λ (x : ActorState). wanted x) at_rest_so ∙ (left.wants ∙ ap (λ x. Some x) busy.is);
+      wants = ap (λ (x : ActorState). current_want x) at_rest_so ∙ (left.wants ∙ ap (λ x. Some x) busy.is);
       entered = busy.entered;
     };
     rests = rested_so is same_cells;
@@ -374,7 +374,7 @@ family_taken i cells mid_cells new_cells actors new place name a q b entries mid
     }
 
 pub cell_taken : (i : Image) (cells new_cells : Cells) (actors : List ActorState) (place : ℕ) (name : List ℕ) (a new : ActorState) (q : Want) (entries new_entries : List LogEntry)
-    → IsFirstNamed actors name place a → IsAwake a.phase → wanted (rest i a) ≡ Some q → IsOfCell q → IsEventDone i cells (rest i a) q entries name new_cells new new_entries
+    → IsFirstNamed actors name place a → IsAwake a.phase → current_want (rest i a) ≡ Some q → IsOfCell q → IsEventDone i cells (rest i a) q entries name new_cells new new_entries
     → WasTaken i cells actors entries name new_cells (slice_set actors place new) new_entries
 cell_taken i cells new_cells actors place name a new q entries new_entries found awake wants of_cell m = record {
   event = m.event;

@@ -19,7 +19,7 @@ use Rattle.wedge_events.specs.declared.cells.LivesAsk.TheVariants as lives_ask
 use Rattle.wedge_events.specs.Directories.{directory_reply}
 use Rattle.sthread_life.specs.Between.{WantFits, IsInBounds, SuitsActor, TakesFit}
 use Rattle.run_laws.specs.Cells.{Cells, AskFits, live_at, slot_in, stream_in, event_of}
-use Rattle.sthread_life.specs.Taking.{asks, pair, begun}
+use Rattle.sthread_life.specs.Taking.{asks, pair, actor_begun}
 use Rattle.run_laws.specs.Worlds.{WorldState, event_at}
 use Rattle.wedge_core.specs.Turning.{IsOfCell, event_asked}
 
@@ -70,13 +70,13 @@ pub event_fits : (c : Cells) (a : ActorState) (q : Want) (l : Option ℕ) (e : E
 event_fits c a q l e h k comes bounds = (bounds, event_suits c a q l e h k comes)
 
 -- it begins no actor, and is the one to which the actor comes
-pub begins_none : (i : Image) (c : Cells) (a : ActorState) (q : Want) (e : Event) → IsOfCell q → event_asked c a q ≡ Some e → begun i a e ≡ None
+pub begins_none : (i : Image) (c : Cells) (a : ActorState) (q : Want) (e : Event) → IsOfCell q → event_asked c a q ≡ Some e → actor_begun i a e ≡ None
 begins_none i c a q e k comes = none_of q k comes
   where
-    is_none : (x : Event) → Some x ≡ Some e → begun i a x ≡ None → begun i a e ≡ None
-    is_none x is none = let same : x ≡ e = cc in ap (begun i a) (sym same) ∙ none
+    is_none : (x : Event) → Some x ≡ Some e → actor_begun i a x ≡ None → actor_begun i a e ≡ None
+    is_none x is none = let same : x ≡ e = cc in ap (actor_begun i a) (sym same) ∙ none
 
-    none_of : (p : Want) → IsOfCell p → event_asked c a p ≡ Some e → begun i a e ≡ None
+    none_of : (p : Want) → IsOfCell p → event_asked c a p ≡ Some e → actor_begun i a e ≡ None
     none_of (want.Slots p) h is = is_none (event.Slots p (directory_reply c.places p)) is refl
     none_of (want.Slot slot p) h is =
         let asked = slot_ask_with p (pair a (live_at c (want.Slot slot p))) in

@@ -17,9 +17,9 @@ use Rattle.sthread_life.specs.declared.phase.Phase.TheVariants as phase
 use Rattle.sthread_life.specs.Actors.{ActorState}
 use Rattle.sthread_life.specs.Children.{child_name, without_child}
 use Rattle.sthread_life.specs.Local.{has_ended, is_running, run_awaited, rest}
-use Rattle.sthread_life.specs.Taking.{wanted, wanted_at, making_want, answered_end, has_joined}
+use Rattle.sthread_life.specs.Taking.{current_want, wanted_at, making_want, answered_end, has_joined}
 use Rattle.run_laws.specs.Cells.{Cells, event_of, kept_in}
-use Rattle.run_laws.specs.Worlds.{WorldState, Taken, actor_named, put_actor, happened, ended_with, join_event, gate_event, event_at, wanting, resumes, ready_at, ready, resumed, turn_with, turn_of, is_ended, at_rest}
+use Rattle.run_laws.specs.Worlds.{WorldState, Taken, actor_named, put_actor, apply_event, ended_with, join_event, gate_event, event_at, wanting, resumes, ready_at, ready, resumed, turn_with, turn_of, is_ended, at_rest}
 use Rattle.sthread_life.proofs.Resting.{rest-name, rest-stops, rest-uncalm}
 use Rattle.run_laws.proofs.Meeting.{ReadsAs}
 use Rattle.run_laws.proofs.Named.{found_name}
@@ -35,7 +35,7 @@ pub data MayTurn (w : WorldState) (name : List ℕ) : Type 0 where
   Awaiting : IsWaiting w name → MayTurn w name
   AtBusy : IsBusy w name → MayTurn w name
 
-turn_is : (w : WorldState) (name : List ℕ) (a : ActorState) → actor_named w.actors name ≡ Some a → turn_of w name ≡ wanting (resumed w a) (at_rest w a) (wanted (at_rest w a))
+turn_is : (w : WorldState) (name : List ℕ) (a : ActorState) → actor_named w.actors name ≡ Some a → turn_of w name ≡ wanting (resumed w a) (at_rest w a) (current_want (at_rest w a))
 unfolding turn_of
 turn_is w name a named = ap (turn_with w) named
 
@@ -75,13 +75,13 @@ module _ (w : WorldState) (name : List ℕ) (a : ActorState) (named : actor_name
       ∙ (ap is_ended (sym (found_else w.actors a (ready w.actors a) (child_name a.name k) put (child_apart a.name k)))
       ∙ ap (λ n. is_ended (actor_named (resumed w a).actors (child_name n k))) (sym kept))
 
-  at_busy : (id : GateId) (run : List ℕ) (first : PrivateMemory) (t : Bool) → (kept_in w.cells id).entered ≡ t → wanted rested ≡ Some (want.Gate id (gate_ask.Enter run first))
+  at_busy : (id : GateId) (run : List ℕ) (first : PrivateMemory) (t : Bool) → (kept_in w.cells id).entered ≡ t → current_want rested ≡ Some (want.Gate id (gate_ask.Enter run first))
       → (if t then None else event_of w.cells (ask.Gate id (gate_ask.Enter run first))) ≡ None → MayTurn w name
   at_busy id run first true e wants none = AtBusy (record { actor = a; gate = id; run = run; first = first; named = named; wants = wants; entered = e })
   at_busy id run first false e wants none = absurd cc
 
   -- what it wants can't be now
-  none_at : (q : Want) → wanted rested ≡ Some q → event_at (resumed w a) rested q ≡ None → MayTurn w name
+  none_at : (q : Want) → current_want rested ≡ Some q → event_at (resumed w a) rested q ≡ None → MayTurn w name
   none_at (want.Slots q) wants none = absurd cc
   none_at (want.Slot slot q) wants none = absurd cc
   none_at (want.Fds q) wants none = absurd cc
@@ -135,14 +135,14 @@ module _ (w : WorldState) (name : List ℕ) (a : ActorState) (named : actor_name
   none_wanted (phase.Ending e) at none reads live = absurd cc
   none_wanted (phase.Ended e) at none reads live = absurd (true≢false (sym (ap has_ended at) ∙ live))
 
-  by_event : (q : Want) → wanted rested ≡ Some q → (o : Option Event) → event_at (resumed w a) rested q ≡ o → MayTurn w name
+  by_event : (q : Want) → current_want rested ≡ Some q → (o : Option Event) → event_at (resumed w a) rested q ≡ o → MayTurn w name
   by_event q wants None is = none_at q wants is
   by_event q wants (Some e) is =
-      HasTurn (happened (resumed w a) rested e) (turn_is w name a named ∙ (ap (wanting (resumed w a) rested) wants ∙ ap (option_map (happened (resumed w a) rested)) is))
+      HasTurn (apply_event (resumed w a) rested e) (turn_is w name a named ∙ (ap (wanting (resumed w a) rested) wants ∙ ap (option_map (apply_event (resumed w a) rested)) is))
 
-  by_want : (o : Option Want) → wanted rested ≡ o → AllReady w → has_ended a.phase ≡ false → MayTurn w name
+  by_want : (o : Option Want) → current_want rested ≡ o → AllReady w → has_ended a.phase ≡ false → MayTurn w name
   by_want None none all live = none_wanted rested.phase refl none (named_ready w name a all named) (at_rest-ended w a ∙ live)
   by_want (Some q) wants all live = by_event q wants (event_at (resumed w a) rested q) refl
 
 pub turning : (w : WorldState) (name : List ℕ) (a : ActorState) → actor_named w.actors name ≡ Some a → AllReady w → has_ended a.phase ≡ false → MayTurn w name
-turning w name a named all live = by_want w name a named (wanted (at_rest w a)) refl all live
+turning w name a named all live = by_want w name a named (current_want (at_rest w a)) refl all live

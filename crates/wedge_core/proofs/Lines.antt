@@ -10,8 +10,8 @@ use Rattle.wedge_base.specs.declared.outcome.ActorLine.{ActorLine}
 use Rattle.sthread_life.specs.declared.phase.Phase.{Phase}
 use Rattle.sthread_life.specs.declared.phase.Phase.TheVariants as phase
 use Rattle.sthread_life.specs.Actors.{ActorState}
-use Rattle.run_laws.specs.Outcomes.{line_of, with_line, with_actor, lines_of}
-use Rattle.stable_sort.specs.Sorting.{put, sorted_onto, sorted}
+use Rattle.run_laws.specs.Outcomes.{line_of, with_line, with_actor_line, lines_of}
+use Rattle.stable_sort.specs.Sorting.{insert_sorted, sorted_onto, sorted}
 use Rattle.stable_sort.proofs.Sorted.{is_sorted}
 
 -- whether a line stands before another
@@ -24,21 +24,21 @@ line_order = ranks_by nat_list_cmp_total (λ l. l.name)
 -- the lines of actors that have ended, from the last actor to the first
 abbrev pub from_last : Image → List ActorState → List ActorLine
 from_last i [] = []
-from_last i (a ∷ as_) = from_last i as_ ++ with_actor i a a.phase []
+from_last i (a ∷ as_) = from_last i as_ ++ with_actor_line i a a.phase []
 
 -- one more item behind the others is put among them, sorted
-sorted_onto_last : {X : Type 0} (before : X → X → Bool) (done xs : List X) (x : X) → sorted_onto before done (xs ++ x ∷ []) ≡ put before x (sorted_onto before done xs)
+sorted_onto_last : {X : Type 0} (before : X → X → Bool) (done xs : List X) (x : X) → sorted_onto before done (xs ++ x ∷ []) ≡ insert_sorted before x (sorted_onto before done xs)
 sorted_onto_last before done [] x = refl
-sorted_onto_last before done (y ∷ ys) x = sorted_onto_last before (put before y done) ys x
+sorted_onto_last before done (y ∷ ys) x = sorted_onto_last before (insert_sorted before y done) ys x
 
-sorted_last : {X : Type 0} (before : X → X → Bool) (xs : List X) (x : X) → sorted before (xs ++ x ∷ []) ≡ put before x (sorted before xs)
+sorted_last : {X : Type 0} (before : X → X → Bool) (xs : List X) (x : X) → sorted before (xs ++ x ∷ []) ≡ insert_sorted before x (sorted before xs)
 sorted_last before xs x = sorted_onto_last before [] xs x
 
-line_put : (l : ActorLine) (ms : List ActorLine) → with_line l ms ≡ put line_before l ms
+line_put : (l : ActorLine) (ms : List ActorLine) → with_line l ms ≡ insert_sorted line_before l ms
 line_put l [] = refl
 line_put l (m ∷ ms) = ap (λ (ns : List ActorLine). cond (line_before l m) (l ∷ m ∷ ms) (m ∷ ns)) (line_put l ms)
 
-one_more : (i : Image) (a : ActorState) (p : Phase) (ls : List ActorLine) → with_actor i a p (sorted line_before ls) ≡ sorted line_before (ls ++ with_actor i a p [])
+one_more : (i : Image) (a : ActorState) (p : Phase) (ls : List ActorLine) → with_actor_line i a p (sorted line_before ls) ≡ sorted line_before (ls ++ with_actor_line i a p [])
 one_more i a phase.Running ls = ap (sorted line_before) (sym (append-nil ls))
 one_more i a (phase.Starting pre) ls = ap (sorted line_before) (sym (append-nil ls))
 one_more i a (phase.MakingGate pre) ls = ap (sorted line_before) (sym (append-nil ls))
@@ -53,7 +53,7 @@ one_more i a (phase.Ended e) ls = line_put (line_of i a e) (sorted line_before l
 
 lines_are : (i : Image) (actors : List ActorState) → lines_of i actors ≡ sorted line_before (from_last i actors)
 lines_are i [] = refl
-lines_are i (a ∷ as_) = ap (with_actor i a a.phase) (lines_are i as_) ∙ one_more i a a.phase (from_last i as_)
+lines_are i (a ∷ as_) = ap (with_actor_line i a a.phase) (lines_are i as_) ∙ one_more i a a.phase (from_last i as_)
 
 -- a stable sort of these lines gives those of the outcome
 pub lines_sorted : (i : Image) (actors : List ActorState) (ls ms : List ActorLine) → ls ≡ from_last i actors → IsSortedBy line_before ms → IsStableBy line_before ls ms → ms ≡ lines_of i actors

@@ -25,8 +25,8 @@ use Rattle.run_laws.specs.Holding.{gate_for}
 use Rattle.sthread_life.specs.Local.{has_ended}
 use Rattle.sthread_life.specs.Opening.{FileOpening}
 use Rattle.run_laws.specs.Names.{IsNew, AreDistinct}
-use Rattle.sthread_life.specs.Taking.{next_start, making_want, starting_want, opening_want, entering_want, leaving_want, wanted, wanted_at, last_want, ending_want}
-use Rattle.run_laws.specs.Worlds.{WorldState, opening, actor_named, put_actor, ready, at_rest, Runs, is_ended}
+use Rattle.sthread_life.specs.Taking.{next_start, making_want, starting_want, opening_want, entering_want, leaving_want, current_want, wanted_at, last_want, ending_want}
+use Rattle.run_laws.specs.Worlds.{WorldState, initial_state, actor_named, put_actor, ready, at_rest, Runs, is_ended}
 use Rattle.run_laws.proofs.EnteringGates.{IsEnterable}
 use Rattle.run_laws.proofs.FamilyKept.{found_apart}
 use Rattle.run_laws.proofs.FamilyRuns.{run_family}
@@ -39,7 +39,7 @@ use Rattle.sthread_life.proofs.Resting.{rest-uncalm}
 use Rattle.run_laws.proofs.Settling.{AllReady, named_ready, run_ready}
 use Rattle.run_laws.proofs.Trees.{apart_too}
 use Rattle.run_laws.proofs.Turns.{Readies, Stays, Back, readies}
-use Rattle.wedge_core.specs.Progress.{Progress, Awaits, IsWaiting, IsBusy, opened}
+use Rattle.wedge_core.specs.Progress.{Progress, Awaits, IsWaiting, IsBusy, initial_progress}
 use Rattle.wedge_core.specs.Serial.{newest, live_names, AreUnder, AreNested, IsSerial}
 use Rattle.wedge_core.specs.declared.serially.Live.{Live}
 use Rattle.wedge_core.proofs.AtRest.{unjoined_at_rest}
@@ -218,7 +218,7 @@ awaits_own w name a k all family named awaits = by_case (readies w.actors a) awa
     b = at_rest w a
 
     -- the children that it has at rest are those with which it goes on
-    listed : wanted b ≡ Some (want.Join k) → is_child (ready w.actors a).unjoined k ≡ true
+    listed : current_want b ≡ Some (want.Join k) → is_child (ready w.actors a).unjoined k ≡ true
     listed wants = ap (λ cs. is_child cs k) (sym (unjoined_at_rest w.image (ready w.actors a))) ∙ waits_for w.image b b.phase k (named_ready w name a all named) wants
 
     waited : (ready w.actors a).phase ≡ phase.Waiting k → a.phase ≡ phase.Waiting k → is_child a.unjoined k ≡ true
@@ -234,7 +234,7 @@ awaits_own w name a k all family named awaits = by_case (readies w.actors a) awa
     by_case (Back j at r is) (inr waits) = let f : phase.Running ≡ phase.Waiting k = ap (λ (x : ActorState). x.phase) (sym is) ∙ uncalm waits in absurd cc
 
 -- the newest actor of a run awaits no child and no run that has not ended
-pub newest_waits_not : (i : Image) (turns : List Turn) (w : WorldState) (a : ActorState) (name : List ℕ) → Runs (opening i) turns w → IsNewest w.actors a → a.name ≡ name → IsWaiting w name → ⊥
+pub newest_waits_not : (i : Image) (turns : List Turn) (w : WorldState) (a : ActorState) (name : List ℕ) → Runs (initial_state i) turns w → IsNewest w.actors a → a.name ≡ name → IsWaiting w name → ⊥
 newest_waits_not i turns w a name run n own s =
     let family = run_family i turns w run in
     let all : AreDistinct (n.before ++ a ∷ n.behind) = subst AreDistinct n.is family.distinct in
@@ -362,7 +362,7 @@ enters_held i b (phase.Ending x) run id m reads wants = absurd (ending_enters b.
 enters_held i b (phase.Ended x) run id m reads wants = absurd cc
 
 -- so the newest actor, which is under every run that lives, is to enter none of their gates
-pub newest_busy_not : (i : Image) (turns : List Turn) (w : WorldState) (a : ActorState) (name : List ℕ) → Runs (opening i) turns w → IsNewest w.actors a → a.name ≡ name → AreNested (live_names w.actors) → IsBusy w name → ⊥
+pub newest_busy_not : (i : Image) (turns : List Turn) (w : WorldState) (a : ActorState) (name : List ℕ) → Runs (initial_state i) turns w → IsNewest w.actors a → a.name ≡ name → AreNested (live_names w.actors) → IsBusy w name → ⊥
 newest_busy_not i turns w a name run n own nested s =
     let x = (runs_alone i turns w run).lived s.gate s.entered in
     let b = at_rest w s.actor in
@@ -373,9 +373,9 @@ newest_busy_not i turns w a name run n own nested s =
 
 -- ---- the stack of those that live
 
-pub opening_serial : (i : Image) (p : Progress) (live : List Live) → p ≡ opened i → live ≡ record { name = root_name; place = 0 } ∷ [] → IsSerial i p live
+pub opening_serial : (i : Image) (p : Progress) (live : List Live) → p ≡ initial_progress i → live ≡ record { name = root_name; place = 0 } ∷ [] → IsSerial i p live
 unfolding root
-opening_serial i p live is one = subst (λ q. IsSerial i q live) (sym is) (subst (λ ls. IsSerial i (opened i) ls) (sym one) (record {
+opening_serial i p live is one = subst (λ q. IsSerial i q live) (sym is) (subst (λ ls. IsSerial i (initial_progress i) ls) (sym one) (record {
   going = refl;
   run = refl;
   order = tt;

@@ -5,7 +5,7 @@ use Rattle.wedge_events.specs.declared.events.Turn.{Turn}
 use Rattle.wedge_events.specs.declared.events.LogEntry.{LogEntry}
 use Rattle.wedge_base.specs.declared.outcome.Outcome.{Outcome}
 use Rattle.wedge_base.specs.Images.{Image}
-use Rattle.run_laws.specs.Worlds.{WorldState, opening, is_complete, Runs}
+use Rattle.run_laws.specs.Worlds.{WorldState, initial_state, is_complete, Runs}
 use Rattle.run_laws.specs.Outcomes.{outcome_of}
 use Rattle.wedge_events.specs.declared.events.Event.{Event}
 use Rattle.std.proofs.lemmas.List.{map-append, length-map}
@@ -45,9 +45,9 @@ notes_numbered old new name e noted numbered_old =
 
 -- entries whose turns lead to a state in which the root has ended are those of a complete run
 pub journaled_run : (i : Image) (w : WorldState) (entries : List LogEntry) (outcome : Outcome) → w.image ≡ i → LeadsTo (turns_of entries) w → is_complete w ≡ true
-    → RootGoesOn (opening i) (turns_of entries) → outcome ≡ outcome_of w → IsJournaledRun i entries outcome
+    → RootGoesOn (initial_state i) (turns_of entries) → outcome ≡ outcome_of w → IsJournaledRun i entries outcome
 journaled_run i w entries outcome image leads whole goes_on ends =
-    let run : Runs (opening i) (turns_of entries) leads.last = subst (λ (j : Image). Runs (opening j) (turns_of entries) leads.last) image leads.run in
+    let run : Runs (initial_state i) (turns_of entries) leads.last = subst (λ (j : Image). Runs (initial_state j) (turns_of entries) leads.last) image leads.run in
     let ended = sym (whole_alike w leads.last leads.alike) ∙ whole in
     record {
       last = leads.last;

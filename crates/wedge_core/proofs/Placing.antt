@@ -13,7 +13,7 @@ use Rattle.wedge_events.specs.declared.cells.DirectoryAsk.{DirectoryAsk}
 use Rattle.wedge_events.specs.declared.cells.DirectoryAsk.TheVariants as directory_ask
 use Rattle.wedge_events.specs.declared.cells.DirectoryReply.{DirectoryReply}
 use Rattle.wedge_events.specs.declared.cells.DirectoryReply.TheVariants as directory_reply_
-use Rattle.wedge_events.specs.Streams.{Stream, most_fds, closing_bit, read_reply, append_reply, live_reply, dead_reply, stream_reply}
+use Rattle.wedge_events.specs.Streams.{Stream, most_fds, closing_bit, read_reply, append_reply, live_stream_reply, dead_reply, stream_reply}
 use Rattle.wedge_events.specs.declared.cells.StreamAsk.{StreamAsk}
 use Rattle.wedge_events.specs.declared.cells.StreamAsk.TheVariants as stream_ask
 use Rattle.wedge_events.specs.declared.cells.StreamReply.TheVariants as stream_reply_
@@ -190,7 +190,7 @@ gives_inside fd (Some s) q = by_ask s.live q
     closes bits wants false = tt
     closes bits wants true = tt
 
-    by_ask : (v : Bool) (q : StreamAsk) → IsInBounds (event.Fd fd q (if v then live_reply s q else dead_reply q))
+    by_ask : (v : Bool) (q : StreamAsk) → IsInBounds (event.Fd fd q (if v then live_stream_reply s q else dead_reply q))
     by_ask false (stream_ask.Open k bytes) = tt
     by_ask true (stream_ask.Open k bytes) = tt
     by_ask false (stream_ask.Read bits count) = tt

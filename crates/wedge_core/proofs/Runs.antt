@@ -5,14 +5,14 @@ use Rattle.wedge_base.specs.Images.{Image}
 use Rattle.wedge_events.specs.declared.events.Turn.{Turn}
 use Rattle.sthread_life.specs.Actors.{ActorState, root}
 use Rattle.run_laws.specs.Cells.{Cells, opening_cells}
-use Rattle.run_laws.specs.Worlds.{WorldState, opening, turn_of, Runs, settled}
+use Rattle.run_laws.specs.Worlds.{WorldState, initial_state, turn_of, Runs, all_at_rest}
 use Rattle.wedge_core.specs.Progress.{IsRunSoFar, state_of}
 
 pub opened_is_run : (i : Image) (cells : Cells) (actors : List ActorState) (turns : List Turn) → cells ≡ opening_cells i → actors ≡ root i ∷ [] → turns ≡ []
     → IsRunSoFar (record { state = state_of i cells actors; turns = turns; stopped = false })
 opened_is_run i cells actors turns c a t =
-    let state : state_of i cells actors ≡ opening i = cc in
-    rw t (record { last = opening i; run = refl; current = λ e. ap settled state })
+    let state : state_of i cells actors ≡ initial_state i = cc in
+    rw t (record { last = initial_state i; run = refl; current = λ e. ap all_at_rest state })
 
 -- a run goes on by a turn from where it leads
 pub Runs-push : (old mid new : WorldState) (turns : List Turn) (t : Turn) → Runs old turns mid → turn_of mid t.actor ≡ Some (record { event = t.event; world = new }) → Runs old (turns ++ t ∷ []) new

@@ -17,9 +17,9 @@ use Rattle.sthread_life.specs.Children.{child_name}
 use Rattle.run_laws.specs.Fuel.{work_left}
 use Rattle.sthread_life.specs.Local.{rest, has_ended}
 use Rattle.run_laws.specs.Names.{IsNew, AreDistinct}
-use Rattle.sthread_life.specs.Taking.{next_start, takes, begun, child_of, has_entered, run_by, run_at}
+use Rattle.sthread_life.specs.Taking.{next_start, takes, actor_begun, child_of, has_entered, run_by, run_at}
 use Rattle.run_laws.specs.FamilyTrees.{Family}
-use Rattle.run_laws.specs.Worlds.{WorldState, Taken, opening, actor_named, put_actor, with_begun, ready, resumed, Runs, is_ended, is_complete}
+use Rattle.run_laws.specs.Worlds.{WorldState, Taken, initial_state, actor_named, put_actor, with_begun, ready, resumed, Runs, is_ended, is_complete}
 use Rattle.run_laws.proofs.Between.{takes_name}
 use Rattle.run_laws.proofs.FamilyRuns.{Acts, ActsAlone, Starts, Enters, Joins, acts, one_begins, run_family, turn_family, opening_family}
 use Rattle.run_laws.proofs.Named.{same_self, same_equal, found_name, put_put}
@@ -29,7 +29,7 @@ use Rattle.run_laws.proofs.Trees.{apart_too}
 use Rattle.run_laws.proofs.Turns.{ready_name, turn_from}
 use Rattle.run_laws.proofs.WorkLeft.{turn_works}
 use Rattle.wedge_core.specs.Progress.{Progress, IsFirstNamed, IsPlaceOf, IsTurn, IsWaiting, IsBusy, TookTurnOf, HasEnded}
-use Rattle.wedge_core.specs.Serial.{newest, live_names, AreNested, InSerialOrder, RootGoesOn, RootIsFirst, ArePlaced, names_in, IsSerial, LivesAfter, LivingGoOn, SerialOrderGoesOn}
+use Rattle.wedge_core.specs.Serial.{newest, live_names, AreNested, InSerialOrder, RootGoesOn, RootIsFirst, ArePlaced, names_of_live, IsSerial, LivesAfter, LivingGoOn, SerialOrderGoesOn}
 use Rattle.wedge_core.specs.Places.{place_in}
 use Rattle.wedge_core.specs.declared.serially.Live.{Live}
 use Rattle.wedge_core.proofs.HavingTurns.{HasTurn, Awaiting, AtBusy, turning}
@@ -83,7 +83,7 @@ pub record Newest (p : Progress) (name : List ℕ) : Type 0 where
   pub distinct : AreDistinct (is_newest.before ++ actor ∷ is_newest.behind)
   pub named : actor_named p.state.actors name ≡ Some actor
 
-newest_by : (i : Image) (p : Progress) (turns : List Turn) (live : List (List ℕ)) (name : List ℕ) → Runs (opening i) turns p.state → live ≡ live_names p.state.actors → 0 < length live
+newest_by : (i : Image) (p : Progress) (turns : List Turn) (live : List (List ℕ)) (name : List ℕ) → Runs (initial_state i) turns p.state → live ≡ live_names p.state.actors → 0 < length live
     → name ≡ get_or live (length live - 1) name → Newest p name
 newest_by i p turns live name run stack some at =
     let n = newest_of p.state.actors (subst (λ ns. 0 < length ns) stack some) in
@@ -98,12 +98,12 @@ newest_by i p turns live name run stack some at =
       named = ap (actor_named p.state.actors) own ∙ (ap (λ as_. actor_named as_ n.0.name) n.1.is ∙ named_in n.1.before n.1.behind n.0 all);
     }
 
-get_name : (live : List Live) (n : ℕ) (l : Live) → n < length live → l ≡ get_or live n l → l.name ≡ get_or (names_in live) n l.name
+get_name : (live : List Live) (n : ℕ) (l : Live) → n < length live → l ≡ get_or live n l → l.name ≡ get_or (names_of_live live) n l.name
 get_name [] n l lt is = absurd (omega (arith, lt))
 get_name (x ∷ xs) zero l lt is = ap (λ (y : Live). y.name) is
 get_name (x ∷ xs) (suc n) l lt is = get_name xs n l (omega (arith, lt)) is
 
-count_names : (live : List Live) → length (names_in live) ≡ length live
+count_names : (live : List Live) → length (names_of_live live) ≡ length live
 count_names [] = refl
 count_names (l ∷ ls) = ap suc (count_names ls)
 
@@ -111,8 +111,8 @@ count_names (l ∷ ls) = ap suc (count_names ls)
 pub newest_named : (i : Image) (p : Progress) (live : List Live) (l : Live) → IsSerial i p live → 0 < length live → l ≡ get_or live (length live - 1) l → Newest p l.name
 newest_named i p live l s some at =
     let count = count_names live in
-    newest_by i p p.turns (names_in live) l.name s.run s.stack (omega (arith, some, count))
-    (get_name live (length live - 1) l (omega (arith, some)) at ∙ ap (λ n. get_or (names_in live) (n - 1) l.name) (sym count))
+    newest_by i p p.turns (names_of_live live) l.name s.run s.stack (omega (arith, some, count))
+    (get_name live (length live - 1) l (omega (arith, some)) at ∙ ap (λ n. get_or (names_of_live live) (n - 1) l.name) (sym count))
 
 placed_at : (actors : List ActorState) (live : List Live) (n : ℕ) (l : Live) → ArePlaced actors live → n < length live → l ≡ get_or live n l → place_in actors l.name ≡ Some l.place
 placed_at actors [] n l all lt is = absurd (omega (arith, lt))
@@ -141,7 +141,7 @@ run_alive : (b : ActorState) (run : List ℕ) (kept : Option PrivateMemory) (c :
 run_alive b run kept c (phase.Entering x) is = let same_one : run_by b run kept x ≡ c = cc in (ap (λ (y : ActorState). has_ended y.phase) (sym same_one), refl)
 run_alive b run kept c p is = absurd cc
 
-begins_alive : (i : Image) (b : ActorState) (e : Event) (c : ActorState) → begun i b e ≡ Some c → (has_ended c.phase ≡ false) × (has_ended (takes i b e).phase ≡ false)
+begins_alive : (i : Image) (b : ActorState) (e : Event) (c : ActorState) → actor_begun i b e ≡ Some c → (has_ended c.phase ≡ false) × (has_ended (takes i b e).phase ≡ false)
 unfolding takes
 begins_alive i b (event.Start child) c is = let same_one : child_of i b child ≡ c = cc in (ap (λ (x : ActorState). has_ended x.phase) (sym same_one), refl)
 begins_alive i b (event.Enter run) c is = run_alive b run None c b.phase is
@@ -149,17 +149,17 @@ begins_alive i b (event.Gate id (gate_ask.Enter run first) (gate_reply.Entered m
 begins_alive i b e c is = absurd cc
 
 -- and it is named as a child
-begins_named : (v : WorldState) (b : ActorState) (e : Event) (c : ActorState) → Acts v b e → begun v.image b e ≡ Some c → (k : ℕ) × (c.name ≡ child_name b.name k)
+begins_named : (v : WorldState) (b : ActorState) (e : Event) (c : ActorState) → Acts v b e → actor_begun v.image b e ≡ Some c → (k : ℕ) × (c.name ≡ child_name b.name k)
 begins_named v b e c (ActsAlone one) is = let none : None ≡ Some c = sym (one_begins v.image b e one) ∙ is in absurd cc
 begins_named v b e c (Starts s) is =
-    let two : Some (child_of v.image b (child_name b.name (next_start b))) ≡ Some c = sym (ap (begun v.image b) s.is) ∙ is in
+    let two : Some (child_of v.image b (child_name b.name (next_start b))) ≡ Some c = sym (ap (actor_begun v.image b) s.is) ∙ is in
     let one : child_of v.image b (child_name b.name (next_start b)) ≡ c = cc in
     (next_start b, ap (λ (x : ActorState). x.name) (sym one))
 begins_named v b e c (Enters y) is =
     let two : Some (run_by b (child_name b.name (next_start b)) y.kept y.entrance) ≡ Some c = sym y.begins ∙ is in
     let one : run_by b (child_name b.name (next_start b)) y.kept y.entrance ≡ c = cc in
     (next_start b, ap (λ (x : ActorState). x.name) (sym one))
-begins_named v b e c (Joins k listed j) is = let none : None ≡ Some c = sym (ap (begun v.image b) j.is) ∙ is in absurd cc
+begins_named v b e c (Joins k listed j) is = let none : None ≡ Some c = sym (ap (actor_begun v.image b) j.is) ∙ is in absurd cc
 
 -- the actor whose turn it was, and the one that began
 record After (w : WorldState) (name : List ℕ) (new : WorldState) : Type 0 where
@@ -180,13 +180,13 @@ turn_leaves w name e new turn =
     let was : a.name ≡ name = ready_name w.actors t.actor ∙ found_name w.actors name t.actor t.named in
     record {
       after = takes i b e;
-      begins = begun i b e;
+      begins = actor_begun i b e;
       own = own;
       alive = begins_alive i b e;
       named = λ all c is.
           let x = begins_named (resumed w t.actor) b e c (acts (resumed w t.actor) b e (turn_happens w name e new all t)) is in
           (x.0, x.1 ∙ ap (λ m. child_name m x.0) (rest-name i t.parts.actor ∙ found_name (resumed w t.actor).actors name t.parts.actor t.parts.named));
-      are = ap (λ (x : WorldState). x.actors) t.parts.new_is ∙ ap (λ as_. with_begun as_ (begun i b e)) (put_put w.actors a (takes i b e) (own ∙ sym was));
+      are = ap (λ (x : WorldState). x.actors) t.parts.new_is ∙ ap (λ as_. with_begun as_ (actor_begun i b e)) (put_put w.actors a (takes i b e) (own ∙ sym was));
     }
 
 record Left (p : Progress) (name : List ℕ) (n : Newest p name) (q : Progress) : Type 0 where
@@ -213,19 +213,19 @@ left p name n q g =
 
 -- the names of those that live then
 record NamesAfter (actors : List ActorState) (place count : ℕ) (old new : List (List ℕ)) : Type 0 where
-  begun : count < length actors → (c : ActorState) × (slice_get actors count ≡ Some c) × (new ≡ old ++ c.name ∷ [])
+  actor_begun : count < length actors → (c : ActorState) × (slice_get actors count ≡ Some c) × (new ≡ old ++ c.name ∷ [])
   ended : length actors ≤ count → (a : ActorState) → slice_get actors place ≡ Some a → has_ended a.phase ≡ true → (name : List ℕ) × (old ≡ new ++ name ∷ [])
   goes_on : length actors ≤ count → (a : ActorState) → slice_get actors place ≡ Some a → has_ended a.phase ≡ false → new ≡ old
 
-names_push : (live : List Live) (l : Live) → names_in (live ++ l ∷ []) ≡ names_in live ++ l.name ∷ []
+names_push : (live : List Live) (l : Live) → names_of_live (live ++ l ∷ []) ≡ names_of_live live ++ l.name ∷ []
 names_push [] l = refl
 names_push (x ∷ xs) l = ap (λ ns. x.name ∷ ns) (names_push xs l)
 
-names_after : (actors : List ActorState) (place count : ℕ) (old new : List Live) → LivesAfter actors place count old new → NamesAfter actors place count (names_in old) (names_in new)
+names_after : (actors : List ActorState) (place count : ℕ) (old new : List Live) → LivesAfter actors place count old new → NamesAfter actors place count (names_of_live old) (names_of_live new)
 names_after actors place count old new after = record {
-  begun = λ more. let b = after.begun more in (b.0, b.1, ap names_in b.2 ∙ names_push old (record { name = b.0.name; place = count }));
-  ended = λ few a at e. let l = after.ended few a at e in (l.0.name, ap names_in l.1 ∙ names_push new l.0);
-  goes_on = λ few a at e. ap names_in (after.goes_on few a at e);
+  begun = λ more. let b = after.begun more in (b.0, b.1, ap names_of_live b.2 ∙ names_push old (record { name = b.0.name; place = count }));
+  ended = λ few a at e. let l = after.ended few a at e in (l.0.name, ap names_of_live l.1 ∙ names_push new l.0);
+  goes_on = λ few a at e. ap names_of_live (after.goes_on few a at e);
 }
 
 stack_after : (p q : Progress) (live new : List (List ℕ)) (name : List ℕ) (place : ℕ) (n : Newest p name) → live ≡ live_names p.state.actors → IsPlaceOf p.state.actors name place
@@ -461,8 +461,8 @@ whole_at_last i p live s none = let r = s.root_first in is_complete_first p.stat
     by_end : (r : RootIsFirst p.state.actors) (t : Bool) → has_ended r.root_.phase ≡ t → has_ended r.root_.phase ≡ true
     by_end r true e = e
     by_end r false e =
-        let some : names_in live ≡ r.root_.name ∷ live_names r.others = s.stack ∙ (ap live_names r.first ∙ one_lives r.root_ r.others e) in
-        let one : length (names_in live) ≡ suc (length (live_names r.others)) = ap length some in
+        let some : names_of_live live ≡ r.root_.name ∷ live_names r.others = s.stack ∙ (ap live_names r.first ∙ one_lives r.root_ r.others e) in
+        let one : length (names_of_live live) ≡ suc (length (live_names r.others)) = ap length some in
         let count = count_names live in
         absurd (omega (arith, none, one, count))
 
@@ -475,14 +475,14 @@ serial_next i p q live new name place count s some n at many g going after =
     let l = left p name n q g in
     let after_all = subst (λ k. LivesAfter q.state.actors place k live new) many after in
     let names = count_names live in
-    let run : Runs (opening i) q.turns q.state = subst (λ ts. Runs (opening i) ts q.state) (sym g.noted) (Runs-push (opening i) p.state q.state p.turns t s.run g.turn) in
+    let run : Runs (initial_state i) q.turns q.state = subst (λ ts. Runs (initial_state i) ts q.state) (sym g.noted) (Runs-push (initial_state i) p.state q.state p.turns t s.run g.turn) in
     let is_newest = ap newest n.is_newest.is ∙ (newest_is n.is_newest.before n.is_newest.behind n.actor n.is_newest.lives n.is_newest.others ∙ ap (λ m. Some m) n.own) in
     record {
       going = going;
       run = run;
-      order = subst (λ ts. InSerialOrder (opening i) ts) (sym g.noted) (EachTurn-push _ (opening i) p.state q.state p.turns t s.order s.run g.turn is_newest);
-      goes_on = subst (λ ts. RootGoesOn (opening i) ts) (sym g.noted) (EachTurn-push _ (opening i) p.state q.state p.turns t s.goes_on s.run g.turn (not_complete p.state (names_in live) s.root_first s.stack (omega (arith, some, names))));
-      stack = stack_after p q (names_in live) (names_in new) name place n s.stack at l (names_after q.state.actors place (length p.state.actors) live new after_all);
+      order = subst (λ ts. InSerialOrder (initial_state i) ts) (sym g.noted) (EachTurn-push _ (initial_state i) p.state q.state p.turns t s.order s.run g.turn is_newest);
+      goes_on = subst (λ ts. RootGoesOn (initial_state i) ts) (sym g.noted) (EachTurn-push _ (initial_state i) p.state q.state p.turns t s.goes_on s.run g.turn (not_complete p.state (names_of_live live) s.root_first s.stack (omega (arith, some, names))));
+      stack = stack_after p q (names_of_live live) (names_of_live new) name place n s.stack at l (names_after q.state.actors place (length p.state.actors) live new after_all);
       placed = placed_after p q live new name place n s.placed at (run_family i q.turns q.state run).distinct l after_all;
       root_first = root_after p q name n s.root_first l;
       nested = nested_after p q name n s.nested (run_ready i p.turns p.state s.run) l;
@@ -555,7 +555,7 @@ serial_nested old (t ∷ ts) new all family run order nested =
     let mid = nested_after p q t.actor n nested all (left p t.actor n q g) in
     serial_nested run.0 ts new (turn_ready old t.actor t.event run.0 all run.1) (turn_family old t.actor t.event run.0 all family run.1) run.2 (subst (λ (w : WorldState). InSerialOrder w ts) one order.3) mid
 
-opening_nested : (i : Image) → AreNested (live_names (opening i).actors)
+opening_nested : (i : Image) → AreNested (live_names (initial_state i).actors)
 unfolding root
 opening_nested i = (tt, tt)
 
@@ -571,7 +571,7 @@ living_go_on i turns w name a run named live = elim (turning w name a named (run
 pub serial_goes_on : SerialOrderGoesOn
 serial_goes_on i turns w name run order is =
     let n = newest_known w turns name (run_family i turns w run).distinct is in
-    let nested = serial_nested (opening i) turns w (opening_ready i) (opening_family i) run order (opening_nested i) in
+    let nested = serial_nested (initial_state i) turns w (opening_ready i) (opening_family i) run order (opening_nested i) in
     elim (living_go_on i turns w name n.actor run n.named n.is_newest.lives) [
       | inl has ↦ has
       | inr (inl s) ↦ absurd (newest_waits_not i turns w n.actor name run n.is_newest n.own s)

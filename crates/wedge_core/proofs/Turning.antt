@@ -9,9 +9,9 @@ use Rattle.wedge_events.specs.declared.events.LogEntry.{LogEntry}
 use Rattle.wedge_events.specs.declared.events.Turn.{Turn}
 use Rattle.sthread_life.specs.Actors.{ActorState}
 use Rattle.sthread_life.specs.Local.{rest, has_ended, is_running}
-use Rattle.sthread_life.specs.Taking.{wanted, takes, begun}
+use Rattle.sthread_life.specs.Taking.{current_want, takes, actor_begun}
 use Rattle.run_laws.specs.Cells.{Cells, cells_after}
-use Rattle.run_laws.specs.Worlds.{WorldState, opening, actor_named, put_actor, settled, with_begun, event_at, happened, wanting, turn_with, turn_of, turn_in, is_ended, ended_with, resumes, ready_at, ready, resumed}
+use Rattle.run_laws.specs.Worlds.{WorldState, initial_state, actor_named, put_actor, all_at_rest, with_begun, event_at, apply_event, wanting, turn_with, turn_of, turn_in, is_ended, ended_with, resumes, ready_at, ready, resumed}
 use Rattle.run_laws.proofs.Between.{takes_name}
 use Rattle.run_laws.proofs.Named.{found_name, named_put, put_put}
 use Rattle.sthread_life.proofs.Resting.{rest-name, rest-stays}
@@ -36,20 +36,20 @@ pub own_there : (actors : List ActorState) (name : List ℕ) (a : ActorState) �
 own_there actors name a named = ap (actor_named actors) (found_name actors name a named) ∙ named
 
 pub is_turn : (i : Image) (cells after : Cells) (actors new : List ActorState) (name : List ℕ) (a : ActorState) (q : Want) (e : Event)
-    → actor_named actors name ≡ Some a → IsAwake a.phase → wanted (rest i a) ≡ Some q → event_at (state_of i cells actors) (rest i a) q ≡ Some e → after ≡ cells_after cells e
-    → new ≡ with_begun (put_actor actors (takes i (rest i a) e)) (begun i (rest i a) e)
+    → actor_named actors name ≡ Some a → IsAwake a.phase → current_want (rest i a) ≡ Some q → event_at (state_of i cells actors) (rest i a) q ≡ Some e → after ≡ cells_after cells e
+    → new ≡ with_begun (put_actor actors (takes i (rest i a) e)) (actor_begun i (rest i a) e)
     → IsTurn (state_of i cells actors) name e (state_of i after new)
 unfolding turn_of
 is_turn i cells after actors new name a q e named awake wants comes after_is new_is =
     let w = state_of i cells actors in
     let b = rest i a in
-    ap (turn_with w) named ∙ (awake_turn w a (own_there actors name a named) awake ∙ (ap (wanting w b) wants ∙ (ap (option_map (happened w b)) comes
-    ∙ (ap (λ (c : Cells). Some (record { event = e; world = state_of i c (with_begun (put_actor actors (takes i b e)) (begun i b e)) })) (sym after_is)
+    ap (turn_with w) named ∙ (awake_turn w a (own_there actors name a named) awake ∙ (ap (wanting w b) wants ∙ (ap (option_map (apply_event w b)) comes
+    ∙ (ap (λ (c : Cells). Some (record { event = e; world = state_of i c (with_begun (put_actor actors (takes i b e)) (actor_begun i b e)) })) (sym after_is)
     ∙ ap (λ (as_ : List ActorState). Some (record { event = e; world = state_of i after as_ })) (sym new_is)))))
 
 -- an event of a cell makes a turn
 pub cell_turn : (i : Image) (cells after : Cells) (actors : List ActorState) (place : ℕ) (name : List ℕ) (a new : ActorState) (q : Want) (e : Event)
-    → IsFirstNamed actors name place a → IsAwake a.phase → wanted (rest i a) ≡ Some q → IsOfCell q → event_asked cells (rest i a) q ≡ Some e → after ≡ cells_after cells e → new ≡ takes i (rest i a) e → new.name ≡ name
+    → IsFirstNamed actors name place a → IsAwake a.phase → current_want (rest i a) ≡ Some q → IsOfCell q → event_asked cells (rest i a) q ≡ Some e → after ≡ cells_after cells e → new ≡ takes i (rest i a) e → new.name ≡ name
     → IsTurn (state_of i cells actors) name e (state_of i after (slice_set actors place new))
 cell_turn i cells after actors place name a new q e found awake wants of_cell comes after_is new_is own =
     let w = state_of i cells actors in
@@ -96,7 +96,7 @@ rested_event i c actors name place a b q found =
 
 -- what other actors have part in makes a turn
 pub family_turn : (i : Image) (cells new_cells : Cells) (actors new : List ActorState) (place : ℕ) (name : List ℕ) (a : ActorState) (q : Want) (entries new_entries : List LogEntry)
-    → IsFirstNamed actors name place a → IsAwake a.phase → wanted (rest i a) ≡ Some q → (d : IsDoneAt i cells (slice_set actors place (rest i a)) place q entries name new_cells new new_entries)
+    → IsFirstNamed actors name place a → IsAwake a.phase → current_want (rest i a) ≡ Some q → (d : IsDoneAt i cells (slice_set actors place (rest i a)) place q entries name new_cells new new_entries)
     → IsTurn (state_of i cells actors) name d.event (state_of i new_cells new)
 family_turn i cells new_cells actors new place name a q entries new_entries found awake wants d =
     let b = rest i a in
@@ -107,8 +107,8 @@ family_turn i cells new_cells actors new place name a q entries new_entries foun
     is_turn i cells new_cells actors new name a q e found.named awake wants
     (sym (rested_event i cells actors name place a b q found) ∙ (ap (λ x. event_at (state_of i cells (slice_set actors place b)) x q) (sym is) ∙ d.comes))
     d.cells_are
-    (d.new_is ∙ (ap (λ x. with_begun (slice_set (slice_set actors place b) place (takes i x e)) (begun i x e)) is
-    ∙ ap (λ as_. with_begun as_ (begun i b e)) (set_set actors place b (takes i b e) ∙ sym put)))
+    (d.new_is ∙ (ap (λ x. with_begun (slice_set (slice_set actors place b) place (takes i x e)) (actor_begun i x e)) is
+    ∙ ap (λ as_. with_begun as_ (actor_begun i b e)) (set_set actors place b (takes i b e) ∙ sym put)))
   where
     one_of : {x y : ActorState} → Some x ≡ Some y → x ≡ y
     one_of e = cc
@@ -133,7 +133,7 @@ run_goes_on i cells new_cells actors new_actors turns new_turns name e stopped r
     let t = turns_alike (state_of i cells actors) run.last name e (state_of i new_cells new_actors) (run.current going) took in
     record {
       last = t.to;
-      run = rw noted (Runs-push (opening i) run.last t.to turns (record { actor = name; event = e }) run.run t.turn);
+      run = rw noted (Runs-push (initial_state i) run.last t.to turns (record { actor = name; event = e }) run.run t.turn);
       current = λ s. t.alike;
     }
 
@@ -154,9 +154,9 @@ found_through items actors name place a same at value =
     found_at items name place a here (get_at items place a here.1.inside value)
 
 -- a world in which one actor is put at rest differs in local events alone
-pub rested_settled : (w : WorldState) (name : List ℕ) (a : ActorState) → actor_named w.actors name ≡ Some a → settled (rested w name) ≡ settled w
+pub rested_settled : (w : WorldState) (name : List ℕ) (a : ActorState) → actor_named w.actors name ≡ Some a → all_at_rest (rested w name) ≡ all_at_rest w
 rested_settled w name a named =
-    ap (λ o. settled (record w { actors = rested_in w.image w.actors o })) named ∙ rests_settled w a (own_there w.actors name a named)
+    ap (λ o. all_at_rest (record w { actors = rested_in w.image w.actors o })) named ∙ rests_settled w a (own_there w.actors name a named)
 
 -- ---- an actor that has gone on
 -- its turn is that of the actor before it went on
@@ -226,7 +226,7 @@ goes_busy i cells new_cells actors new name a named awake h =
         run = h.busy.run;
         first = h.busy.first;
         named = named;
-        wants = ap (λ (x : ActorState). wanted x) (sym rest_is) ∙ h.busy.wants;
+        wants = ap (λ (x : ActorState). current_want x) (sym rest_is) ∙ h.busy.wants;
         entered = h.busy.entered;
       };
       rests = h.rests ∙ goes_rested i cells actors name a named awake;

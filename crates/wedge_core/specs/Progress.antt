@@ -5,12 +5,12 @@ use Rattle.wedge_events.specs.declared.events.Turn.{Turn}
 use Rattle.wedge_events.specs.Gates.{Kept}
 use Rattle.wedge_base.specs.declared.grants.GateId.{GateId}
 use Rattle.run_laws.specs.Cells.{Cells, GateCell, kept_among, kept_in, put_kept}
-use Rattle.run_laws.specs.Worlds.{WorldState, opening, actor_named, put_actor, turn_of, Runs, is_ended, settled, ready, at_rest}
+use Rattle.run_laws.specs.Worlds.{WorldState, initial_state, actor_named, put_actor, turn_of, Runs, is_ended, all_at_rest, ready, at_rest}
 use Rattle.sthread_life.specs.Actors.{ActorState}
 use Rattle.sthread_life.specs.Local.{rest, has_ended}
 use Rattle.sthread_life.specs.Children.{child_name}
 use Rattle.run_laws.specs.RecycledGates.{IsInside}
-use Rattle.sthread_life.specs.Taking.{wanted}
+use Rattle.sthread_life.specs.Taking.{current_want}
 use Rattle.cow_pages.specs.PrivateMemory.{PrivateMemory}
 use Rattle.wedge_events.specs.declared.cells.GateAsk.TheVariants as gate_ask
 use Rattle.wedge_events.specs.declared.events.Want.TheVariants as want
@@ -28,14 +28,14 @@ pub record Progress : Type 0 where
 -- those that come before its event.
 pub record IsRunSoFar (p : Progress) : Type 0 where
   pub last : WorldState
-  pub run : Runs (opening p.state.image) p.turns last
-  pub current : p.stopped ≡ false → settled p.state ≡ settled last
+  pub run : Runs (initial_state p.state.image) p.turns last
+  pub current : p.stopped ≡ false → all_at_rest p.state ≡ all_at_rest last
 
 -- these turns lead to a state, but for local steps
 pub record LeadsTo (turns : List Turn) (state : WorldState) : Type 0 where
   pub last : WorldState
-  pub run : Runs (opening state.image) turns last
-  pub alike : settled state ≡ settled last
+  pub run : Runs (initial_state state.image) turns last
+  pub alike : all_at_rest state ≡ all_at_rest last
 
 -- the parts of a state put together
 abbrev pub state_of : Image → Cells → List ActorState → WorldState
@@ -50,8 +50,8 @@ abbrev pub HasEnded : List ActorState → List ℕ → Type 0
 HasEnded actors name = IsSomeAnd (actor_named actors name) (λ a. has_ended a.phase ≡ true)
 
 -- a world that has just been opened
-abbrev pub opened : Image → Progress
-opened i = record { state = opening i; turns = []; stopped = false }
+abbrev pub initial_progress : Image → Progress
+initial_progress i = record { state = initial_state i; turns = []; stopped = false }
 
 -- at this index is the first actor of a name
 pub record IsFirstNamed (actors : List ActorState) (name : List ℕ) (place : ℕ) (a : ActorState) : Type 0 where
@@ -77,7 +77,7 @@ IsGateAt cells id place = (c : GateCell) × IsCellOf cells id place c
 
 -- an actor at rest wants to join the child of a number, or waits for the run of one
 abbrev pub Awaits : ActorState → ℕ → Type 0
-Awaits a k = (wanted a ≡ Some (want.Join k)) ⊎ (a.phase ≡ phase.Waiting k)
+Awaits a k = (current_want a ≡ Some (want.Join k)) ⊎ (a.phase ≡ phase.Waiting k)
 
 -- the actor of a name awaits a child or a run that has not ended
 pub record IsWaiting (w : WorldState) (name : List ℕ) : Type 0 where
@@ -94,7 +94,7 @@ pub record IsBusy (w : WorldState) (name : List ℕ) : Type 0 where
   pub run : List ℕ
   pub first : PrivateMemory
   pub named : actor_named w.actors name ≡ Some actor
-  pub wants : wanted (at_rest w actor) ≡ Some (want.Gate gate (gate_ask.Enter run first))
+  pub wants : current_want (at_rest w actor) ≡ Some (want.Gate gate (gate_ask.Enter run first))
   pub entered : (kept_in w.cells gate).entered ≡ true
 
 -- the actor of a name has gone on if it could, and is at rest, and all else is as before

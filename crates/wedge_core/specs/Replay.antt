@@ -11,8 +11,8 @@ use Rattle.wedge_events.specs.Journals.{turns_of}
 use Rattle.sthread_life.specs.Actors.{ActorState}
 use Rattle.sthread_life.specs.Local.{has_ended}
 use Rattle.run_laws.specs.Outcomes.{outcome_of}
-use Rattle.sthread_life.specs.Taking.{wanted}
-use Rattle.run_laws.specs.Worlds.{WorldState, opening, actor_named, turn_of, at_rest, Runs, is_complete}
+use Rattle.sthread_life.specs.Taking.{current_want}
+use Rattle.run_laws.specs.Worlds.{WorldState, initial_state, actor_named, turn_of, at_rest, Runs, is_complete}
 use Rattle.wedge_core.specs.declared.error.Why.{Why}
 use Rattle.wedge_core.specs.declared.error.Why.TheVariants as why
 use Rattle.wedge_core.specs.declared.error.ReplayFault.{ReplayFault}
@@ -29,23 +29,23 @@ why_held q = why.Waits
 -- why an actor has no turn
 abbrev pub why_of : WorldState → Option ActorState → Why
 why_of w None = why.Unknown
-why_of w (Some a) = if has_ended a.phase then why.Ended else why_held (wanted (at_rest w a))
+why_of w (Some a) = if has_ended a.phase then why.Ended else why_held (current_want (at_rest w a))
 
 abbrev pub why_none : WorldState → List ℕ → Why
 why_none w name = why_of w (actor_named w.actors name)
 
 -- the state to which the turns of these actors lead, the last of them the end of the root; or the
 -- number of the first name that has no turn, and why. The first of the names has the number `at`.
-abbrev pub replayed : WorldState → ℕ → List (List ℕ) → Result WorldState (ℕ × Why)
-replayed w at [] = if is_complete w then Ok w else Err (at, why.Short)
-replayed w at (name ∷ names) = if is_complete w then Err (at, why.Extra) else elim (turn_of w name) [
+abbrev pub replay_from : WorldState → ℕ → List (List ℕ) → Result WorldState (ℕ × Why)
+replay_from w at [] = if is_complete w then Ok w else Err (at, why.Short)
+replay_from w at (name ∷ names) = if is_complete w then Err (at, why.Extra) else elim (turn_of w name) [
   | None ↦ Err (at, why_none w name)
-  | Some t ↦ replayed t.world (at + 1) names
+  | Some t ↦ replay_from t.world (at + 1) names
 ]
 
 -- what a schedule replays to over an image
 abbrev pub replay_of : Image → List (List ℕ) → Result WorldState (ℕ × Why)
-replay_of i names = replayed (opening i) 1 names
+replay_of i names = replay_from (initial_state i) 1 names
 
 -- a fault is that of a replay; the machine may run out of memory at any time
 abbrev pub IsFaultOf : Result WorldState (ℕ × Why) → ReplayFault → Type 0
@@ -60,8 +60,8 @@ names_of turns = map (λ t. t.actor) turns
 
 -- the names of each complete run replay to its last state
 abbrev pub CompleteRunsReplay : Type 0
-CompleteRunsReplay = (i : Image) (turns : List Turn) (last : WorldState) → Runs (opening i) turns last → is_complete last ≡ true
-    → RootGoesOn (opening i) turns → replay_of i (names_of turns) ≡ Ok last
+CompleteRunsReplay = (i : Image) (turns : List Turn) (last : WorldState) → Runs (initial_state i) turns last → is_complete last ≡ true
+    → RootGoesOn (initial_state i) turns → replay_of i (names_of turns) ≡ Ok last
 
 -- and what a schedule replays to is the last state of a complete run by its names
 abbrev pub ReplaysAreComplete : Type 0
@@ -85,4 +85,4 @@ pub record Follows (old : Progress) (name : List ℕ) (new : Progress) : Type 0 
 
 -- a schedule is rejected at it, whatever names come after it
 abbrev pub IsScheduleRejected : WorldState → ℕ → List ℕ → ReplayFault → Type 0
-IsScheduleRejected w at name e = (names : List (List ℕ)) → IsFaultOf (replayed w at (name ∷ names)) e
+IsScheduleRejected w at name e = (names : List (List ℕ)) → IsFaultOf (replay_from w at (name ∷ names)) e

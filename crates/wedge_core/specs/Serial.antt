@@ -24,7 +24,7 @@ use Rattle.run_laws.specs.Laws.{IsLawful, IsWrittenByOwners, IsReadByHolders}
 use Rattle.run_laws.specs.LiveSthreads.{lives_in}
 use Rattle.run_laws.specs.Names.{AreDistinct}
 use Rattle.run_laws.specs.Occupancy.{AreOccupied, SlotsSuit}
-use Rattle.run_laws.specs.Worlds.{WorldState, opening, actor_named, turn_of, Runs, is_complete}
+use Rattle.run_laws.specs.Worlds.{WorldState, initial_state, actor_named, turn_of, Runs, is_complete}
 use Rattle.run_laws.specs.Outcomes.{outcome_of}
 
 -- before each of these turns the root has not ended
@@ -58,19 +58,19 @@ pub record IsSoundState (i : Image) (w : WorldState) : Type 0 where
 -- turns than that gives; and a slot is claimed and released, and a tag opened, as the slots are
 -- occupied.
 pub record IsCompleteRun (i : Image) (turns : List Turn) (last : WorldState) : Type 0 where
-  pub run : Runs (opening i) turns last
+  pub run : Runs (initial_state i) turns last
   pub complete : is_complete last ≡ true
-  pub goes_on : RootGoesOn (opening i) turns
-  pub lawful : EachMoment IsLawful (opening i) turns
-  pub begins : IsSoundState i (opening i)
-  pub sound : EachTurn (λ old t new. IsSoundState i new) (opening i) turns
+  pub goes_on : RootGoesOn (initial_state i) turns
+  pub lawful : EachMoment IsLawful (initial_state i) turns
+  pub begins : IsSoundState i (initial_state i)
+  pub sound : EachTurn (λ old t new. IsSoundState i new) (initial_state i) turns
   pub ended : (name : List ℕ) (a : ActorState) → actor_named last.actors name ≡ Some a → has_ended a.phase ≡ true
-  pub written : (done left : List Turn) (w : WorldState) → turns ≡ done ++ left → Runs (opening i) done w → IsWrittenByOwners i done w
+  pub written : (done left : List Turn) (w : WorldState) → turns ≡ done ++ left → Runs (initial_state i) done w → IsWrittenByOwners i done w
   pub read : IsReadByHolders i turns
-  pub all_fuel : fuel_of (opening i) ≡ i.fuel
-  pub paid : EachTurn TakesItsUnits (opening i) turns
+  pub all_fuel : fuel_of (initial_state i) ≡ i.fuel
+  pub paid : EachTurn TakesItsUnits (initial_state i) turns
   pub bound : length turns ≤ most_turns i.fuel
-  pub suit : EachTurn SlotsSuit (opening i) turns
+  pub suit : EachTurn SlotsSuit (initial_state i) turns
 
 -- the entries of a journal are a complete run of the image, with this outcome
 pub record IsJournaledRun (i : Image) (entries : List LogEntry) (outcome : Outcome) : Type 0 where
@@ -96,12 +96,12 @@ InSerialOrder w turns = EachTurn (λ old t new. newest old.actors ≡ Some t.act
 -- an actor of a run that has not ended has a turn, or awaits a child or a run that has not ended,
 -- or is to enter a recycled gate in which a run is
 abbrev pub LivingGoOn : Type 0
-LivingGoOn = (i : Image) (turns : List Turn) (w : WorldState) (name : List ℕ) (a : ActorState) → Runs (opening i) turns w → actor_named w.actors name ≡ Some a → has_ended a.phase ≡ false
+LivingGoOn = (i : Image) (turns : List Turn) (w : WorldState) (name : List ℕ) (a : ActorState) → Runs (initial_state i) turns w → actor_named w.actors name ≡ Some a → has_ended a.phase ≡ false
     → (is_some (turn_of w name) ≡ true) ⊎ (IsWaiting w name ⊎ IsBusy w name)
 
 -- and in a run in serial order the actor whose turn it is has one
 abbrev pub SerialOrderGoesOn : Type 0
-SerialOrderGoesOn = (i : Image) (turns : List Turn) (w : WorldState) (name : List ℕ) → Runs (opening i) turns w → InSerialOrder (opening i) turns → newest w.actors ≡ Some name
+SerialOrderGoesOn = (i : Image) (turns : List Turn) (w : WorldState) (name : List ℕ) → Runs (initial_state i) turns w → InSerialOrder (initial_state i) turns → newest w.actors ≡ Some name
     → is_some (turn_of w name) ≡ true
 
 -- stamps are the indices of the entries, from 1
@@ -125,8 +125,8 @@ abbrev pub ArePlaced : List ActorState → List Live → Type 0
 ArePlaced actors [] = Unit {0}
 ArePlaced actors (l ∷ ls) = (place_in actors l.name ≡ Some l.place) × ArePlaced actors ls
 
-abbrev pub names_in : List Live → List (List ℕ)
-names_in live = map (λ l. l.name) live
+abbrev pub names_of_live : List Live → List (List ℕ)
+names_of_live live = map (λ l. l.name) live
 
 -- each is under every one before it
 abbrev pub AreUnder : List ℕ → List (List ℕ) → Type 0
@@ -140,10 +140,10 @@ AreNested (n ∷ ns) = AreUnder n ns × AreNested ns
 -- turns taken in serial order so far, and the actors that have not ended
 pub record IsSerial (i : Image) (p : Progress) (live : List Live) : Type 0 where
   pub going : p.stopped ≡ false
-  pub run : Runs (opening i) p.turns p.state
-  pub order : InSerialOrder (opening i) p.turns
-  pub goes_on : RootGoesOn (opening i) p.turns
-  pub stack : names_in live ≡ live_names p.state.actors
+  pub run : Runs (initial_state i) p.turns p.state
+  pub order : InSerialOrder (initial_state i) p.turns
+  pub goes_on : RootGoesOn (initial_state i) p.turns
+  pub stack : names_of_live live ≡ live_names p.state.actors
   pub placed : ArePlaced p.state.actors live
   pub root_first : RootIsFirst p.state.actors
   pub nested : AreNested (live_names p.state.actors)

@@ -14,7 +14,7 @@ use Rattle.run_laws.specs.Cells.{Cells, live_at, event_of, cells_after, kept_in}
 use Rattle.sthread_life.specs.Children.{is_child, child_name}
 use Rattle.run_laws.specs.FamilyTrees.{Family}
 use Rattle.sthread_life.specs.Local.{rest, run_awaited, has_ended}
-use Rattle.sthread_life.specs.Taking.{wanted, asks, takes, begun}
+use Rattle.sthread_life.specs.Taking.{current_want, asks, takes, actor_begun}
 use Rattle.run_laws.specs.Worlds.{with_begun, event_at, actor_named, ready, is_ended}
 use Rattle.wedge_core.specs.Progress.{IsTurn, IsWaiting, IsBusy, IsRecorded, state_of, rested, IsFirstNamed}
 use Rattle.wedge_core.specs.Serial.{Notes}
@@ -54,7 +54,7 @@ IsOfFamily q = ⊥
 -- an actor has come to rest, and wants what other actors have part in
 pub record IsLeft (i : Image) (old : ActorState) (q : Want) (new : ActorState) : Type 0 where
   pub rests : new ≡ rest i old
-  pub wants : wanted (rest i old) ≡ Some q
+  pub wants : current_want (rest i old) ≡ Some q
   pub fits : WantFits (rest i old) q
   pub of_family : IsOfFamily q
 
@@ -92,7 +92,7 @@ pub record WantsOfFamily (i : Image) (cells : Cells) (actors : List ActorState) 
   pub there : slice_get actors place ≡ Some actor
   pub named : actor_named actors name ≡ Some actor
   pub own : actor.name ≡ name
-  pub wants : wanted actor ≡ Some q
+  pub wants : current_want actor ≡ Some q
   pub fits : WantFits actor q
   pub of_family : IsOfFamily q
   pub family : Family actors
@@ -105,7 +105,7 @@ pub record IsBeginning (i : Image) (actors : List ActorState) (place : ℕ) (e :
   pub there : slice_get actors place ≡ Some actor
   pub fits : TakesFit actor e
   pub begun_ : ActorState
-  pub begins : begun i actor e ≡ Some begun_
+  pub begins : actor_begun i actor e ≡ Some begun_
   pub fresh : actor_named actors begun_.name ≡ None
 
 -- it may take an event by which none begins
@@ -114,7 +114,7 @@ pub record IsGoingAlone (i : Image) (actors : List ActorState) (place : ℕ) (e 
   pub inside : place < length actors
   pub there : slice_get actors place ≡ Some actor
   pub fits : TakesFit actor e
-  pub begins_none : begun i actor e ≡ None
+  pub begins_none : actor_begun i actor e ≡ None
 
 -- it wants to join one of its children
 pub record IsJoining (actors : List ActorState) (place : ℕ) (name : List ℕ) (child : ℕ) : Type 0 where
@@ -138,13 +138,13 @@ pub record HasTaken (i : Image) (actors : List ActorState) (place : ℕ) (e : Ev
   pub actor : ActorState
   pub there : slice_get actors place ≡ Some actor
   pub new_is : new ≡ slice_set actors place (takes i actor e)
-  pub begins : o ≡ begun i actor e
+  pub begins : o ≡ actor_begun i actor e
 
 -- it has taken an event, which is noted; another stands behind the others if the event begins one
 pub record HasDone (i : Image) (actors : List ActorState) (place : ℕ) (e : Event) (entries : List LogEntry) (name : List ℕ) (new : List ActorState) (new_entries : List LogEntry) : Type 0 where
   pub actor : ActorState
   pub there : slice_get actors place ≡ Some actor
-  pub new_is : new ≡ with_begun (slice_set actors place (takes i actor e)) (begun i actor e)
+  pub new_is : new ≡ with_begun (slice_set actors place (takes i actor e)) (actor_begun i actor e)
   pub noted : Notes entries name e new_entries
 
 -- its event takes place, and is noted
@@ -155,7 +155,7 @@ pub record IsDoneAt (i : Image) (cells : Cells) (actors : List ActorState) (plac
   pub event : Event
   pub comes : event_at (state_of i cells actors) actor q ≡ Some event
   pub cells_are : new_cells ≡ cells_after cells event
-  pub new_is : new ≡ with_begun (slice_set actors place (takes i actor event)) (begun i actor event)
+  pub new_is : new ≡ with_begun (slice_set actors place (takes i actor event)) (actor_begun i actor event)
   pub noted : Notes entries name event new_entries
 
 -- it is to enter a recycled gate in which a run is

@@ -10,7 +10,7 @@ ghost use Rattle.wedge_events.specs.Streams.{most_fds, declared_stream, stream_r
 ghost use Rattle.image_form.specs.Rules.{IsTag};
 ghost use Rattle.sthread_life.specs.Between.{GivesBelow, IsInBounds};
 ghost use Rattle.run_laws.specs.Cells.{AskFits, opening_cells, nothings, held, kept_in, live_at, event_of, cells_after};
-ghost use Rattle.run_laws.specs.Written.{bytes_in};
+ghost use Rattle.run_laws.specs.Written.{slot_bytes};
 
 use crate::gates::{GateCell, ask_gate, is_entered};
 use fd_table::Stream;
@@ -94,7 +94,7 @@ impl Cells {
 
     /// A copy of the bytes of the tag that lives in a slot.
     pub fn copy_bytes(&self, slot: Slot) -> Result<Option<Bytes>, NoMemory>
-        ensures { IfOk result (λ o. o ≡ bytes_in self.now slot) }
+        ensures { IfOk result (λ o. o ≡ slot_bytes self.now slot) }
     {
         match self.slots.get(slot.0 as usize) {
             None => Ok(None),
@@ -228,7 +228,8 @@ fn ask_numbers(numbers: &mut Directory, ask: DirectoryAsk) -> Result<DirectoryRe
 fn ask_slot(slots: &mut Vec<SlotState>, slot: Slot, ask: &SlotAsk) -> Result<SlotReply, NoMemory>
     requires inside { slot < length slots.old.items }
     requires fits { SlotFits (held (slice_get slots.old.items slot)) ask.now }
-    ensures is { IfOk result (λ r. r ≡ slot_reply (held (slice_get slots.old.items slot)) ask.now) }
+    ensures is { IfOk result
+        (λ r. r ≡ slot_reply (held (slice_get slots.old.items slot)) ask.now) }
     ensures after { OnOk result (slots.new.items
         ≡ slice_set slots.old.items slot
         (slot_next (held (slice_get slots.old.items slot)) ask.now)) }

@@ -66,7 +66,7 @@ fn add_actor(
     lines: &mut Vec<ActorLine>,
 ) -> Result<(), NoMemory>
     ensures { OnOk result (lines.new.items
-        ≡ lines.old.items ++ outcomes.with_actor image.now resident.now resident.now.phase []) }
+        ≡ lines.old.items ++ outcomes.with_actor_line image.now resident.now resident.now.phase []) }
 {
     match resident.actor.phase() {
         Phase::Ended(end) => {

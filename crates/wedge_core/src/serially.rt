@@ -28,7 +28,7 @@ pub fn serial(alloc: Global, image: &Image) -> Result<(Journal, Outcome), NoMemo
     ensures run { IfOk result (λ r. IsJournaledRun image.now r.0.entries r.1) }
     ensures stamps { IfOk result (λ r. IsNumbered r.0.entries) }
     ensures order { IfOk result
-        (λ r. InSerialOrder (worlds.opening image.now) (turns_of r.0.entries)) }
+        (λ r. InSerialOrder (worlds.initial_state image.now) (turns_of r.0.entries)) }
 {
     let mut world = open_world(alloc, image)?;
     let mut live = Vec::new(alloc);

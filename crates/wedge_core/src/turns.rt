@@ -11,7 +11,7 @@ ghost use Rattle.run_laws.specs.Laws.{IsLawful};
 ghost use Rattle.run_laws.specs.FamilyTrees.{Family};
 ghost use Rattle.sthread_life.specs.Local.{rest, has_ended, run_awaited};
 ghost use Rattle.run_laws.specs.Moments.{TurnHas};
-ghost use Rattle.sthread_life.specs.Taking.{wanted, takes};
+ghost use Rattle.sthread_life.specs.Taking.{current_want, takes};
 ghost use Rattle.run_laws.specs.Worlds.{actor_named, is_ended};
 ghost use Rattle.run_laws.specs.Written.{TurnAppendsOwn, TurnWritesOwn};
 ghost use Rattle.wedge_core.specs.Progress.{IsTurn, HasEnded, IsPlaceOf, IsWaiting, IsBusy, AreRecorded, rested, TookTurnOf};
@@ -157,7 +157,8 @@ fn advance_over(
     requires there { IsPlaceOf residents.old name.now place }
     requires family { Family residents.old }
     requires recorded { AreRecorded cells.old residents.old }
-    ensures took { IfOk result (λ r. r ≡ Went.Took → WasTaken program.now cells.old residents.old
+    ensures took { IfOk result
+        (λ r. r ≡ Went.Took → WasTaken program.now cells.old residents.old
         entries.old.items name.now cells.new residents.new entries.new.items) }
     ensures ended { IfOk result (λ r. r ≡ Went.Ended → HasEnded residents.old name.now
         × (cells.new ≡ cells.old) × (residents.new ≡ residents.old)) }
@@ -165,7 +166,8 @@ fn advance_over(
         → HasWaited program.now cells.old residents.old name.now cells.new residents.new) }
     ensures busy { IfOk result (λ r. r ≡ Went.Busy
         → HasMetBusy program.now cells.old residents.old name.now cells.new residents.new) }
-    ensures same { IfOk result (λ r. (r ≡ Went.Took → ⊥) → entries.new.items ≡ entries.old.items) }
+    ensures same { IfOk result
+        (λ r. (r ≡ Went.Took → ⊥) → entries.new.items ≡ entries.old.items) }
     ensures lives { OnErr result (HasEnded residents.old name.now → ⊥) }
     ensures kept { OnErr result (entries.new.items ≡ entries.old.items) }
 {
@@ -209,14 +211,16 @@ fn advance_awake(
     place: usize,
 ) -> Result<Went, NoMemory>
     requires { IsAwakeAt cells.old residents.old place name.now }
-    ensures took { IfOk result (λ r. r ≡ Went.Took → WasTaken program.now cells.old residents.old
+    ensures took { IfOk result
+        (λ r. r ≡ Went.Took → WasTaken program.now cells.old residents.old
         entries.old.items name.now cells.new residents.new entries.new.items) }
     ensures ended { IfOk result (λ r. r ≡ Went.Ended → ⊥) }
     ensures waits { IfOk result (λ r. r ≡ Went.Waits
         → HasWaited program.now cells.old residents.old name.now cells.new residents.new) }
     ensures busy { IfOk result (λ r. r ≡ Went.Busy
         → HasMetBusy program.now cells.old residents.old name.now cells.new residents.new) }
-    ensures same { IfOk result (λ r. (r ≡ Went.Took → ⊥) → entries.new.items ≡ entries.old.items) }
+    ensures same { IfOk result
+        (λ r. (r ≡ Went.Took → ⊥) → entries.new.items ≡ entries.old.items) }
     ensures kept { OnErr result (entries.new.items ≡ entries.old.items) }
 {
     let resident = &mut residents.list[place];
@@ -242,7 +246,7 @@ fn advance_one(
     requires lives { has_ended resident.old.phase ≡ false }
     requires awake { run_awaited resident.old.phase ≡ None }
     ensures made { IfOk result (λ o. IfNone o ((q : AWant)
-        × (wanted (rest program.now resident.old) ≡ Some q) × IsOfCell q
+        × (current_want (rest program.now resident.old) ≡ Some q) × IsOfCell q
         × IsEventDone program.now cells.old (rest program.now resident.old) q entries.old.items name.now
         cells.new resident.new entries.new.items)) }
     ensures left { IfOk result
@@ -310,7 +314,8 @@ fn do_family(
     ensures took { IfOk result (λ r. r ≡ Went.Took
         → IsDoneAt program.now cells.old residents.old place want
         entries.old.items name.now cells.new residents.new entries.new.items) }
-    ensures waits { IfOk result (λ r. r ≡ Went.Waits → (child : ℕ) × (want ≡ AWant.Join child)
+    ensures waits { IfOk result
+        (λ r. r ≡ Went.Waits → (child : ℕ) × (want ≡ AWant.Join child)
         × (is_ended (actor_named residents.old (child_name name.now child)) ≡ false)) }
     ensures busy { IfOk result (λ r. r ≡ Went.Busy → FindsBusy cells.old want) }
     ensures same { IfOk result (λ r. (r ≡ Went.Took → ⊥) → (cells.new ≡ cells.old)
@@ -377,7 +382,8 @@ fn do_gate(
         → IsDoneAt program.now cells.old residents.old place
         (AWant.Gate gate ask) entries.old.items name.now cells.new residents.new
         entries.new.items) }
-    ensures busy { IfOk result (λ r. r ≡ Went.Busy → FindsBusy cells.old (AWant.Gate gate ask)) }
+    ensures busy { IfOk result
+        (λ r. r ≡ Went.Busy → FindsBusy cells.old (AWant.Gate gate ask)) }
     ensures same { IfOk result (λ r. (r ≡ Went.Took → ⊥) → (cells.new ≡ cells.old)
         × (residents.new ≡ residents.old) × (entries.new.items ≡ entries.old.items)) }
     ensures lives { IfOk result (λ r. r ≡ Went.Ended ⊎ r ≡ Went.Waits → ⊥) }
@@ -478,7 +484,8 @@ fn join(
         (AWant.Join child) entries.old.items name.now c residents.new entries.new.items) }
     ensures waits { IfOk result (λ r. r ≡ Went.Waits
         → is_ended (actor_named residents.old (child_name name.now child)) ≡ false) }
-    ensures same { IfOk result (λ r. (r ≡ Went.Took → ⊥) → (residents.new ≡ residents.old)
+    ensures same { IfOk result
+        (λ r. (r ≡ Went.Took → ⊥) → (residents.new ≡ residents.old)
         × (entries.new.items ≡ entries.old.items)) }
     ensures lives { IfOk result (λ r. r ≡ Went.Ended ⊎ r ≡ Went.Busy → ⊥) }
     ensures kept { OnErr result (entries.new.items ≡ entries.old.items) }

@@ -2,7 +2,7 @@
 
 ghost use Rattle.std.specs.Prelude.{◌≡◌, ◌<◌, ◌++◌, ◌∷◌, [], List, length, IfOk, false};
 ghost use Rattle.wedge_events.specs.declared.events.Turn.{Turn as ATurn};
-ghost use Rattle.wedge_core.specs.Progress.{LeadsTo, opened};
+ghost use Rattle.wedge_core.specs.Progress.{LeadsTo, initial_progress};
 ghost use Rattle.wedge_core.specs.Serial.{IsNumbered};
 ghost use Rattle.wedge_events.specs.Journals.{turns_of};
 
@@ -86,7 +86,7 @@ impl<'a> World<'a> {
 
 /// The world as a run of an image begins.
 pub fn open_world(alloc: Global, image: &Image) -> Result<World<'_>, NoMemory>
-    ensures { IfOk result (λ w. w ≡ opened image.now) }
+    ensures { IfOk result (λ w. w ≡ initial_progress image.now) }
 {
     let program = Program::new(alloc, image)?;
     let cells = Cells::opening(alloc, image)?;

@@ -43,12 +43,12 @@ claim_next d None = d
 claim_next d (Some c) = c.left
 
 -- whether a slot is in a list of slots
-abbrev pub is_among : List ℕ → ℕ → Bool
-is_among places place = list_any (λ p. p == place) places
+abbrev pub contains_place : List ℕ → ℕ → Bool
+contains_place places place = list_any (λ p. p == place) places
 
 -- whether a slot is claimed now
 abbrev pub is_claimed : Directory → ℕ → Bool
-is_claimed d place = nat_lt place d.unused && not (is_among d.released place)
+is_claimed d place = nat_lt place d.unused && not (contains_place d.released place)
 
 -- a claimed slot is put before those released earlier; the release of any other changes nothing
 abbrev pub release : Directory → ℕ → Directory

@@ -1,7 +1,7 @@
 -- The bytes of a tag by the history of its slot, and those of a stream by the history of its
 -- descriptor.
 use Rattle.std.specs.Prelude.{ℕ, ◌+◌, ◌*◌, ◌==◌, List, [], ◌∷◌, ◌++◌, length, Option, Some, None, option_map, if◌then◌else◌}
-use Rattle.wedge_base.specs.Bytes.{zeros, written, bytes_of}
+use Rattle.wedge_base.specs.Bytes.{zeros, overwrite, bytes_of}
 use Rattle.wedge_base.specs.Images.{page}
 use Rattle.wedge_events.specs.declared.events.Event.{Event}
 use Rattle.wedge_events.specs.declared.events.Event.TheVariants as event
@@ -20,7 +20,7 @@ use Rattle.wedge_events.specs.declared.cells.StreamReply.TheVariants as stream_r
 abbrev pub bytes_by : Option (List ℕ) → SlotAsk → SlotReply → Option (List ℕ)
 bytes_by bytes (ask.Open tag pages) r = Some (zeros (pages * page))
 bytes_by bytes (ask.Close tag) reply.Closed = None
-bytes_by bytes (ask.Store offset width value live) reply.Stored = option_map (λ b. written b offset (bytes_of width value)) bytes
+bytes_by bytes (ask.Store offset width value live) reply.Stored = option_map (λ b. overwrite b offset (bytes_of width value)) bytes
 bytes_by bytes q r = bytes
 
 -- the same, of an event on any cell

@@ -23,17 +23,17 @@ cell_of (event.Enter run) = None
 cell_of (event.Leave end) = None
 
 -- what was asked in an event
-abbrev pub asked : Event → Ask
-asked (event.Slots q r) = ask.Slots q
-asked (event.Slot slot q r) = ask.Slot slot q
-asked (event.Fds q r) = ask.Fds q
-asked (event.Fd fd q r) = ask.Fd fd q
-asked (event.Lives q r) = ask.Lives q
-asked (event.Gate gate q r) = ask.Gate gate q
-asked (event.Start child) = ask.Start child
-asked (event.Join child end fuel) = ask.Join child
-asked (event.Enter run) = ask.Enter run
-asked (event.Leave end) = ask.Leave end
+abbrev pub event_ask : Event → Ask
+event_ask (event.Slots q r) = ask.Slots q
+event_ask (event.Slot slot q r) = ask.Slot slot q
+event_ask (event.Fds q r) = ask.Fds q
+event_ask (event.Fd fd q r) = ask.Fd fd q
+event_ask (event.Lives q r) = ask.Lives q
+event_ask (event.Gate gate q r) = ask.Gate gate q
+event_ask (event.Start child) = ask.Start child
+event_ask (event.Join child end fuel) = ask.Join child
+event_ask (event.Enter run) = ask.Enter run
+event_ask (event.Leave end) = ask.Leave end
 
 -- the turns of a journal's entries
 abbrev pub turns_of : List LogEntry → List Turn

@@ -1,6 +1,6 @@
 -- The cell of a slot: the tag that lives there, its bytes and its blocks.
 use Rattle.std.specs.Prelude.{◌≡◌, ℕ, ◌+◌, ◌-◌, ◌*◌, ◌%◌, ◌==◌, ◌≤◌, ◌<◌, ◌⊎◌, not, List, [], ◌∷◌, ◌++◌, length, slice_range, slice_get, Option, Some, None, is_some, option_map, nat_lt, if◌then◌else◌}
-use Rattle.wedge_base.specs.Bytes.{zeros, written, number_of, bytes_of}
+use Rattle.wedge_base.specs.Bytes.{zeros, overwrite, number_of, bytes_of}
 use Rattle.wedge_base.specs.Images.{Image, page, window, most_pages}
 use Rattle.wedge_base.specs.Pages.{pages_of}
 use Rattle.wedge_base.specs.Rights.{at_least}
@@ -27,8 +27,8 @@ right_in (Some l) = l.right
 
 -- The reply to a load or store: Unmapped past the bytes; Denied where the right in the pair is
 -- below the one wanted; else `done`.
-abbrev pub checked : Segment → ℕ → Option Live → Right → SlotReply → SlotReply
-checked g offset live wants done =
+abbrev pub access_reply : Segment → ℕ → Option Live → Right → SlotReply → SlotReply
+access_reply g offset live wants done =
     if not (nat_lt offset (length g.bytes)) then reply.Unmapped
     else if at_least (right_in live) wants then done else reply.Denied g.tag wants
 
@@ -41,8 +41,8 @@ place_reply (Some offset) = reply.Placed offset
 abbrev pub live_reply : Segment → SlotAsk → SlotReply
 live_reply g (ask.Open tag pages) = reply.Opened
 live_reply g (ask.Close tag) = if g.tag == tag then reply.Closed else reply.NoSuch
-live_reply g (ask.Load offset width live) = checked g offset live right.Read (reply.Loaded (number_of (slice_range g.bytes offset (offset + width))))
-live_reply g (ask.Store offset width value live) = checked g offset live right.ReadWrite reply.Stored
+live_reply g (ask.Load offset width live) = access_reply g offset live right.Read (reply.Loaded (number_of (slice_range g.bytes offset (offset + width))))
+live_reply g (ask.Store offset width value live) = access_reply g offset live right.ReadWrite reply.Stored
 live_reply g (ask.Smalloc tag size) = if g.tag == tag then place_reply (first_fit 0 (rounded size) (length g.bytes) g.blocks) else reply.NoSuch
 live_reply g (ask.Sfree offset live) =
     if not (at_least (right_in live) right.ReadWrite) then reply.Denied g.tag right.ReadWrite
@@ -64,29 +64,29 @@ slot_reply None q = empty_reply q
 slot_reply (Some g) q = live_reply g q
 
 -- a new tag has zero bytes and no blocks
-abbrev pub opened : ℕ → ℕ → Segment
-opened tag pages = record { tag = tag; bytes = zeros (pages * page); blocks = [] }
+abbrev pub new_segment : ℕ → ℕ → Segment
+new_segment tag pages = record { tag = tag; bytes = zeros (pages * page); blocks = [] }
 
-abbrev pub stored : ℕ → ℕ → ℕ → Segment → Segment
-stored offset width value g = record g { bytes = written g.bytes offset (bytes_of width value) }
+abbrev pub write_segment : ℕ → ℕ → ℕ → Segment → Segment
+write_segment offset width value g = record g { bytes = overwrite g.bytes offset (bytes_of width value) }
 
 abbrev pub with_blocks : List Block → Segment → Segment
 with_blocks blocks g = record g { blocks = blocks }
 
 -- a tag with a block placed, and with one freed
-abbrev pub placed : ℕ → ℕ → Segment → Segment
-placed offset size g = with_blocks (with_block (block offset (rounded size)) g.blocks) g
+abbrev pub with_placed_block : ℕ → ℕ → Segment → Segment
+with_placed_block offset size g = with_blocks (with_block (block offset (rounded size)) g.blocks) g
 
-abbrev pub freed : ℕ → Segment → Segment
-freed offset g = with_blocks (without_block offset g.blocks) g
+abbrev pub with_freed_block : ℕ → Segment → Segment
+with_freed_block offset g = with_blocks (without_block offset g.blocks) g
 
 -- what an ask with its reply makes of the slot; each other reply changes nothing
 abbrev pub slot_after : Option Segment → SlotAsk → SlotReply → Option Segment
-slot_after s (ask.Open tag pages) r = Some (opened tag pages)
+slot_after s (ask.Open tag pages) r = Some (new_segment tag pages)
 slot_after s (ask.Close tag) reply.Closed = None
-slot_after s (ask.Store offset width value live) reply.Stored = option_map (stored offset width value) s
-slot_after s (ask.Smalloc tag size) (reply.Placed offset) = option_map (placed offset size) s
-slot_after s (ask.Sfree offset live) reply.Freed = option_map (freed offset) s
+slot_after s (ask.Store offset width value live) reply.Stored = option_map (write_segment offset width value) s
+slot_after s (ask.Smalloc tag size) (reply.Placed offset) = option_map (with_placed_block offset size) s
+slot_after s (ask.Sfree offset live) reply.Freed = option_map (with_freed_block offset) s
 slot_after s q r = s
 
 abbrev pub slot_next : Option Segment → SlotAsk → Option Segment

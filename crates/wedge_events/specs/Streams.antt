@@ -23,8 +23,8 @@ pub record Stream : Type 0 where
 abbrev pub most_fds : ℕ
 most_fds = 1024
 
-abbrev pub opened : StreamKind → List ℕ → Stream
-opened kind bytes = record { kind = kind; bytes = bytes; position = 0; live = true }
+abbrev pub new_stream : StreamKind → List ℕ → Stream
+new_stream kind bytes = record { kind = kind; bytes = bytes; position = 0; live = true }
 
 -- the bit that a close needs: read on a source, append on an append stream
 abbrev pub closing_bit : StreamKind → FdBits
@@ -41,11 +41,11 @@ append_reply kind.Append = reply.Appended
 append_reply kind.Source = reply.Bad
 
 -- the reply of a live stream
-abbrev pub live_reply : Stream → StreamAsk → StreamReply
-live_reply s (ask.Open kind bytes) = reply.Opened
-live_reply s (ask.Read bits count) = if bits.read then read_reply s.kind s count else reply.Denied read_bit
-live_reply s (ask.Append bits bytes) = if bits.append then append_reply s.kind else reply.Denied append_bit
-live_reply s (ask.Close bits) = if bits_within (closing_bit s.kind) bits then reply.Closed else reply.Denied (closing_bit s.kind)
+abbrev pub live_stream_reply : Stream → StreamAsk → StreamReply
+live_stream_reply s (ask.Open kind bytes) = reply.Opened
+live_stream_reply s (ask.Read bits count) = if bits.read then read_reply s.kind s count else reply.Denied read_bit
+live_stream_reply s (ask.Append bits bytes) = if bits.append then append_reply s.kind else reply.Denied append_bit
+live_stream_reply s (ask.Close bits) = if bits_within (closing_bit s.kind) bits then reply.Closed else reply.Denied (closing_bit s.kind)
 
 -- the reply of one that is closed or was never opened
 abbrev pub dead_reply : StreamAsk → StreamReply
@@ -56,24 +56,24 @@ dead_reply (ask.Close bits) = reply.NoSuch
 
 abbrev pub stream_reply : Option Stream → StreamAsk → StreamReply
 stream_reply None q = dead_reply q
-stream_reply (Some s) q = if s.live then live_reply s q else dead_reply q
+stream_reply (Some s) q = if s.live then live_stream_reply s q else dead_reply q
 
 -- a stream read further, with more bytes at its end, and closed
-abbrev pub moved : ℕ → Stream → Stream
-moved count s = record s { position = s.position + count }
+abbrev pub with_bytes_read : ℕ → Stream → Stream
+with_bytes_read count s = record s { position = s.position + count }
 
-abbrev pub grown : List ℕ → Stream → Stream
-grown bytes s = record s { bytes = s.bytes ++ bytes }
+abbrev pub with_more_bytes : List ℕ → Stream → Stream
+with_more_bytes bytes s = record s { bytes = s.bytes ++ bytes }
 
-abbrev pub closed : Stream → Stream
-closed s = record s { live = false }
+abbrev pub closed_stream : Stream → Stream
+closed_stream s = record s { live = false }
 
 -- what an ask with its reply makes of the stream; each other reply changes nothing
 abbrev pub stream_after : Option Stream → StreamAsk → StreamReply → Option Stream
-stream_after s (ask.Open kind bytes) r = Some (opened kind bytes)
-stream_after s (ask.Read bits count) (reply.Given bytes) = option_map (moved (length bytes)) s
-stream_after s (ask.Append bits bytes) reply.Appended = option_map (grown bytes) s
-stream_after s (ask.Close bits) reply.Closed = option_map closed s
+stream_after s (ask.Open kind bytes) r = Some (new_stream kind bytes)
+stream_after s (ask.Read bits count) (reply.Given bytes) = option_map (with_bytes_read (length bytes)) s
+stream_after s (ask.Append bits bytes) reply.Appended = option_map (with_more_bytes bytes) s
+stream_after s (ask.Close bits) reply.Closed = option_map closed_stream s
 stream_after s q r = s
 
 abbrev pub stream_next : Option Stream → StreamAsk → Option Stream
@@ -81,7 +81,7 @@ stream_next s q = stream_after s q (stream_reply s q)
 
 -- a declared descriptor's stream, as a run begins
 abbrev pub declared_stream : FdEntry → Stream
-declared_stream f = opened f.kind f.content
+declared_stream f = new_stream f.kind f.content
 
 abbrev pub stream_opening : Image → ℕ → Option Stream
 stream_opening i fd = option_map declared_stream (slice_get i.fds fd)

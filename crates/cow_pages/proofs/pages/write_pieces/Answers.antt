@@ -1,5 +1,5 @@
 use Rattle.std.proofs.Common.{◌+◌, ◌∙◌, ap, arith, slice_range, ℕ, List}
-use Rattle.wedge_base.specs.Bytes.{written}
+use Rattle.wedge_base.specs.Bytes.{overwrite}
 use Rattle.cow_pages.specs.SharedPages.{bytes_in}
 use Rattle.cow_pages.proofs.ListPieces.{written_further}
 use Rattle.cow_pages.proofs.SharedPages.{length-bytes_in}
@@ -17,6 +17,6 @@ loop-done-preserved c =
       to = omega arith;
       whole = c.in_ok-write_piece.ensures.whole;
       so_far = c.in_ok-write_piece.ensures.ok
-          ∙ ap (λ (b : List ℕ). written b (c.args.start + c.loop-done.done) (slice_range c.args.new.now c.loop-done.done (c.loop-done.done + c.min-count.result))) c.loop-done.invariant.so_far
+          ∙ ap (λ (b : List ℕ). overwrite b (c.args.start + c.loop-done.done) (slice_range c.args.new.now c.loop-done.done (c.loop-done.done + c.min-count.result))) c.loop-done.invariant.so_far
           ∙ written_further (bytes_in c.args.pages.now) c.args.start c.args.new.now c.loop-done.done c.min-count.result (omega arith) c.requires.inside;
     }

@@ -1,6 +1,6 @@
 use Rattle.std.proofs.Common.{List, ◌+◌, ◌%◌, ◌^◌, [], ◌∷◌, ◌++◌, drop, codes, sym, ap, ◌∙◌}
 use Rattle.rv_asm.specs.declared.assembled.Equate.{Equate}
-use Rattle.part_toml.specs.Parts.{equate, placed, tag_equate}
+use Rattle.part_toml.specs.Parts.{equate, numbered_equates, tag_equate}
 use Rattle.part_toml.proofs.Placed.{placed-more, placed-end}
 use Rattle.part_toml.proofs.equates.push_tags.Goals as goal
 
@@ -9,7 +9,7 @@ loop-tag-preserved c =
     let front = c.loop-tag.equates.items in
     let xs = c.args.tags.now in
     let i = c.loop-tag.tag-index in
-    ap (λ (es : List Equate). es ++ placed tag_equate ((c.loop-tag.place + 1) % 2 ^ 32) (drop (i + 1) xs))
+    ap (λ (es : List Equate). es ++ numbered_equates tag_equate ((c.loop-tag.place + 1) % 2 ^ 32) (drop (i + 1) xs))
     (c.in_ok-push.ensures ∙ ap (λ name. front ++ equate (codes "tag_") name c.loop-tag.place ∷ []) c.as_slice.ensures)
     ∙ placed-more tag_equate xs front c.loop-tag.place i c.tag-item.result c.loop-tag-test.true c.tag-item.is
     ∙ c.loop-tag.invariant

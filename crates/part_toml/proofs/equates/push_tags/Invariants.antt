@@ -1,6 +1,6 @@
 use Rattle.std.proofs.Common.{◌≡◌, ◌++◌, drop}
-use Rattle.part_toml.specs.Parts.{placed, tag_equate}
+use Rattle.part_toml.specs.Parts.{numbered_equates, tag_equate}
 use Rattle.part_toml.proofs.equates.push_tags.Given as goal
 
 abbrev pub invariant-loop-tag : goal.invariant-loop-tag
-invariant-loop-tag l = l.equates.items ++ placed tag_equate l.place (drop l.tag-index l.tags) ≡ l.initial.equates.items ++ placed tag_equate 0 l.tags
+invariant-loop-tag l = l.equates.items ++ numbered_equates tag_equate l.place (drop l.tag-index l.tags) ≡ l.initial.equates.items ++ numbered_equates tag_equate 0 l.tags

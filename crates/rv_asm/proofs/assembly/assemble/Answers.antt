@@ -2,7 +2,7 @@ use Rattle.std.proofs.Common.{◌≡◌, ◌∙◌, ap, subst, map, sym}
 use Rattle.rv_asm.specs.Lexing.{lines}
 use Rattle.rv_asm.specs.Parsing.{statement_of}
 use Rattle.rv_asm.specs.Views.{statement_view, equates_view, labels_view}
-use Rattle.rv_asm.specs.Assembly.{IsAnswer, labels_from, no_labels}
+use Rattle.rv_asm.specs.Assembly.{IsAssemblyAnswer, labels_from, no_labels}
 use Rattle.rv_asm.proofs.Passes.{whole, map_twice}
 use Rattle.rv_asm.proofs.assembly.assemble.Goals as goal
 
@@ -21,5 +21,5 @@ returns c =
     let labelled : labels_view c.in_ok-labels.labels ≡ labels_from es no_labels 1 c.args.base ss =
     c.in_ok-labels.ensures ∙ ap (λ xs. labels_from es no_labels 1 c.args.base (map statement_view xs)) (c.deref-2.ensures.value ∙ sym c.deref-3.ensures.value) in
     record {
-      exact = subst (IsAnswer c.emitted.result) (whole c.args.text.now c.args.base c.args.names.now es (labels_view c.in_ok-labels.labels) ss c.in_ok-equates.ensures listed labelled) c.emitted.ensures;
+      exact = subst (IsAssemblyAnswer c.emitted.result) (whole c.args.text.now c.args.base c.args.names.now es (labels_view c.in_ok-labels.labels) ss c.in_ok-equates.ensures listed labelled) c.emitted.ensures;
     }

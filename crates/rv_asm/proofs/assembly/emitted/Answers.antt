@@ -1,5 +1,5 @@
 use Rattle.std.proofs.Common.{◌+◌, drop, map, ap, sym, ◌∙◌, arith}
-use Rattle.rv_asm.specs.Assembly.{assembled_from, procedures, grown}
+use Rattle.rv_asm.specs.Assembly.{assembled_from, procedures, with_line_words}
 use Rattle.rv_asm.specs.Views.{statement_view, equates_view, labels_view, code_view}
 use Rattle.rv_asm.proofs.Passes.{assembled_step, assembled_fault, assembled_end}
 use Rattle.rv_asm.proofs.assembly.emitted.Goals as goal
@@ -16,7 +16,7 @@ loop-statement-preserved c =
     let es = equates_view c.args.equates.now in
     let ls = labels_view c.args.labels.now in
     let rest = map statement_view (drop (l.statement-index + 1) c.args.statements.now) in
-    let done = grown l.front (code_view c.in-Ok.code) (procedures l.at (statement_view c.statement-item.result)) in
+    let done = with_line_words l.front (code_view c.in-Ok.code) (procedures l.at (statement_view c.statement-item.result)) in
     record {
       counted = omega (arith, l.invariant.counted);
       so_far =

@@ -1,5 +1,5 @@
 use Rattle.std.proofs.Common.{◌+◌, drop, map, ap, sym, ◌∙◌, arith}
-use Rattle.rv_asm.specs.Assembly.{Labels, labels_from, given, name_given}
+use Rattle.rv_asm.specs.Assembly.{Labels, labels_from, define_label, name_given}
 use Rattle.rv_asm.specs.Views.{statement_view, equates_view, labels_view}
 use Rattle.rv_asm.proofs.Passes.{labels_step, labels_end}
 use Rattle.rv_asm.proofs.assembly.labels_of.Goals as goal
@@ -9,7 +9,7 @@ loop-statement-preserved c =
     let l = c.loop-statement in
     let es = equates_view c.args.equates.now in
     let rest = map statement_view (drop (l.statement-index + 1) c.args.statements.now) in
-    let known = given es (l.line + 1) l.at (labels_view l.labels) (name_given (statement_view c.statement-item.result)) in
+    let known = define_label es (l.line + 1) l.at (labels_view l.labels) (name_given (statement_view c.statement-item.result)) in
     record {
       counted = omega (arith, l.invariant.counted);
       so_far =

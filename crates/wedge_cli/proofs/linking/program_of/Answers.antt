@@ -1,5 +1,5 @@
 use Rattle.std.proofs.Common.{sym, subst}
-use Rattle.elf_in.specs.Reading.{reading}
+use Rattle.elf_in.specs.Reading.{elf_program}
 use Rattle.wedge_cli.specs.Linking.{program_by}
 use Rattle.wedge_cli.specs.Replaying.{IsRefusalIn}
 use Rattle.wedge_cli.proofs.Links.{rejected_by}
@@ -7,5 +7,5 @@ use Rattle.wedge_cli.proofs.linking.program_of.Goals as goal
 
 pub returns-in-Err-clause-rejected : goal.returns-in-Err-clause-rejected
 returns-in-Err-clause-rejected c =
-    let meant = rejected_by (reading c.args.elf.now) c.in-Err.error c.in-Err.ensures.exact in
-    subst (λ r. IsRefusalIn (program_by (reading c.args.elf.now)) r) (sym c.refused_elf.ensures) meant
+    let meant = rejected_by (elf_program c.args.elf.now) c.in-Err.error c.in-Err.ensures.exact in
+    subst (λ r. IsRefusalIn (program_by (elf_program c.args.elf.now)) r) (sym c.refused_elf.ensures) meant

@@ -1,6 +1,6 @@
 use Rattle.std.proofs.Common.{rules, ◌≡◌, sym, subst, drop, suc, true}
-use Rattle.run_laws.specs.Worlds.{opening, is_complete}
-use Rattle.wedge_core.specs.Replay.{replayed, IsFaultOf}
+use Rattle.run_laws.specs.Worlds.{initial_state, is_complete}
+use Rattle.wedge_core.specs.Replay.{replay_from, IsFaultOf}
 use Rattle.wedge_core.proofs.Replays.{replaying_next, replaying_rest, complete_of}
 use Rattle.wedge_core.proofs.replaying.replay.Goals as goal
 
@@ -9,7 +9,7 @@ returns-in_err-follow-clause-rejected c =
     let rest = drop (suc c.loop-i.i) c.args.schedule.now in
     let told = replaying_rest c.args.image.now c.args.schedule.now c.loop-i.i c.index-schedule-i.result c.loop-i.world c.loop-i-test.true c.index-schedule-i.is c.loop-i.invariant in
     let e = c.in_err-follow.field-0.0 in
-    let known : IsFaultOf (replayed (opening c.args.image.now) 1 c.args.schedule.now) e = subst (λ r. IsFaultOf r e) (sym told) (c.in_err-follow.ensures.rejected rest) in
+    let known : IsFaultOf (replay_from (initial_state c.args.image.now) 1 c.args.schedule.now) e = subst (λ r. IsFaultOf r e) (sym told) (c.in_err-follow.ensures.rejected rest) in
     search (rules, known)
 
 pub loop-i-preserved : goal.loop-i-preserved

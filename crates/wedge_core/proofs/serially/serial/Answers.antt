@@ -1,7 +1,7 @@
 use Rattle.std.proofs.Common.{◌≡◌, ◌∙◌, ◌≤◌, ◌∷◌, [], ap, sym, subst, length, rules}
 use Rattle.wedge_events.specs.Journals.{turns_of}
 use Rattle.wedge_base.specs.Names.{root_name}
-use Rattle.run_laws.specs.Worlds.{opening}
+use Rattle.run_laws.specs.Worlds.{initial_state}
 use Rattle.wedge_core.specs.Progress.{Progress}
 use Rattle.wedge_core.specs.Serial.{IsSerial, RootGoesOn, InSerialOrder}
 use Rattle.wedge_core.proofs.LiveStack.{opening_serial}
@@ -34,10 +34,10 @@ returns-clause-run c =
     let p = c.loop-world.world in
     let none : length c.loop-world.live.items ≤ 0 = search rules in
     let entries = c.into_entries.result.items in
-    let goes_on : RootGoesOn (opening c.args.image.now) (turns_of entries) = subst (RootGoesOn (opening c.args.image.now)) (sym c.into_entries.ensures.turns) s.goes_on in
+    let goes_on : RootGoesOn (initial_state c.args.image.now) (turns_of entries) = subst (RootGoesOn (initial_state c.args.image.now)) (sym c.into_entries.ensures.turns) s.goes_on in
     rw c.new.ensures (journaled_run c.args.image.now p.state entries c.in_ok-outcome.outcome c.loop-world.invariant.image (c.into_entries.ensures.run s.going) (whole_at_last c.args.image.now p c.loop-world.live.items s none) goes_on c.in_ok-outcome.ensures)
 
 pub returns-clause-order : goal.returns-clause-order
 returns-clause-order c =
     let s = c.loop-world.invariant.serial in
-    rw c.new.ensures (subst (InSerialOrder (opening c.args.image.now)) (sym c.into_entries.ensures.turns) s.order)
+    rw c.new.ensures (subst (InSerialOrder (initial_state c.args.image.now)) (sym c.into_entries.ensures.turns) s.order)

@@ -3,7 +3,7 @@ use Rattle.std.specs.Prelude.{Some, Option, IfSome, slice_set}
 use Rattle.wedge_events.specs.declared.events.Want.{Want}
 use Rattle.sthread_life.specs.Actors.{ActorState}
 use Rattle.sthread_life.specs.Local.{rest}
-use Rattle.sthread_life.specs.Taking.{wanted}
+use Rattle.sthread_life.specs.Taking.{current_want}
 use Rattle.sthread_life.proofs.Resting.{rest-name}
 use Rattle.wedge_core.specs.Turning.{IsOfCell, IsEventDone, IsLeft, WantsOfFamily, IsDoneAt, FindsBusy, WasTaken, HasWaited, HasMetBusy}
 use Rattle.wedge_core.specs.declared.turns.Went.TheVariants as went
@@ -21,7 +21,7 @@ invariant_of-residents-in-Ok-None c =
     let i = c.args.program.now in
     let new = c.advance_one.new.resident in
     let h = reads_awake c.args.cells.now items c.args.residents.now place name a c.residents.view_is c.requires c.index_mut-resident.ensures.value in
-    let made : (q : Want) × (wanted (rest i a) ≡ Some q) × IsOfCell q × IsEventDone i c.args.cells.now (rest i a) q c.args.entries.now.items name c.advance_one.new.cells new c.advance_one.new.entries.items =
+    let made : (q : Want) × (current_want (rest i a) ≡ Some q) × IsOfCell q × IsEventDone i c.args.cells.now (rest i a) q c.args.entries.now.items name c.advance_one.new.cells new c.advance_one.new.entries.items =
     if_none c.in-Ok-None.field-0 c.in-Ok-None.field-0-is c.in-Ok-None.ensures.made in
     index_put_back c.residents.inside.index items place a new h.found.there (made.3.name_stays ∙ rest-name i a) c.residents.invariant
 
@@ -34,7 +34,7 @@ returns-in-Ok-None-clause-took c = λ _.
     let i = c.args.program.now in
     let new = c.advance_one.new.resident in
     let h = reads_awake c.args.cells.now items c.args.residents.now place name a c.residents.view_is c.requires c.index_mut-resident.ensures.value in
-    let made : (q : Want) × (wanted (rest i a) ≡ Some q) × IsOfCell q × IsEventDone i c.args.cells.now (rest i a) q c.args.entries.now.items name c.advance_one.new.cells new c.advance_one.new.entries.items =
+    let made : (q : Want) × (current_want (rest i a) ≡ Some q) × IsOfCell q × IsEventDone i c.args.cells.now (rest i a) q c.args.entries.now.items name c.advance_one.new.cells new c.advance_one.new.entries.items =
     if_none c.in-Ok-None.field-0 c.in-Ok-None.field-0-is c.in-Ok-None.ensures.made in
     let taken = cell_taken i c.args.cells.now c.advance_one.new.cells items place name a new made.0 c.args.entries.now.items c.advance_one.new.entries.items h.found h.awake made.1 made.2 made.3 in
     subst (λ as_. WasTaken i c.args.cells.now as_ c.args.entries.now.items name c.advance_one.new.cells (slice_set items place new) c.advance_one.new.entries.items) c.residents.view_is taken

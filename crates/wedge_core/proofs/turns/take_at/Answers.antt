@@ -1,7 +1,7 @@
 use Rattle.std.proofs.Common.{◌≡◌, ◌∙◌, ap, subst, rules}
 use Rattle.std.specs.Prelude.{Some, slice_get, slice_set, option_map}
 use Rattle.sthread_life.specs.Actors.{whole}
-use Rattle.sthread_life.specs.Taking.{takes, begun}
+use Rattle.sthread_life.specs.Taking.{takes, actor_begun}
 use Rattle.wedge_core.specs.Turning.{HasTaken}
 use Rattle.wedge_core.proofs.Indexing.{index_put_back}
 use Rattle.wedge_core.proofs.Places.{get_at}
@@ -34,5 +34,5 @@ returns-in-Ok c =
       actor = a;
       there = there c;
       new_is = ap (slice_set items place) (c.in-Ok.ensures.takes ∙ ap (λ x. takes i x e) old);
-      begins = c.in-Ok.ensures.begun ∙ ap (λ x. begun i x e) old;
+      begins = c.in-Ok.ensures.begun ∙ ap (λ x. actor_begun i x e) old;
     })

@@ -2,7 +2,7 @@ use Rattle.std.proofs.Common.{◌*◌, ◌/◌, ◌∙◌, ap, sym, arith, lengt
 use Rattle.std.specs.List.{concat}
 use Rattle.std.proofs.lemmas.List.{length-set}
 use Rattle.std.proofs.lemmas.Result.{on_ok_weaker, on_err_weaker}
-use Rattle.wedge_base.specs.Bytes.{written, bytes_of}
+use Rattle.wedge_base.specs.Bytes.{overwrite, bytes_of}
 use Rattle.wedge_base.specs.Images.{page}
 use Rattle.cow_pages.proofs.PageOffsets.{in_one_page, on_some_page, width_positive, length-bytes_of}
 use Rattle.cow_pages.proofs.SharedPages.{length-bytes_in, write_shared, same_shared, whole_shared, whole_at}
@@ -28,7 +28,7 @@ returns-clause-ok c =
     let count = length-bytes_of c.args.width c.args.value in
     on_ok_weaker c.write_number.result (λ e.
     write_shared c.self.inside.pages.items c.args.offset (bytes_of c.args.width c.args.value) c.index_mut-shared.result.now c.write_number.new.shared c.self.invariant.0 page_is (omega (arith, inside)) c.index_mut-shared.ensures.value e
-    ∙ ap (λ (b : List ℕ). written b c.args.offset (bytes_of c.args.width c.args.value)) c.self.view_is)
+    ∙ ap (λ (b : List ℕ). overwrite b c.args.offset (bytes_of c.args.width c.args.value)) c.self.view_is)
     c.write_number.ensures.ok
 
 pub returns-clause-err : goal.returns-clause-err

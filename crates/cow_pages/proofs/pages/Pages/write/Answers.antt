@@ -1,7 +1,7 @@
 use Rattle.std.proofs.Common.{rules, ◌≡◌, ◌<◌, ◌∙◌, ap, arith, length, ℕ, List}
 use Rattle.std.specs.List.{concat}
 use Rattle.std.proofs.lemmas.List.{with_items_is}
-use Rattle.wedge_base.specs.Bytes.{written}
+use Rattle.wedge_base.specs.Bytes.{overwrite}
 use Rattle.cow_pages.specs.SharedPages.{bytes_in}
 use Rattle.cow_pages.proofs.PageOffsets.{on_some_page, length-written}
 use Rattle.cow_pages.proofs.SharedPages.{length-bytes_in, cloned}
@@ -28,7 +28,7 @@ returns-clause-ok c =
     let len = c.write_pieces.auto.pages in
     ap bytes_in (with_items_is c.in_ok-pages.pages c.write_pieces.new.pages (omega arith))
     ∙ c.in_ok-write_pieces.ensures.ok
-    ∙ ap (λ (b : List ℕ). written b c.args.offset c.args.new.now) same
+    ∙ ap (λ (b : List ℕ). overwrite b c.args.offset c.args.new.now) same
 
 pub write_piece-requires-clause-inside : goal.write_piece-requires-clause-inside
 write_piece-requires-clause-inside c =

@@ -2,7 +2,7 @@ use Rattle.std.specs.Arc.{arc_value}
 use Rattle.std.proofs.Common.{map, option_map, ◌≡◌, sym, ap, subst, ◌∙◌}
 use Rattle.sthread_life.specs.declared.phase.Phase.TheVariants as phase
 use Rattle.sthread_life.specs.Actors.{ActorRecord, whole}
-use Rattle.sthread_life.specs.Calls.{a0, draft_at, making}
+use Rattle.sthread_life.specs.Calls.{a0, draft_at, continue_gate}
 use Rattle.sthread_life.specs.Taking.{has_snapped}
 use Rattle.sthread_life.proofs.Creating.{on_ok}
 use Rattle.sthread_life.proofs.GatesMade.{making_at}
@@ -34,5 +34,5 @@ returns-in_ok-go_on-in-MakingGate-clause-takes c =
     let at : w.phase ≡ phase.MakingGate c.in-MakingGate.preparation = sym c.replace.ensures.value ∙ c.in-MakingGate.is in
     on_ok c.go_on_making.result
     (λ h. subst (λ (r : ActorRecord). whole c.go_on_making.new.self m ≡ has_snapped (whole r m) r.phase c.args.slot c.args.pages) c.self.view_is
-    (h m ∙ (making_at a phase.Running d _ ∙ (ap (making a d) c.in_ok-go_on-in-MakingGate.ensures.is ∙ ap (λ p. has_snapped a p c.args.slot c.args.pages) (sym at)))))
+    (h m ∙ (making_at a phase.Running d _ ∙ (ap (continue_gate a d) c.in_ok-go_on-in-MakingGate.ensures.is ∙ ap (λ p. has_snapped a p c.args.slot c.args.pages) (sym at)))))
     c.go_on_making.ensures.takes
