@@ -93,6 +93,8 @@ pub mod Readers
 pub mod LiveSthreads
 -- The cells of a run begin as the rules of the cells have it.
 pub mod Opening
+-- The root begins as the image declares it.
+pub mod RootBegins
 -- Names as a tree.
 pub mod Trees
 -- Where no two actors have one name, an actor put in its place has its own still.

@@ -62,6 +62,8 @@ pub mod Fuel
 pub mod LiveSthreads
 -- What holds of the actors of every run.
 pub mod FamilyTrees
+-- The root as a run begins, read off the image.
+pub mod RootBegins
 -- What the root's rights bound.
 pub mod Bounds
 -- What holds of the slots and the tags of every run.

@@ -2,6 +2,7 @@
 
 ghost use Rattle.wedge_base.specs.Images.{Image};
 ghost use Rattle.run_laws.specs.Laws.{CellsOpen, AccessesAreIsolated, MomentsAreLawful, InstructionsAreLawful, NamesAreDistinct, RunsWriteTheirOwn, RunsReadTheirOwn, LivesAreCounted, FuelIsKept, RootBounds, SlotsAreOccupied, CopiesAreGranted, GatesAreKept, NoneRunsWithin, GatesHeldAreOlder, RunsAreAlone, RunsEnd, EndedHaveJoinedAll, AllHaveEnded, DraftsAreSorted};
+ghost use Rattle.run_laws.specs.RootBegins.{RootBegins};
 ghost use Rattle.run_laws.specs.Walks.{RootsWalk};
 
 /// In every run, whatever the image and the order of the turns, each request that an instruction makes
@@ -42,6 +43,12 @@ pub fn runs_read_their_own()
 /// As a run begins, each cell is as the rule of its own kind has it.
 pub fn cells_open_by_their_rules()
     ensures { (image : Image) → CellsOpen image }
+{}
+
+/// As a run begins there is the root alone. It runs at the image's entry with the image's fuel, and its private memory is the image's
+/// data, a private range of zeros, and a copy of each tag that is declared with the right to a copy alone.
+pub fn root_begins_as_declared()
+    ensures { RootBegins }
 {}
 
 /// In every world of a run each actor has a name of its own.

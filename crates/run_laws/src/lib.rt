@@ -8,5 +8,6 @@ pub use laws::{
     accesses_are_isolated, actors_walk, cells_open_by_their_rules, complete_runs_end_all,
     copies_are_granted, drafts_are_sorted, fuel_is_kept, gates_are_kept, gates_are_not_held_within,
     lives_are_counted, moments_are_lawful, names_are_distinct, rights_are_within_the_roots,
-    runs_are_alone, runs_read_their_own, runs_write_their_own, slots_are_occupied,
+    root_begins_as_declared, runs_are_alone, runs_read_their_own, runs_write_their_own,
+    slots_are_occupied,
 };
