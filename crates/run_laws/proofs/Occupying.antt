@@ -132,7 +132,7 @@ module _ (c d : Cells) (actors : List ActorState) (a x : ActorState) (o : Option
 
 -- ---- the kinds of turns
 
--- names that are told apart by a test are not one
+-- names that a test distinguishes are different
 apart_names : (a : ActorState) (m : List ℕ) → same a.name m ≡ false → a.name ≡ m → ⊥
 apart_names a m apart is = true≢false (sym (same_self a.name) ∙ (ap (same a.name) is ∙ apart))
 
