@@ -1,15 +1,17 @@
 -- What holds of every run.
-use Rattle.std.specs.Prelude.{◌≡◌, ◌≤◌, ℕ, length, true, List, [], slice_get, Option, Some}
+use Rattle.std.specs.Prelude.{◌≡◌, ◌≤◌, ◌-◌, ◌*◌, ◌++◌, ℕ, length, true, false, List, [], slice_get, Option, Some, None, option_map}
+use Rattle.wedge_base.specs.Bytes.{zeros}
 use Rattle.wedge_base.specs.Images.{Image}
-use Rattle.wedge_events.specs.Slots.{slot_opening}
-use Rattle.wedge_events.specs.Streams.{stream_opening}
-use Rattle.wedge_events.specs.Lives.{most_lives, lives_opening}
+use Rattle.wedge_base.specs.declared.image.FdEntry.{FdEntry}
+use Rattle.wedge_base.specs.declared.image.TagEntry.{TagEntry}
+use Rattle.wedge_events.specs.Slots.{Segment}
+use Rattle.wedge_events.specs.Streams.{Stream}
+use Rattle.wedge_events.specs.Lives.{most_lives}
 use Rattle.wedge_events.specs.declared.events.Event.{Event}
 use Rattle.wedge_events.specs.declared.events.Turn.{Turn}
 use Rattle.wedge_events.specs.declared.events.Want.{Want}
 use Rattle.sthread_life.specs.Actors.{ActorState}
 use Rattle.wedge_base.specs.declared.grants.GateId.{GateId}
-use Rattle.wedge_events.specs.Gates.{gate_opening}
 use Rattle.run_laws.specs.Cells.{opening_cells, slot_in, stream_in, kept_in}
 use Rattle.sthread_life.specs.Local.{has_ended, run_local}
 use Rattle.wedge_base.specs.Sheets.{Draft, grant_count, most_grants}
@@ -38,7 +40,6 @@ use Rattle.run_laws.specs.Isolation.{IsAccess, TakesSameTurns}
 use Rattle.run_laws.specs.RecycledGates.{AreRunsAlone}
 use Rattle.run_laws.specs.GatesWithin.{NoneHoldsItsOwn, AreHeldOlder}
 use Rattle.run_laws.specs.Remembering.{Remembers}
-use Rattle.wedge_events.specs.Directories.{slots_opening, fds_opening}
 
 -- what holds of a moment: its request is mediated, a call is refused by its row, an actor ends by
 -- its cause, it goes on as it should, it pays what the moment costs, its drafts are as its calls
@@ -99,15 +100,24 @@ pub record IsReadByHolders (i : Image) (turns : List Turn) : Type 0 where
 abbrev pub RunsReadTheirOwn : Type 0
 RunsReadTheirOwn = (i : Image) (turns : List Turn) (new : WorldState) → Runs (initial_state i) turns new → IsReadByHolders i turns
 
--- as a run begins, each cell is as the rule of its own kind has it: there are 4,096 slots and 1,024
--- descriptors, and each recycled gate is free, with nothing kept
+-- a declared tag as a run begins: its content, then zeros up to its pages, and no blocks; and a
+-- declared stream: open, with its content, at the beginning of it
+abbrev pub tag_declared : ℕ → TagEntry → Segment
+tag_declared number t = record { tag = number; bytes = t.content ++ zeros (t.pages * 4096 - length t.content); blocks = [] }
+
+abbrev pub stream_declared : FdEntry → Stream
+stream_declared f = record { kind = f.kind; bytes = f.content; position = 0; live = true }
+
+-- As a run begins, the first of 4,096 slots have the declared tags, and the first of 1,024
+-- descriptors the declared streams, in order; nothing else is claimed; one sthread lives, the root;
+-- and each recycled gate is free, with nothing kept.
 pub record CellsOpen (i : Image) : Type 0 where
-  pub places : (opening_cells i).places ≡ slots_opening i
-  pub slots : (slot : ℕ) → slot_in (opening_cells i) slot ≡ slot_opening i slot
-  pub numbers : (opening_cells i).numbers ≡ fds_opening i
-  pub streams : (fd : ℕ) → stream_in (opening_cells i) fd ≡ stream_opening i fd
-  pub lives : (opening_cells i).lives ≡ lives_opening
-  pub gates : (id : GateId) → kept_in (opening_cells i) id ≡ gate_opening
+  pub places : (opening_cells i).places ≡ record { places = 4096; number = length i.tags; unused = length i.tags; released = [] }
+  pub slots : (slot : ℕ) → slot_in (opening_cells i) slot ≡ option_map (tag_declared slot) (slice_get i.tags slot)
+  pub numbers : (opening_cells i).numbers ≡ record { places = 1024; number = length i.fds; unused = length i.fds; released = [] }
+  pub streams : (fd : ℕ) → stream_in (opening_cells i) fd ≡ option_map stream_declared (slice_get i.fds fd)
+  pub lives : (opening_cells i).lives ≡ 1
+  pub gates : (id : GateId) → kept_in (opening_cells i) id ≡ record { entered = false; kept = None }
 
 -- no two actors of a world have one name
 abbrev pub NamesAreDistinct : Type 0

@@ -40,7 +40,8 @@ pub fn runs_read_their_own()
     ensures { RunsReadTheirOwn }
 {}
 
-/// As a run begins, each cell is as the rule of its own kind has it.
+/// As a run begins, the first slots have the declared tags and the first descriptors the declared streams, in order, with the
+/// bytes that the image declares; nothing else is claimed, one sthread lives, and each recycled gate is free.
 pub fn cells_open_by_their_rules()
     ensures { (image : Image) → CellsOpen image }
 {}
