@@ -124,7 +124,7 @@ record IsPaid (a b : ActorState) (units : ℕ) : Type 0 where
   within : (q : Want) → b.phase ≡ phase.Within q → 5 + most_grants ≤ unit_work * units + phase_work a.phase
   starting : (p : Preparation) → b.phase ≡ phase.Starting p → 4 + length p.left ≤ unit_work * units + phase_work a.phase
   making : (p : Preparation) → length p.left ≤ most_grants → b.phase ≡ phase.MakingGate p → 4 + length p.left ≤ unit_work * units + phase_work a.phase
-  initial_state : (slot tag : ℕ) → b.phase ≡ phase.Opening slot tag → 4 ≤ unit_work * units + phase_work a.phase
+  opening : (slot tag : ℕ) → b.phase ≡ phase.Opening slot tag → 4 ≤ unit_work * units + phase_work a.phase
   releasing : (slot : ℕ) → b.phase ≡ phase.Releasing slot → 4 ≤ unit_work * units + phase_work a.phase
   file : (o : FileOpening) → b.phase ≡ phase.OpeningFile o → opening_work o.number ≤ unit_work * units + phase_work a.phase
   entering : (x : Entrance) → b.phase ≡ phase.Entering x → 4 ≤ unit_work * units + phase_work a.phase

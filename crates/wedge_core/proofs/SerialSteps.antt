@@ -213,7 +213,7 @@ left p name n q g =
 
 -- the names of those that live then
 record NamesAfter (actors : List ActorState) (place count : ℕ) (old new : List (List ℕ)) : Type 0 where
-  actor_begun : count < length actors → (c : ActorState) × (slice_get actors count ≡ Some c) × (new ≡ old ++ c.name ∷ [])
+  begun : count < length actors → (c : ActorState) × (slice_get actors count ≡ Some c) × (new ≡ old ++ c.name ∷ [])
   ended : length actors ≤ count → (a : ActorState) → slice_get actors place ≡ Some a → has_ended a.phase ≡ true → (name : List ℕ) × (old ≡ new ++ name ∷ [])
   goes_on : length actors ≤ count → (a : ActorState) → slice_get actors place ≡ Some a → has_ended a.phase ≡ false → new ≡ old
 
