@@ -2,7 +2,7 @@
 
 ghost use Rattle.std.specs.Prelude.{◌≡◌, map, option_map};
 ghost use Rattle.std.specs.Arc.{arc_value};
-ghost use Rattle.callgate.specs.Gates as known;
+ghost use Rattle.callgate.specs.Gate as known;
 
 use cow_pages::PrivateView;
 use grant_sheet::Sheet;

@@ -3,7 +3,7 @@
 ghost use Rattle.std.specs.Prelude.{◌≡◌, IfOk, option_copied};
 ghost use Rattle.std.specs.List.{list_any};
 ghost use Rattle.wedge_base.specs.Sheets as sheets;
-ghost use Rattle.callgate.specs.Runs.{IsRunSheet};
+ghost use Rattle.callgate.specs.Lending.{IsRunSheet};
 
 use crate::gate::Gate;
 use grant_sheet::{Draft, Sheet};

@@ -21,7 +21,7 @@ use Rattle.stable_sort.specs.Sorting.{insert_sorted, sorted_onto, sorted}
 use Rattle.stable_sort.specs.ByName.{procedure_before, procedure_order}
 use Rattle.wedge_base.specs.Images.{begins_at, is_text_address}
 use Rattle.elf_in.specs.Procedures.{has_name, with_candidate, with_start, candidates, candidate, candidate_before, procedures_of, is_usable, text_start, entry_start}
-use Rattle.elf_in.specs.Laws.{Differ, Above, Ascend, AreElfProcedures}
+use Rattle.elf_in.specs.Laws.{Differ, PrecedesAll, Ascend, AreElfProcedures}
 use Rattle.stable_sort.proofs.Sorted.{IsLow, Rises, rises_onto}
 
 -- ---- tests
@@ -244,15 +244,15 @@ below : (p q : Procedure) → procedure_before q p ≡ false → bytes_eq p.name
 unfolding is_below
 below p q l n = below_cases (slice_cmp nat_cmp p.name q.name) (slice_cmp nat_cmp q.name p.name) (nat_list_cmp_total.antisymm p.name q.name) l (is_eq-slice_cmp p.name q.name ∙ n)
 
-above_of : (p : Procedure) (qs : List Procedure) → IsLow procedure_before procedure_order p qs → has_name qs p.name ≡ false → Above p qs
-above_of p [] l n = tt
-above_of p (q ∷ qs) l n =
+precedes_all : (p : Procedure) (qs : List Procedure) → IsLow procedure_before procedure_order p qs → has_name qs p.name ≡ false → PrecedesAll p qs
+precedes_all p [] l n = tt
+precedes_all p (q ∷ qs) l n =
     let e = neither (bytes_eq q.name p.name) (has_name qs p.name) n in
-    (below p q l.0 (other_text q.name p.name e.0), above_of p qs l.1 e.1)
+    (below p q l.0 (other_text q.name p.name e.0), precedes_all p qs l.1 e.1)
 
 ascend_of : (ps : List Procedure) → Rises procedure_before procedure_order ps → Differ ps → Ascend ps
 ascend_of [] u d = tt
-ascend_of (p ∷ ps) u d = (above_of p ps u.0 d.1, ascend_of ps u.1 d.2)
+ascend_of (p ∷ ps) u d = (precedes_all p ps u.0 d.1, ascend_of ps u.1 d.2)
 
 -- ---- the whole
 

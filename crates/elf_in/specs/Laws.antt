@@ -43,14 +43,14 @@ Differ [] = Unit {0}
 Differ (p ∷ ps) = (begins_at ps p.address ≡ false) × (has_name ps p.name ≡ false) × Differ ps
 
 -- a procedure comes before each of others, by name
-abbrev pub Above : Procedure → List Procedure → Type 0
-Above p [] = Unit {0}
-Above p (q ∷ qs) = (procedure_before p q ≡ true) × Above p qs
+abbrev pub PrecedesAll : Procedure → List Procedure → Type 0
+PrecedesAll p [] = Unit {0}
+PrecedesAll p (q ∷ qs) = (procedure_before p q ≡ true) × PrecedesAll p qs
 
 -- names ascend strictly
 abbrev pub Ascend : List Procedure → Type 0
 Ascend [] = Unit {0}
-Ascend (p ∷ ps) = Above p ps × Ascend ps
+Ascend (p ∷ ps) = PrecedesAll p ps × Ascend ps
 
 -- procedures of their own addresses, in the order of their names, one at the base and one at the
 -- entry

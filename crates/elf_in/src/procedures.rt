@@ -5,13 +5,13 @@ ghost use Rattle.std.specs.List.{filter_map};
 ghost use Rattle.std.specs.Ordering.{nat_cmp};
 ghost use Rattle.std.specs.Cmp.Lexicographic.{slice_cmp};
 ghost use Rattle.std.specs.BTreeSet.{contains, contains_by};
-ghost use Rattle.wedge_base.specs.Images as images;
 ghost use Rattle.elf_in.specs.Procedures as defined;
 ghost use Rattle.elf_in.specs.Symbols as symbols;
 ghost use Rattle.elf_in.specs.Views.{symbols_view};
 
 use crate::headers::{Symbol, is_function};
 use crate::symbols::{SymbolTable, front_of_name};
+use image_form::TextSpan;
 use stable_sort::{Sortable, sort};
 use std::alloc::Global;
 use std::cmp::Ordering;
@@ -22,13 +22,6 @@ use wedge_base::{Bytes, NoMemory, Procedure, begins_at, is_name};
 const TEXT_START: &str = "text.start";
 
 const ENTRY_START: &str = "entry.start";
-
-/// The text: so many words from a base on.
-#[derive(Clone, Copy)]
-pub(crate) struct TextSpan {
-    pub base: u32,
-    pub count: usize,
-}
 
 /// A function of the text whose name may be that of a procedure.
 #[derive(Debug, Drop)]
@@ -59,13 +52,6 @@ fn is_usable(name: &[u8]) -> bool
     is_name(name) && name != TEXT_START.as_bytes() && name != ENTRY_START.as_bytes()
 }
 
-/// Whether an address is that of an instruction of the text.
-fn is_in_text(text: TextSpan, address: u32) -> bool
-    ensures { result ≡ images.is_text_address text.base text.count address }
-{
-    address % 4 == 0 && text.base <= address && (((address - text.base) / 4) as usize) < text.count
-}
-
 /// The name that begins at an offset, if it may be that of a procedure.
 fn usable_name(names: &[u8], offset: u32) -> Option<&[u8]>
     ensures { option_copied result ≡ defined.usable (symbols.name_at names.now offset) }
@@ -84,7 +70,7 @@ fn candidate_of(
     ensures { IfOk result
         (λ c. c ≡ defined.candidate text.base text.count names.now symbol.now) }
 {
-    if !is_function(symbol) || !is_in_text(text, symbol.value) {
+    if !is_function(symbol) || !text.has(symbol.value) {
         return Ok(None);
     }
     match usable_name(names, symbol.name) {

@@ -15,9 +15,10 @@ use crate::fault::ElfError;
 use crate::fields::word_at;
 use crate::headers::ProgramHeader;
 use crate::loads::{data_loads, word_count};
-use crate::procedures::{TextSpan, procedures_of};
+use crate::procedures::procedures_of;
 use crate::program::ElfProgram;
 use crate::symbols::{SymbolTable, symbol_table};
+use image_form::TextSpan;
 use std::alloc::Global;
 use wedge_base::{Items, NoMemory};
 

@@ -11,7 +11,7 @@ use std::alloc::Global;
 use wedge_base::{Bytes, FdBits, FdEntry};
 
 /// The most descriptors of an image.
-pub(crate) const MOST_FDS: u32 = 64;
+pub(crate) const MOST_DECLARED_FDS: u32 = 64;
 
 /// The name of the last descriptor, or no bytes.
 fn last_name(front: &[FdEntry]) -> &[u8]

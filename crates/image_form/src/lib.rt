@@ -17,6 +17,7 @@ mod reading;
 mod tables;
 mod tags;
 mod text;
+mod text_span;
 mod writing;
 
 pub use fault::{Fault, ImageError, Why};
@@ -24,6 +25,7 @@ pub use finishing::finish_image;
 pub use image::Image;
 pub use parts::ImageParts;
 pub use reading::read_image;
+pub use text_span::TextSpan;
 pub use writing::write_image;
 
 #[cfg(test)]

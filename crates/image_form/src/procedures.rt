@@ -12,20 +12,13 @@ ghost use Rattle.image_form.specs.Reading.{IsImageAnswer, last_of};
 
 use crate::fault::{ImageError, Why};
 use crate::fields::{limited, name_after, number, refused};
+use crate::text_span::TextSpan;
 use std::alloc::Global;
 use std::collections::BTreeSet;
 use wedge_base::{Bytes, Procedure, begins_at};
 
 /// The most procedures of an image.
 const MOST_PROCEDURES: u32 = 4096;
-
-/// The base of the text, and how many words it has.
-#[derive(Clone, Copy)]
-pub(crate) struct TextSpan {
-    pub base: u32,
-    pub count: u32,
-    ghost inside: { base + 4 * count ≤ 0x10000000 },
-}
 
 /// The name of the last procedure, or no bytes.
 fn last_name(front: &[Procedure]) -> &[u8]
@@ -35,13 +28,6 @@ fn last_name(front: &[Procedure]) -> &[u8]
         Some(procedure) => procedure.name.as_slice(),
         None => &[],
     }
-}
-
-/// Whether a procedure may begin at an address.
-fn is_address(text: TextSpan, address: u32) -> bool
-    ensures { result ≡ images.is_text_address text.base text.count address }
-{
-    address % 4 == 0 && text.base <= address && address < text.base + 4 * text.count
 }
 
 /// A procedure, where those before it are known, and their addresses.
@@ -60,7 +46,7 @@ fn procedure<'a>(
 {
     let (name, after) = name_after(last_name(front), total, bytes)?;
     let (address, rest) = number(total, after)?;
-    if !is_address(text, address) {
+    if !text.has(address) {
         return Err(refused(total, after, Why::Range));
     }
     if seen.contains(&address) {

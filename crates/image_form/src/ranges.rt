@@ -8,7 +8,7 @@ ghost use Rattle.image_form.specs.Reading.{IsImageAnswer, last_of};
 
 use crate::fault::{ImageError, Why};
 use crate::fields::{limited, number, refused, take};
-use crate::procedures::TextSpan;
+use crate::text_span::TextSpan;
 use crate::text::{HIGH_END, base};
 use std::alloc::Global;
 use wedge_base::{Bytes, MemoryRange, NoMemory};
@@ -59,7 +59,7 @@ fn is_off_text(text: TextSpan, address: u32, size: u32) -> bool
     ensures { result ≡ rules.is_off_text text.base text.count address size }
 {
     u64::from(address) + u64::from(size) <= u64::from(text.base)
-        || text.base + 4 * text.count <= address
+        || text.base <= address && text.count <= ((address - text.base) / 4) as usize
 }
 
 /// The length of a range, where the ranges before it have so many bytes together.

@@ -12,15 +12,16 @@ ghost use Rattle.image_form.specs.View.{image_of};
 
 use crate::entries::entry_table;
 use crate::fault::{Fault, ImageError, Why};
-use crate::fds::MOST_FDS;
+use crate::fds::MOST_DECLARED_FDS;
 use crate::fields::{limited, number, refused, root};
 use crate::files::MOST_FILES;
 use crate::image::Image;
 use crate::parts::ImageParts;
-use crate::procedures::{TextSpan, entry, procedures};
+use crate::procedures::{entry, procedures};
 use crate::ranges::ranges;
 use crate::tags::MOST_TAGS;
 use crate::text::{base, words};
+use crate::text_span::TextSpan;
 use std::alloc::Global;
 use wedge_base::Items;
 
@@ -83,13 +84,13 @@ fn parts(alloc: Global, total: usize, bytes: &[u8]) -> Result<(ImageParts, &[u8]
     let (words, rest) = words(alloc, base, total, rest)?;
     let text = TextSpan {
         base,
-        count: words.len() as u32,
+        count: words.len(),
     };
     let (procedures, rest) = procedures(alloc, text, total, rest)?;
     let (entry, rest) = entry(&procedures, total, rest)?;
     let (ranges, rest) = ranges(alloc, text, total, rest)?;
     let (tags, rest) = entry_table(alloc, MOST_TAGS, total, rest)?;
-    let (fds, rest) = entry_table(alloc, MOST_FDS, total, rest)?;
+    let (fds, rest) = entry_table(alloc, MOST_DECLARED_FDS, total, rest)?;
     let (files, rest) = entry_table(alloc, MOST_FILES, total, rest)?;
     let (user, rest) = number(total, rest)?;
     let (root, rest) = root(alloc, total, rest)?;

@@ -1,7 +1,6 @@
 //! What is wrong with the tables of a partition.
 
 ghost use Rattle.std.specs.Prelude.{◌≡◌, map, fold, option_copied, IfOk, if◌then◌else◌};
-ghost use Rattle.std.specs.Ordering.{is_lt};
 ghost use Rattle.toml.specs.View.{table_view};
 ghost use Rattle.image_form.specs.Forms as forms;
 ghost use Rattle.part_toml.specs.Faults as faults;
@@ -13,18 +12,10 @@ use crate::fault::PartFault;
 use crate::keys::{Field, Key, Part};
 use crate::tables::{at, has, tables_at};
 use crate::values::fits;
+use stable_sort::byte_order;
 use std::alloc::Global;
-use std::cmp::Ordering;
 use toml::Table;
 use wedge_base::{Bytes, Items, NoMemory};
-
-/// How two strings compare in byte order.
-#[tactic(auto, unfolding(image_form::specs::Forms::is_below))]
-fn byte_order(a: &[u8], b: &[u8]) -> Ordering
-    ensures { is_lt result ≡ forms.is_below a.now b.now }
-{
-    a.cmp(b)
-}
 
 /// Whether the first string is before the second, in byte order.
 fn is_below(a: &[u8], b: &[u8]) -> bool

@@ -9,7 +9,7 @@ use Rattle.wedge_events.specs.declared.events.Turn.{Turn}
 use Rattle.sthread_life.specs.Actors.{ActorState, root}
 use Rattle.sthread_life.specs.Children.{is_child, child_name}
 use Rattle.sthread_life.specs.Local.{has_ended, rest}
-use Rattle.sthread_life.specs.Taking.{next_start, takes, actor_begun, child_of, run_by}
+use Rattle.sthread_life.specs.Take.{next_start, takes, actor_begun, child_of, run_by}
 use Rattle.run_laws.specs.Ends.{is_end_event}
 use Rattle.run_laws.specs.FamilyTrees.{IsChildOf, IsOfTree, Family}
 use Rattle.run_laws.specs.Fuel.{starter_of, number_in, has_child}

@@ -36,8 +36,8 @@ use Rattle.wedge_base.specs.Sheets.{made_fd, Draft}
 use Rattle.sthread_life.specs.Between.{IsBetween}
 use Rattle.sthread_life.specs.Children.{without_child, child_name, with_child}
 use Rattle.sthread_life.specs.Local.{rest, end_reached}
-use Rattle.sthread_life.specs.Taking.{current_want, pair, runs, loads_by, loads_at, has_snapped, has_number, has_opened_file, end_value, end_number, answered_end, takes, copied_on, has_entered, next_start}
-use Rattle.sthread_life.specs.Copying.{Preparation}
+use Rattle.sthread_life.specs.Take.{current_want, pair, runs, loads_by, loads_at, has_snapped, has_number, has_opened_file, end_value, end_number, answered_end, takes, copied_on, has_entered, next_start}
+use Rattle.sthread_life.specs.Preparation.{Preparation}
 use Rattle.cow_pages.specs.Listed.{bytes_listed}
 use Rattle.wedge_events.specs.Directories.{directory_reply}
 use Rattle.wedge_events.specs.Gates.{gate_reply as gate_reply_of}
@@ -50,7 +50,7 @@ use Rattle.run_laws.specs.Cells.{Cells, slot_in, stream_in, kept_in, tag_in}
 use Rattle.run_laws.specs.Worlds.{WorldState, actor_named, join_event, event_at, apply_event, wanting, Taken}
 use Rattle.callgate.specs.declared.gate.Gate.{Gate}
 use Rattle.sthread_life.specs.declared.copy_grant.CopyGrant.{CopyGrant}
-use Rattle.sthread_life.specs.Entrances.{Entrance}
+use Rattle.sthread_life.specs.Entrance.{Entrance}
 
 -- a load that has its value leaves the actor running
 loaded_by : (ins : Instr) (n : Need) (a : ActorState) (value : ℕ) → a.phase ≡ phase.Running → (loads_by ins n a value).phase ≡ phase.Running

@@ -14,7 +14,7 @@ use Rattle.wedge_base.specs.declared.rights.Right.{Right}
 use Rattle.wedge_events.specs.declared.events.Event.{Event}
 use Rattle.wedge_events.specs.declared.events.Turn.{Turn}
 use Rattle.wedge_base.specs.declared.rights.FdBits.{FdBits}
-use Rattle.callgate.specs.Runs.{IsRunSheet, tag_lent, fd_lent}
+use Rattle.callgate.specs.Lending.{IsRunSheet, tag_lent, fd_lent}
 use Rattle.callgate.specs.declared.gate.Gate.{Gate}
 use Rattle.grant_sheet.specs.Granting.{IsWithin}
 use Rattle.sthread_life.specs.Actors.{ActorState, root, right_of, bits_of, but_gates}
@@ -22,10 +22,10 @@ use Rattle.run_laws.specs.Bounds.{HasNoMoreThanRoot}
 use Rattle.sthread_life.specs.Calls.{a0}
 use Rattle.sthread_life.specs.Children.{child_name}
 use Rattle.run_laws.specs.Families.{IsRun}
-use Rattle.sthread_life.specs.Lending.{sheet_lent}
+use Rattle.sthread_life.specs.Entering.{sheet_lent}
 use Rattle.run_laws.specs.Laws.{RootBounds}
 use Rattle.sthread_life.specs.Local.{is_running, step, run_local, rest}
-use Rattle.sthread_life.specs.Taking.{next_start, takes, child_of, run_by, actor_begun}
+use Rattle.sthread_life.specs.Take.{next_start, takes, child_of, run_by, actor_begun}
 use Rattle.run_laws.specs.Worlds.{WorldState, initial_state, actor_named, put_actor, with_begun, turn_of, ready, resumed, Runs, with_actor}
 use Rattle.run_laws.proofs.Between.{takes_name}
 use Rattle.run_laws.proofs.Bounding.{IsBounded, AllBounded, least_of, child_user, child_directory, within_bits, given_alone, rest_bounded, back_bounded, turn_bounded, opening_bounded, run_image}

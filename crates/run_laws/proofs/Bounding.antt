@@ -38,7 +38,7 @@ use Rattle.sthread_life.specs.Opening.{FileOpening}
 use Rattle.sthread_life.specs.Children.{child_name}
 use Rattle.run_laws.specs.Families.{IsChild, IsRun, made_under, made_by}
 use Rattle.sthread_life.specs.Local.{rest}
-use Rattle.sthread_life.specs.Taking.{next_start, takes, actor_begun, child_of, run_by}
+use Rattle.sthread_life.specs.Take.{next_start, takes, actor_begun, child_of, run_by}
 use Rattle.run_laws.specs.Worlds.{WorldState, initial_state, actor_named, put_actor, with_begun, ready, resumed, Runs}
 use Rattle.run_laws.proofs.Between.{event_for, Leaves, IsPreparing, MayPrepare, MayNumber, MayWait, takes_name, takes_between}
 use Rattle.run_laws.proofs.Directing.{claimed_number, next_number}

@@ -7,7 +7,7 @@ use Rattle.wedge_base.specs.Paths.{resolve}
 use Rattle.wedge_base.specs.declared.image.MemoryRange.{MemoryRange}
 use Rattle.sthread_life.specs.Actors.{ActorState}
 use Rattle.sthread_life.specs.Calls.{path_in}
-use Rattle.sthread_life.specs.Private.{fits_read, buffer, buffer_in}
+use Rattle.sthread_life.specs.Accesses.{fits_read, buffer, buffer_in}
 use Rattle.run_laws.specs.Requests.{bytes_in_range, buffer_bytes, path_at}
 
 by_range : (i : Image) (pointer n : ℕ) (t u : Bool) (r : Option MemoryRange)

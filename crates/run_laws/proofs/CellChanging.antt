@@ -29,7 +29,7 @@ use Rattle.wedge_events.specs.declared.cells.StreamAsk.TheVariants as stream_ask
 use Rattle.sthread_life.specs.Actors.{ActorState}
 use Rattle.sthread_life.specs.Local.{rest}
 use Rattle.sthread_life.specs.Calls.{a0}
-use Rattle.sthread_life.specs.Taking.{pair}
+use Rattle.sthread_life.specs.Take.{pair}
 use Rattle.run_laws.specs.Cells.{Cells, GateCell, slot_in, stream_in, kept_in, kept_among, put_kept, cells_after}
 use Rattle.run_laws.specs.Worlds.{WorldState, turn_of, resumed, Runs}
 use Rattle.run_laws.specs.CellHistories.{after_turns, Occupant, occupant, occupant_in, occupant_by, occupant_after_event, StreamMode, mode, mode_in, mode_by, mode_after_event, places_after_event, numbers_after_event, lives_after_event, kept_after_event, CellsFollow}

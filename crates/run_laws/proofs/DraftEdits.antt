@@ -41,7 +41,7 @@ use Rattle.wedge_base.specs.declared.rights.FdBits.{FdBits}
 use Rattle.sthread_life.specs.Actors.{ActorState, right_of, denies, answers, refuses, ends, spends, gate_held}
 use Rattle.cow_pages.specs.Listed.{bytes_listed}
 use Rattle.cow_pages.specs.Copies.{copy_at, holds_copy, read_copy}
-use Rattle.sthread_life.specs.Private.{loads, stores, load_bytes, load_copy, load_window, load_range, store_copy, store_window, store_range, has_loaded, fits_read, fits_write}
+use Rattle.sthread_life.specs.Accesses.{loads, stores, load_bytes, load_copy, load_window, load_range, store_copy, store_window, store_range, has_loaded, fits_read, fits_write}
 use Rattle.sthread_life.specs.Children.{is_child, without_child}
 use Rattle.run_laws.proofs.Between.{joined_is, numbered_is, opened_is, snapped_is, entered_is}
 use Rattle.run_laws.proofs.Buffers.{path_is}
@@ -49,10 +49,10 @@ use Rattle.sthread_life.specs.Calls.{serves, exit, is_procedure, create, create_
 use Rattle.run_laws.specs.Drafting.{right_of_number, bits_of_number, edited, with_new, drafts_by_call, drafts_by_need, drafts_by_instr, drafts_by_fuel, drafts_by_word, drafts_after}
 use Rattle.sthread_life.specs.Local.{step_with_need, step_with_instr, step_with_fuel, step_with_word, step}
 use Rattle.run_laws.specs.Refusals.{full, bad, right_refusal, bits_refusal, gate_refusal, fuel_short, user_refusal, root_refusal}
-use Rattle.sthread_life.specs.Taking.{runs, loads_by, loads_at, takes}
-use Rattle.sthread_life.specs.Copying.{Preparation}
+use Rattle.sthread_life.specs.Take.{runs, loads_by, loads_at, takes}
+use Rattle.sthread_life.specs.Preparation.{Preparation}
 use Rattle.sthread_life.specs.declared.copy_grant.CopyGrant.{CopyGrant}
-use Rattle.sthread_life.specs.Lending.{may_lend, excess_lent}
+use Rattle.sthread_life.specs.Entering.{may_lend, excess_lent}
 use Rattle.callgate.specs.declared.gate.Gate.{Gate}
 
 -- ---- what leaves them as they are

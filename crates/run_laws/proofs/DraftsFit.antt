@@ -26,12 +26,12 @@ use Rattle.rv_hart.specs.Local.{local, reg}
 use Rattle.sthread_life.specs.declared.copy_grant.CopyGrant.{CopyGrant}
 use Rattle.sthread_life.specs.Actors.{ActorState}
 use Rattle.sthread_life.specs.Calls.{a0, draft_at}
-use Rattle.sthread_life.specs.Copying.{copy_grants}
+use Rattle.sthread_life.specs.CopyGrant.{copy_grants}
 use Rattle.run_laws.specs.Drafting.{edited, with_new, right_of_number, bits_of_number, drafts_by_call, drafts_by_need, drafts_by_instr, drafts_by_fuel, drafts_by_word}
 use Rattle.sthread_life.specs.Local.{is_running, step, run_local, rest}
 use Rattle.run_laws.specs.Refusals.{bad, full, new_refusal, right_refusal, bits_refusal, gate_refusal, user_refusal, root_refusal}
 use Rattle.run_laws.specs.Requests.{path_at}
-use Rattle.sthread_life.specs.Taking.{copies_asked, takes}
+use Rattle.sthread_life.specs.Take.{copies_asked, takes}
 use Rattle.run_laws.proofs.DraftEdits.{step_edits, event_edits}
 use Rattle.sthread_life.proofs.Resting.{stays, goes_on}
 

@@ -6,9 +6,9 @@ use Rattle.wedge_base.specs.Sheets.{Draft, lent_to, Sheet}
 use Rattle.sthread_life.specs.declared.phase.Phase.{Phase}
 use Rattle.sthread_life.specs.Actors.{ActorState, gate_held}
 use Rattle.sthread_life.specs.Calls.{a0, a2, lent_asked}
-use Rattle.sthread_life.specs.Entrances.{Entrance}
-use Rattle.sthread_life.specs.Lending.{sheet_lent, excess_lent, may_lend}
-use Rattle.callgate.specs.Runs.{IsRunSheet}
+use Rattle.sthread_life.specs.Entrance.{Entrance}
+use Rattle.sthread_life.specs.Entering.{sheet_lent, excess_lent, may_lend}
+use Rattle.callgate.specs.Lending.{IsRunSheet}
 use Rattle.grant_sheet.proofs.Joined.{at_joined}
 
 -- an actor that is about to enter a gate: it holds the gate at the entry, and lends nothing or a draft that may be lent, every grant of

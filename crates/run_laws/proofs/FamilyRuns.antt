@@ -27,7 +27,7 @@ use Rattle.run_laws.specs.Laws.{NamesAreDistinct, FuelIsKept}
 use Rattle.sthread_life.specs.Local.{step, is_running, has_ended, end_reached, run_local, rest}
 use Rattle.run_laws.specs.Moments.{EachTurn}
 use Rattle.run_laws.specs.Paying.{cost_at, cost_by, given_by, brought_by}
-use Rattle.sthread_life.specs.Taking.{next_start, takes, actor_begun, child_of, run_by}
+use Rattle.sthread_life.specs.Take.{next_start, takes, actor_begun, child_of, run_by}
 use Rattle.run_laws.specs.Worlds.{WorldState, initial_state, actor_named, put_actor, with_begun, turn_of, Runs, ready, resumed}
 use Rattle.run_laws.proofs.Between.{event_for, IsJoin, joined_is, takes_name, takes_between, entered_by}
 use Rattle.run_laws.proofs.Families.{IsOfOne, takes_same, first_child}

@@ -24,7 +24,7 @@ use Rattle.run_laws.specs.FileCalls.{OpensAt, ClaimsNumber, OpensFile}
 use Rattle.sthread_life.specs.Local.{has_ended}
 use Rattle.sthread_life.specs.Opening.{FileOpening}
 use Rattle.run_laws.specs.Refusals.{full, RefusesNumber, RefusesOpening, is_refusal, refused}
-use Rattle.sthread_life.specs.Taking.{has_number, takes}
+use Rattle.sthread_life.specs.Take.{has_number, takes}
 use Rattle.run_laws.specs.Worlds.{WorldState, put_actor, with_actor}
 use Rattle.run_laws.proofs.Between.{numbered_is, opened_is, opened_file, opened_at}
 use Rattle.run_laws.proofs.Bounding.{with_same}

@@ -29,7 +29,7 @@ use Rattle.rv_isa.specs.Table.{decode}
 use Rattle.rv_hart.specs.declared.Hart.{Hart}
 use Rattle.rv_hart.specs.declared.Need.{Need}
 use Rattle.rv_hart.specs.declared.Need.TheVariants as need
-use Rattle.rv_hart.specs.Local.{local}
+use Rattle.rv_hart.specs.Local.{local, HasWidth}
 use Rattle.sthread_life.specs.declared.copy_grant.CopyGrant.{CopyGrant}
 use Rattle.sthread_life.specs.declared.phase.Phase.{Phase}
 use Rattle.sthread_life.specs.declared.phase.Phase.TheVariants as phase
@@ -39,17 +39,18 @@ use Rattle.sthread_life.specs.Calls.{a0, a1, a4, a7, is_procedure, draft_at, new
 use Rattle.run_laws.specs.Cells.{Cells, slot_in}
 use Rattle.run_laws.specs.ChildCopies.{IsPrepared, pages_living, snap_reply}
 use Rattle.sthread_life.specs.Children.{without_child}
-use Rattle.sthread_life.specs.Copying.{Preparation, copy_grants, copied_from, prepare_copies, behind_first}
+use Rattle.sthread_life.specs.CopyGrant.{copy_grants}
+use Rattle.sthread_life.specs.Preparation.{Preparation, copied_from, prepare_copies, behind_first}
 use Rattle.sthread_life.specs.Resting.{NotMaking}
 use Rattle.run_laws.specs.GateCalls.{KeepsGates, MakesWith, PreparesGate, BeginsUnless, GatesByRequest, InstrMakesGates, SnapsForGate, EventMakesGates}
 use Rattle.sthread_life.specs.Local.{step_with_need, step_with_instr, step_with_fuel, step_with_word, step}
 use Rattle.run_laws.specs.Requests.{Request, Loads, Stores, Reads, Appends, Closes, Opens, Creates, Makes, Deletes, Allots, Frees, make_of, call_request, needed_request, instr_request, word_request, Enters}
-use Rattle.sthread_life.specs.Taking.{runs, loads_by, loads_at, has_snapped, copied_on, takes}
+use Rattle.sthread_life.specs.Take.{runs, loads_by, loads_at, has_snapped, copied_on, takes}
 use Rattle.run_laws.specs.Worlds.{WorldState, with_actor}
 use Rattle.run_laws.proofs.Between.{IsMaking, joined_is, numbered_is, opened_is, entered_is}
 use Rattle.run_laws.proofs.Happening.{Happens, AtGateSnap, Requested, Joined, Snaps, GateSnaps, Started, Opens as OpensTag, Releases, Numbers, OpensFile, LastJoined, Ended, EntersGate, LeavesGate, EntersRecycled, LeavesRecycled}
 use Rattle.run_laws.proofs.MakingGates.{MayGrant, was_making, longer}
-use Rattle.run_laws.proofs.Meeting.{stuck, suits_so, gate_of_draft, unset, needed_comes}
+use Rattle.run_laws.proofs.Meeting.{stuck, suits_so, gate_of_draft, unset, needed_comes, needs_width}
 use Rattle.run_laws.proofs.Preparing.{copies_are, prepared_so}
 use Rattle.sthread_life.proofs.Resting.{Goes, Things, need_makes, goes_needed}
 
@@ -127,20 +128,20 @@ goes_keeping cost false a b e calm g = record {
   calm = g.unmade calm;
 }
 
-need_gates : (i : Image) (c : Cells) (ins : Instr) (a : ActorState) (h : Hart) (n : Need) (t : Bool) → need_makes a n ≡ t → a.phase ≡ phase.Running → GatesByRequest i a (needed_request i c a ins.rd n) (step_with_need i ins a h n)
-need_gates i c ins a h n false same run =
+need_gates : (i : Image) (c : Cells) (ins : Instr) (a : ActorState) (h : Hart) (n : Need) (t : Bool) → need_makes a n ≡ t → HasWidth n → a.phase ≡ phase.Running → GatesByRequest i a (needed_request i c a ins.rd n) (step_with_need i ins a h n)
+need_gates i c ins a h n false same fits run =
     let keeps = goes_keeping _ _ a (step_with_need i ins a h n) same (subst NotMaking (sym run) tt) (goes_needed i ins a h n) in
-    keeps_by i a (step_with_need i ins a h n) (needed_request i c a ins.rd n) keeps (λ d asked none. begun_changes a (step_with_need i ins a h n) d (((needed_comes i ins a h n run).met c (Makes d) asked).done none refl) keeps)
-need_gates i c ins a h need.Call true same run = call_gates i c a (a7 a) same
-need_gates i c ins a h need.Done true same run = absurd cc
-need_gates i c ins a h (need.Load address width s) true same run = absurd cc
-need_gates i c ins a h (need.Store address width value) true same run = absurd cc
-need_gates i c ins a h need.Break true same run = absurd cc
-need_gates i c ins a h need.JumpMisaligned true same run = absurd cc
+    keeps_by i a (step_with_need i ins a h n) (needed_request i c a ins.rd n) keeps (λ d asked none. begun_changes a (step_with_need i ins a h n) d (((needed_comes i ins a h n fits run).met c (Makes d) asked).done none refl) keeps)
+need_gates i c ins a h need.Call true same fits run = call_gates i c a (a7 a) same
+need_gates i c ins a h need.Done true same fits run = absurd cc
+need_gates i c ins a h (need.Load address width s) true same fits run = absurd cc
+need_gates i c ins a h (need.Store address width value) true same fits run = absurd cc
+need_gates i c ins a h need.Break true same fits run = absurd cc
+need_gates i c ins a h need.JumpMisaligned true same fits run = absurd cc
 
 executed_gates : (i : Image) (c : Cells) (a : ActorState) (ins : Option Instr) → a.phase ≡ phase.Running → GatesByRequest i a (instr_request i c a ins) (step_with_instr i a ins)
 executed_gates i c a None run = record { known = refl; held = refl; count = refl; calm = tt }
-executed_gates i c a (Some ins) run = need_gates i c ins a (local ins a.hart).hart (local ins a.hart).need _ refl run
+executed_gates i c a (Some ins) run = need_gates i c ins a (local ins a.hart).hart (local ins a.hart).need _ refl (needs_width ins a.hart) run
 
 fetched_gates : (i : Image) (c : Cells) (a : ActorState) (n : ℕ) (w : Option ℕ) → a.phase ≡ phase.Running → a.fuel ≡ suc n → GatesByRequest i (record a { fuel = n }) (word_request i c (record a { fuel = n }) w) (step_with_word i a w)
 fetched_gates i c a n None run has = record { known = refl; held = refl; count = refl; calm = tt }

@@ -12,7 +12,7 @@ use Rattle.wedge_base.specs.declared.grants.GateId.{GateId}
 use Rattle.wedge_events.specs.declared.events.Event.{Event}
 use Rattle.wedge_events.specs.declared.events.Event.TheVariants as event
 use Rattle.wedge_events.specs.declared.events.Turn.{Turn}
-use Rattle.callgate.specs.Gates.{gate_named}
+use Rattle.callgate.specs.Gate.{gate_named}
 use Rattle.callgate.specs.declared.gate.Gate.{Gate}
 use Rattle.sthread_life.specs.Actors.{ActorState, root}
 use Rattle.sthread_life.specs.Calls.{a0}
@@ -21,10 +21,10 @@ use Rattle.run_laws.specs.FamilyTrees.{Family, IsOfTree}
 use Rattle.run_laws.specs.GatesWithin.{is_under, before, IsOlder, MayBeHeld}
 use Rattle.run_laws.specs.KnownGates.{AreAmong, AreInOrder}
 use Rattle.run_laws.specs.Laws.{NoneRunsWithin, GatesHeldAreOlder}
-use Rattle.sthread_life.specs.Lending.{sheet_lent}
+use Rattle.sthread_life.specs.Entering.{sheet_lent}
 use Rattle.run_laws.specs.Holding.{gate_for}
 use Rattle.sthread_life.specs.Local.{is_running, step, run_local, rest}
-use Rattle.sthread_life.specs.Taking.{next_start, takes, actor_begun, child_of, run_by}
+use Rattle.sthread_life.specs.Take.{next_start, takes, actor_begun, child_of, run_by}
 use Rattle.run_laws.specs.Worlds.{WorldState, initial_state, actor_named, put_actor, with_begun, turn_of, ready, resumed, at_rest, Runs, with_actor}
 use Rattle.run_laws.proofs.Between.{takes_name}
 use Rattle.run_laws.proofs.Bounding.{with_same, with_other}

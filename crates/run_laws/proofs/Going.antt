@@ -22,7 +22,7 @@ use Rattle.wedge_base.specs.Files.{may_open}
 use Rattle.wedge_base.specs.declared.image.FileEntry.{FileEntry}
 use Rattle.sthread_life.specs.Actors.{ActorState, right_of, denies, ends, refuses, gate_held}
 use Rattle.cow_pages.specs.Copies.{copy_at, holds_copy, read_copy}
-use Rattle.sthread_life.specs.Private.{loads, stores, load_bytes, load_copy, load_window, load_range, store_copy, store_window, store_range, has_loaded, fits_read, fits_write}
+use Rattle.sthread_life.specs.Accesses.{loads, stores, load_bytes, load_copy, load_window, load_range, store_copy, store_window, store_range, has_loaded, fits_read, fits_write}
 use Rattle.wedge_base.specs.Names.{most_parts}
 use Rattle.wedge_base.specs.Sheets.{Draft, takes_tag, takes_fd, takes_gate, first_excess}
 use Rattle.wedge_base.specs.Maps.{has}
@@ -39,10 +39,10 @@ use Rattle.run_laws.specs.Worlds.{WorldState, actor_named, put_actor, with_actor
 use Rattle.run_laws.specs.Allowed.{next_word}
 use Rattle.run_laws.specs.Ends.{GoesTo, NeedGoesOn, WordGoesOn, GoesOn}
 use Rattle.run_laws.proofs.Named.{put_put, named_put}
-use Rattle.sthread_life.specs.Copying.{Preparation}
+use Rattle.sthread_life.specs.Preparation.{Preparation}
 use Rattle.sthread_life.specs.declared.copy_grant.CopyGrant.{CopyGrant}
-use Rattle.sthread_life.specs.Lending.{may_lend, excess_lent}
-use Rattle.sthread_life.specs.Entrances.{Entrance}
+use Rattle.sthread_life.specs.Entering.{may_lend, excess_lent}
+use Rattle.sthread_life.specs.Entrance.{Entrance}
 use Rattle.callgate.specs.declared.gate.Gate.{Gate}
 
 -- if it runs it is at the next word, and if not its hart is as it was

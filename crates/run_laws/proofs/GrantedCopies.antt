@@ -2,7 +2,7 @@
 use Rattle.std.proofs.Common.{◌≡◌, ◌⊎◌, inl, inr, ℕ, zero, suc, ◌+◌, Bool, true, false, List, [], ◌∷◌, refl, sym, ap, subst, ◌∙◌}
 use Rattle.std.specs.Prelude.{Option, Some, None, not, is_some, option_and_then, ◌&&◌, ◌||◌, ◌==◌, ◌%◌, if◌then◌else◌, unwrap_or}
 use Rattle.std.proofs.lemmas.Bool.{eq-eqb}
-use Rattle.callgate.specs.Gates.{gate_named}
+use Rattle.callgate.specs.Gate.{gate_named}
 use Rattle.callgate.specs.declared.gate.Gate.{Gate}
 use Rattle.wedge_events.specs.declared.cells.GateAsk.TheVariants as gate_ask
 use Rattle.cow_pages.specs.Copies.{Copies, is_slot, copy_at, with_copy, read_copy}
@@ -42,7 +42,8 @@ use Rattle.sthread_life.specs.Calls.{a0}
 use Rattle.run_laws.specs.Cells.{slot_in, kept_in}
 use Rattle.sthread_life.specs.Children.{child_name}
 use Rattle.run_laws.specs.CopiesGranted.{grants_copy, AreGranted, AreOwnCopiesGranted, AreGateCopiesGranted}
-use Rattle.sthread_life.specs.Copying.{Preparation, with_declared, copied_from, is_copy_alone, prepare_copies, behind_first}
+use Rattle.sthread_life.specs.CopyGrant.{is_copy_alone}
+use Rattle.sthread_life.specs.Preparation.{Preparation, with_declared, copied_from, prepare_copies, behind_first}
 use Rattle.run_laws.specs.FamilyTrees.{Family}
 use Rattle.run_laws.specs.Laws.{CopiesAreGranted, RunsAreAlone}
 use Rattle.run_laws.specs.RecycledGates.{AreRunsAlone}
@@ -51,8 +52,8 @@ use Rattle.run_laws.proofs.FamilyRuns.{turn_family, opening_family}
 use Rattle.run_laws.proofs.KnownGates.{AreHeld, rest_held, resumed_held, turn_held, opening_held, one_gate}
 use Rattle.sthread_life.specs.Local.{is_running, step, run_local, rest}
 use Rattle.run_laws.specs.Remembering.{copied_bytes, Elsewhere, copy_target, target_among, LoadGives, StoreWrites, NeedRemembers, InstrRemembers, WordRemembers, memory_in, memory_after}
-use Rattle.sthread_life.specs.Lending.{sheet_lent}
-use Rattle.sthread_life.specs.Taking.{copies_asked, has_snapped, next_start, takes, memory_made, child_of, run_by, actor_begun}
+use Rattle.sthread_life.specs.Entering.{sheet_lent}
+use Rattle.sthread_life.specs.Take.{copies_asked, has_snapped, next_start, takes, memory_made, child_of, run_by, actor_begun}
 use Rattle.run_laws.specs.Worlds.{WorldState, initial_state, actor_named, put_actor, with_begun, turn_of, ready, resumed, Runs}
 use Rattle.run_laws.proofs.Between.{IsPreparing, takes_name}
 use Rattle.sthread_life.proofs.ByNumber.{same_number, number_itself}
@@ -93,11 +94,11 @@ declared_granted gs copies n (t ∷ ts) all more = by_right t.right more (λ cs.
 
 -- ---- an actor
 
-record HasGranted (a : ActorState) : Type 0 where
-  own : AreOwnCopiesGranted a
-  child : (p : Preparation) → a.phase ≡ phase.Starting p → IsGranted (child_grants a) p
-  making : (p : Preparation) → a.phase ≡ phase.MakingGate p → IsGranted (child_grants a) p
-  gates : AreGatesGranted a.gates
+pub record HasGranted (a : ActorState) : Type 0 where
+  pub own : AreOwnCopiesGranted a
+  pub child : (p : Preparation) → a.phase ≡ phase.Starting p → IsGranted (child_grants a) p
+  pub making : (p : Preparation) → a.phase ≡ phase.MakingGate p → IsGranted (child_grants a) p
+  pub gates : AreGatesGranted a.gates
 
 -- an instruction gives an actor no copy at a slot at which it has none
 abbrev KeepsSlots : ActorState → ActorState → Type 0
@@ -327,7 +328,7 @@ begins_granted w b e (Joins k listed j) there held alone h c is = let f : None �
 
 -- ---- runs
 
-abbrev AllGranted : WorldState → Type 0
+abbrev pub AllGranted : WorldState → Type 0
 AllGranted w = (m : List ℕ) (a : ActorState) → actor_named w.actors m ≡ Some a → HasGranted a
 
 put_granted : (w : WorldState) (a x : ActorState) → AllGranted w → IsPut w.actors a x → HasGranted x → (m : List ℕ) (y : ActorState) → FoundPut w.actors a x m y → HasGranted y
@@ -392,13 +393,13 @@ opening_granted i m y found = by_name (same root_name m) (opening_found m y foun
     opening_found n z e = unfold root in e
 
 -- what a turn keeps: each actor has its copies granted, knows its gates, and is alone in a recycled gate
-record AllKept (w : WorldState) : Type 0 where
-  granted : AllGranted w
-  family : Family w.actors
-  held : AreHeld w.actors
-  alone : AreRunsAlone w.cells w.actors
+pub record AllKept (w : WorldState) : Type 0 where
+  pub granted : AllGranted w
+  pub family : Family w.actors
+  pub held : AreHeld w.actors
+  pub alone : AreRunsAlone w.cells w.actors
 
-turn_kept : (w : WorldState) (name : List ℕ) (e : Event) (new : WorldState) → AllReady w → AllKept w → turn_of w name ≡ Some (record { event = e; world = new }) → AllKept new
+pub turn_kept : (w : WorldState) (name : List ℕ) (e : Event) (new : WorldState) → AllReady w → AllKept w → turn_of w name ≡ Some (record { event = e; world = new }) → AllKept new
 turn_kept w name e new all k t =
     let p = turn_from w name e new t in
     record {
@@ -412,9 +413,11 @@ runs_kept : (old : WorldState) (turns : List Turn) (new : WorldState) → AllRea
 runs_kept old [] new all k run = subst AllKept (sym run) k
 runs_kept old (t ∷ ts) new all k run = runs_kept run.0 ts new (turn_ready old t.actor t.event run.0 all run.1) (turn_kept old t.actor t.event run.0 all k run.1) run.2
 
+pub opening_kept : (i : Image) → AllKept (initial_state i)
+opening_kept i = record { granted = opening_granted i; family = opening_family i; held = opening_held i; alone = opening_alone i }
+
 run_kept : (i : Image) (turns : List Turn) (new : WorldState) → Runs (initial_state i) turns new → AllKept new
-run_kept i turns new run =
-    runs_kept (initial_state i) turns new (opening_ready i) (record { granted = opening_granted i; family = opening_family i; held = opening_held i; alone = opening_alone i }) run
+run_kept i turns new run = runs_kept (initial_state i) turns new (opening_ready i) (opening_kept i) run
 
 pub copies_granted : CopiesAreGranted
 copies_granted i turns new run name a named = let h = (run_kept i turns new run).granted name a named in record { own = h.own; gates = h.gates }

@@ -10,14 +10,14 @@ use Rattle.cow_pages.specs.Listed.{bytes_listed}
 use Rattle.std.specs.Prelude.{◌++◌, unwrap_or, slice_get, option_map}
 use Rattle.std.specs.Prelude.{Option, Some, None}
 use Rattle.sthread_life.specs.declared.phase.Phase.TheVariants as phase
-use Rattle.sthread_life.specs.Copying.{Preparation, copied_from}
+use Rattle.sthread_life.specs.Preparation.{Preparation, copied_from}
 use Rattle.callgate.specs.declared.gate.Gate.{Gate}
 use Rattle.run_laws.specs.CopiesGranted.{AreGranted}
 use Rattle.sthread_life.proofs.Resting.{running_is}
 use Rattle.cow_pages.specs.PrivateMemory.{PrivateMemory}
 use Rattle.run_laws.proofs.Happening.{Happens}
 use Rattle.sthread_life.specs.Calls.{a0, draft_at}
-use Rattle.sthread_life.specs.Taking.{takes}
+use Rattle.sthread_life.specs.Take.{takes}
 use Rattle.wedge_base.specs.Images.{Image}
 use Rattle.run_laws.specs.Worlds.{WorldState, initial_state, with_actor}
 use Rattle.wedge_events.specs.declared.events.Event.{Event}

@@ -3,7 +3,8 @@ use Rattle.std.proofs.Common.{◌≡◌, ℕ, Bool, true, false, List, [], ◌�
 use Rattle.std.specs.Prelude.{◌++◌}
 use Rattle.std.specs.Prelude.{Option, Some, None, is_some, ◌&&◌, ◌||◌, ◌==◌, if◌then◌else◌}
 use Rattle.std.specs.Option.{option_or}
-use Rattle.sthread_life.specs.Copying.{Preparation, copy_grants, copied_from, is_copy_alone, prepare_copies}
+use Rattle.sthread_life.specs.CopyGrant.{copy_grants, is_copy_alone}
+use Rattle.sthread_life.specs.Preparation.{Preparation, copied_from, prepare_copies}
 use Rattle.cow_pages.specs.Copies.{Copies, is_slot, copy_at, without_copy}
 use Rattle.run_laws.specs.CopiesGranted.{grants_copy, AreGranted}
 use Rattle.cow_pages.specs.PrivateMemory.{PrivateMemory}

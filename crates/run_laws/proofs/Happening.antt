@@ -32,7 +32,7 @@ use Rattle.run_laws.specs.Cells.{Cells, slot_in, stream_in, kept_in}
 use Rattle.sthread_life.specs.Children.{Children, is_child, without_child, child_name}
 use Rattle.run_laws.specs.Refusals.{refusal_after}
 use Rattle.run_laws.specs.Requests.{request_at}
-use Rattle.sthread_life.specs.Copying.{Preparation}
+use Rattle.sthread_life.specs.Preparation.{Preparation}
 use Rattle.sthread_life.specs.Opening.{FileOpening}
 use Rattle.wedge_events.specs.Streams.{Stream, stream_reply as stream_reply_of}
 use Rattle.wedge_events.specs.declared.cells.StreamAsk.TheVariants as stream_ask
@@ -40,14 +40,14 @@ use Rattle.wedge_events.specs.declared.cells.StreamReply.TheVariants as stream_r
 use Rattle.wedge_base.specs.declared.rights.StreamKind.{StreamKind}
 use Rattle.sthread_life.specs.declared.copy_grant.CopyGrant.{CopyGrant}
 use Rattle.cow_pages.specs.Listed.{bytes_listed}
-use Rattle.sthread_life.specs.Taking.{next_start, starting_want, ending_want, entering_want, leaving_want, current_want, wanted_at, has_snapped, opening_want, answered_end, takes, making_want, copied_on}
+use Rattle.sthread_life.specs.Take.{next_start, starting_want, ending_want, entering_want, leaving_want, current_want, wanted_at, has_snapped, opening_want, answered_end, takes, making_want, copied_on}
 use Rattle.run_laws.specs.Worlds.{WorldState, event_at}
 use Rattle.run_laws.proofs.Between.{event_for, IsJoin, ComesOf, comes_of, Leaves, IsPreparing, MayPrepare, MayNumber, numbered_is, takes_between, IsMaking, made_is, entered_is, waiting_is, MayWait}
 use Rattle.run_laws.proofs.Directing.{claimed_inside}
-use Rattle.run_laws.proofs.Meeting.{request_for, refusal_for, slots_in, fds_in, NumberIn, AsksForPages, IsRequest, IsWanted, IsStartable, startable_at, ReadsAs, LoadsAt}
+use Rattle.run_laws.proofs.Meeting.{request_for, refusal_for, slots_in, fds_in, NumberIn, AsksForPages, IsRequest, IsWanted, IsInCell, IsStartable, startable_at, ReadsAs, LoadsAt}
 use Rattle.run_laws.proofs.MakingGates.{IsMakeable, takes_granting}
 use Rattle.run_laws.proofs.EnteringGates.{IsEnterable}
-use Rattle.sthread_life.specs.Entrances.{Entrance}
+use Rattle.sthread_life.specs.Entrance.{Entrance}
 use Rattle.callgate.specs.declared.gate.Gate.{Gate}
 
 -- the event of a request
@@ -59,6 +59,7 @@ pub record AtRequest (w : WorldState) (b : ActorState) (e : Event) : Type 0 wher
   pub asked : (c : Cells) → request_at w.image c b ≡ request_for c b rd is_signed want
   pub own : IsRequest (LoadsAt w.image b.hart rd is_signed) b want
   pub later : (c : Cells) → refusal_after w.image c b ≡ refusal_for c b want
+  pub inside : IsInCell want
   pub is : e ≡ event_for w.cells b want
 
 -- the join that a call wants
@@ -232,21 +233,21 @@ snap_cases P (Some g) tag snapped gone = by_test (g.tag == tag)
 
 module _ (w : WorldState) (b : ActorState) (e : Event) where
   requested : (x : Want) (rd : ℕ) (s : Bool) → b.phase ≡ phase.Within x → ((c : Cells) → request_at w.image c b ≡ request_for c b rd s x) → IsRequest (LoadsAt w.image b.hart rd s) b x
-      → ((c : Cells) → refusal_after w.image c b ≡ refusal_for c b x) → e ≡ event_for w.cells b x → Happens w b e
-  requested x rd s at asked own later is = Requested (record { want = x; rd = rd; is_signed = s; at = at; asked = asked; own = own; later = later; is = is })
+      → ((c : Cells) → refusal_after w.image c b ≡ refusal_for c b x) → IsInCell x → e ≡ event_for w.cells b x → Happens w b e
+  requested x rd s at asked own later inside is = Requested (record { want = x; rd = rd; is_signed = s; at = at; asked = asked; own = own; later = later; inside = inside; is = is })
 
   within : (x : Want) (rd : ℕ) (s : Bool) → b.phase ≡ phase.Within x → ((c : Cells) → request_at w.image c b ≡ request_for c b rd s x) → IsWanted (LoadsAt w.image b.hart rd s) b x
-      → ((c : Cells) → refusal_after w.image c b ≡ refusal_for c b x) → ComesOf w b x e → Happens w b e
-  within (want.Slots q) rd s at asked own later comes = requested (want.Slots q) rd s at asked own later comes
-  within (want.Slot slot q) rd s at asked own later comes = requested (want.Slot slot q) rd s at asked own later comes
-  within (want.Fds q) rd s at asked own later comes = absurd own
-  within (want.Fd fd q) rd s at asked own later comes = requested (want.Fd fd q) rd s at asked own later comes
-  within (want.Lives q) rd s at asked own later comes = requested (want.Lives q) rd s at asked own later comes
-  within (want.Gate id q) rd s at asked own later comes = absurd own
-  within (want.Start child) rd s at asked own later comes = absurd own
-  within (want.Join k) rd s at asked own later comes = Joined (record { number = k; at = at; asked = asked; later = later; listed = own.0; named = own.1; join = comes })
-  within (want.Enter run) rd s at asked own later comes = absurd own
-  within (want.Leave end) rd s at asked own later comes = absurd own
+      → ((c : Cells) → refusal_after w.image c b ≡ refusal_for c b x) → IsInCell x → ComesOf w b x e → Happens w b e
+  within (want.Slots q) rd s at asked own later inside comes = requested (want.Slots q) rd s at asked own later inside comes
+  within (want.Slot slot q) rd s at asked own later inside comes = requested (want.Slot slot q) rd s at asked own later inside comes
+  within (want.Fds q) rd s at asked own later inside comes = absurd own
+  within (want.Fd fd q) rd s at asked own later inside comes = requested (want.Fd fd q) rd s at asked own later inside comes
+  within (want.Lives q) rd s at asked own later inside comes = requested (want.Lives q) rd s at asked own later inside comes
+  within (want.Gate id q) rd s at asked own later inside comes = absurd own
+  within (want.Start child) rd s at asked own later inside comes = absurd own
+  within (want.Join k) rd s at asked own later inside comes = Joined (record { number = k; at = at; asked = asked; later = later; listed = own.0; named = own.1; join = comes })
+  within (want.Enter run) rd s at asked own later inside comes = absurd own
+  within (want.Leave end) rd s at asked own later inside comes = absurd own
 
   leaving : (g : Gate) (k : GateKind) (x : End) (q : Want) → b.phase ≡ phase.Ending x → b.run_of ≡ Some g → b.unjoined ≡ [] → g.kind ≡ k → leaving_want k g.id b.memory x ≡ q → ComesOf w b q e → Happens w b e
   leaving g gate_kind.Fresh x q at own left kind is comes =
@@ -287,7 +288,7 @@ module _ (w : WorldState) (b : ActorState) (e : Event) where
   by_phase phase.Running q at reads wants comes = absurd cc
   by_phase (phase.Within x) q at reads wants comes =
       let is : x ≡ q = cc in
-      within x reads.0 reads.1 at reads.2 reads.3 reads.4 (subst (λ y. ComesOf w b y e) (sym is) comes)
+      within x reads.0 reads.1 at reads.2 reads.3 reads.4 reads.5 (subst (λ y. ComesOf w b y e) (sym is) comes)
   by_phase (phase.Starting pre) q at reads wants comes = let is : starting_want b pre.left ≡ q = cc in preparing pre pre.left q at refl is reads comes
   by_phase (phase.MakingGate pre) q at reads wants comes = making_at pre pre.left q at refl wants reads comes
   by_phase (phase.Opening slot tag) q at reads wants comes =

@@ -32,7 +32,7 @@ use Rattle.run_laws.specs.Families.{made_by}
 use Rattle.run_laws.specs.Isolation.{Sight, sight, seen, has_bit, LookAlike, IsSeen}
 use Rattle.run_laws.specs.Laws.{AccessesAreIsolated}
 use Rattle.sthread_life.specs.Local.{rest}
-use Rattle.sthread_life.specs.Taking.{pair, current_want, wanted_at, takes, actor_begun}
+use Rattle.sthread_life.specs.Take.{pair, current_want, wanted_at, takes, actor_begun}
 use Rattle.run_laws.specs.Worlds.{WorldState, actor_named, put_actor, with_begun, wanting, ready, resumed, at_rest, turn_with, turn_of, apply_event, event_at}
 use Rattle.run_laws.proofs.Between.{takes_name}
 use Rattle.run_laws.proofs.Families.{takes_sheet, takes_made, IsNoOpening, made_same, made_within}

@@ -36,7 +36,7 @@ use Rattle.cow_pages.specs.PrivateMemory.{PrivateMemory}
 use Rattle.std.specs.Option.{option_or}
 use Rattle.wedge_events.specs.declared.cells.GateReply.TheVariants as gate_reply
 use Rattle.wedge_events.specs.declared.cells.GateAsk.TheVariants as gate_ask
-use Rattle.sthread_life.specs.Private.{load_bytes, load_copy, load_window, load_range, store_copy, store_window, store_range, has_loaded, has_stored, with_bytes, fits_read, fits_write}
+use Rattle.sthread_life.specs.Accesses.{load_bytes, load_copy, load_window, load_range, store_copy, store_window, store_range, has_loaded, has_stored, with_bytes, fits_read, fits_write}
 use Rattle.wedge_base.specs.Names.{most_parts}
 use Rattle.wedge_base.specs.Sheets.{Draft, takes_tag, takes_fd, takes_gate, first_excess}
 use Rattle.wedge_base.specs.Maps.{has}
@@ -58,12 +58,12 @@ use Rattle.run_laws.specs.Worlds.{WorldState}
 use Rattle.run_laws.proofs.WritingCopies.{copied_there}
 use Rattle.sthread_life.specs.Calls.{serves, exit, is_procedure, create, create_with, create_checked, join, are_pages, tag_new, tag_delete, smalloc, free_at, sfree, fd_read, fd_append, fd_close, most_drafts, sc_new, right_asked, bits_asked, add_right, add_right_to, sc_mem_add, add_bits, add_bits_to, sc_fd_add, add_gate_to, sc_cgate_add, draft_call, a0, a1, a2, a3, a7, set_user, sc_user, path_in, put_root, set_root, sc_root, file_at, mode_asked, suits, open_file, open_path, file_open, makes_or_waits, may_be_gate, make_checked, make_with, cgate_make, enter_checked, enter_lending, enter_held, cgate, lent_asked}
 use Rattle.sthread_life.specs.Local.{step_with_need, step_with_instr, step_with_fuel, step_with_word, step}
-use Rattle.sthread_life.specs.Taking.{runs, loads_by, loads_at, takes}
+use Rattle.sthread_life.specs.Take.{runs, loads_by, loads_at, takes}
 use Rattle.run_laws.specs.Remembering.{copied_bytes, copy_target, target_among, Elsewhere, LoadGives, StoreWrites, NeedRemembers, InstrRemembers, WordRemembers, EventRemembers, memory_after}
 use Rattle.run_laws.proofs.WritingRanges.{length-bytes_of, written_at}
-use Rattle.sthread_life.specs.Copying.{Preparation}
+use Rattle.sthread_life.specs.Preparation.{Preparation}
 use Rattle.sthread_life.specs.declared.copy_grant.CopyGrant.{CopyGrant}
-use Rattle.sthread_life.specs.Lending.{may_lend, excess_lent}
+use Rattle.sthread_life.specs.Entering.{may_lend, excess_lent}
 use Rattle.callgate.specs.declared.gate.Gate.{Gate}
 
 -- what keeps private memory

@@ -117,6 +117,10 @@ pub mod Occupying
 pub mod OccupiedRuns
 -- Each turn takes work away, so every run ends.
 pub mod WorkLeft
+-- What is asked of a cell fits it.
+pub mod FittingAsks
+-- A claim of a slot takes a unit of fuel at least, so an image's fuel bounds the numbers of tags.
+pub mod NumbersGiven
 -- In every run whoever holds a gate knows it, the sheet of a gate names only gates made before
 -- it, and a gate is what its maker made.
 pub mod KnownGates

@@ -25,7 +25,7 @@ use Rattle.sthread_life.specs.declared.phase.Phase.TheVariants as phase
 use Rattle.sthread_life.specs.Actors.{ActorState, root}
 use Rattle.sthread_life.specs.Children.{child_name, without_child}
 use Rattle.sthread_life.specs.Local.{has_ended, is_running, rest}
-use Rattle.sthread_life.specs.Taking.{takes, actor_begun, run_at, has_snapped, next_start}
+use Rattle.sthread_life.specs.Take.{takes, actor_begun, run_at, has_snapped, next_start}
 use Rattle.run_laws.specs.Cells.{cells_after, slot_in}
 use Rattle.run_laws.specs.Ends.{is_end_event}
 use Rattle.run_laws.specs.Laws.{LivesAreCounted}

@@ -24,8 +24,9 @@ use Rattle.sthread_life.specs.Actors.{ActorState}
 use Rattle.sthread_life.specs.Between.{IsBetween}
 use Rattle.sthread_life.specs.Calls.{a0, draft_at, makes_or_waits}
 use Rattle.run_laws.specs.ChildCopies.{snap_reply}
-use Rattle.sthread_life.specs.Copying.{Preparation, is_copy_alone, copied_from, prepare_copies, behind_first}
-use Rattle.sthread_life.specs.Taking.{copies_asked, copied_on, has_snapped, takes}
+use Rattle.sthread_life.specs.CopyGrant.{is_copy_alone}
+use Rattle.sthread_life.specs.Preparation.{Preparation, copied_from, prepare_copies, behind_first}
+use Rattle.sthread_life.specs.Take.{copies_asked, copied_on, has_snapped, takes}
 use Rattle.run_laws.proofs.Between.{IsPreparing, IsMaking, MayNumber, Leaves, takes_between, waiting_is}
 
 pub longer : {X : Type 0} (xs : List X) (x : X) → xs ++ x ∷ [] ≡ xs → ⊥

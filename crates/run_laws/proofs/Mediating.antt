@@ -46,14 +46,14 @@ use Rattle.sthread_life.specs.declared.phase.Phase.{Phase}
 use Rattle.sthread_life.specs.declared.phase.Phase.TheVariants as phase
 use Rattle.sthread_life.specs.Actors.{ActorState, ends, refuses}
 use Rattle.sthread_life.specs.Calls.{a0, draft_at}
-use Rattle.sthread_life.specs.Private.{has_stored}
+use Rattle.sthread_life.specs.Accesses.{has_stored}
 use Rattle.sthread_life.specs.Local.{step, rest, has_ended, is_running, run_local}
 use Rattle.sthread_life.specs.Children.{child_name, without_child}
 use Rattle.cow_pages.specs.Listed.{bytes_listed}
 use Rattle.run_laws.specs.ChildCopies.{NotPreparing, PreparesBy}
-use Rattle.sthread_life.specs.Copying.{Preparation}
+use Rattle.sthread_life.specs.Preparation.{Preparation}
 use Rattle.run_laws.proofs.Preparing.{step_unprepared, event_prepares}
-use Rattle.sthread_life.specs.Taking.{next_start, pair, runs, loads_by, loads_at, has_snapped, answered_end, has_started, takes_lives, takes, child_of, actor_begun, copied_on, has_entered, run_by, current_want, wanted_at}
+use Rattle.sthread_life.specs.Take.{next_start, pair, runs, loads_by, loads_at, has_snapped, answered_end, has_started, takes_lives, takes, child_of, actor_begun, copied_on, has_entered, run_by, current_want, wanted_at}
 use Rattle.run_laws.specs.Cells.{Cells, held, slot_in, stream_in, cells_after}
 use Rattle.run_laws.specs.Worlds.{WorldState, initial_state, actor_named, put_actor, with_begun, turn_of, Runs, with_actor, ready, resumed}
 use Rattle.run_laws.specs.Requests.{Access, Request, Loads, Stores, Reads, Appends, Closes, Opens, Creates, Deletes, Allots, Frees, request_at, in_tag, Makes, Enters}
@@ -87,7 +87,7 @@ use Rattle.run_laws.specs.GateCalls.{InstrMakesGates, EventMakesGates}
 use Rattle.run_laws.proofs.GateMoments.{step_makes_gates, event_makes_gates}
 use Rattle.run_laws.proofs.MakingGates.{longer}
 use Rattle.run_laws.proofs.TagSlots.{made_slot, used_slot, at_slot, of_slot}
-use Rattle.sthread_life.specs.Entrances.{Entrance}
+use Rattle.sthread_life.specs.Entrance.{Entrance}
 use Rattle.run_laws.specs.Families.{after_join}
 use Rattle.run_laws.proofs.Turns.{Readies, Stays, Back, readies, turn_from}
 
@@ -235,6 +235,14 @@ one_more i zero a true e runs = goes_on i zero a e ∙ unfold run_local in refl
 one_more i (suc n) a true e runs =
     let here = goes_on i n a e in
     goes_on i (suc n) a e ∙ (one_more i n (step i a) _ refl (subst (λ (x : ActorState). is_running x.phase ≡ true) here runs) ∙ ap (step i) (sym here))
+
+-- an actor that runs no more stays as it is
+no_more : (i : Image) (n : ℕ) (a : ActorState) (t : Bool) → is_running a.phase ≡ t → is_running (run_local i n a).phase ≡ false → run_local i (suc n) a ≡ run_local i n a
+no_more i n a false e over = stays i (suc n) a e ∙ sym (stays i n a e)
+no_more i zero a true e over = let f : true ≡ false = sym e ∙ unfold run_local in over in absurd cc
+no_more i (suc n) a true e over =
+    let later : is_running (run_local i n (step i a)).phase ≡ false = ap (λ (x : ActorState). is_running x.phase) (sym (goes_on i n a e)) ∙ over in
+    goes_on i (suc n) a e ∙ (no_more i n (step i a) _ refl later ∙ sym (goes_on i n a e))
 
 -- ---- an event
 
@@ -898,9 +906,13 @@ moments_of P w name e new p h instructs happens =
     let b = rest w.image a in
     let done = happens a b e (here (a.fuel + 1)) h in
     record {
-      instructions = λ n runs.
-          let x = run_local w.image n a in
-          subst (λ y. P (with_actor w x) x None (with_actor w y)) (sym (one_more w.image n a _ refl runs)) (instructs a x (here n) (running_is x.phase runs));
+      instructions = record {
+        begins = unfold run_local in refl;
+        each = λ n runs.
+            let x = run_local w.image n a in
+            subst (λ y. P (with_actor w x) x None (with_actor w y)) (sym (one_more w.image n a _ refl runs)) (instructs a x (here n) (running_is x.phase runs));
+        stays = λ n over. no_more w.image n a _ refl over;
+      };
       event = (a.fuel + 1, rest-stops w.image a, subst (λ y. P (with_actor w b) b (Some e) y) (sym p.new_is) done);
     }
 
@@ -950,6 +962,7 @@ instruction_lawful w a b named run =
     let x = step w.image b in
     let name = (steps_step w.image b).name in
     record {
+      image = refl;
       mediated = met w b a _ named refl run;
       ends = put_such (λ y. (end_of y.phase ≡ end_at w.image b) × (has_ended y.phase ≡ false)) w b x a named name (step_end w.image b _ refl run, (steps_step w.image b).live (ap has_ended run));
       goes = step_goes w b a named name run;
@@ -964,24 +977,27 @@ instruction_lawful w a b named run =
       gates = put_such (InstrMakesGates (with_actor w b) b b.fuel) w b x a named name (step_makes_gates (with_actor w b) b run);
     }
 
+-- and so is an event
+event_lawful : (w : WorldState) (a b : ActorState) (e : Event) → actor_named w.actors b.name ≡ Some a → Happens w b e → IsLawful (with_actor w b) b (Some e) (after w b e)
+event_lawful w a b e named h = record {
+  image = refl;
+  mediated = answered_at w b a e named h;
+  ends = done_such (λ y. (end_of y.phase ≡ end_by b.phase e) × (has_ended y.phase ≡ is_end_event (Some e))) w b a e named (ends_by w b e h, reached w.image b e);
+  goes = done_such (GoesTo b (next_word b)) w b a e named (next_by w b e h);
+  refuses = refuses_after w b e h;
+  pays = done_such (λ y. y.fuel + cost_by b e + given_by b (Some e) ≡ b.fuel + brought_by (Some e)) w b a e named (event_pays w b e h);
+  edits = record { drafts = done_such (λ y. y.drafts ≡ b.drafts) w b a e named (event_edits w.image b e); answers = tt };
+  remembers = done_such (EventRemembers b e) w b a e named (event_remembers w b e h);
+  family = event_family w b e h;
+  makes = event_makes w b e h;
+  copies = done_such (PreparesBy (with_actor w b) b b.phase e) w b a e named (event_prepares w b e h);
+  snaps = event_copies w b e h;
+  gates = done_such (EventMakesGates (with_actor w b) b b.phase e) w b a e named (event_makes_gates w b e h);
+}
+
 -- a turn of a world whose actors rest as those of a run do is lawful
 pub turn_lawful : (w : WorldState) (t : Turn) (new : WorldState) → AllReady w → turn_of w t.actor ≡ Some (record { event = t.event; world = new }) → TurnHas IsLawful w t new
-turn_lawful w t new all e =
-    turn_has IsLawful w t new all e instruction_lawful
-    (λ w a b e named h. record {
-      mediated = answered_at w b a e named h;
-      ends = done_such (λ y. (end_of y.phase ≡ end_by b.phase e) × (has_ended y.phase ≡ is_end_event (Some e))) w b a e named (ends_by w b e h, reached w.image b e);
-      goes = done_such (GoesTo b (next_word b)) w b a e named (next_by w b e h);
-      refuses = refuses_after w b e h;
-      pays = done_such (λ y. y.fuel + cost_by b e + given_by b (Some e) ≡ b.fuel + brought_by (Some e)) w b a e named (event_pays w b e h);
-      edits = record { drafts = done_such (λ y. y.drafts ≡ b.drafts) w b a e named (event_edits w.image b e); answers = tt };
-      remembers = done_such (EventRemembers b e) w b a e named (event_remembers w b e h);
-      family = event_family w b e h;
-      makes = event_makes w b e h;
-      copies = done_such (PreparesBy (with_actor w b) b b.phase e) w b a e named (event_prepares w b e h);
-      snaps = event_copies w b e h;
-      gates = done_such (EventMakesGates (with_actor w b) b b.phase e) w b a e named (event_makes_gates w b e h);
-    })
+turn_lawful w t new all e = turn_has IsLawful w t new all e instruction_lawful event_lawful
 
 each_lawful : (old : WorldState) (turns : List Turn) (new : WorldState) → AllReady old → Runs old turns new → EachMoment IsLawful old turns
 each_lawful old [] new all run = tt
@@ -1010,15 +1026,22 @@ goes_named actors a b (phase.Ended x) is = ap (λ (x : ActorState). x.name) is
 
 -- each instruction of an actor that is there is lawful
 each_instruction : (w : WorldState) (a b : ActorState) → actor_named w.actors b.name ≡ Some a → EachInstructionOf IsLawful (with_actor w b) b
-each_instruction w a b named n runs =
-    let x = run_local w.image n b in
-    let here : actor_named w.actors x.name ≡ Some a = subst (λ m. actor_named w.actors m ≡ Some a) (sym (run_name w.image n b _ refl)) named in
-    let own = instruction_lawful w a x here (running_is x.phase runs) in
-    subst (λ (v : WorldState). IsLawful v x None (with_actor (with_actor w b) (run_local w.image (suc n) b))) (put_twice w b x (run_name w.image n b _ refl))
-    (subst (λ (v : WorldState). IsLawful (with_actor w x) x None v) (ap (with_actor w) (sym (one_more w.image n b _ refl runs)) ∙ put_twice w b (run_local w.image (suc n) b) (run_name w.image (suc n) b _ refl)) own)
+each_instruction w a b named = record {
+  begins = unfold run_local in refl;
+  each = each;
+  stays = λ n over. no_more w.image n b _ refl over;
+}
   where
     put_twice : (w : WorldState) (b x : ActorState) → x.name ≡ b.name → with_actor w x ≡ with_actor (with_actor w b) x
     put_twice w b x name = ap (λ (as_ : List ActorState). record w { actors = as_ }) (sym (put_put w.actors b x name))
+
+    each : (n : ℕ) → is_running (run_local w.image n b).phase ≡ true → IsLawful (with_actor (with_actor w b) (run_local w.image n b)) (run_local w.image n b) None (with_actor (with_actor w b) (run_local w.image (suc n) b))
+    each n runs =
+        let x = run_local w.image n b in
+        let here : actor_named w.actors x.name ≡ Some a = subst (λ m. actor_named w.actors m ≡ Some a) (sym (run_name w.image n b _ refl)) named in
+        let own = instruction_lawful w a x here (running_is x.phase runs) in
+        subst (λ (v : WorldState). IsLawful v x None (with_actor (with_actor w b) (run_local w.image (suc n) b))) (put_twice w b x (run_name w.image n b _ refl))
+        (subst (λ (v : WorldState). IsLawful (with_actor w x) x None v) (ap (with_actor w) (sym (one_more w.image n b _ refl runs)) ∙ put_twice w b (run_local w.image (suc n) b) (run_name w.image (suc n) b _ refl)) own)
 
 pub instructions_lawful : InstructionsAreLawful
 instructions_lawful i turns w run name a named b goes =

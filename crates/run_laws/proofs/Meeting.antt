@@ -1,9 +1,9 @@
 -- What an instruction comes to: the request that it makes, its end, and the code with which it is refused.
-use Rattle.std.proofs.Common.{◌≡◌, ℕ, zero, suc, ◌+◌, ◌-◌, ◌/◌, ◌%◌, ◌≤◌, ◌<◌, Bool, true, false, true≢false, List, [], refl, sym, ap, subst, ◌∙◌, arith, inl, inr}
+use Rattle.std.proofs.Common.{◌≡◌, ◌⊎◌, ℕ, zero, suc, ◌+◌, ◌-◌, ◌*◌, ◌/◌, ◌%◌, ◌≤◌, ◌<◌, Bool, true, false, true≢false, List, [], refl, sym, ap, subst, ◌∙◌, arith, inl, inr}
 use Rattle.std.proofs.lemmas.Bool.{eqb-true}
 use Rattle.std.proofs.lemmas.Bool.Decides.{nat_tests}
 use Rattle.std.specs.Prelude.{Option, Some, None, is_some, option_map, option_and_then, not, ◌&&◌, ◌||◌, ◌==◌, nat_lt, nat_le, if◌then◌else◌, ◌∷◌, ◌++◌, length, slice_get, slice_range, is_none, unwrap_or}
-use Rattle.wedge_base.specs.Images.{Image, fetch, read_text, slot_of, slots as most_slots}
+use Rattle.wedge_base.specs.Images.{Image, fetch, read_text, slot_of, slots as most_slots, window, windows_base}
 use Rattle.wedge_base.specs.Maps.{has}
 use Rattle.wedge_base.specs.Bytes.{number_of}
 use Rattle.wedge_base.specs.Memory.{range_at, read_range}
@@ -21,11 +21,13 @@ use Rattle.wedge_events.specs.declared.cells.DirectoryAsk.TheVariants as directo
 use Rattle.wedge_events.specs.declared.cells.StreamAsk.{StreamAsk}
 use Rattle.wedge_events.specs.declared.cells.StreamAsk.TheVariants as stream_ask
 use Rattle.rv_isa.specs.declared.Instr.{Instr}
+use Rattle.rv_isa.specs.declared.Op.{Op}
+use Rattle.rv_isa.specs.declared.Op.TheVariants as op
 use Rattle.rv_isa.specs.Table.{decode}
 use Rattle.rv_hart.specs.declared.Hart.{Hart}
 use Rattle.rv_hart.specs.declared.Need.{Need}
 use Rattle.rv_hart.specs.declared.Need.TheVariants as need
-use Rattle.rv_hart.specs.Local.{local}
+use Rattle.rv_hart.specs.Local.{local, HasWidth, branches, put, next_pc, needs_first}
 use Rattle.sthread_life.specs.declared.phase.Phase.{Phase}
 use Rattle.sthread_life.specs.declared.phase.Phase.TheVariants as phase
 use Rattle.wedge_base.specs.Files.{bits_from, may_open}
@@ -36,9 +38,9 @@ use Rattle.wedge_base.specs.declared.rights.StreamKind.{StreamKind}
 use Rattle.wedge_base.specs.declared.rights.StreamKind.TheVariants as kind
 use Rattle.sthread_life.specs.Actors.{ActorState, answers, bits_of, slot_held, code_number, denies, ends, refuses, wants, spends, pristine, gate_held}
 use Rattle.cow_pages.specs.Copies.{copy_at, holds_copy}
-use Rattle.sthread_life.specs.Private.{load_bytes, load_copy, load_window, load_range, store_copy, store_window, store_range, has_loaded, fits_read, fits_write, buffer}
+use Rattle.sthread_life.specs.Accesses.{load_bytes, load_copy, load_window, load_range, store_copy, store_window, store_range, has_loaded, fits_read, fits_write, buffer}
 use Rattle.wedge_base.specs.Sheets.{Draft, empty_draft, takes_tag, takes_fd, takes_gate, with_gate, first_excess, sheet_of_draft}
-use Rattle.wedge_events.specs.Slots.{Segment}
+use Rattle.wedge_events.specs.Slots.{Segment, IsAligned}
 use Rattle.wedge_base.specs.declared.rights.Denial.{Denial}
 use Rattle.wedge_base.specs.declared.rights.Denial.TheVariants as denial
 use Rattle.wedge_events.specs.declared.cells.LivesAsk.TheVariants as lives_ask
@@ -55,13 +57,14 @@ use Rattle.run_laws.specs.Allowed.{may_use, may_be_opened, lacks, is_refused, is
 use Rattle.sthread_life.specs.Children.{is_child}
 use Rattle.run_laws.specs.Ends.{end_of, copy_end, window_end, needed_end, instr_end, fuel_end, word_end, end_at}
 use Rattle.run_laws.specs.MadeGates.{IsGateOf}
-use Rattle.sthread_life.specs.Copying.{Preparation, copy_grants, prepare_copies}
-use Rattle.sthread_life.specs.Taking.{copies_asked}
+use Rattle.sthread_life.specs.CopyGrant.{copy_grants}
+use Rattle.sthread_life.specs.Preparation.{Preparation, prepare_copies}
+use Rattle.sthread_life.specs.Take.{copies_asked}
 use Rattle.sthread_life.specs.declared.copy_grant.CopyGrant.{CopyGrant}
 use Rattle.run_laws.proofs.MakingGates.{MayGrant, IsMakeable, granting_at, prepared_left}
 use Rattle.cow_pages.specs.PrivateMemory.{PrivateMemory}
 use Rattle.grant_sheet.proofs.SheetWithin.{sheet_within}
-use Rattle.sthread_life.specs.Lending.{may_lend, excess_lent}
+use Rattle.sthread_life.specs.Entering.{may_lend, excess_lent}
 use Rattle.callgate.specs.declared.gate.Gate.{Gate}
 use Rattle.run_laws.proofs.EnteringGates.{IsEnterable, enterable_at}
 use Rattle.run_laws.proofs.Drafted.{is_drafted}
@@ -127,9 +130,20 @@ abbrev pub IsWanted : (ℕ → Type 0) → ActorState → Want → Type 0
 IsWanted N a (want.Join k) = (is_child a.unjoined k ≡ true) × (k ≡ a0 a)
 IsWanted N a q = IsRequest N a q
 
+-- the part of a slot that a load, a store or a free asks for, and the descriptor that a call names, are there
+abbrev pub IsPlaced : ℕ → ℕ → ℕ → Type 0
+IsPlaced slot offset width = (slot < most_slots) × IsAligned offset width
+
+abbrev pub IsInCell : Want → Type 0
+IsInCell (want.Slot slot (slot_want.Load offset width)) = IsPlaced slot offset width
+IsInCell (want.Slot slot (slot_want.Store offset width value)) = IsPlaced slot offset width
+IsInCell (want.Slot slot (slot_want.Sfree offset)) = (slot < most_slots) × (offset < window)
+IsInCell (want.Fd fd q) = fd < most_fds
+IsInCell q = Unit {0}
+
 -- where an instruction leaves its actor, if it wants something
 abbrev pub WantsAs : (ℕ → Bool → ℕ → Type 0) → ActorState → (Cells → Option Request) → (Cells → Option ℕ) → ActorState → Phase → Type 0
-WantsAs N a asked later x (phase.Within q) = (rd : ℕ) × (s : Bool) × (x ≡ record a { phase = phase.Within q }) × ((c : Cells) → asked c ≡ request_for c a rd s q) × IsWanted (N rd s) a q × ((c : Cells) → later c ≡ refusal_for c a q)
+WantsAs N a asked later x (phase.Within q) = (rd : ℕ) × (s : Bool) × (x ≡ record a { phase = phase.Within q }) × ((c : Cells) → asked c ≡ request_for c a rd s q) × IsWanted (N rd s) a q × ((c : Cells) → later c ≡ refusal_for c a q) × IsInCell q
 WantsAs N a asked later x phase.Running = Unit {0}
 WantsAs N a asked later x (phase.Starting pre) = ⊥
 WantsAs N a asked later x (phase.MakingGate pre) = (x ≡ record a { phase = phase.MakingGate pre }) × IsMakeable a pre
@@ -207,7 +221,7 @@ comes_refused N a asked later k none = record {
 
 -- the same request, told otherwise
 wants_as : (N : ℕ → Bool → ℕ → Type 0) (a : ActorState) (asked told : Cells → Option Request) (later : Cells → Option ℕ) (x : ActorState) (p : Phase) → ((c : Cells) → told c ≡ asked c) → WantsAs N a asked later x p → WantsAs N a told later x p
-wants_as N a asked told later x (phase.Within q) same w = (w.0, w.1, w.2, λ c. same c ∙ w.3 c, w.4, w.5)
+wants_as N a asked told later x (phase.Within q) same w = (w.0, w.1, w.2, λ c. same c ∙ w.3 c, w.4, w.5, w.6)
 wants_as N a asked told later x phase.Running same w = tt
 wants_as N a asked told later x (phase.Starting pre) same w = w
 wants_as N a asked told later x (phase.MakingGate pre) same w = w
@@ -258,31 +272,55 @@ load_bytes_comes : (N : ℕ → Bool → ℕ → Type 0) (ins : Instr) (s : Bool
 load_bytes_comes N ins s a width bytes true run = comes_on N a (has_loaded ins s a width (number_of bytes)) _ _ refl refl run (λ c. refl)
 load_bytes_comes N ins s a width bytes false run = comes_end N a _ _ end_.Unmapped (λ c. refl)
 
-load_copy_comes : (N : ℕ → Bool → ℕ → Type 0) (ins : Instr) (s : Bool) (a : ActorState) (width : ℕ) (p : Place) (o : Option (List ℕ)) → N ins.rd s width → a.phase ≡ phase.Running
+-- an address in a window is at a place in a slot, and an aligned one at an aligned place
+place_there : (address : ℕ) (t : Bool) (p : Place) → (nat_le windows_base address && nat_lt address (windows_base + most_slots * window)) ≡ t
+    → (if t then Some (record { slot = (address - windows_base) / window; offset = (address - windows_base) % window }) else None) ≡ Some p
+    → (p.slot ≡ (address - windows_base) / window) × (p.offset ≡ (address - windows_base) % window) × (windows_base ≤ address) × (address < windows_base + most_slots * window)
+place_there address true p e is = (cc, cc, grind (arith, nat_tests, e), grind (arith, nat_tests, e))
+place_there address false p e is = absurd cc
+
+in_window_of : (address : ℕ) (p : Place) → slot_of address ≡ Some p → (p.slot < most_slots) × (p.offset < window)
+in_window_of address p e = let h = place_there address _ p refl e in (omega (arith, h.0, h.2, h.3), omega (arith, h.1))
+
+aligned_at : (address : ℕ) (p : Place) (width : ℕ) → (width ≡ 1) ⊎ (width ≡ 2) ⊎ (width ≡ 4) → (address % width == 0) ≡ true → slot_of address ≡ Some p → p.offset % width ≡ 0
+aligned_at address p width fits aligned e = by_width fits (eqb-true (address % width) 0 aligned) (place_there address _ p refl e)
+  where
+    by_width : (width ≡ 1) ⊎ (width ≡ 2) ⊎ (width ≡ 4) → address % width ≡ 0
+        → (p.slot ≡ (address - windows_base) / window) × (p.offset ≡ (address - windows_base) % window) × (windows_base ≤ address) × (address < windows_base + most_slots * window) → p.offset % width ≡ 0
+    by_width (inl is) zero_ h = let z : address % 1 ≡ 0 = subst (λ w. address % w ≡ 0) is zero_ in subst (λ w. p.offset % w ≡ 0) (sym is) (omega (arith, h.1, h.2, z))
+    by_width (inr (inl is)) zero_ h = let z : address % 2 ≡ 0 = subst (λ w. address % w ≡ 0) is zero_ in subst (λ w. p.offset % w ≡ 0) (sym is) (omega (arith, h.1, h.2, z))
+    by_width (inr (inr is)) zero_ h = let z : address % 4 ≡ 0 = subst (λ w. address % w ≡ 0) is zero_ in subst (λ w. p.offset % w ≡ 0) (sym is) (omega (arith, h.1, h.2, z))
+
+placed_at : (address : ℕ) (width : ℕ) → (width ≡ 1) ⊎ (width ≡ 2) ⊎ (width ≡ 4) → (address % width == 0) ≡ true → (p : Place) → slot_of address ≡ Some p → IsPlaced p.slot p.offset width
+placed_at address width fits aligned p e =
+    let h = in_window_of address p e in
+    (h.0, (fits, aligned_at address p width fits aligned e, h.1))
+
+load_copy_comes : (N : ℕ → Bool → ℕ → Type 0) (ins : Instr) (s : Bool) (a : ActorState) (width : ℕ) (p : Place) (o : Option (List ℕ)) → N ins.rd s width → IsPlaced p.slot p.offset width → a.phase ≡ phase.Running
     → Comes N a (λ c. if is_some o then None else in_tag (λ x. Loads x ins.rd s) p width (slot_in c p.slot)) (λ c. None) (copy_end p.offset width o) None (load_copy ins s a width p o)
-load_copy_comes N ins s a width p None k run = record {
+load_copy_comes N ins s a width p None k placed run = record {
   name = refl;
   quiet = λ c h. refl;
   met = λ c r h. met_at_event a _ (want.Slot p.slot (slot_want.Load p.offset width)) r refl (tag_event (λ x. Loads x ins.rd s) p width (slot_in c p.slot) r (λ x. refl) h);
   ends = refl;
-  wants = (ins.rd, s, refl, λ c. refl, k, λ c. refl);
+  wants = (ins.rd, s, refl, λ c. refl, k, λ c. refl, placed);
   codes = λ n h. absurd cc;
 }
-load_copy_comes N ins s a width p (Some bytes) k run = load_bytes_comes N ins s a width (slice_range bytes p.offset (p.offset + width)) (holds_copy p.offset width bytes) run
+load_copy_comes N ins s a width p (Some bytes) k placed run = load_bytes_comes N ins s a width (slice_range bytes p.offset (p.offset + width)) (holds_copy p.offset width bytes) run
 
-load_window_comes : (N : ℕ → Bool → ℕ → Type 0) (ins : Instr) (s : Bool) (a : ActorState) (width : ℕ) (p : Option Place) → N ins.rd s width → a.phase ≡ phase.Running
+load_window_comes : (N : ℕ → Bool → ℕ → Type 0) (ins : Instr) (s : Bool) (a : ActorState) (width : ℕ) (p : Option Place) → N ins.rd s width → ((x : Place) → p ≡ Some x → IsPlaced x.slot x.offset width) → a.phase ≡ phase.Running
     → Comes N a (λ c. in_window (λ x. Loads x ins.rd s) c a width p) (λ c. None) (window_end a width p) None (load_window ins s a width p)
-load_window_comes N ins s a width None k run = comes_end N a _ _ end_.Unmapped (λ c. refl)
-load_window_comes N ins s a width (Some p) k run = load_copy_comes N ins s a width p (copy_at a.memory.copies p.slot) k run
+load_window_comes N ins s a width None k placed run = comes_end N a _ _ end_.Unmapped (λ c. refl)
+load_window_comes N ins s a width (Some p) k placed run = load_copy_comes N ins s a width p (copy_at a.memory.copies p.slot) k (placed p refl) run
 
-load_comes : (N : ℕ → Bool → ℕ → Type 0) (i : Image) (ins : Instr) (s : Bool) (a : ActorState) (address width : ℕ) (t u : Bool) (r : Option MemoryRange) → N ins.rd s width → a.phase ≡ phase.Running
+load_comes : (N : ℕ → Bool → ℕ → Type 0) (i : Image) (ins : Instr) (s : Bool) (a : ActorState) (address width : ℕ) (t u : Bool) (r : Option MemoryRange) → N ins.rd s width → (t ≡ true → (x : Place) → slot_of address ≡ Some x → IsPlaced x.slot x.offset width) → a.phase ≡ phase.Running
     → Comes N a (λ c. if t && not u && not (is_some r) then in_window (λ x. Loads x ins.rd s) c a width (slot_of address) else None) (λ c. None)
     (if not t then Some end_.Misaligned else if u then None else if is_some r then None else window_end a width (slot_of address)) None
     (if not t then ends a end_.Misaligned else if u then has_loaded ins s a width (number_of (read_text i address width)) else load_range ins s a address width r)
-load_comes N i ins s a address width false u r k run = comes_end N a _ _ end_.Misaligned (λ c. refl)
-load_comes N i ins s a address width true true r k run = comes_on N a (has_loaded ins s a width (number_of (read_text i address width))) _ _ refl refl run (λ c. refl)
-load_comes N i ins s a address width true false (Some r) k run = comes_on N a (has_loaded ins s a width (number_of (read_range r address width))) _ _ refl refl run (λ c. refl)
-load_comes N i ins s a address width true false None k run = load_window_comes N ins s a width (slot_of address) k run
+load_comes N i ins s a address width false u r k placed run = comes_end N a _ _ end_.Misaligned (λ c. refl)
+load_comes N i ins s a address width true true r k placed run = comes_on N a (has_loaded ins s a width (number_of (read_text i address width))) _ _ refl refl run (λ c. refl)
+load_comes N i ins s a address width true false (Some r) k placed run = comes_on N a (has_loaded ins s a width (number_of (read_range r address width))) _ _ refl refl run (λ c. refl)
+load_comes N i ins s a address width true false None k placed run = load_window_comes N ins s a width (slot_of address) k (placed refl) run
 
 -- stores
 stored_comes : (N : ℕ → Bool → ℕ → Type 0) (a x : ActorState) (t : Bool) → x.name ≡ a.name → x.denials ≡ a.denials → x.phase ≡ phase.Running
@@ -290,31 +328,31 @@ stored_comes : (N : ℕ → Bool → ℕ → Type 0) (a x : ActorState) (t : Boo
 stored_comes N a x true name denials run = comes_on N a x _ _ name denials run (λ c. refl)
 stored_comes N a x false name denials run = comes_end N a _ _ end_.Unmapped (λ c. refl)
 
-store_copy_comes : (N : ℕ → Bool → ℕ → Type 0) (a : ActorState) (width value : ℕ) (p : Place) (o : Option (List ℕ)) → a.phase ≡ phase.Running
+store_copy_comes : (N : ℕ → Bool → ℕ → Type 0) (a : ActorState) (width value : ℕ) (p : Place) (o : Option (List ℕ)) → IsPlaced p.slot p.offset width → a.phase ≡ phase.Running
     → Comes N a (λ c. if is_some o then None else in_tag (λ x. Stores x value) p width (slot_in c p.slot)) (λ c. None) (copy_end p.offset width o) None (store_copy a width value p o)
-store_copy_comes N a width value p None run = record {
+store_copy_comes N a width value p None placed run = record {
   name = refl;
   quiet = λ c h. refl;
   met = λ c r h. met_at_event a _ (want.Slot p.slot (slot_want.Store p.offset width value)) r refl (tag_event (λ x. Stores x value) p width (slot_in c p.slot) r (λ x. refl) h);
   ends = refl;
-  wants = (0, false, refl, λ c. refl, tt, λ c. refl);
+  wants = (0, false, refl, λ c. refl, tt, λ c. refl, placed);
   codes = λ n h. absurd cc;
 }
-store_copy_comes N a width value p (Some bytes) run = stored_comes N a _ (holds_copy p.offset width bytes) refl refl run
+store_copy_comes N a width value p (Some bytes) placed run = stored_comes N a _ (holds_copy p.offset width bytes) refl refl run
 
-store_window_comes : (N : ℕ → Bool → ℕ → Type 0) (a : ActorState) (width value : ℕ) (p : Option Place) → a.phase ≡ phase.Running
+store_window_comes : (N : ℕ → Bool → ℕ → Type 0) (a : ActorState) (width value : ℕ) (p : Option Place) → ((x : Place) → p ≡ Some x → IsPlaced x.slot x.offset width) → a.phase ≡ phase.Running
     → Comes N a (λ c. in_window (λ x. Stores x value) c a width p) (λ c. None) (window_end a width p) None (store_window a width value p)
-store_window_comes N a width value None run = comes_end N a _ _ end_.Unmapped (λ c. refl)
-store_window_comes N a width value (Some p) run = store_copy_comes N a width value p (copy_at a.memory.copies p.slot) run
+store_window_comes N a width value None placed run = comes_end N a _ _ end_.Unmapped (λ c. refl)
+store_window_comes N a width value (Some p) placed run = store_copy_comes N a width value p (copy_at a.memory.copies p.slot) (placed p refl) run
 
-store_comes : (N : ℕ → Bool → ℕ → Type 0) (a : ActorState) (address width value : ℕ) (t u : Bool) (r : Option MemoryRange) → a.phase ≡ phase.Running
+store_comes : (N : ℕ → Bool → ℕ → Type 0) (a : ActorState) (address width value : ℕ) (t u : Bool) (r : Option MemoryRange) → (t ≡ true → (x : Place) → slot_of address ≡ Some x → IsPlaced x.slot x.offset width) → a.phase ≡ phase.Running
     → Comes N a (λ c. if t && not u && not (is_some r) then in_window (λ x. Stores x value) c a width (slot_of address) else None) (λ c. None)
     (if not t then Some end_.Misaligned else if u then Some end_.TextStore else if is_some r then None else window_end a width (slot_of address)) None
     (if not t then ends a end_.Misaligned else if u then ends a end_.TextStore else store_range a address width value r)
-store_comes N a address width value false u r run = comes_end N a _ _ end_.Misaligned (λ c. refl)
-store_comes N a address width value true true r run = comes_end N a _ _ end_.TextStore (λ c. refl)
-store_comes N a address width value true false (Some r) run = comes_on N a (store_range a address width value (Some r)) _ _ refl refl run (λ c. refl)
-store_comes N a address width value true false None run = store_window_comes N a width value (slot_of address) run
+store_comes N a address width value false u r placed run = comes_end N a _ _ end_.Misaligned (λ c. refl)
+store_comes N a address width value true true r placed run = comes_end N a _ _ end_.TextStore (λ c. refl)
+store_comes N a address width value true false (Some r) placed run = comes_on N a (store_range a address width value (Some r)) _ _ refl refl run (λ c. refl)
+store_comes N a address width value true false None placed run = store_window_comes N a width value (slot_of address) (placed refl) run
 
 -- ---- calls on streams
 
@@ -322,28 +360,31 @@ not_below : (m n : ℕ) → nat_le n m ≡ not (nat_lt m n)
 not_below m n = grind (arith, nat_tests)
 
 -- a number that no descriptor has, and one that a call on a stream may have
-number_comes : (N : ℕ → Bool → ℕ → Type 0) (a : ActorState) (fd : ℕ) (q : StreamAsk) (v : Bool) → IsStreamRequest a fd q
+number_comes : (N : ℕ → Bool → ℕ → Type 0) (a : ActorState) (fd : ℕ) (q : StreamAsk) (v : Bool) → IsStreamRequest a fd q → (v ≡ false → fd < most_fds)
     → Comes N a (λ c. if not v then stream_request fd q (stream_in c fd) else None) (λ c. stream_refusal a fd q (stream_in c fd)) None
     (if not v then None else Some no_such)
     (if v then refuses a code.NoSuch else wants a (want.Fd fd q))
-number_comes N a fd q true own = comes_refused N a _ _ code.NoSuch (λ c. refl)
-number_comes N a fd q false own = record {
+number_comes N a fd q true own few = comes_refused N a _ _ code.NoSuch (λ c. refl)
+number_comes N a fd q false own few = record {
   name = refl;
   quiet = λ c h. refl;
   met = λ c r h. met_at_event a _ (want.Fd fd q) r refl (stream_event fd q (stream_in c fd) r h);
   ends = refl;
-  wants = (0, false, refl, λ c. refl, own, λ c. refl);
+  wants = (0, false, refl, λ c. refl, own, λ c. refl, few refl);
   codes = λ n h. absurd cc;
 }
 
 -- a buffer that does not fit, and too little fuel
-transfer_comes : (N : ℕ → Bool → ℕ → Type 0) (a : ActorState) (fd : ℕ) (q : StreamAsk) (t u v : Bool) → (t ≡ true → u ≡ false → IsStreamRequest a fd q)
+transfer_comes : (N : ℕ → Bool → ℕ → Type 0) (a : ActorState) (fd : ℕ) (q : StreamAsk) (t u v : Bool) → (t ≡ true → u ≡ false → IsStreamRequest a fd q) → (v ≡ false → fd < most_fds)
     → Comes N a (λ c. if t && (not u && not v) then stream_request fd q (stream_in c fd) else None) (λ c. stream_refusal a fd q (stream_in c fd)) None
     (if t then (if not u then (if not v then None else Some no_such) else Some fuel_short) else Some bad)
     (if not t then refuses a code.Bad else if u then refuses a code.FuelShort else if v then refuses a code.NoSuch else wants a (want.Fd fd q))
-transfer_comes N a fd q false u v own = comes_refused N a _ _ code.Bad (λ c. refl)
-transfer_comes N a fd q true true v own = comes_refused N a _ _ code.FuelShort (λ c. refl)
-transfer_comes N a fd q true false v own = number_comes N a fd q v (own refl refl)
+transfer_comes N a fd q false u v own few = comes_refused N a _ _ code.Bad (λ c. refl)
+transfer_comes N a fd q true true v own few = comes_refused N a _ _ code.FuelShort (λ c. refl)
+transfer_comes N a fd q true false v own few = number_comes N a fd q v (own refl refl) few
+
+few_fds : (fd : ℕ) → nat_le most_fds fd ≡ false → fd < most_fds
+few_fds fd e = grind (arith, nat_tests, e)
 
 not_above : (fd : ℕ) → nat_lt fd most_fds ≡ not (nat_le most_fds fd)
 not_above fd = grind (arith, nat_tests)
@@ -366,7 +407,7 @@ read_comes N a =
     comes_as N a _ _ _ None _ _ (fd_read a)
     (λ c. read_told c a (a0 a) (a2 a) t _ _ (not_below a.fuel (a2 a)) (not_above (a0 a)))
     (read_coded a (a0 a) (a2 a) t _ _ (not_below a.fuel (a2 a)) (not_above (a0 a)))
-    (transfer_comes N a (a0 a) (stream_ask.Read (bits_of a (a0 a)) (a2 a)) t (nat_lt a.fuel (a2 a)) (nat_le most_fds (a0 a)) (λ fits paid. (refl, refl, enough a.fuel (a2 a) paid, fits)))
+    (transfer_comes N a (a0 a) (stream_ask.Read (bits_of a (a0 a)) (a2 a)) t (nat_lt a.fuel (a2 a)) (nat_le most_fds (a0 a)) (λ fits paid. (refl, refl, enough a.fuel (a2 a) paid, fits)) (few_fds (a0 a)))
 
 -- appends
 append_told : (c : Cells) (a : ActorState) (fd n : ℕ) (bytes : List ℕ) (t u v : Bool) → (nat_le n a.fuel ≡ not u) → (nat_lt fd most_fds ≡ not v)
@@ -391,7 +432,7 @@ append_comes N i a =
     ∙ append_told c a (a0 a) (a2 a) bytes t _ _ (not_below a.fuel (a2 a)) (not_above (a0 a)))
     (ap (append_refusal a (a0 a) (a2 a)) fits
     ∙ append_coded a (a0 a) (a2 a) bytes t _ _ (not_below a.fuel (a2 a)) (not_above (a0 a)))
-    (transfer_comes N a (a0 a) (stream_ask.Append (bits_of a (a0 a)) bytes) t (nat_lt a.fuel (a2 a)) (nat_le most_fds (a0 a)) (λ inside paid. (refl, enough a.fuel (a2 a) paid)))
+    (transfer_comes N a (a0 a) (stream_ask.Append (bits_of a (a0 a)) bytes) t (nat_lt a.fuel (a2 a)) (nat_le most_fds (a0 a)) (λ inside paid. (refl, enough a.fuel (a2 a) paid)) (few_fds (a0 a)))
 
 -- closes
 close_comes : (N : ℕ → Bool → ℕ → Type 0) (a : ActorState) → Comes N a (λ c. close_of c (a0 a)) (λ c. stream_close_refusal (stream_in c (a0 a))) None (number_refusal (a0 a)) (fd_close a)
@@ -399,7 +440,7 @@ close_comes N a =
     comes_as N a _ _ _ None _ _ (fd_close a)
     (λ c. ap (λ t. if t then in_stream (Closes (a0 a)) (stream_in c (a0 a)) else None) (not_above (a0 a)))
     (ap (λ t. if t then None else Some no_such) (not_above (a0 a)))
-    (number_comes N a (a0 a) (stream_ask.Close (bits_of a (a0 a))) (nat_le most_fds (a0 a)) (refl, tt))
+    (number_comes N a (a0 a) (stream_ask.Close (bits_of a (a0 a))) (nat_le most_fds (a0 a)) (refl, tt) (few_fds (a0 a)))
 
 -- calls on drafts
 abbrev AsDraft : (ℕ → Bool → ℕ → Type 0) → ActorState → Option ℕ → ActorState → Type 0
@@ -530,7 +571,7 @@ allowed_comes N a d u v drafted within room fuel = by_tests u v (refused_if (nat
       met = λ c x h. subst (λ y. MetBy a y (wants a (want.Lives lives_ask.Claim))) (same_request x h)
           (record { denied = λ y e. some_lacks y e _; done = λ e f. refl; refused = λ e f. absurd (true≢false (sym f ∙ is)) });
       ends = refl;
-      wants = (0, false, refl, λ c. ap (option_map (λ y. Creates y)) (sym drafted), startable room (enough a.fuel (a3 a) fuel), λ c. refl);
+      wants = (0, false, refl, λ c. ap (option_map (λ y. Creates y)) (sym drafted), startable room (enough a.fuel (a3 a) fuel), λ c. refl, tt);
       codes = λ n h. absurd cc;
     }
       where
@@ -578,15 +619,15 @@ create_comes N i a (Some d) drafted = create_tests N a d (is_procedure i (a1 a))
 -- the call that joins one
 join_tests : (N : ℕ → Bool → ℕ → Type 0) (a : ActorState) (t : Bool) → is_child a.unjoined (a0 a) ≡ t
     → Comes N a (λ c. None) (λ c. None) None (if t then None else Some no_such) (if t then wants a (want.Join (a0 a)) else refuses a code.NoSuch)
-join_tests N a true e = record { name = refl; quiet = λ c h. refl; met = λ c r h. absurd cc; ends = refl; wants = (0, false, refl, λ c. refl, (e, refl), λ c. refl); codes = λ n h. absurd cc }
+join_tests N a true e = record { name = refl; quiet = λ c h. refl; met = λ c r h. absurd cc; ends = refl; wants = (0, false, refl, λ c. refl, (e, refl), λ c. refl, tt); codes = λ n h. absurd cc }
 join_tests N a false e = comes_refused N a _ _ code.NoSuch (λ c. refl)
 
 -- ---- calls on tags
 
 -- a call that comes to its event, with a request that is checked there or with none
-comes_wanting : (N : ℕ → Bool → ℕ → Type 0) (a : ActorState) (q : Want) (later : Cells → Option ℕ) → IsWanted (N 0 false) a q → ((c : Cells) → later c ≡ refusal_for c a q)
+comes_wanting : (N : ℕ → Bool → ℕ → Type 0) (a : ActorState) (q : Want) (later : Cells → Option ℕ) → IsWanted (N 0 false) a q → IsInCell q → ((c : Cells) → later c ≡ refusal_for c a q)
     → ((c : Cells) (r : Request) → request_for c a 0 false q ≡ Some r → MetBy a r (wants a q)) → Comes N a (λ c. request_for c a 0 false q) later None None (wants a q)
-comes_wanting N a q later own coded met = record { name = refl; quiet = λ c h. refl; met = met; ends = refl; wants = (0, false, refl, λ c. refl, own, coded); codes = λ n h. absurd cc }
+comes_wanting N a q later own inside coded met = record { name = refl; quiet = λ c h. refl; met = met; ends = refl; wants = (0, false, refl, λ c. refl, own, coded, inside); codes = λ n h. absurd cc }
 
 pub pages_tests : (n : ℕ) → (nat_lt 0 n && nat_lt n 17) ≡ are_pages n
 pages_tests n = grind (arith, nat_tests)
@@ -598,7 +639,7 @@ new_tag_comes : (N : ℕ → Bool → ℕ → Type 0) (a : ActorState) (t : Bool
     → Comes N a (λ c. None) (λ c. slots_refusal c.places) None (pages_refusal (a0 a)) (if t then wants a (want.Slots directory_ask.Claim) else refuses a code.Bad)
 new_tag_comes N a true e =
     comes_as N a _ _ _ None _ _ _ (λ c. refl) (pages_told true (a0 a) (pages_tests (a0 a) ∙ e))
-    (comes_wanting N a (want.Slots directory_ask.Claim) (λ c. slots_refusal c.places) e (λ c. refl) (λ c r h. absurd cc))
+    (comes_wanting N a (want.Slots directory_ask.Claim) (λ c. slots_refusal c.places) e tt (λ c. refl) (λ c r h. absurd cc))
 new_tag_comes N a false e =
     comes_as N a _ _ _ None _ _ _ (λ c. refl) (pages_told false (a0 a) (pages_tests (a0 a) ∙ e))
     (comes_refused N a (λ c. None) (λ c. slots_refusal c.places) code.Bad (λ c. refl))
@@ -637,8 +678,8 @@ denied_now N a r d later now lack is = record {
 }
 
 comes_now : (N : ℕ → Bool → ℕ → Type 0) (a : ActorState) (r : Request) (q : Want) (later : Cells → Option ℕ) → is_checked_at_event r ≡ false → lacks a r ≡ None → is_refused a r ≡ false → phase_for a r ≡ phase.Within q
-    → (wants a q ≡ record a { phase = phase_for a r } → DoneNow a r (wants a q)) → IsWanted (N 0 false) a q → ((c : Cells) → Some r ≡ request_for c a 0 false q) → ((c : Cells) → later c ≡ refusal_for c a q) → Comes N a (λ c. Some r) later None None (wants a q)
-comes_now N a r q later now lack goes is comes own asked coded = record {
+    → (wants a q ≡ record a { phase = phase_for a r } → DoneNow a r (wants a q)) → IsWanted (N 0 false) a q → IsInCell q → ((c : Cells) → Some r ≡ request_for c a 0 false q) → ((c : Cells) → later c ≡ refusal_for c a q) → Comes N a (λ c. Some r) later None None (wants a q)
+comes_now N a r q later now lack goes is comes own inside asked coded = record {
   name = refl;
   quiet = λ c h. absurd cc;
   met = λ c x h. subst (λ y. MetBy a y (wants a q)) (same_some r x h) (met_now r now (record {
@@ -647,7 +688,7 @@ comes_now N a r q later now lack goes is comes own asked coded = record {
     refused = λ e f. absurd (true≢false (sym f ∙ goes));
   }));
   ends = refl;
-  wants = (0, false, refl, asked, own, coded);
+  wants = (0, false, refl, asked, own, coded, inside);
   codes = λ n h. absurd cc;
 }
 
@@ -655,7 +696,7 @@ delete_comes : (N : ℕ → Bool → ℕ → Type 0) (a : ActorState) (t : Bool)
     → Comes N a (λ c. Some (Deletes (a0 a))) (λ c. close_refusal (a0 a) (slot_in c (slot_held a (a0 a)))) None None
     (if t then wants a (want.Slot (slot_held a (a0 a)) (slot_want.Close (a0 a))) else denies a (denial.NotMaker (a0 a)))
 delete_comes N a true e =
-    comes_now N a (Deletes (a0 a)) _ _ refl (ap (λ u. if u then None else Some (denial.NotMaker (a0 a))) e) refl refl (λ h. h) (e, refl) (λ c. refl) (λ c. refl)
+    comes_now N a (Deletes (a0 a)) _ _ refl (ap (λ u. if u then None else Some (denial.NotMaker (a0 a))) e) refl refl (λ h. h) (e, refl) tt (λ c. refl) (λ c. refl)
 delete_comes N a false e = denied_now N a (Deletes (a0 a)) (denial.NotMaker (a0 a)) _ refl (ap (λ u. if u then None else Some (denial.NotMaker (a0 a))) e) refl
 
 allot_comes : (N : ℕ → Bool → ℕ → Type 0) (a : ActorState) (t u : Bool) → (a1 a == 0) ≡ t → may_use a (a0 a) right.ReadWrite ≡ u
@@ -663,7 +704,7 @@ allot_comes : (N : ℕ → Bool → ℕ → Type 0) (a : ActorState) (t u : Bool
     (if t then refuses a code.Bad else if u then wants a (want.Slot (slot_held a (a0 a)) (slot_want.Smalloc (a0 a) (a1 a))) else denies a (denial.Tag (a0 a) right.ReadWrite))
 allot_comes N a true u e f = comes_refused N a _ _ code.Bad (λ c. refl)
 allot_comes N a false true e f =
-    comes_now N a (Allots (a0 a) (a1 a)) _ _ refl (ap (λ x. if x then None else Some (denial.Tag (a0 a) right.ReadWrite)) f) refl refl (λ h. h) (f, refl, e) (λ c. refl) (λ c. refl)
+    comes_now N a (Allots (a0 a) (a1 a)) _ _ refl (ap (λ x. if x then None else Some (denial.Tag (a0 a) right.ReadWrite)) f) refl refl (λ h. h) (f, refl, e) tt (λ c. refl) (λ c. refl)
 allot_comes N a false false e f =
     denied_now N a (Allots (a0 a) (a1 a)) (denial.Tag (a0 a) right.ReadWrite) _ refl (ap (λ x. if x then None else Some (denial.Tag (a0 a) right.ReadWrite)) f) refl
 
@@ -671,10 +712,10 @@ freed_event : (p : Place) (g : Option Segment) (r : Request) → option_map (Fre
 freed_event p None r e = absurd cc
 freed_event p (Some g) r e = subst (λ y. is_checked_at_event y ≡ true) (same_some (Frees p g) r e) refl
 
-free_comes : (N : ℕ → Bool → ℕ → Type 0) (a : ActorState) (p : Option Place) → Comes N a (λ c. free_of c p) (λ c. free_refusal c a p) None (address_refusal p) (free_at a p)
-free_comes N a None = comes_refused N a _ _ code.Bad (λ c. refl)
-free_comes N a (Some p) =
-    comes_wanting N a (want.Slot p.slot (slot_want.Sfree p.offset)) (λ c. block_refusal a p.offset (slot_in c p.slot)) tt (λ c. refl)
+free_comes : (N : ℕ → Bool → ℕ → Type 0) (a : ActorState) (p : Option Place) → ((x : Place) → p ≡ Some x → (x.slot < most_slots) × (x.offset < window)) → Comes N a (λ c. free_of c p) (λ c. free_refusal c a p) None (address_refusal p) (free_at a p)
+free_comes N a None inside = comes_refused N a _ _ code.Bad (λ c. refl)
+free_comes N a (Some p) inside =
+    comes_wanting N a (want.Slot p.slot (slot_want.Sfree p.offset)) (λ c. block_refusal a p.offset (slot_in c p.slot)) tt (inside p refl) (λ c. refl)
     (λ c r h. met_at_event a _ (want.Slot p.slot (slot_want.Sfree p.offset)) r refl (freed_event p (slot_in c p.slot) r h))
 
 -- ---- the call that opens a file: it is checked at once
@@ -945,7 +986,7 @@ call_comes N i a n = by_0 (n == 0) refl
     by_13 false e e0 e1 e2 e3 e4 e5 e6 = by_14 (n == 14) refl e0 e1 e2 e3 e4 e5 e6 e
 
     by_6 : (t : Bool) → (n == 6) ≡ t → (n == 0) ≡ false → (n == 1) ≡ false → (n == 2) ≡ false → (n == 3) ≡ false → (n == 4) ≡ false → (n == 5) ≡ false → CallComes N i a n
-    by_6 true e e0 e1 e2 e3 e4 e5 = at 6 e (free_comes N a (slot_of (a0 a)))
+    by_6 true e e0 e1 e2 e3 e4 e5 = at 6 e (free_comes N a (slot_of (a0 a)) (in_window_of (a0 a)))
     by_6 false e e0 e1 e2 e3 e4 e5 = by_13 (n == 13) refl e0 e1 e2 e3 e4 e5 e
 
     by_5 : (t : Bool) → (n == 5) ≡ t → (n == 0) ≡ false → (n == 1) ≡ false → (n == 2) ≡ false → (n == 3) ≡ false → (n == 4) ≡ false → CallComes N i a n
@@ -988,19 +1029,86 @@ InstrLoads h (Some ins) rd s width = NeedLoads ins.rd (local ins h).need rd s wi
 abbrev pub LoadsAt : Image → Hart → ℕ → Bool → ℕ → Type 0
 LoadsAt i h = InstrLoads h (option_and_then decode (fetch i h.pc))
 
+-- what an instruction needs has a width
+goes_width : (ins : Instr) (h : Hart) (target : ℕ) (t : Bool) → HasWidth (if t then record { hart = record { pc = target; regs = put h.regs ins.rd (next_pc h.pc) }; need = need.Done } else needs_first h need.JumpMisaligned).need
+goes_width ins h target true = tt
+goes_width ins h target false = tt
+
+turns_width : (h : Hart) (target : ℕ) (t : Bool) → HasWidth (if t then record { hart = record h { pc = target }; need = need.Done } else needs_first h need.JumpMisaligned).need
+turns_width h target true = tt
+turns_width h target false = tt
+
+branches_width : (ins : Instr) (h : Hart) (t : Bool) → HasWidth (branches ins h t).need
+branches_width ins h true = turns_width h _ _
+branches_width ins h false = tt
+
+width_where : (ins : Instr) (h : Hart) (o : Op) → ins.op ≡ o → HasWidth (local ins h).need
+unfolding local
+width_where ins h op.Lui is = rw is tt
+width_where ins h op.Auipc is = rw is tt
+width_where ins h op.Jal is = rw is (goes_width ins h _ _)
+width_where ins h op.Jalr is = rw is (goes_width ins h _ _)
+width_where ins h op.Beq is = rw is (branches_width ins h _)
+width_where ins h op.Bne is = rw is (branches_width ins h _)
+width_where ins h op.Blt is = rw is (branches_width ins h _)
+width_where ins h op.Bge is = rw is (branches_width ins h _)
+width_where ins h op.Bltu is = rw is (branches_width ins h _)
+width_where ins h op.Bgeu is = rw is (branches_width ins h _)
+width_where ins h op.Lb is = rw is (inl refl)
+width_where ins h op.Lh is = rw is (inr (inl refl))
+width_where ins h op.Lw is = rw is (inr (inr refl))
+width_where ins h op.Lbu is = rw is (inl refl)
+width_where ins h op.Lhu is = rw is (inr (inl refl))
+width_where ins h op.Sb is = rw is (inl refl)
+width_where ins h op.Sh is = rw is (inr (inl refl))
+width_where ins h op.Sw is = rw is (inr (inr refl))
+width_where ins h op.Addi is = rw is tt
+width_where ins h op.Slti is = rw is tt
+width_where ins h op.Sltiu is = rw is tt
+width_where ins h op.Xori is = rw is tt
+width_where ins h op.Ori is = rw is tt
+width_where ins h op.Andi is = rw is tt
+width_where ins h op.Slli is = rw is tt
+width_where ins h op.Srli is = rw is tt
+width_where ins h op.Srai is = rw is tt
+width_where ins h op.Add is = rw is tt
+width_where ins h op.Sll is = rw is tt
+width_where ins h op.Slt is = rw is tt
+width_where ins h op.Sltu is = rw is tt
+width_where ins h op.Xor is = rw is tt
+width_where ins h op.Srl is = rw is tt
+width_where ins h op.Or is = rw is tt
+width_where ins h op.And is = rw is tt
+width_where ins h op.Sub is = rw is tt
+width_where ins h op.Sra is = rw is tt
+width_where ins h op.Mul is = rw is tt
+width_where ins h op.Mulh is = rw is tt
+width_where ins h op.Mulhsu is = rw is tt
+width_where ins h op.Mulhu is = rw is tt
+width_where ins h op.Div is = rw is tt
+width_where ins h op.Divu is = rw is tt
+width_where ins h op.Rem is = rw is tt
+width_where ins h op.Remu is = rw is tt
+width_where ins h op.Fence is = rw is tt
+width_where ins h op.Ecall is = rw is tt
+width_where ins h op.Ebreak is = rw is tt
+
+pub needs_width : (ins : Instr) (h : Hart) → HasWidth (local ins h).need
+needs_width ins h = width_where ins h ins.op refl
+
 -- an instruction that is paid for
-pub needed_comes : (i : Image) (ins : Instr) (a : ActorState) (h : Hart) (n : Need) → a.phase ≡ phase.Running → Comes (NeedLoads ins.rd n) a (λ c. needed_request i c a ins.rd n) (λ c. need_refusal_after c a n) (needed_end i a n) (need_refusal i a n) (step_with_need i ins a h n)
+pub needed_comes : (i : Image) (ins : Instr) (a : ActorState) (h : Hart) (n : Need) → HasWidth n → a.phase ≡ phase.Running → Comes (NeedLoads ins.rd n) a (λ c. needed_request i c a ins.rd n) (λ c. need_refusal_after c a n) (needed_end i a n) (need_refusal i a n) (step_with_need i ins a h n)
 unfolding serves
-needed_comes i ins a h need.Done run = comes_on (NeedLoads ins.rd need.Done) a (record a { hart = h }) _ _ refl refl run (λ c. refl)
-needed_comes i ins a h (need.Load address width s) run = load_comes (NeedLoads ins.rd (need.Load address width s)) i ins s a address width _ _ (range_at a.memory.ranges address width) (refl, refl, refl) run
-needed_comes i ins a h (need.Store address width value) run = store_comes (NeedLoads ins.rd (need.Store address width value)) a address width value _ _ (range_at a.memory.ranges address width) run
-needed_comes i ins a h need.Call run = call_comes (NeedLoads ins.rd need.Call) i a (a7 a)
-needed_comes i ins a h need.Break run = comes_end (NeedLoads ins.rd need.Break) a _ _ end_.Break (λ c. refl)
-needed_comes i ins a h need.JumpMisaligned run = comes_end (NeedLoads ins.rd need.JumpMisaligned) a _ _ end_.JumpMisaligned (λ c. refl)
+needed_comes i ins a h need.Done fits run = comes_on (NeedLoads ins.rd need.Done) a (record a { hart = h }) _ _ refl refl run (λ c. refl)
+needed_comes i ins a h (need.Load address width s) fits run = load_comes (NeedLoads ins.rd (need.Load address width s)) i ins s a address width _ _ (range_at a.memory.ranges address width) (refl, refl, refl) (placed_at address width fits) run
+needed_comes i ins a h (need.Store address width value) fits run = store_comes (NeedLoads ins.rd (need.Store address width value)) a address width value _ _ (range_at a.memory.ranges address width) (placed_at address width fits) run
+needed_comes i ins a h need.Call fits run = call_comes (NeedLoads ins.rd need.Call) i a (a7 a)
+needed_comes i ins a h need.Break fits run = comes_end (NeedLoads ins.rd need.Break) a _ _ end_.Break (λ c. refl)
+needed_comes i ins a h need.JumpMisaligned fits run = comes_end (NeedLoads ins.rd need.JumpMisaligned) a _ _ end_.JumpMisaligned (λ c. refl)
 
 executed_comes : (i : Image) (a : ActorState) (ins : Option Instr) → a.phase ≡ phase.Running → Comes (InstrLoads a.hart ins) a (λ c. instr_request i c a ins) (λ c. instr_refusal_after c a ins) (instr_end i a ins) (instr_refusal i a ins) (step_with_instr i a ins)
 executed_comes i a None run = comes_end (InstrLoads a.hart None) a _ _ end_.BadInstruction (λ c. refl)
-executed_comes i a (Some ins) run = needed_comes i ins a (local ins a.hart).hart (local ins a.hart).need run
+executed_comes i a (Some ins) run = needed_comes i ins a (local ins a.hart).hart (local ins a.hart).need (needs_width ins a.hart) run
 
 -- one instruction of an actor that runs: with no fuel, or no word, it ends
 pub stuck : (i : Image) (a : ActorState) → a.fuel ≡ zero → (e : End) × (step i a ≡ ends a e) × (end_at i a ≡ Some e)
@@ -1043,7 +1151,7 @@ NumberIn i (Some fd) = fd < fds_in i
 -- what an actor is in by its phase: within an instruction it wants what that comes to, and one that is about to start a
 -- child may do so
 abbrev pub ReadsAs : Image → ActorState → Phase → Type 0
-ReadsAs i a (phase.Within q) = (rd : ℕ) × (s : Bool) × ((c : Cells) → request_at i c a ≡ request_for c a rd s q) × IsWanted (LoadsAt i a.hart rd s) a q × ((c : Cells) → refusal_after i c a ≡ refusal_for c a q)
+ReadsAs i a (phase.Within q) = (rd : ℕ) × (s : Bool) × ((c : Cells) → request_at i c a ≡ request_for c a rd s q) × IsWanted (LoadsAt i a.hart rd s) a q × ((c : Cells) → refusal_after i c a ≡ refusal_for c a q) × IsInCell q
 ReadsAs i a phase.Running = Unit {0}
 ReadsAs i a (phase.Starting pre) = IsStartable a
 ReadsAs i a (phase.MakingGate pre) = IsMakeable a pre
@@ -1081,13 +1189,13 @@ refusal_within c p ph (want.Fd fd q) = refusal_at_phase p ph fd q (stream_in c f
 refusal_within c p ph (want.Lives lives_ask.Claim) = refl
 refusal_within c p ph q = refl
 
-reads_within : (i : Image) (p : ActorState) (q : Want) (rd : ℕ) (s : Bool) → ((c : Cells) → request_at i c p ≡ request_for c p rd s q) → IsWanted (LoadsAt i p.hart rd s) p q → ((c : Cells) → refusal_after i c p ≡ refusal_for c p q)
+reads_within : (i : Image) (p : ActorState) (q : Want) (rd : ℕ) (s : Bool) → ((c : Cells) → request_at i c p ≡ request_for c p rd s q) → IsWanted (LoadsAt i p.hart rd s) p q → ((c : Cells) → refusal_after i c p ≡ refusal_for c p q) → IsInCell q
     → ReadsAs i (record p { phase = phase.Within q }) (phase.Within q)
-reads_within i p q rd s asked own later =
-    (rd, s, λ c. asked c ∙ request_within c p (phase.Within q) rd s q, wanted_within (LoadsAt i p.hart rd s) p (phase.Within q) q own, λ c. later c ∙ refusal_within c p (phase.Within q) q)
+reads_within i p q rd s asked own later inside =
+    (rd, s, λ c. asked c ∙ request_within c p (phase.Within q) rd s q, wanted_within (LoadsAt i p.hart rd s) p (phase.Within q) q own, λ c. later c ∙ refusal_within c p (phase.Within q) q, inside)
 
 reads_of : (i : Image) (p x : ActorState) (ph : Phase) → WantsAs (LoadsAt i p.hart) p (λ c. request_at i c p) (λ c. refusal_after i c p) x ph → ReadsAs i x ph
-reads_of i p x (phase.Within q) w = subst (λ y. ReadsAs i y (phase.Within q)) (sym w.2) (reads_within i p q w.0 w.1 w.3 w.4 w.5)
+reads_of i p x (phase.Within q) w = subst (λ y. ReadsAs i y (phase.Within q)) (sym w.2) (reads_within i p q w.0 w.1 w.3 w.4 w.5 w.6)
 reads_of i p x phase.Running w = tt
 reads_of i p x (phase.Starting pre) w = absurd w
 reads_of i p x (phase.MakingGate pre) w = subst (λ y. ReadsAs i y (phase.MakingGate pre)) (sym w.0) (granting_at p (phase.MakingGate pre) pre w.1)

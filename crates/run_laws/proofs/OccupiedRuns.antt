@@ -47,8 +47,8 @@ use Rattle.run_laws.specs.Laws.{SlotsAreOccupied}
 use Rattle.sthread_life.specs.Local.{rest, is_running}
 use Rattle.run_laws.specs.Moments.{EachTurn}
 use Rattle.run_laws.specs.GateCalls.{EventMakesGates}
-use Rattle.run_laws.specs.Occupancy.{slot_of_call, tag_of_call, slot_known, GateHasIn, HasIn, AreOccupied, AskSuits, IsFreed, SlotsSuit}
-use Rattle.sthread_life.specs.Taking.{next_start, takes, actor_begun, child_of, run_by}
+use Rattle.run_laws.specs.Occupancy.{slot_of_call, tag_of_call, slot_known, GateHasIn, HasIn, AreOccupied, AskSuits, most_numbers, IsFreed, SlotsSuit}
+use Rattle.sthread_life.specs.Take.{next_start, takes, actor_begun, child_of, run_by}
 use Rattle.run_laws.specs.Worlds.{WorldState, initial_state, actor_named, with_actor, resumed, turn_of, Runs}
 use Rattle.run_laws.proofs.Between.{IsPreparing, MayPrepare, MayNumber, Leaves, event_for, takes_name, takes_between, MayWait}
 use Rattle.run_laws.proofs.Bounding.{equal_keys, with_same, with_other}
@@ -60,6 +60,7 @@ use Rattle.run_laws.proofs.GateMoments.{event_makes_gates}
 use Rattle.run_laws.proofs.Happening.{Happens, snap_cases, Requested, Joined, Snaps, GateSnaps, Started, Opens, Releases, Numbers, OpensFile, LastJoined, Ended, EntersGate, LeavesGate, EntersRecycled, LeavesRecycled}
 use Rattle.run_laws.proofs.KnownGates.{Grows, Keeps, by_phase}
 use Rattle.run_laws.proofs.Meeting.{IsRequest}
+use Rattle.run_laws.proofs.NumbersGiven.{Spends, turn_spends, opening_spends, released_number}
 use Rattle.run_laws.proofs.Occupying.{Turns, IsPlain, occupied_after, stays_so, claims_so, opens_so, closes_so, releases_so}
 use Rattle.run_laws.proofs.Opening.{cells_open}
 use Rattle.sthread_life.proofs.Resting.{rest-name, rest-stays, rest-uncalm}
@@ -361,10 +362,6 @@ released_claims : (d : Directory) (slot s : ℕ) (t : Bool) → (slot == s) ≡ 
 released_claims d slot s false apart = refl
 released_claims d slot s true apart = ap (λ b. nat_lt s d.unused && not (b || contains_place d.released s)) apart
 
-released_number : (d : Directory) (slot : ℕ) (t : Bool) → (if t then record d { released = slot ∷ d.released } else d).number ≡ d.number
-released_number d slot true = refl
-released_number d slot false = refl
-
 -- a place that is released is among those released
 free_again : (d : Directory) (place : ℕ) → is_claimed d place ≡ true → is_claimed (release d place) place ≡ false
 free_again d place e = subst (λ t. is_claimed (if t then record d { released = place ∷ d.released } else d) place ≡ false) (sym e) (now_free (nat_lt place d.unused) (place == place) (eq-eqb place place refl))
@@ -377,7 +374,7 @@ free_again d place e = subst (λ t. is_claimed (if t then record d { released = 
 release_turn : (w : WorldState) (a : ActorState) (slot : ℕ) → Occupied w → actor_named w.actors a.name ≡ Some a → a.phase ≡ phase.Releasing slot → TurnsBy w a (event.Slots (directory_ask.Release slot) directory_reply.Released)
 unfolding takes
 release_turn w a slot occ there at_ =
-    releases_so w.cells (record w.cells { places = release w.cells.places slot }) w.actors a _ slot occ.occupied there (ap slot_of_call at_) (released_number w.cells.places slot (is_claimed w.cells.places slot))
+    releases_so w.cells (record w.cells { places = release w.cells.places slot }) w.actors a _ slot occ.occupied there (ap slot_of_call at_) (released_number w.cells.places slot)
     (free_again w.cells.places slot (occ.occupied.called a.name a slot there (ap slot_of_call at_)).0)
     (λ s apart. released_claims w.cells.places slot s (is_claimed w.cells.places slot) apart) (λ s. refl) refl refl (still_has w.image a (event.Slots (directory_ask.Release slot) directory_reply.Released) refl (Keeps refl refl refl))
 
@@ -531,9 +528,17 @@ all_claimed d none = by_number (nat_lt d.number no_number) refl none
     by_number true e f = inr (by_released d.released refl f)
     by_number false e f = inl (beyond d.number e)
 
-suits_claim : (w : WorldState) (o : Option Claim) → Occupied w → claim w.cells.places ≡ o → AskSuits w.cells (event.Slots directory_ask.Claim (claim_reply w.cells.places o))
-suits_claim w None occ is = all_claimed w.cells.places is
-suits_claim w (Some k) occ is =
+-- no more numbers were given than a run of the image can use
+abbrev pub HasFewNumbers : WorldState → Type 0
+HasFewNumbers w = w.cells.places.number ≤ most_numbers w.image
+
+suits_claim : (w : WorldState) (o : Option Claim) → Occupied w → HasFewNumbers w → claim w.cells.places ≡ o → AskSuits w.image w.cells (event.Slots directory_ask.Claim (claim_reply w.cells.places o))
+suits_claim w None occ few is = λ enough slot inside. by_cause enough (all_claimed w.cells.places is) slot inside
+  where
+    by_cause : most_numbers w.image < no_number → (no_number ≤ w.cells.places.number) ⊎ ((slot : ℕ) → slot < w.cells.places.places → is_claimed w.cells.places slot ≡ true) → (slot : ℕ) → slot < w.cells.places.places → is_claimed w.cells.places slot ≡ true
+    by_cause enough (inl spent) slot inside = absurd (omega (arith, enough, spent, few))
+    by_cause enough (inr all) slot inside = all slot inside
+suits_claim w (Some k) occ few is =
     let new = given_apart.gives w.cells.places k occ.released is in
     (new.free, empty (tag_in w.cells k.place) refl (λ tag e. true≢false (sym (occ.occupied.lived k.place tag e) ∙ new.free)))
   where
@@ -541,18 +546,18 @@ suits_claim w (Some k) occ is =
     empty None e none = e
     empty (Some tag) e none = absurd (none tag e)
 
-suits_want : (w : WorldState) (b : ActorState) (N : ℕ → Type 0) (q : Want) → Occupied w → IsRequest N b q → AskSuits w.cells (event_for w.cells b q)
-suits_want w b N (want.Slots directory_ask.Claim) occ own = suits_claim w (claim w.cells.places) occ refl
-suits_want w b N (want.Slot slot (slot_want.Close tag)) occ own = tt
-suits_want w b N (want.Slot slot (slot_want.Load offset width)) occ own = tt
-suits_want w b N (want.Slot slot (slot_want.Store offset width value)) occ own = tt
-suits_want w b N (want.Slot slot (slot_want.Smalloc tag size)) occ own = tt
-suits_want w b N (want.Slot slot (slot_want.Sfree offset)) occ own = tt
-suits_want w b N (want.Fd fd q) occ own = tt
-suits_want w b N (want.Lives lives_ask.Claim) occ own = tt
-suits_want w b N q occ own = absurd own
+suits_want : (w : WorldState) (b : ActorState) (N : ℕ → Type 0) (q : Want) → Occupied w → HasFewNumbers w → IsRequest N b q → AskSuits w.image w.cells (event_for w.cells b q)
+suits_want w b N (want.Slots directory_ask.Claim) occ few own = suits_claim w (claim w.cells.places) occ few refl
+suits_want w b N (want.Slot slot (slot_want.Close tag)) occ few own = tt
+suits_want w b N (want.Slot slot (slot_want.Load offset width)) occ few own = tt
+suits_want w b N (want.Slot slot (slot_want.Store offset width value)) occ few own = tt
+suits_want w b N (want.Slot slot (slot_want.Smalloc tag size)) occ few own = tt
+suits_want w b N (want.Slot slot (slot_want.Sfree offset)) occ few own = tt
+suits_want w b N (want.Fd fd q) occ few own = tt
+suits_want w b N (want.Lives lives_ask.Claim) occ few own = tt
+suits_want w b N q occ few own = absurd own
 
-few_pages : (n : ℕ) → are_pages n ≡ true → (1 ≤ n) × (n ≤ most_pages)
+pub few_pages : (n : ℕ) → are_pages n ≡ true → (1 ≤ n) × (n ≤ most_pages)
 few_pages n e = (some n e, few n e)
   where
     some : (n : ℕ) → are_pages n ≡ true → 1 ≤ n
@@ -561,28 +566,28 @@ few_pages n e = (some n e, few n e)
     few : (n : ℕ) → are_pages n ≡ true → n ≤ most_pages
     few n e = grind (arith, nat_tests, e)
 
-suits : (w : WorldState) (a : ActorState) (e : Event) → AreCells w.image w.cells → Occupied w → actor_named w.actors a.name ≡ Some a → Happens w (rest w.image a) e → AskSuits w.cells e
-suits w a e cells occ there (Requested r) = subst (AskSuits w.cells) (sym r.is) (suits_want w (rest w.image a) _ r.want occ r.own)
-suits w a e cells occ there (Joined j) = subst (AskSuits w.cells) (sym j.join.is) tt
-suits w a e cells occ there (Snaps s) = subst (AskSuits w.cells) (sym s.is) tt
-suits w a e cells occ there (GateSnaps s) = subst (AskSuits w.cells) (sym s.is) tt
-suits w a e cells occ there (Started s) = subst (AskSuits w.cells) (sym s.is) tt
-suits w a e cells occ there (Opens o) =
+suits : (w : WorldState) (a : ActorState) (e : Event) → AreCells w.image w.cells → Occupied w → HasFewNumbers w → actor_named w.actors a.name ≡ Some a → Happens w (rest w.image a) e → AskSuits w.image w.cells e
+suits w a e cells occ few there (Requested r) = subst (AskSuits w.image w.cells) (sym r.is) (suits_want w (rest w.image a) _ r.want occ few r.own)
+suits w a e cells occ few there (Joined j) = subst (AskSuits w.image w.cells) (sym j.join.is) tt
+suits w a e cells occ few there (Snaps s) = subst (AskSuits w.image w.cells) (sym s.is) tt
+suits w a e cells occ few there (GateSnaps s) = subst (AskSuits w.image w.cells) (sym s.is) tt
+suits w a e cells occ few there (Started s) = subst (AskSuits w.image w.cells) (sym s.is) tt
+suits w a e cells occ few there (Opens o) =
     let at_ = rest-uncalm w.image a (phase.Opening o.slot o.tag) (λ h. h) o.at in
     let h = occ.occupied.called a.name a o.slot there (ap slot_of_call at_) in
     let p = few_pages (a0 (rest w.image a)) o.pages in
-    subst (AskSuits w.cells) (sym o.is) (h.0, h.1, subst (λ n. o.slot < n) (sym cells.slots) o.inside, p.0, p.1)
-suits w a e cells occ there (Releases r) =
+    subst (AskSuits w.image w.cells) (sym o.is) (h.0, h.1, subst (λ n. o.slot < n) (sym cells.slots) o.inside, p.0, p.1)
+suits w a e cells occ few there (Releases r) =
     let at_ = rest-uncalm w.image a (phase.Releasing r.slot) (λ h. h) r.at in
-    subst (AskSuits w.cells) (sym r.is) (occ.occupied.called a.name a r.slot there (ap slot_of_call at_))
-suits w a e cells occ there (Numbers n) = subst (AskSuits w.cells) (sym n.is) tt
-suits w a e cells occ there (OpensFile f) = subst (AskSuits w.cells) (sym f.is) tt
-suits w a e cells occ there (LastJoined j) = subst (AskSuits w.cells) (sym j.join.is) tt
-suits w a e cells occ there (Ended f) = subst (AskSuits w.cells) (sym f.is) tt
-suits w a e cells occ there (EntersGate x) = subst (AskSuits w.cells) (sym x.is) tt
-suits w a e cells occ there (EntersRecycled x) = subst (AskSuits w.cells) (sym x.is) tt
-suits w a e cells occ there (LeavesGate l) = subst (AskSuits w.cells) (sym l.is) tt
-suits w a e cells occ there (LeavesRecycled l) = subst (AskSuits w.cells) (sym l.is) tt
+    subst (AskSuits w.image w.cells) (sym r.is) (occ.occupied.called a.name a r.slot there (ap slot_of_call at_))
+suits w a e cells occ few there (Numbers n) = subst (AskSuits w.image w.cells) (sym n.is) tt
+suits w a e cells occ few there (OpensFile f) = subst (AskSuits w.image w.cells) (sym f.is) tt
+suits w a e cells occ few there (LastJoined j) = subst (AskSuits w.image w.cells) (sym j.join.is) tt
+suits w a e cells occ few there (Ended f) = subst (AskSuits w.image w.cells) (sym f.is) tt
+suits w a e cells occ few there (EntersGate x) = subst (AskSuits w.image w.cells) (sym x.is) tt
+suits w a e cells occ few there (EntersRecycled x) = subst (AskSuits w.image w.cells) (sym x.is) tt
+suits w a e cells occ few there (LeavesGate l) = subst (AskSuits w.image w.cells) (sym l.is) tt
+suits w a e cells occ few there (LeavesRecycled l) = subst (AskSuits w.image w.cells) (sym l.is) tt
 
 -- ---- a slot that was released can be claimed again
 
@@ -616,14 +621,14 @@ freed w a e occ there (EntersRecycled x) = subst (λ y. IsFreed y (cells_after w
 freed w a e occ there (LeavesGate l) = subst (λ y. IsFreed y (cells_after w.cells y)) (sym l.is) tt
 freed w a e occ there (LeavesRecycled l) = subst (λ y. IsFreed y (cells_after w.cells y)) (sym l.is) tt
 
-pub turn_suits : (w : WorldState) (t : Turn) (new : WorldState) → AllReady w → Occupied w → turn_of w t.actor ≡ Some (record { event = t.event; world = new }) → SlotsSuit w t new
-turn_suits w t new all occ e =
+pub turn_suits : (w : WorldState) (t : Turn) (new : WorldState) → AllReady w → Occupied w → HasFewNumbers w → turn_of w t.actor ≡ Some (record { event = t.event; world = new }) → SlotsSuit w t new
+turn_suits w t new all occ few e =
     let p = turn_from w t.actor t.event new e in
     let v = resumed w p.actor in
     let goes = resumed_occupied w p.actor occ (turned_there w t.actor p.actor p.named) in
     let there = turned_there v t.actor p.parts.actor p.parts.named in
     let h = turn_happens w t.actor t.event new all p in (
-      suits v p.parts.actor t.event all.cells goes there h,
+      suits v p.parts.actor t.event all.cells goes few there h,
       subst (λ (x : WorldState). IsFreed t.event x.cells) (sym p.parts.new_is) (freed v p.parts.actor t.event goes there h),
     )
 
@@ -726,13 +731,14 @@ runs_occupied : (old : WorldState) (turns : List Turn) (new : WorldState) → Al
 runs_occupied old [] new all occ run = subst Occupied (sym run) occ
 runs_occupied old (t ∷ ts) new all occ run = runs_occupied run.0 ts new (turn_ready old t.actor t.event run.0 all run.1) (turn_occupied old t.actor t.event run.0 all occ run.1) run.2
 
-each_suits : (old : WorldState) (turns : List Turn) (new : WorldState) → AllReady old → Occupied old → Runs old turns new → EachTurn SlotsSuit old turns
-each_suits old [] new all occ run = tt
-each_suits old (t ∷ ts) new all occ run =
-    (run.0, run.1, turn_suits old t run.0 all occ run.1, each_suits run.0 ts new (turn_ready old t.actor t.event run.0 all run.1) (turn_occupied old t.actor t.event run.0 all occ run.1) run.2)
+each_suits : (old : WorldState) (turns : List Turn) (new : WorldState) → AllReady old → Occupied old → Spends old → Runs old turns new → EachTurn SlotsSuit old turns
+each_suits old [] new all occ spends run = tt
+each_suits old (t ∷ ts) new all occ spends run =
+    let bound = spends.few in
+    (run.0, run.1, turn_suits old t run.0 all occ (omega (arith, bound)) run.1, each_suits run.0 ts new (turn_ready old t.actor t.event run.0 all run.1) (turn_occupied old t.actor t.event run.0 all occ run.1) (turn_spends old t.actor t.event run.0 all spends run.1) run.2)
 
 pub slots_occupied : SlotsAreOccupied
 slots_occupied i turns new run = record {
   occupied = (runs_occupied (initial_state i) turns new (opening_ready i) (opening_occupied i) run).occupied;
-  suit = each_suits (initial_state i) turns new (opening_ready i) (opening_occupied i) run;
+  suit = each_suits (initial_state i) turns new (opening_ready i) (opening_occupied i) (opening_spends i) run;
 }

@@ -44,7 +44,7 @@ use Rattle.sthread_life.specs.Calls.{a0, a1, a2, a3, a7, path_in}
 use Rattle.sthread_life.specs.Children.{without_child}
 use Rattle.run_laws.specs.Cells.{Cells, stream_in}
 use Rattle.sthread_life.specs.Local.{step_with_instr, step_with_fuel, step_with_word, step}
-use Rattle.sthread_life.specs.Taking.{runs, answered_end, takes, has_entered}
+use Rattle.sthread_life.specs.Take.{runs, answered_end, takes, has_entered}
 use Rattle.run_laws.specs.Worlds.{WorldState}
 use Rattle.run_laws.specs.Refusals.{fuel_short, root_refusal}
 use Rattle.run_laws.specs.Requests.{path_at}
@@ -56,7 +56,7 @@ use Rattle.run_laws.proofs.Between.{event_for, loads_fuel, number_fuel, opened_a
 use Rattle.run_laws.proofs.Happening.{Happens, Requested, Joined, Snaps, GateSnaps, Started, Opens, Releases, Numbers, OpensFile, LastJoined, Ended, EntersGate, LeavesGate, EntersRecycled, LeavesRecycled}
 use Rattle.run_laws.proofs.Meeting.{IsRequest}
 use Rattle.run_laws.proofs.StreamCalls.{IsStreamRequest, read_cases, append_cases, close_cases}
-use Rattle.sthread_life.specs.Entrances.{Entrance}
+use Rattle.sthread_life.specs.Entrance.{Entrance}
 
 -- ---- an instruction
 

@@ -35,9 +35,10 @@ use Rattle.sthread_life.specs.Actors.{ActorState, pristine, right_of}
 use Rattle.sthread_life.specs.Calls.{a0, draft_at}
 use Rattle.run_laws.specs.Cells.{slot_in}
 use Rattle.run_laws.specs.ChildCopies.{copy_asked, copies_in, own_at, IsPrepared, Prepares, pages_living, snap_reply, NotPreparing, SnapsNext, PreparesBy}
-use Rattle.sthread_life.specs.Copying.{Preparation, copy_grants, copied_from, is_copy_alone, prepare_copies, behind_first}
+use Rattle.sthread_life.specs.CopyGrant.{copy_grants, is_copy_alone}
+use Rattle.sthread_life.specs.Preparation.{Preparation, copied_from, prepare_copies, behind_first}
 use Rattle.sthread_life.specs.Local.{step}
-use Rattle.sthread_life.specs.Taking.{copies_asked, has_snapped, takes, copied_on}
+use Rattle.sthread_life.specs.Take.{copies_asked, has_snapped, takes, copied_on}
 use Rattle.run_laws.specs.Worlds.{WorldState, with_actor}
 use Rattle.run_laws.proofs.Between.{event_for, IsPreparing, numbered_is, takes_between, made_is, entered_is}
 use Rattle.sthread_life.proofs.ByNumber.{same_number, number_itself, found_with}

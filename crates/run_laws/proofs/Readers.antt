@@ -25,7 +25,7 @@ use Rattle.wedge_events.specs.declared.events.Want.{Want}
 use Rattle.wedge_events.specs.declared.events.Want.TheVariants as want
 use Rattle.sthread_life.specs.Actors.{ActorState, right_of, bits_of}
 use Rattle.sthread_life.specs.Local.{rest}
-use Rattle.sthread_life.specs.Taking.{pair}
+use Rattle.sthread_life.specs.Take.{pair}
 use Rattle.run_laws.specs.Allowed.{may_use}
 use Rattle.run_laws.specs.Cells.{Cells, slot_in, stream_in}
 use Rattle.run_laws.specs.Laws.{RunsReadTheirOwn}

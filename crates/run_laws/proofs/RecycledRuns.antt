@@ -26,8 +26,8 @@ use Rattle.wedge_events.specs.declared.events.Event.TheVariants as event
 use Rattle.wedge_events.specs.declared.events.SlotWant.TheVariants as slot_want
 use Rattle.wedge_events.specs.declared.events.Want.{Want}
 use Rattle.wedge_events.specs.declared.events.Want.TheVariants as want
-use Rattle.callgate.specs.Gates.{gate_named}
-use Rattle.callgate.specs.Runs.{IsRunSheet}
+use Rattle.callgate.specs.Gate.{gate_named}
+use Rattle.callgate.specs.Lending.{IsRunSheet}
 use Rattle.callgate.specs.declared.gate.Gate.{Gate}
 use Rattle.sthread_life.specs.Actors.{ActorState, root}
 use Rattle.sthread_life.specs.Calls.{a0}
@@ -35,10 +35,10 @@ use Rattle.run_laws.specs.Cells.{Cells, kept_in, cells_after}
 use Rattle.sthread_life.specs.Children.{child_name, without_child}
 use Rattle.run_laws.specs.CopiesGranted.{AreGranted, AreOwnCopiesGranted, grants_copy}
 use Rattle.run_laws.specs.Ends.{is_end_event}
-use Rattle.sthread_life.specs.Lending.{sheet_lent, may_lend}
+use Rattle.sthread_life.specs.Entering.{sheet_lent, may_lend}
 use Rattle.sthread_life.specs.Local.{has_ended, is_running, step, run_local, rest}
 use Rattle.run_laws.specs.RecycledGates.{IsInside, IsEntered, IsKeptFor, IsRunOf, AreRunsAlone}
-use Rattle.sthread_life.specs.Taking.{next_start, takes, actor_begun, child_of, run_by}
+use Rattle.sthread_life.specs.Take.{next_start, takes, actor_begun, child_of, run_by}
 use Rattle.run_laws.specs.Worlds.{WorldState, initial_state, actor_named, put_actor, with_begun, ready, resumed, with_actor}
 use Rattle.run_laws.proofs.Between.{event_for, joined_is, entered_is, takes_name}
 use Rattle.run_laws.proofs.CellChanging.{gate_changes}

@@ -1,5 +1,5 @@
 -- The root begins as the image declares it.
-use Rattle.std.proofs.Common.{◌≡◌, ℕ, zero, suc, ◌+◌, ◌<◌, ◌≤◌, Bool, true, false, List, [], ◌∷◌, refl, sym, ap, subst, ◌∙◌, arith}
+use Rattle.std.proofs.Common.{◌≡◌, ℕ, zero, suc, ◌+◌, ◌<◌, ◌≤◌, Bool, true, false, List, [], ◌∷◌, refl, sym, ap, ◌∙◌, arith}
 use Rattle.std.specs.Prelude.{Option, Some, None, slice_get, if◌then◌else◌}
 use Rattle.cow_pages.specs.Copies.{Copies, copy_at, with_copy}
 use Rattle.wedge_base.specs.Images.{Image}
@@ -9,9 +9,11 @@ use Rattle.wedge_base.specs.declared.rights.Right.TheVariants as right
 use Rattle.wedge_events.specs.Slots.{declared_segment}
 use Rattle.cow_pages.specs.PrivateMemory.{PrivateMemory}
 use Rattle.sthread_life.specs.Actors.{root, root_memory}
-use Rattle.sthread_life.specs.Copying.{with_declared, is_copy_alone}
+use Rattle.sthread_life.specs.CopyGrant.{is_copy_alone}
+use Rattle.grant_sheet.proofs.RootSheets.{root_declared}
+use Rattle.sthread_life.specs.Preparation.{with_declared}
 use Rattle.sthread_life.proofs.ByNumber.{found_there, found_beside}
-use Rattle.run_laws.specs.RootBegins.{copied_under, declared_copy, IsRootOf, RootBegins}
+use Rattle.run_laws.specs.RootBegins.{copied_under, declared_copy, RootBegins}
 
 -- copies with one more, where the right is that to a copy alone
 abbrev with_one : Copies → ℕ → Option Right → List ℕ → Copies
@@ -61,17 +63,21 @@ root_copies i slot =
 pub root_begins : RootBegins
 unfolding root
 root_begins i = (
-  root i,
   refl,
-  record {
-    name = refl;
-    compartment = refl;
-    own = refl;
-    hart = refl;
-    ranges = refl;
-    copies = root_copies i;
-    fuel = refl;
-    gates = refl;
-    fresh = (refl, refl, refl, refl, refl, refl, refl);
-  },
+  (
+    root i,
+    refl,
+    record {
+      name = refl;
+      compartment = refl;
+      own = refl;
+      hart = refl;
+      ranges = refl;
+      copies = root_copies i;
+      sheet = root_declared i.tags i.fds i.user i.root;
+      fuel = refl;
+      gates = refl;
+      fresh = (refl, refl, refl, refl, refl, refl, refl);
+    },
+  ),
 )

@@ -23,7 +23,7 @@ use Rattle.sthread_life.specs.declared.phase.Phase.TheVariants as phase
 use Rattle.sthread_life.specs.Actors.{ActorState, root}
 use Rattle.sthread_life.specs.Local.{rest, is_running, has_ended, end_reached}
 use Rattle.sthread_life.specs.Children.{child_name}
-use Rattle.sthread_life.specs.Taking.{current_want, wanted_at, takes, child_of, run_by, run_at, actor_begun, asks}
+use Rattle.sthread_life.specs.Take.{current_want, wanted_at, takes, child_of, run_by, run_at, actor_begun, asks}
 use Rattle.sthread_life.specs.Between.{GivesBelow}
 use Rattle.run_laws.specs.Cells.{Cells, nothings, slot_in, stream_in, cells_after, event_of, live_at}
 use Rattle.run_laws.specs.Worlds.{WorldState, initial_state, actor_named, put_actor, with_begun, event_at, gate_event, apply_event, wanting, turn_with, turn_of, ended_with, resumes, ready_at, ready, resumed, at_rest, Runs, is_ended, is_complete, all_at_rest}

@@ -8,14 +8,14 @@ use Rattle.wedge_base.specs.Maps.{Map, at}
 use Rattle.wedge_base.specs.Sheets.{Sheet, Made, slot_on, nothing_made}
 use Rattle.wedge_base.specs.declared.grants.GateId.{GateId}
 use Rattle.wedge_base.specs.declared.rights.Grant.{Grant}
-use Rattle.callgate.specs.Gates.{gate_named}
-use Rattle.callgate.specs.Runs.{tag_lent}
+use Rattle.callgate.specs.Gate.{gate_named}
+use Rattle.callgate.specs.Lending.{tag_lent}
 use Rattle.callgate.specs.declared.gate.Gate.{Gate}
 use Rattle.grant_sheet.specs.Granting.{IsWithin}
 use Rattle.rv_hart.specs.Local.{reg}
 use Rattle.sthread_life.specs.Actors.{ActorState}
 use Rattle.run_laws.specs.Families.{IsChild, IsRun}
-use Rattle.sthread_life.specs.Lending.{sheet_lent}
+use Rattle.sthread_life.specs.Entering.{sheet_lent}
 use Rattle.sthread_life.specs.Local.{is_running, step, run_local, rest}
 use Rattle.run_laws.specs.Occupancy.{slot_known, GateHasIn, HasIn}
 use Rattle.run_laws.specs.Worlds.{initial_state}

@@ -8,7 +8,7 @@ use Rattle.wedge_events.specs.declared.events.Turn.{Turn}
 use Rattle.sthread_life.specs.Actors.{ActorState, root}
 use Rattle.sthread_life.specs.Children.{child_name}
 use Rattle.sthread_life.specs.Local.{rest, run_local}
-use Rattle.sthread_life.specs.Taking.{next_start, takes, actor_begun, child_of, run_by}
+use Rattle.sthread_life.specs.Take.{next_start, takes, actor_begun, child_of, run_by}
 use Rattle.run_laws.specs.Laws.{DraftsAreSorted}
 use Rattle.run_laws.specs.Worlds.{WorldState, initial_state, actor_named, put_actor, with_begun, Runs, ready, resumed}
 use Rattle.run_laws.proofs.Between.{takes_name}

@@ -16,7 +16,7 @@ use Rattle.wedge_events.specs.declared.cells.StreamReply.TheVariants as reply
 use Rattle.wedge_base.specs.Images.{Image}
 use Rattle.sthread_life.specs.Actors.{ActorState, bits_of, refuses, spends, answers}
 use Rattle.sthread_life.specs.Calls.{a2}
-use Rattle.sthread_life.specs.Taking.{takes, has_read}
+use Rattle.sthread_life.specs.Take.{takes, has_read}
 use Rattle.run_laws.specs.Cells.{stream_in}
 use Rattle.run_laws.specs.Worlds.{WorldState, actor_named, with_actor}
 use Rattle.run_laws.specs.Requests.{Request, Reads, Appends, Closes, in_stream}

@@ -42,7 +42,7 @@ use Rattle.run_laws.specs.Moments.{NothingDenied, is_use, gap_in, IsPlaced, IsCl
 use Rattle.run_laws.specs.Refusals.{full, no_such, bad, is_left, slots_refusal, close_refusal, gap_refusal, place_refusal, block_refusal, slot_refuses, is_refusal, refused}
 use Rattle.run_laws.specs.Requests.{Deletes, Allots, Frees}
 use Rattle.run_laws.specs.TagCalls.{call_want, need_want, instr_want, word_want, want_at, ComesWith, MakesAt}
-use Rattle.sthread_life.specs.Taking.{pair, takes}
+use Rattle.sthread_life.specs.Take.{pair, takes}
 use Rattle.run_laws.specs.Worlds.{WorldState, actor_named, put_actor, with_actor}
 use Rattle.sthread_life.proofs.ByNumber.{found_gone, found_elsewhere}
 use Rattle.run_laws.proofs.TagSlots.{at_slot}

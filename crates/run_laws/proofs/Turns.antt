@@ -9,7 +9,7 @@ use Rattle.sthread_life.specs.declared.phase.Phase.TheVariants as phase
 use Rattle.sthread_life.specs.Actors.{ActorState, answers_more}
 use Rattle.sthread_life.specs.Children.{child_name, without_child}
 use Rattle.sthread_life.specs.Local.{rest, end_reached, has_ended}
-use Rattle.sthread_life.specs.Taking.{current_want, end_value, end_number, answered_end}
+use Rattle.sthread_life.specs.Take.{current_want, end_value, end_number, answered_end}
 use Rattle.run_laws.specs.Worlds.{WorldState, actor_named, ended_with, resumes, ready_at, ready, resumed, turn_with, turn_of}
 use Rattle.run_laws.proofs.Between.{TurnParts, parts_wanting}
 use Rattle.run_laws.proofs.Named.{named_put, found_name}

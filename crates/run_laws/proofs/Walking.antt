@@ -15,7 +15,7 @@ use Rattle.sthread_life.specs.declared.phase.Phase.{Phase}
 use Rattle.sthread_life.specs.declared.phase.Phase.TheVariants as phase
 use Rattle.sthread_life.specs.Actors.{ActorState, root}
 use Rattle.sthread_life.specs.Local.{rest, is_running}
-use Rattle.sthread_life.specs.Taking.{asks, takes, actor_begun, current_want, wanted_at, answered_end}
+use Rattle.sthread_life.specs.Take.{asks, takes, actor_begun, current_want, wanted_at, answered_end}
 use Rattle.sthread_life.specs.Children.{without_child}
 use Rattle.run_laws.specs.Cells.{Cells, live_at, event_of}
 use Rattle.run_laws.specs.Worlds.{WorldState, initial_state, actor_named, put_actor, ready, resumed, event_at, turn_of, Runs}

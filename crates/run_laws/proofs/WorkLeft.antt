@@ -37,12 +37,12 @@ use Rattle.sthread_life.specs.Actors.{ActorState, pristine, root}
 use Rattle.sthread_life.specs.Between.{IsBetween}
 use Rattle.sthread_life.specs.Children.{Children, child_name, is_number, fuel_given, is_child, with_child, without_child}
 use Rattle.run_laws.specs.FamilyTrees.{Family, WaitsForOwn}
-use Rattle.sthread_life.specs.Copying.{Preparation, copied_from, prepare_copies, behind_first}
+use Rattle.sthread_life.specs.Preparation.{Preparation, copied_from, prepare_copies, behind_first}
 use Rattle.run_laws.specs.Cells.{slot_in}
 use Rattle.run_laws.specs.Fuel.{unit_work, units_of, opening_work, phase_work, tasks_of, tasks_in, work_left, most_turns, units_of_turn}
 use Rattle.run_laws.specs.Laws.{RunsEnd}
 use Rattle.sthread_life.specs.Local.{is_running, rest}
-use Rattle.sthread_life.specs.Taking.{next_start, answered_end, copies_asked, has_snapped, takes, actor_begun, copied_on, run_by}
+use Rattle.sthread_life.specs.Take.{next_start, answered_end, copies_asked, has_snapped, takes, actor_begun, copied_on, run_by}
 use Rattle.run_laws.specs.Worlds.{WorldState, initial_state, actor_named, put_actor, with_begun, turn_of, Runs, ready, resumed}
 use Rattle.wedge_base.specs.Names.{same}
 use Rattle.run_laws.proofs.Between.{IsPreparing, MayPrepare, MayNumber, Leaves, numbered_is, opened_is, takes_between, takes_name, IsMaking, MayWait, entered_by}
@@ -58,7 +58,7 @@ use Rattle.sthread_life.specs.Calls.{draft_at, makes_or_waits, a0}
 use Rattle.run_laws.proofs.MakingGates.{prepared_left, was_making}
 use Rattle.run_laws.proofs.Turns.{back, Readies, Stays, Back, readies, turn_from}
 use Rattle.run_laws.proofs.Trees.{put_same}
-use Rattle.sthread_life.specs.Entrances.{Entrance}
+use Rattle.sthread_life.specs.Entrance.{Entrance}
 
 -- ---- children by their count
 
@@ -130,7 +130,7 @@ record IsPaid (a b : ActorState) (units : ℕ) : Type 0 where
   entering : (x : Entrance) → b.phase ≡ phase.Entering x → 4 ≤ unit_work * units + phase_work a.phase
   ending : (e : End) → b.phase ≡ phase.Ending e → 1 ≤ unit_work * units + phase_work a.phase
 
-paid_within : (f g : ℕ) (p : Phase) (q : Want) → p ≡ phase.Within q → HasPaid f g p → g < f
+pub paid_within : (f g : ℕ) (p : Phase) (q : Want) → p ≡ phase.Within q → HasPaid f g p → g < f
 paid_within f g p q e h = subst (HasPaid f g) e h
 
 paid_opening : (f g slot tag : ℕ) (p : Phase) → p ≡ phase.Opening slot tag → HasPaid f g p → g < f
@@ -196,7 +196,7 @@ between_work (phase.Ending e) h = omega arith
 between_work (phase.Ended e) h = omega arith
 
 -- an event leaves no actor that wants one
-abbrev NotWithin : Phase → Type 0
+abbrev pub NotWithin : Phase → Type 0
 NotWithin (phase.Within q) = ⊥
 NotWithin p = Unit {0}
 
@@ -216,7 +216,7 @@ not_within (phase.Ended e) h = tt
 between_one : (p : Phase) → IsBetween p → NotWithin p
 between_one p h = not_within p (λ q is. subst IsBetween is h)
 
-leaves_none : (e : Event) (p : Phase) → Leaves e p → NotWithin p
+pub leaves_none : (e : Event) (p : Phase) → Leaves e p → NotWithin p
 leaves_none (event.Lives lives_ask.Claim lives_reply.Claimed) p h = not_within p (λ q is. subst IsPreparing is h)
 leaves_none (event.Lives lives_ask.Claim lives_reply.Full) p h = between_one p h
 leaves_none (event.Lives lives_ask.Claim lives_reply.Released) p h = between_one p h

@@ -32,7 +32,7 @@ use Rattle.wedge_base.specs.declared.rights.FdBits.{FdBits}
 use Rattle.sthread_life.specs.Actors.{ActorState, right_of, bits_of}
 use Rattle.sthread_life.specs.Local.{rest, is_running}
 use Rattle.sthread_life.specs.Calls.{a0}
-use Rattle.sthread_life.specs.Taking.{pair}
+use Rattle.sthread_life.specs.Take.{pair}
 use Rattle.run_laws.specs.Cells.{Cells, held, slot_in, stream_in, cells_after}
 use Rattle.run_laws.specs.Worlds.{WorldState, initial_state, turn_of, ready, resumed, at_rest, Runs}
 use Rattle.run_laws.specs.Allowed.{may_use}

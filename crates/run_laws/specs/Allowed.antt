@@ -32,14 +32,14 @@ use Rattle.wedge_events.specs.declared.cells.StreamReply.TheVariants as stream_r
 use Rattle.callgate.specs.declared.gate.Gate.{Gate}
 use Rattle.rv_hart.specs.declared.Hart.{Hart}
 use Rattle.rv_hart.specs.Local.{reg, put, extended}
-use Rattle.sthread_life.specs.Copying.{Preparation}
+use Rattle.sthread_life.specs.Preparation.{Preparation}
 use Rattle.run_laws.specs.MadeGates.{IsGateOf}
 use Rattle.sthread_life.specs.Opening.{FileOpening}
 use Rattle.sthread_life.specs.declared.phase.Phase.TheVariants as phase
 use Rattle.sthread_life.specs.Actors.{ActorState, right_of, bits_of}
 use Rattle.run_laws.specs.Requests.{Access, Request, Loads, Stores, Reads, Appends, Closes, Opens, Creates, Makes, Deletes, Allots, Frees, Enters}
 use Rattle.run_laws.specs.Holding.{gate_for, loan, loan_lacks}
-use Rattle.sthread_life.specs.Entrances.{Entrance}
+use Rattle.sthread_life.specs.Entrance.{Entrance}
 
 -- whether a tag may be used as asked: a copy is never enough for the tag itself
 abbrev pub may_use : ActorState → ℕ → Right → Bool

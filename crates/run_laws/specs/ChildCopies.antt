@@ -28,7 +28,7 @@ use Rattle.sthread_life.specs.declared.phase.Phase.{Phase}
 use Rattle.sthread_life.specs.declared.phase.Phase.TheVariants as phase
 use Rattle.sthread_life.specs.Actors.{ActorState, right_of}
 use Rattle.run_laws.specs.Cells.{slot_in}
-use Rattle.sthread_life.specs.Copying.{Preparation, copied_from}
+use Rattle.sthread_life.specs.Preparation.{Preparation, copied_from}
 use Rattle.run_laws.specs.Worlds.{WorldState, actor_named}
 
 -- the grants of copies that a child is to have, by the draft at hand: one for each tag on which the

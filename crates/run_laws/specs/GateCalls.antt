@@ -19,7 +19,7 @@ use Rattle.sthread_life.specs.Actors.{ActorState}
 use Rattle.run_laws.specs.Allowed.{lacks, with_gate_made}
 use Rattle.run_laws.specs.Cells.{slot_in}
 use Rattle.run_laws.specs.ChildCopies.{IsPrepared, copies_in, memory_of_image, pages_living, snap_reply}
-use Rattle.sthread_life.specs.Copying.{Preparation, copied_from}
+use Rattle.sthread_life.specs.Preparation.{Preparation, copied_from}
 use Rattle.sthread_life.specs.Resting.{NotMaking}
 use Rattle.run_laws.specs.MadeGates.{IsGateOf}
 use Rattle.run_laws.specs.Requests.{Request, Makes, request_at}

@@ -1,7 +1,7 @@
 -- Who runs a gate, or is under a run of it, holds older gates and those that were made at or under
 -- the run, and not the gate itself: so no gate is entered from within.
 use Rattle.std.specs.Prelude.{◌≡◌, ℕ, ◌==◌, Bool, true, false, ◌&&◌, ◌⊎◌, List, [], ◌∷◌, Some, is_some, if◌then◌else◌}
-use Rattle.callgate.specs.Gates.{gate_named}
+use Rattle.callgate.specs.Gate.{gate_named}
 use Rattle.callgate.specs.declared.gate.Gate.{Gate}
 use Rattle.wedge_base.specs.Identities.{same_gate}
 use Rattle.wedge_base.specs.declared.grants.GateId.{GateId}

@@ -7,7 +7,7 @@ use Rattle.std.specs.Option.{option_or}
 use Rattle.wedge_base.specs.Maps.{at, is_among}
 use Rattle.wedge_base.specs.Sheets.{Sheet, Made, Draft, first_excess, sheet_of_draft, is_copy}
 use Rattle.wedge_base.specs.declared.rights.Denial.{Denial}
-use Rattle.callgate.specs.Gates.{gate_named}
+use Rattle.callgate.specs.Gate.{gate_named}
 use Rattle.callgate.specs.declared.gate.Gate.{Gate}
 use Rattle.sthread_life.specs.Actors.{ActorState}
 

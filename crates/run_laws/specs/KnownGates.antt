@@ -3,7 +3,7 @@
 use Rattle.std.specs.Prelude.{◌≡◌, ℕ, ◌≤◌, true, List, [], ◌∷◌, ◌++◌, Some, None, is_some}
 use Rattle.wedge_base.specs.Maps.{Map, at}
 use Rattle.wedge_base.specs.declared.grants.GateId.{GateId}
-use Rattle.callgate.specs.Gates.{gate_named}
+use Rattle.callgate.specs.Gate.{gate_named}
 use Rattle.callgate.specs.declared.gate.Gate.{Gate}
 use Rattle.sthread_life.specs.Actors.{ActorState}
 use Rattle.run_laws.specs.Worlds.{actor_named}

@@ -12,7 +12,7 @@ use Rattle.wedge_events.specs.declared.events.Turn.{Turn}
 use Rattle.wedge_events.specs.declared.events.Want.{Want}
 use Rattle.sthread_life.specs.Actors.{ActorState}
 use Rattle.wedge_base.specs.declared.grants.GateId.{GateId}
-use Rattle.run_laws.specs.Cells.{opening_cells, slot_in, stream_in, kept_in}
+use Rattle.run_laws.specs.Cells.{slot_in, stream_in, kept_in}
 use Rattle.sthread_life.specs.Local.{has_ended, run_local}
 use Rattle.wedge_base.specs.Sheets.{Draft, grant_count, most_grants}
 use Rattle.grant_sheet.specs.Missing.{IsSortedDraft}
@@ -21,6 +21,7 @@ use Rattle.run_laws.specs.Names.{AreDistinct}
 use Rattle.run_laws.specs.Fuel.{fuel_of, most_turns, TakesItsUnits}
 use Rattle.run_laws.specs.Bounds.{IsWithinRoot}
 use Rattle.run_laws.specs.Occupancy.{AreOccupied, SlotsSuit}
+use Rattle.run_laws.specs.FittingAsks.{TurnFits}
 use Rattle.run_laws.specs.Written.{BytesFollow, TurnWritesOwn, FlowsFollow, TurnAppendsOwn}
 use Rattle.run_laws.specs.Readers.{TurnLoadsOwn, TurnReadsOwn}
 use Rattle.run_laws.specs.LiveSthreads.{lives_in}
@@ -41,14 +42,15 @@ use Rattle.run_laws.specs.RecycledGates.{AreRunsAlone}
 use Rattle.run_laws.specs.GatesWithin.{NoneHoldsItsOwn, AreHeldOlder}
 use Rattle.run_laws.specs.Remembering.{Remembers}
 
--- what holds of a moment: its request is mediated, a call is refused by its row, an actor ends by
--- its cause, it goes on as it should, it pays what the moment costs, its drafts are as its calls
--- made them, its private bytes are those that it stored, it starts and joins its own children
--- alone, none of which has more rights than it has, it makes tags by its own claims alone, the
--- copies with which its children and the runs of its gates begin are made of its own copies and of
--- the tags as they are then, and tags are copied for nothing else; and it makes gates by its own
+-- what holds of a moment: the image stays, its request is mediated, a call is refused by its row,
+-- an actor ends by its cause, it goes on as it should, it pays what the moment costs, its drafts are
+-- as its calls made them, its private bytes are those that it stored, it starts and joins its own
+-- children alone, none of which has more rights than it has, it makes tags by its own claims alone,
+-- the copies with which its children and the runs of its gates begin are made of its own copies and
+-- of the tags as they are then, and tags are copied for nothing else; and it makes gates by its own
 -- calls alone
 pub record IsLawful (old : WorldState) (a : ActorState) (e : Option Event) (new : WorldState) : Type 0 where
+  pub image : new.image ≡ old.image
   pub mediated : IsMediated old a e new
   pub ends : EndsByCause old a e new
   pub goes : GoesOn old a e new
@@ -112,12 +114,12 @@ stream_declared f = record { kind = f.kind; bytes = f.content; position = 0; liv
 -- descriptors the declared streams, in order; nothing else is claimed; one sthread lives, the root;
 -- and each recycled gate is free, with nothing kept.
 pub record CellsOpen (i : Image) : Type 0 where
-  pub places : (opening_cells i).places ≡ record { places = 4096; number = length i.tags; unused = length i.tags; released = [] }
-  pub slots : (slot : ℕ) → slot_in (opening_cells i) slot ≡ option_map (tag_declared slot) (slice_get i.tags slot)
-  pub numbers : (opening_cells i).numbers ≡ record { places = 1024; number = length i.fds; unused = length i.fds; released = [] }
-  pub streams : (fd : ℕ) → stream_in (opening_cells i) fd ≡ option_map stream_declared (slice_get i.fds fd)
-  pub lives : (opening_cells i).lives ≡ 1
-  pub gates : (id : GateId) → kept_in (opening_cells i) id ≡ record { entered = false; kept = None }
+  pub places : (initial_state i).cells.places ≡ record { places = 4096; number = length i.tags; unused = length i.tags; released = [] }
+  pub slots : (slot : ℕ) → slot_in (initial_state i).cells slot ≡ option_map (tag_declared slot) (slice_get i.tags slot)
+  pub numbers : (initial_state i).cells.numbers ≡ record { places = 1024; number = length i.fds; unused = length i.fds; released = [] }
+  pub streams : (fd : ℕ) → stream_in (initial_state i).cells fd ≡ option_map stream_declared (slice_get i.fds fd)
+  pub lives : (initial_state i).cells.lives ≡ 1
+  pub gates : (id : GateId) → kept_in (initial_state i).cells id ≡ record { entered = false; kept = None }
 
 -- no two actors of a world have one name
 abbrev pub NamesAreDistinct : Type 0
@@ -140,6 +142,10 @@ pub record AreSlotsKept (i : Image) (turns : List Turn) (new : WorldState) : Typ
 
 abbrev pub SlotsAreOccupied : Type 0
 SlotsAreOccupied = (i : Image) (turns : List Turn) (new : WorldState) → Runs (initial_state i) turns new → AreSlotsKept i turns new
+
+-- and in each turn what is asked of a cell fits the cell
+abbrev pub AsksFit : Type 0
+AsksFit = (i : Image) (turns : List Turn) (new : WorldState) → Runs (initial_state i) turns new → EachTurn TurnFits (initial_state i) turns
 
 -- in each world of a run, each private copy of an actor is at the slot of a grant of a copy on its
 -- sheet, and each copy with which the runs of a gate begin that it knows is at the slot of one on

@@ -68,6 +68,8 @@ pub mod RootBegins
 pub mod Bounds
 -- What holds of the slots and the tags of every run.
 pub mod Occupancy
+-- What is asked of a cell fits it.
+pub mod FittingAsks
 -- What holds of every run.
 pub mod Laws
 -- What it is to hold a gate, to lend a draft and to be given one, said beside the machine's own

@@ -36,13 +36,17 @@ abbrev pub EachTurn : (WorldState → Turn → WorldState → Type 0) → WorldS
 EachTurn P old [] = Unit {0}
 EachTurn P old (t ∷ ts) = (mid : WorldState) × (turn_of old t.actor ≡ Some (record { event = t.event; world = mid })) × P old t mid × EachTurn P mid ts
 
--- Of each moment of a turn by the actor a: P says what holds of a world, its actor, the event if
--- there is one, and the world after. Each instruction is a moment while the actor runs; once it
--- runs no more, the event is.
-abbrev pub EachInstructionOf : (WorldState → ActorState → Option Event → WorldState → Type 0) → WorldState → ActorState → Type 0
-EachInstructionOf P old a = (n : ℕ) → is_running (run_local old.image n a).phase ≡ true
-    → P (with_actor old (run_local old.image n a)) (run_local old.image n a) None (with_actor old (run_local old.image (suc n) a))
+-- Of each instruction of the actor a, while it runs: P says what holds of a world, its actor, no
+-- event, and the world after. The first one begins with the actor as it is, each other one where
+-- the one before it ended; and an actor that runs no more stays as it is.
+pub record EachInstructionOf (P : WorldState → ActorState → Option Event → WorldState → Type 0) (old : WorldState) (a : ActorState) : Type 0 where
+  pub begins : run_local old.image 0 a ≡ a
+  pub each : (n : ℕ) → is_running (run_local old.image n a).phase ≡ true
+      → P (with_actor old (run_local old.image n a)) (run_local old.image n a) None (with_actor old (run_local old.image (suc n) a))
+  pub stays : (n : ℕ) → is_running (run_local old.image n a).phase ≡ false → run_local old.image (suc n) a ≡ run_local old.image n a
 
+-- Of each moment of a turn by the actor a: P says it of each instruction, and of the event, once
+-- the actor runs no more.
 pub record EachMomentOf (P : WorldState → ActorState → Option Event → WorldState → Type 0) (old : WorldState) (a : ActorState) (e : Event) (new : WorldState) : Type 0 where
   pub instructions : EachInstructionOf P old a
   pub event : (n : ℕ) × (is_running (run_local old.image n a).phase ≡ false) × P (with_actor old (run_local old.image n a)) (run_local old.image n a) (Some e) new

@@ -1,9 +1,9 @@
 -- What holds of the slots and the tags of every run: a slot was never used, or was released, or is
 -- held by the call of one actor, or one tag lives there; and a tag lives nowhere but in the slot in
 -- which those that hold it have it.
-use Rattle.std.specs.Prelude.{◌≡◌, ℕ, ◌<◌, ◌≤◌, true, false, List, length, Option, Some, None, ◌⊎◌, [], ◌∷◌}
+use Rattle.std.specs.Prelude.{◌≡◌, ℕ, ◌<◌, ◌≤◌, true, false, List, length, Option, Some, None, ◌+◌, ◌⊎◌, [], ◌∷◌}
 use Rattle.wedge_events.specs.Directories.{is_claimed, no_number}
-use Rattle.wedge_base.specs.Images.{most_pages}
+use Rattle.wedge_base.specs.Images.{Image, most_pages}
 use Rattle.wedge_base.specs.Sheets.{slot_on, nothing_made}
 use Rattle.wedge_events.specs.declared.cells.DirectoryAsk.TheVariants as directory_ask
 use Rattle.wedge_events.specs.declared.cells.DirectoryReply.TheVariants as directory_reply
@@ -64,15 +64,21 @@ pub record AreOccupied (c : Cells) (actors : List ActorState) : Type 0 where
       → (tag < c.places.number) × ((s : ℕ) → tag_in c s ≡ Some tag → s ≡ slot)
   pub unheld : (m n : List ℕ) (a b : ActorState) (tag slot : ℕ) → actor_named actors m ≡ Some a → actor_named actors n ≡ Some b → tag_of_call a.phase ≡ Some tag → HasIn b tag slot → ⊥
 
+-- the most numbers of tags that a run of an image can use: those that it declares, and one for each
+-- unit of its fuel
+abbrev pub most_numbers : Image → ℕ
+most_numbers i = length i.tags + i.fuel
+
 -- So each ask fits: a slot that is claimed was free and empty, and none is claimed only where every
--- slot is claimed already or numbers of tags are used up; a tag is opened with 1 to 16 pages in a
--- claimed slot in which none lives; and a slot that is released is claimed and none lives there.
-abbrev pub AskSuits : Cells → Event → Type 0
-AskSuits c (event.Slots directory_ask.Claim (directory_reply.Claimed slot tag)) = (is_claimed c.places slot ≡ false) × (tag_in c slot ≡ None)
-AskSuits c (event.Slots directory_ask.Claim directory_reply.Full) = (no_number ≤ c.places.number) ⊎ ((slot : ℕ) → slot < c.places.places → is_claimed c.places slot ≡ true)
-AskSuits c (event.Slots (directory_ask.Release slot) r) = (is_claimed c.places slot ≡ true) × (tag_in c slot ≡ None)
-AskSuits c (event.Slot slot (slot_ask.Open tag pages) r) = (is_claimed c.places slot ≡ true) × (tag_in c slot ≡ None) × (slot < length c.slots) × (1 ≤ pages) × (pages ≤ most_pages)
-AskSuits c e = Unit {0}
+-- slot is claimed already, since no image has so much fuel that it could use up the numbers of tags;
+-- a tag is opened with 1 to 16 pages in a claimed slot in which none lives; and a slot that is
+-- released is claimed and none lives there.
+abbrev pub AskSuits : Image → Cells → Event → Type 0
+AskSuits i c (event.Slots directory_ask.Claim (directory_reply.Claimed slot tag)) = (is_claimed c.places slot ≡ false) × (tag_in c slot ≡ None)
+AskSuits i c (event.Slots directory_ask.Claim directory_reply.Full) = most_numbers i < no_number → (slot : ℕ) → slot < c.places.places → is_claimed c.places slot ≡ true
+AskSuits i c (event.Slots (directory_ask.Release slot) r) = (is_claimed c.places slot ≡ true) × (tag_in c slot ≡ None)
+AskSuits i c (event.Slot slot (slot_ask.Open tag pages) r) = (is_claimed c.places slot ≡ true) × (tag_in c slot ≡ None) × (slot < length c.slots) × (1 ≤ pages) × (pages ≤ most_pages)
+AskSuits i c e = Unit {0}
 
 -- and a slot that was released can be claimed again
 abbrev pub IsFreed : Event → Cells → Type 0
@@ -80,4 +86,4 @@ IsFreed (event.Slots (directory_ask.Release slot) r) c = is_claimed c.places slo
 IsFreed e c = Unit {0}
 
 abbrev pub SlotsSuit : WorldState → Turn → WorldState → Type 0
-SlotsSuit old t new = AskSuits old.cells t.event × IsFreed t.event new.cells
+SlotsSuit old t new = AskSuits old.image old.cells t.event × IsFreed t.event new.cells

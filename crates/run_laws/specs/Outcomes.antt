@@ -10,7 +10,7 @@ use Rattle.wedge_base.specs.declared.rights.End.{End}
 use Rattle.wedge_base.specs.declared.outcome.ActorLine.{ActorLine}
 use Rattle.wedge_base.specs.declared.outcome.StreamLine.{StreamLine}
 use Rattle.wedge_base.specs.declared.outcome.Outcome.{Outcome}
-use Rattle.sthread_life.specs.declared.files.StreamLabel.{StreamLabel}
+use Rattle.sthread_life.specs.declared.opening.StreamLabel.{StreamLabel}
 use Rattle.sthread_life.specs.declared.phase.Phase.{Phase}
 use Rattle.sthread_life.specs.declared.phase.Phase.TheVariants as phase
 use Rattle.sthread_life.specs.Actors.{ActorState}

@@ -6,8 +6,8 @@ use Rattle.cow_pages.specs.PrivateMemory.{PrivateMemory}
 use Rattle.wedge_base.specs.Sheets.{Sheet}
 use Rattle.wedge_base.specs.declared.grants.GateId.{GateId}
 use Rattle.wedge_base.specs.declared.grants.GateKind.TheVariants as gate_kind
-use Rattle.callgate.specs.Gates.{gate_named}
-use Rattle.callgate.specs.Runs.{IsRunSheet}
+use Rattle.callgate.specs.Gate.{gate_named}
+use Rattle.callgate.specs.Lending.{IsRunSheet}
 use Rattle.callgate.specs.declared.gate.Gate.{Gate}
 use Rattle.sthread_life.specs.Actors.{ActorState}
 use Rattle.run_laws.specs.Cells.{Cells, kept_in}

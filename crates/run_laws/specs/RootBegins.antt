@@ -6,6 +6,7 @@ use Rattle.wedge_base.specs.Images.{Image}
 use Rattle.wedge_base.specs.declared.image.TagEntry.{TagEntry}
 use Rattle.wedge_base.specs.declared.rights.Right.{Right}
 use Rattle.wedge_base.specs.declared.rights.Right.TheVariants as right
+use Rattle.grant_sheet.specs.RootSheets.{IsDeclaredSheet}
 use Rattle.sthread_life.specs.Actors.{ActorState}
 use Rattle.run_laws.specs.ChildCopies.{memory_of_image}
 use Rattle.run_laws.specs.Families.{IsFresh}
@@ -22,8 +23,8 @@ declared_copy None = None
 declared_copy (Some t) = copied_under t.right (t.content ++ zeros (t.pages * 4096 - length t.content))
 
 -- It runs at the image's entry, with its fuel, and has the image's data, a private range of zeros
--- and those copies; it is in no gate, knows none, and has done nothing. Its sheet is said by
--- `root_sheets_are_declared` of grant_sheet.
+-- and those copies; its sheet has exactly what the image declares; it is in no gate, knows none,
+-- and has done nothing.
 pub record IsRootOf (i : Image) (a : ActorState) : Type 0 where
   pub name : a.name ≡ 0 ∷ []
   pub compartment : a.compartment ≡ i.entry
@@ -31,10 +32,11 @@ pub record IsRootOf (i : Image) (a : ActorState) : Type 0 where
   pub hart : a.hart ≡ record { pc = i.entry; regs = slice_set (replicate 32 0) 2 0x20020000 }
   pub ranges : a.memory.ranges ≡ (memory_of_image i).ranges
   pub copies : (slot : ℕ) → copy_at a.memory.copies slot ≡ declared_copy (slice_get i.tags slot)
+  pub sheet : IsDeclaredSheet i.tags i.fds i.user i.root a.sheet
   pub fuel : a.fuel ≡ i.fuel
   pub gates : a.gates ≡ []
   pub fresh : IsFresh a
 
--- as a run begins there is the root, and nobody else
+-- as a run of an image begins there is the root, and nobody else; and it is of that image
 abbrev pub RootBegins : Type 0
-RootBegins = (i : Image) → (a : ActorState) × ((initial_state i).actors ≡ a ∷ []) × IsRootOf i a
+RootBegins = (i : Image) → ((initial_state i).image ≡ i) × ((a : ActorState) × ((initial_state i).actors ≡ a ∷ []) × IsRootOf i a)

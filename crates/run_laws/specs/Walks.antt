@@ -11,7 +11,7 @@ use Rattle.wedge_events.specs.declared.events.LogEntry.{LogEntry}
 use Rattle.wedge_events.specs.declared.events.Turn.{Turn}
 use Rattle.sthread_life.specs.Actors.{ActorState, root}
 use Rattle.sthread_life.specs.Local.{rest}
-use Rattle.sthread_life.specs.Taking.{current_want, asks, takes, has_joined}
+use Rattle.sthread_life.specs.Take.{current_want, asks, takes, has_joined}
 use Rattle.run_laws.specs.Worlds.{WorldState, initial_state, actor_named, Runs}
 use Rattle.wedge_base.specs.declared.rights.End.{End}
 use Rattle.sthread_life.specs.declared.phase.Phase.{Phase}

@@ -15,7 +15,7 @@ use Rattle.sthread_life.specs.Actors.{ActorState, root}
 use Rattle.run_laws.specs.Cells.{Cells, opening_cells, live_at, event_of, cells_after, kept_in}
 use Rattle.sthread_life.specs.Children.{child_name}
 use Rattle.sthread_life.specs.Local.{rest, has_ended, end_reached}
-use Rattle.sthread_life.specs.Taking.{current_want, asks, takes, actor_begun, has_joined}
+use Rattle.sthread_life.specs.Take.{current_want, asks, takes, actor_begun, has_joined}
 use Rattle.wedge_base.specs.declared.rights.End.{End}
 use Rattle.sthread_life.specs.declared.phase.Phase.{Phase}
 use Rattle.sthread_life.specs.declared.phase.Phase.TheVariants as phase

@@ -1,7 +1,7 @@
 //! Laws of the definitions: each is the contract of a function that does nothing.
 
 ghost use Rattle.wedge_base.specs.Images.{Image};
-ghost use Rattle.run_laws.specs.Laws.{CellsOpen, AccessesAreIsolated, MomentsAreLawful, InstructionsAreLawful, NamesAreDistinct, RunsWriteTheirOwn, RunsReadTheirOwn, LivesAreCounted, FuelIsKept, RootBounds, SlotsAreOccupied, CopiesAreGranted, GatesAreKept, NoneRunsWithin, GatesHeldAreOlder, RunsAreAlone, RunsEnd, EndedHaveJoinedAll, AllHaveEnded, DraftsAreSorted};
+ghost use Rattle.run_laws.specs.Laws.{CellsOpen, AccessesAreIsolated, MomentsAreLawful, InstructionsAreLawful, NamesAreDistinct, RunsWriteTheirOwn, RunsReadTheirOwn, LivesAreCounted, FuelIsKept, RootBounds, SlotsAreOccupied, AsksFit, CopiesAreGranted, GatesAreKept, NoneRunsWithin, GatesHeldAreOlder, RunsAreAlone, RunsEnd, EndedHaveJoinedAll, AllHaveEnded, DraftsAreSorted};
 ghost use Rattle.run_laws.specs.RootBegins.{RootBegins};
 ghost use Rattle.run_laws.specs.Walks.{RootsWalk};
 
@@ -47,7 +47,8 @@ pub fn cells_open_by_their_rules()
 {}
 
 /// As a run begins there is the root alone. It runs at the image's entry with the image's fuel, and its private memory is the image's
-/// data, a private range of zeros, and a copy of each tag that is declared with the right to a copy alone.
+/// data, a private range of zeros, and a copy of each tag that is declared with the right to a copy alone. Its sheet has
+/// exactly what the image declares.
 pub fn root_begins_as_declared()
     ensures { RootBegins }
 {}
@@ -88,10 +89,18 @@ pub fn rights_are_within_the_roots()
 
 /// In every world of a run a slot was never used, or was released, or is held by the call of one actor, or one tag lives
 /// there; no two live tags have one number, and a tag lives nowhere but in the slot in which those that hold it have it. So a
-/// claim gives a slot that was not claimed and is empty, and none is free where it gives none, unless the numbers of tags are used up;
-/// a tag is opened in a claimed slot that is empty; and a slot that is released was claimed and is empty, and can be claimed again.
+/// claim gives a slot that was not claimed and is empty, and none is free where it gives none, since the numbers of tags outlast
+/// the fuel of any image; a tag is opened in a claimed slot that is empty; and a slot that is released was claimed and is
+/// empty, and can be claimed again.
 pub fn slots_are_occupied()
     ensures { SlotsAreOccupied }
+{}
+
+/// What is asked of a cell in a turn of a run fits the cell: a load or a store is aligned and inside the window of its slot, and
+/// goes there with the right on the tag that lives in the slot; and a recycled gate is free when it is entered, and
+/// entered when a run leaves it.
+pub fn asks_fit_their_cells()
+    ensures { AsksFit }
 {}
 
 /// In every world of a run, each private copy of an actor is at the slot of a grant of a copy on its own sheet, and each copy with which the

@@ -10,7 +10,7 @@ use wedge_base::{FdEntry, FileEntry, Procedure, TagEntry};
 
 /// How two strings compare in byte order.
 #[tactic(auto, unfolding(image_form::specs::Forms::is_below))]
-fn byte_order(a: &[u8], b: &[u8]) -> Ordering
+pub fn byte_order(a: &[u8], b: &[u8]) -> Ordering
     ensures { is_lt result ≡ forms.is_below a.now b.now }
 {
     a.cmp(b)

@@ -6,4 +6,5 @@ mod order;
 #[cfg(test)]
 mod tests;
 
+pub use entries::byte_order;
 pub use order::{Sortable, sort};

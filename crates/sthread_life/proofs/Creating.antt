@@ -9,7 +9,7 @@ use Rattle.wedge_events.specs.declared.events.Event.{Event}
 use Rattle.wedge_events.specs.declared.events.Event.TheVariants as event
 use Rattle.sthread_life.specs.Actors.{ActorState, refuses}
 use Rattle.sthread_life.specs.Calls.{a0, a1, is_procedure, create_checked, create_with, create}
-use Rattle.sthread_life.specs.Taking.{has_started, takes}
+use Rattle.sthread_life.specs.Take.{has_started, takes}
 use Rattle.sthread_life.proofs.PutBack.{get_at}
 
 -- a procedure is there, since its address was found

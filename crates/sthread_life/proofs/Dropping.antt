@@ -2,7 +2,7 @@
 use Rattle.std.proofs.Common.{◌≡◌, ℕ, zero, suc, ◌+◌, List, [], ◌∷◌, drop, refl, sym, ap, ◌∙◌, arith}
 use Rattle.std.proofs.Math.Seq.{drop-nil}
 use Rattle.sthread_life.specs.declared.copy_grant.CopyGrant.{CopyGrant}
-use Rattle.sthread_life.specs.Copying.{behind_first}
+use Rattle.sthread_life.specs.Preparation.{behind_first}
 
 drop_suc : (n : ℕ) (gs : List CopyGrant) → drop (suc n) gs ≡ behind_first (drop n gs)
 drop_suc zero [] = refl

@@ -11,7 +11,7 @@ use Rattle.wedge_base.specs.declared.rights.Denial.{Denial}
 use Rattle.sthread_life.specs.declared.copy_grant.CopyGrant.{CopyGrant}
 use Rattle.sthread_life.specs.Actors.{ActorState, refuses}
 use Rattle.sthread_life.specs.Calls.{a0, draft_at, new_gate, has_gate, makes_or_waits, continue_gate, may_be_gate, make_checked, make_with, cgate_make}
-use Rattle.sthread_life.specs.Copying.{Preparation}
+use Rattle.sthread_life.specs.Preparation.{Preparation}
 use Rattle.sthread_life.proofs.PutBack.{get_at}
 use Rattle.sthread_life.specs.declared.phase.Phase.{Phase}
 

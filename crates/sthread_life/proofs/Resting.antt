@@ -27,7 +27,7 @@ use Rattle.wedge_base.specs.Files.{may_open}
 use Rattle.wedge_base.specs.declared.image.FileEntry.{FileEntry}
 use Rattle.sthread_life.specs.Actors.{ActorState, but_gates, right_of, answers, denies, ends, refuses, spends, wants, gate_held}
 use Rattle.cow_pages.specs.Copies.{copy_at, holds_copy, read_copy}
-use Rattle.sthread_life.specs.Private.{loads, stores, load_bytes, load_copy, load_window, load_range, store_copy, store_window, store_range, has_loaded, fits_read, fits_write}
+use Rattle.sthread_life.specs.Accesses.{loads, stores, load_bytes, load_copy, load_window, load_range, store_copy, store_window, store_range, has_loaded, fits_read, fits_write}
 use Rattle.wedge_base.specs.Names.{most_parts}
 use Rattle.callgate.specs.declared.gate.Gate.{Gate}
 use Rattle.wedge_base.specs.Sheets.{Draft, Made, takes_tag, takes_fd, takes_gate, first_excess}
@@ -40,13 +40,13 @@ use Rattle.wedge_base.specs.declared.rights.Right.TheVariants as right
 use Rattle.wedge_base.specs.declared.rights.FdBits.{FdBits}
 use Rattle.wedge_base.specs.declared.rights.Right.{Right}
 use Rattle.sthread_life.specs.Children.{is_child}
-use Rattle.sthread_life.specs.Copying.{Preparation}
+use Rattle.sthread_life.specs.Preparation.{Preparation}
 use Rattle.sthread_life.specs.Resting.{NotMaking}
 use Rattle.sthread_life.specs.declared.copy_grant.CopyGrant.{CopyGrant}
 use Rattle.sthread_life.specs.Calls.{serves, exit, is_procedure, create, create_with, create_checked, create_allowed, join, are_pages, tag_new, tag_delete, smalloc, free_at, sfree, fd_read, fd_append, fd_close, most_drafts, sc_new, right_asked, bits_asked, add_right, add_right_to, sc_mem_add, add_bits, add_bits_to, sc_fd_add, add_gate_to, sc_cgate_add, makes_or_waits, may_be_gate, make_checked, make_with, cgate_make, draft_call, a0, a1, a2, a3, a7, set_user, sc_user, path_in, set_root, sc_root, file_at, mode_asked, suits, open_file, open_path, file_open, enter_allowed, enter_checked, enter_lending, enter_held, cgate, lent_asked}
 use Rattle.sthread_life.specs.Local.{step_with_need, step_with_instr, step_with_fuel, step_with_word, step, is_running, has_ended, run_local, rest}
-use Rattle.sthread_life.specs.Lending.{may_lend, excess_lent}
-use Rattle.sthread_life.specs.Entrances.{Entrance}
+use Rattle.sthread_life.specs.Entering.{may_lend, excess_lent}
+use Rattle.sthread_life.specs.Entrance.{Entrance}
 
 -- no event is still to come of a call that had one
 abbrev pub IsCalm : Phase → Type 0

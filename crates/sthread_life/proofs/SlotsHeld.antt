@@ -7,7 +7,7 @@ use Rattle.std.specs.declared.cmp.Ordering.{Ordering}
 use Rattle.std.specs.declared.cmp.Ordering.TheVariants.{Less, Equal, Greater}
 use Rattle.std.specs.FinMap.Entries.{by_order}
 use Rattle.std.specs.Prelude.{Option, Some, None, IfSome, map, unwrap_or, option_map, if◌then◌else◌}
-use Rattle.callgate.specs.Gates.{gate_named}
+use Rattle.callgate.specs.Gate.{gate_named}
 use Rattle.callgate.specs.declared.gate.Gate.{Gate}
 use Rattle.wedge_base.specs.Identities.{same_gate}
 use Rattle.wedge_base.specs.Images.{slots}
@@ -20,7 +20,8 @@ use Rattle.wedge_base.specs.declared.rights.Grant.{Grant}
 use Rattle.wedge_base.specs.declared.rights.Right.{Right}
 use Rattle.sthread_life.specs.declared.copy_grant.CopyGrant.{CopyGrant}
 use Rattle.sthread_life.specs.Between.{AreInSlots, AreGatesPlaced, HoldsInSlots, HasValidSlots}
-use Rattle.sthread_life.specs.Copying.{copy_grants, behind_first}
+use Rattle.sthread_life.specs.CopyGrant.{copy_grants}
+use Rattle.sthread_life.specs.Preparation.{behind_first}
 
 -- what is found among such entries is such
 found : {X : Type 0} (f : X → ℕ) (es : Map X) (k : ℕ) (x : X) → AllByRecursion (λ e. f e.1 < slots) es → at es k ≡ Some x → f x < slots

@@ -17,11 +17,11 @@ use Rattle.callgate.specs.declared.gate.Gate.{Gate}
 use Rattle.rv_hart.specs.declared.Hart.{Hart}
 use Rattle.rv_hart.specs.Local.{put, hart_after_call, hart_after_call_with}
 use Rattle.sthread_life.specs.Children.{Children}
-use Rattle.sthread_life.specs.Copying.{with_declared}
-use Rattle.sthread_life.specs.declared.files.StreamLabel.{StreamLabel}
+use Rattle.sthread_life.specs.Preparation.{with_declared}
+use Rattle.sthread_life.specs.declared.opening.StreamLabel.{StreamLabel}
 use Rattle.sthread_life.specs.declared.phase.Phase.{Phase}
 use Rattle.sthread_life.specs.declared.phase.Phase.TheVariants as phase
-use Rattle.callgate.specs.Gates.{gate_named}
+use Rattle.callgate.specs.Gate.{gate_named}
 
 -- an actor: its sheet, what it made, the gates that it knows, the paths of the files that it
 -- opened, its drafts, its registers and private memory, its fuel, its denials, how many actors it

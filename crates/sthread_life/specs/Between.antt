@@ -32,7 +32,7 @@ use Rattle.sthread_life.specs.Calls.{draft_at}
 use Rattle.sthread_life.specs.declared.copy_grant.CopyGrant.{CopyGrant}
 use Rattle.sthread_life.specs.declared.phase.Phase.{Phase}
 use Rattle.sthread_life.specs.declared.phase.Phase.TheVariants as phase
-use Rattle.sthread_life.specs.Entrances.{Entrance}
+use Rattle.sthread_life.specs.Entrance.{Entrance}
 use Rattle.callgate.specs.declared.gate.Gate.{Gate}
 
 -- not inside an instruction: it runs, its end is decided, or it has ended

@@ -33,13 +33,14 @@ use Rattle.cow_pages.specs.PrivateMemory.{PrivateMemory}
 use Rattle.rv_hart.specs.Local.{reg}
 use Rattle.sthread_life.specs.Actors.{ActorState, pristine, right_of, bits_of, slot_held, answers, refuses, denies, ends, wants, spends, gate_held}
 use Rattle.sthread_life.specs.Children.{is_child}
-use Rattle.sthread_life.specs.Copying.{Preparation, copy_grants, prepare_copies}
+use Rattle.sthread_life.specs.CopyGrant.{copy_grants}
+use Rattle.sthread_life.specs.Preparation.{Preparation, prepare_copies}
 use Rattle.sthread_life.specs.Opening.{FileOpening}
 use Rattle.sthread_life.specs.declared.copy_grant.CopyGrant.{CopyGrant}
 use Rattle.sthread_life.specs.declared.phase.Phase.TheVariants as phase
-use Rattle.sthread_life.specs.Private.{fits_read, fits_write, buffer}
-use Rattle.sthread_life.specs.Lending.{sheet_lent, excess_lent, may_lend}
-use Rattle.sthread_life.specs.Entrances.{Entrance}
+use Rattle.sthread_life.specs.Accesses.{fits_read, fits_write, buffer}
+use Rattle.sthread_life.specs.Entering.{sheet_lent, excess_lent, may_lend}
+use Rattle.sthread_life.specs.Entrance.{Entrance}
 
 -- the arguments of a call, and its number
 abbrev pub a0 : ActorState → ℕ

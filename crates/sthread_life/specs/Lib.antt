@@ -1,15 +1,17 @@
 -- The actors that an actor began and has not joined.
 pub mod Children
+-- Grants of copies of tags.
+pub mod CopyGrant
 -- The private copies with which actors begin.
-pub mod Copying
+pub mod Preparation
 -- A gate that an actor is about to enter.
-pub mod Entrances
+pub mod Entrance
 -- Actors.
 pub mod Actors
--- What a caller lends to the run of a gate.
-pub mod Lending
+-- What a caller lends to the run of a gate that it enters.
+pub mod Entering
 -- Loads, stores and buffers.
-pub mod Private
+pub mod Accesses
 -- A file that an actor is opening.
 pub mod Opening
 -- The service calls.
@@ -17,7 +19,7 @@ pub mod Calls
 -- The local step.
 pub mod Local
 -- The actor's part of a shared event.
-pub mod Taking
+pub mod Take
 -- What holds of an actor outside its instructions, of what it wants, and of the events that it
 -- takes.
 pub mod Between

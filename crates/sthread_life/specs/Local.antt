@@ -12,7 +12,7 @@ use Rattle.rv_hart.specs.Local.{Began, local}
 use Rattle.sthread_life.specs.declared.phase.Phase.{Phase}
 use Rattle.sthread_life.specs.declared.phase.Phase.TheVariants as phase
 use Rattle.sthread_life.specs.Actors.{ActorState, ends, spends}
-use Rattle.sthread_life.specs.Private.{loads, stores}
+use Rattle.sthread_life.specs.Accesses.{loads, stores}
 use Rattle.sthread_life.specs.Calls.{serves, a7}
 
 -- the hart's step is made, or first what it needs: a load, a store or a call

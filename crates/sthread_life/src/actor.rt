@@ -3,7 +3,7 @@
 ghost use Rattle.std.specs.Prelude.{◌≡◌, ◌≤◌, ◌++◌, ◌∷◌, [], length, IfOk, OnOk, OnErr, false};
 ghost use Rattle.std.specs.List.{AllByRecursion};
 ghost use Rattle.image_form.specs.Rules.{IsTag};
-ghost use Rattle.sthread_life.specs.Copying.{with_declared};
+ghost use Rattle.sthread_life.specs.Preparation.{with_declared};
 ghost use Rattle.cow_pages.specs.PrivateMemory.{PrivateMemory};
 ghost use Rattle.rv_hart.specs.Local.{hart_after_call};
 ghost use Rattle.sthread_life.specs.Between.{HoldsInSlots};
@@ -12,12 +12,12 @@ ghost use Rattle.sthread_life.specs.declared.phase.Phase.TheVariants as phase;
 ghost use Rattle.sthread_life.specs.Actors as actors;
 ghost use Rattle.sthread_life.specs.Actors.{whole};
 ghost use Rattle.sthread_life.specs.Local.{has_ended, end_reached, run_awaited};
-ghost use Rattle.sthread_life.specs.Taking.{pair, asks};
+ghost use Rattle.sthread_life.specs.Take.{pair, asks};
 
 use crate::copy_grant::is_copy_alone;
-use crate::files::StreamLabel;
+use crate::opening::StreamLabel;
 use crate::phase::Phase;
-use crate::unjoined::Children;
+use crate::children::Children;
 use callgate::Gate;
 use cow_pages::{Pages, PrivateView};
 use grant_sheet::{Draft, Made, Sheet, right_on};

@@ -3,7 +3,7 @@
 ghost use Rattle.std.specs.Prelude.{◌≡◌, IfOk, false};
 ghost use Rattle.wedge_base.specs.Sheets.{sheet_of_draft, is_copy};
 ghost use Rattle.sthread_life.specs.Between.{AreInSlots, HoldsInSlots};
-ghost use Rattle.sthread_life.specs.Copying as copying;
+ghost use Rattle.sthread_life.specs.CopyGrant as grants;
 
 use grant_sheet::{Draft, Made, Sheet, slot_on};
 use std::alloc::Global;
@@ -25,7 +25,7 @@ pub(crate) fn copy_grants(
 ) -> Result<Vec<CopyGrant>, NoMemory>
     requires { HoldsInSlots sheet.now made.now }
     ensures is { IfOk result (λ v. v.items
-        ≡ copying.copy_grants (sheet_of_draft sheet.now made.now draft.now).tags) }
+        ≡ grants.copy_grants (sheet_of_draft sheet.now made.now draft.now).tags) }
     ensures placed { IfOk result (λ v. AreInSlots v.items) }
 {
     let mut grants = Vec::new(alloc);
@@ -49,7 +49,7 @@ pub(crate) fn is_copy(right: Right) -> bool
 
 /// Whether this is the right to a copy alone.
 pub(crate) fn is_copy_alone(right: Option<Right>) -> bool
-    ensures { result ≡ copying.is_copy_alone right }
+    ensures { result ≡ grants.is_copy_alone right }
 {
     matches!(right, Some(Right::Cow))
 }

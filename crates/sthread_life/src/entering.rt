@@ -10,8 +10,8 @@ ghost use Rattle.sthread_life.specs.Actors.{gate_held, whole};
 ghost use Rattle.sthread_life.specs.Between.{EntersFrom, IsAtGate, HasValidSlots, WantFits, funds};
 ghost use Rattle.sthread_life.specs.Calls as calls;
 ghost use Rattle.sthread_life.specs.Children.{child_name, fuel_given, with_child};
-ghost use Rattle.sthread_life.specs.Lending as lending;
-ghost use Rattle.sthread_life.specs.Taking as taking;
+ghost use Rattle.sthread_life.specs.Entering as entering;
+ghost use Rattle.sthread_life.specs.Take as taking;
 ghost use Rattle.sthread_life.specs.declared.phase.Phase.TheVariants as phase;
 
 use crate::actor::{Actor, SP};
@@ -19,7 +19,7 @@ use crate::calls::{A0, A1, A2};
 use crate::entrance::Entrance;
 use crate::phase::Phase;
 use crate::starting::{copy_of_gates, end_number, end_value};
-use crate::unjoined::Children;
+use crate::children::Children;
 use callgate::{Gate, gate_named, is_lendable, run_sheet};
 use cow_pages::PrivateView;
 use grant_sheet::{Draft, Made, Sheet, first_excess, gate_at, sheet_of};
@@ -124,7 +124,7 @@ impl Actor {
 
     /// The first part of what a number lends that it may not give.
     fn excess_lent(&self, number: u32) -> Option<Denial>
-        ensures { (m : PrivateMemory) → result ≡ lending.excess_lent (whole self.now m)
+        ensures { (m : PrivateMemory) → result ≡ entering.excess_lent (whole self.now m)
             (unwrap_or (calls.lent_asked self.now.drafts number) None) }
     {
         let draft = self.draft_lent(number)?;
@@ -141,7 +141,7 @@ impl Actor {
         requires paid { funds self.old.starts self.old.made.count self.old.fuel self.old.unjoined
             < most_fuel }
         requires placed { HasValidSlots (arc_value gate).sheet }
-        requires excess { excess ≡ lending.excess_lent (whole self.old no_memory)
+        requires excess { excess ≡ entering.excess_lent (whole self.old no_memory)
             (unwrap_or (calls.lent_asked self.old.drafts number) None) }
         ensures { OnOk result ((m : PrivateMemory) → whole self.new m
             ≡ calls.enter_checked (whole self.old m) (arc_value gate)
@@ -160,7 +160,7 @@ impl Actor {
         requires paid { funds self.old.starts self.old.made.count self.old.fuel self.old.unjoined
             < most_fuel }
         requires placed { HasValidSlots (arc_value gate).sheet }
-        requires allowed { lending.excess_lent (whole self.old no_memory)
+        requires allowed { entering.excess_lent (whole self.old no_memory)
             (unwrap_or (calls.lent_asked self.old.drafts number) None) ≡ None }
         ensures { OnOk result ((m : PrivateMemory) → whole self.new m
             ≡ calls.enter_allowed (whole self.old m) (arc_value gate)
@@ -184,7 +184,7 @@ impl Actor {
         requires paid { funds self.old.starts self.old.made.count self.old.fuel self.old.unjoined
             < most_fuel }
         requires placed { HasValidSlots (arc_value gate).sheet }
-        requires allowed { lending.excess_lent (whole self.old no_memory)
+        requires allowed { entering.excess_lent (whole self.old no_memory)
             (unwrap_or (calls.lent_asked self.old.drafts number) None) ≡ None }
         ensures { OnOk result ((m : PrivateMemory) → whole self.new m
             ≡ record (whole self.old m) {
@@ -201,10 +201,10 @@ impl Actor {
     /// The sheet of a run of a gate: the gate's, with what a number lends.
     fn sheet_of_run(&self, gate: &Gate, number: u32) -> Result<Sheet, NoMemory>
         requires placed { HasValidSlots gate.now.sheet }
-        requires allowed { lending.excess_lent (whole self.now no_memory)
+        requires allowed { entering.excess_lent (whole self.now no_memory)
             (unwrap_or (calls.lent_asked self.now.drafts number) None) ≡ None }
         ensures is { IfOk result (λ s. (m : PrivateMemory) → s ≡ lent_to gate.now.sheet
-            (lending.sheet_lent (whole self.now m)
+            (entering.sheet_lent (whole self.now m)
             (unwrap_or (calls.lent_asked self.now.drafts number) None))) }
         ensures placed { IfOk result HasValidSlots }
     {
@@ -215,10 +215,10 @@ impl Actor {
     /// The sheet of what a number lends, if it lends anything.
     #[tactic(auto, using(crate::proofs::SlotsHeld::granted_inside))]
     fn sheet_lent(&self, number: u32) -> Result<Option<Sheet>, NoMemory>
-        requires { lending.excess_lent (whole self.now no_memory)
+        requires { entering.excess_lent (whole self.now no_memory)
             (unwrap_or (calls.lent_asked self.now.drafts number) None) ≡ None }
         ensures is { IfOk result (λ s. (m : PrivateMemory) → s
-            ≡ lending.sheet_lent (whole self.now m)
+            ≡ entering.sheet_lent (whole self.now m)
             (unwrap_or (calls.lent_asked self.now.drafts number) None)) }
         ensures placed { IfOk result (λ s. IfSome s HasValidSlots) }
     {
@@ -401,7 +401,7 @@ fn memory_of_run(kept: Option<&SavedView>, gate: &Gate) -> Result<PrivateView, N
 /// Whether what is lent may be lent to a run: nothing, or a draft of rights on tags and of bits on
 /// descriptors alone, none of them the right to a copy.
 fn may_lend(lent: Option<&Draft>) -> bool
-    ensures { result ≡ lending.may_lend (option_copied lent.entry) }
+    ensures { result ≡ entering.may_lend (option_copied lent.entry) }
 {
     match lent {
         Some(draft) => is_lendable(draft),

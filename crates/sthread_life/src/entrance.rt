@@ -25,7 +25,7 @@ struct Inside {
 
 impl Model for Entrance {
     ghost use Rattle.std.specs.Arc.{arc_value};
-    ghost use Rattle.sthread_life.specs.Entrances.{Entrance as Plain};
+    ghost use Rattle.sthread_life.specs.Entrance.{Entrance as Plain};
 
     ghost Value = { Plain };
 

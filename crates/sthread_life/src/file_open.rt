@@ -7,13 +7,13 @@ ghost use Rattle.sthread_life.specs.declared.phase.Phase.TheVariants as phase;
 ghost use Rattle.sthread_life.specs.Actors.{whole};
 ghost use Rattle.sthread_life.specs.Between.{IsInBounds};
 ghost use Rattle.sthread_life.specs.Calls as calls;
-ghost use Rattle.sthread_life.specs.Taking as taking;
+ghost use Rattle.sthread_life.specs.Take as taking;
 ghost use Rattle.wedge_events.specs.Streams.{most_fds};
 ghost use Rattle.wedge_events.specs.declared.events.Event.{Event as AnEvent};
 
 use crate::actor::Actor;
 use crate::calls::{A0, A1, A2};
-use crate::files::{FileOpening, StreamLabel};
+use crate::opening::{FileOpening, StreamLabel};
 use crate::phase::Phase;
 use cow_pages::PrivateView;
 use file_tree::{file_at, may_open};

@@ -1,18 +1,19 @@
 //! Actors: what each does alone, and its part of a shared event. The world and its runs are defined in `run_laws`.
 #![tactic(auto)]
 
-mod access;
+mod accesses;
 mod actor;
 mod calls;
+mod children;
 mod copy_grant;
 mod drafting;
 mod entering;
 mod entrance;
 mod file_open;
-mod files;
 mod lives;
 mod local;
 mod making;
+mod opening;
 mod phase;
 mod preparation;
 mod roots;
@@ -20,13 +21,12 @@ mod starting;
 mod streams;
 mod tags;
 mod take;
-mod unjoined;
 
 pub use actor::Actor;
 pub use copy_grant::CopyGrant;
 pub use entrance::Entrance;
-pub use files::{FileOpening, StreamLabel};
 pub use lives::Lives;
 pub use local::Next;
+pub use opening::{FileOpening, StreamLabel};
 pub use phase::Phase;
 pub use preparation::Preparation;

@@ -10,7 +10,7 @@ ghost use Rattle.image_form.specs.Rules.{most_fuel};
 ghost use Rattle.cow_pages.specs.PrivateMemory.{PrivateMemory, no_memory};
 ghost use Rattle.sthread_life.specs.Between.{funds};
 ghost use Rattle.sthread_life.specs.Local.{end_reached, run_awaited};
-ghost use Rattle.sthread_life.specs.Taking.{current_want};
+ghost use Rattle.sthread_life.specs.Take.{current_want};
 ghost use Rattle.sthread_life.specs.Resting.{want_in, end_in, run_in, NextFits};
 
 use crate::actor::Actor;

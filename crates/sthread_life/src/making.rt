@@ -9,7 +9,7 @@ ghost use Rattle.sthread_life.specs.declared.phase.Phase.TheVariants as phase;
 ghost use Rattle.sthread_life.specs.Actors.{ActorState, whole};
 ghost use Rattle.sthread_life.specs.Between.{AreGatesPlaced, AreInSlots, HasValidSlots, MayMake, WantFits, funds};
 ghost use Rattle.sthread_life.specs.Calls as calls;
-ghost use Rattle.sthread_life.specs.Taking as taking;
+ghost use Rattle.sthread_life.specs.Take as taking;
 
 use crate::actor::Actor;
 use crate::calls::{A0, A1, A2, A3, A4};

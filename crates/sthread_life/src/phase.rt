@@ -1,7 +1,7 @@
 //! What an actor is at.
 
 use crate::entrance::Entrance;
-use crate::files::FileOpening;
+use crate::opening::FileOpening;
 use crate::preparation::Preparation;
 use wedge_base::{End, Slot, TagNo};
 use wedge_events::Want;

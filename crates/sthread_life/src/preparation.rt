@@ -3,7 +3,7 @@
 ghost use Rattle.std.specs.Prelude.{◌≡◌, ◌∷◌, Some, None, OnOk, OnErr, IfOk, MatchOption, []};
 ghost use Rattle.cow_pages.specs.Copies.{with_copy};
 ghost use Rattle.sthread_life.specs.Between.{AreInSlots};
-ghost use Rattle.sthread_life.specs.Copying as copying;
+ghost use Rattle.sthread_life.specs.Preparation as preparation;
 
 use crate::copy_grant::{CopyGrant, is_copy_alone};
 use cow_pages::{Pages, PrivateView};
@@ -30,7 +30,7 @@ struct Inside {
 
 impl Model for Preparation {
     ghost use Rattle.std.specs.Prelude.{drop};
-    ghost use Rattle.sthread_life.specs.Copying.{Preparation as Plain};
+    ghost use Rattle.sthread_life.specs.Preparation.{Preparation as Plain};
 
     ghost Value = { Plain };
 
@@ -62,7 +62,7 @@ impl Preparation {
     /// The first grant of which no copy is made yet.
     pub(crate) fn next_grant(&self) -> Option<CopyGrant>
         ensures { MatchOption result (self.now.left ≡ [])
-            (λ g. self.now.left ≡ g ∷ copying.behind_first self.now.left) }
+            (λ g. self.now.left ≡ g ∷ preparation.behind_first self.now.left) }
     {
         let inside = &*self.inside;
         if inside.next < inside.grants.len() {
@@ -75,7 +75,7 @@ impl Preparation {
     /// Puts a copy at a slot, in place of the one that is there. When out of memory, all is as before.
     pub(crate) fn put(&mut self, slot: Slot, pages: Pages) -> Result<(), NoMemory>
         ensures ok { OnOk result (self.new ≡ record self.old
-            { memory = copying.copied_from (Some pages) slot self.old.memory }) }
+            { memory = preparation.copied_from (Some pages) slot self.old.memory }) }
         ensures err { OnErr result (self.new ≡ self.old) }
     {
         self.inside.memory.put_copy(slot, pages)
@@ -84,7 +84,7 @@ impl Preparation {
     /// Goes on to the grant after the next one.
     #[tactic(auto, using(crate::proofs::Dropping::drop_next))]
     pub(crate) fn advance(&mut self)
-        ensures { self.new ≡ record self.old { left = copying.behind_first self.old.left } }
+        ensures { self.new ≡ record self.old { left = preparation.behind_first self.old.left } }
     {
         if self.inside.next < self.inside.grants.len() {
             self.inside.next += 1;
@@ -111,8 +111,8 @@ impl Preparation {
         own: &PrivateView,
     ) -> Result<(), NoMemory>
         ensures is { OnOk result (self.new
-            ≡ copying.prepare_copies sheet.now made.now own.now.copies
-            (copying.copied_from pages slot self.old.memory) (copying.behind_first self.old.left)) }
+            ≡ preparation.prepare_copies sheet.now made.now own.now.copies
+            (preparation.copied_from pages slot self.old.memory) (preparation.behind_first self.old.left)) }
         ensures placed { AreInSlots self.old.left → AreInSlots self.new.left }
     {
         if let Some(pages) = pages {
@@ -132,7 +132,7 @@ impl Preparation {
         own: &PrivateView,
     ) -> Result<(), NoMemory>
         ensures is { OnOk result (self.new
-            ≡ copying.prepare_copies sheet.now made.now own.now.copies
+            ≡ preparation.prepare_copies sheet.now made.now own.now.copies
             self.old.memory self.old.left) }
         ensures placed { AreInSlots self.old.left → AreInSlots self.new.left }
     {

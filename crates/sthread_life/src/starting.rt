@@ -13,14 +13,14 @@ ghost use Rattle.sthread_life.specs.Between.{AreInSlots, MayStart, WantFits, fun
 ghost use Rattle.sthread_life.specs.declared.phase.Phase.TheVariants as phase;
 ghost use Rattle.sthread_life.specs.Calls as calls;
 ghost use Rattle.sthread_life.specs.Children.{child_name, fuel_given};
-ghost use Rattle.sthread_life.specs.Taking as taking;
+ghost use Rattle.sthread_life.specs.Take as taking;
 
 use crate::actor::{Actor, SP};
 use crate::calls::{A0, A1, A2, A3};
 use crate::copy_grant::{CopyGrant, copy_grants};
 use crate::phase::Phase;
 use crate::preparation::Preparation;
-use crate::unjoined::Children;
+use crate::children::Children;
 use callgate::Gate;
 use cow_pages::{Pages, PrivateView};
 use grant_sheet::{Made, first_excess, sheet_of};

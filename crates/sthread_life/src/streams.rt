@@ -6,8 +6,8 @@ ghost use Rattle.sthread_life.specs.declared.phase.Phase.TheVariants as phase;
 ghost use Rattle.sthread_life.specs.Actors.{ActorState, whole};
 ghost use Rattle.sthread_life.specs.Between.{IsInBounds, GivesWithin};
 ghost use Rattle.sthread_life.specs.Calls as calls;
-ghost use Rattle.sthread_life.specs.Private as private;
-ghost use Rattle.sthread_life.specs.Taking as taking;
+ghost use Rattle.sthread_life.specs.Accesses as accesses;
+ghost use Rattle.sthread_life.specs.Take as taking;
 ghost use Rattle.wedge_events.specs.Streams.{most_fds};
 ghost use Rattle.wedge_events.specs.declared.events.Event.{Event as AnEvent};
 ghost use Rattle.wedge_events.specs.declared.events.Want.TheVariants as want;
@@ -97,7 +97,7 @@ impl Actor {
         length: u32,
     ) -> bool
         ensures { result
-            ≡ private.fits_read image.now (whole self.now memory.now) pointer length }
+            ≡ accesses.fits_read image.now (whole self.now memory.now) pointer length }
     {
         length <= MOST_BUFFER
             && (length == 0 || memory.holds(pointer, length) || image.is_in_text(pointer, length))
@@ -111,8 +111,8 @@ impl Actor {
         pointer: u32,
         length: u32,
     ) -> Result<Bytes, NoMemory>
-        requires { private.fits_read image.now (whole self.now memory.now) pointer length ≡ true }
-        ensures { IfOk result (λ b. b ≡ private.buffer image.now
+        requires { accesses.fits_read image.now (whole self.now memory.now) pointer length ≡ true }
+        ensures { IfOk result (λ b. b ≡ accesses.buffer image.now
             (whole self.now memory.now) pointer length) }
     {
         if length == 0 {
@@ -200,7 +200,7 @@ impl Actor {
 /// Whether a buffer that is written fits.
 fn fits_write(memory: &PrivateView, pointer: u32, length: u32) -> bool
     ensures { (a : ActorState) → a.memory ≡ memory.now
-        → result ≡ private.fits_write a pointer length }
+        → result ≡ accesses.fits_write a pointer length }
 {
     length <= MOST_BUFFER && (length == 0 || memory.holds(pointer, length))
 }

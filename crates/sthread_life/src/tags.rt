@@ -6,7 +6,7 @@ ghost use Rattle.cow_pages.specs.PrivateMemory.{PrivateMemory, no_memory};
 ghost use Rattle.sthread_life.specs.Actors.{whole, slot_held};
 ghost use Rattle.sthread_life.specs.Between.{WantFits};
 ghost use Rattle.sthread_life.specs.Calls as calls;
-ghost use Rattle.sthread_life.specs.Taking.{current_want};
+ghost use Rattle.sthread_life.specs.Take.{current_want};
 ghost use Rattle.sthread_life.specs.declared.phase.Phase.TheVariants as phase;
 ghost use Rattle.wedge_events.specs.declared.events.Want.{Want as AWant};
 

@@ -9,7 +9,7 @@ ghost use Rattle.sthread_life.specs.declared.phase.Phase.TheVariants as phase;
 ghost use Rattle.sthread_life.specs.Actors.{whole};
 ghost use Rattle.sthread_life.specs.Between.{IsInBounds, SuitsActor, TakesFit};
 ghost use Rattle.wedge_base.specs.Images.{slots};
-ghost use Rattle.sthread_life.specs.Taking as taking;
+ghost use Rattle.sthread_life.specs.Take as taking;
 
 use crate::actor::Actor;
 use crate::phase::Phase;
@@ -53,7 +53,7 @@ impl Actor {
 
     /// What an event makes of it.
     #[inline(always)]
-    #[tactic(auto, unfolding(crate::specs::Taking::takes))]
+    #[tactic(auto, unfolding(crate::specs::Take::takes))]
     fn take_event(
         &mut self,
         program: &Program<'_>,

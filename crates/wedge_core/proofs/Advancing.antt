@@ -13,7 +13,7 @@ use Rattle.run_laws.specs.Cells.{Cells}
 use Rattle.run_laws.specs.Worlds.{WorldState, initial_state, actor_named, at_rest, Runs, all_at_rest}
 use Rattle.run_laws.specs.FamilyTrees.{Family}
 use Rattle.sthread_life.specs.Local.{has_ended}
-use Rattle.sthread_life.specs.Taking.{current_want, wanted_at}
+use Rattle.sthread_life.specs.Take.{current_want, wanted_at}
 use Rattle.run_laws.proofs.FamilyRuns.{turn_family}
 use Rattle.run_laws.proofs.GrantedCopies.{runs_alone}
 use Rattle.run_laws.proofs.Settling.{AllReady, all_alike, run_ready}

@@ -25,7 +25,7 @@ use Rattle.run_laws.specs.Cells.{Cells, cells_after, event_of, kept_in}
 use Rattle.sthread_life.specs.Children.{fuel_given, is_child, child_name}
 use Rattle.run_laws.specs.FamilyTrees.{worth, Family}
 use Rattle.sthread_life.specs.Local.{rest, has_ended, end_reached}
-use Rattle.sthread_life.specs.Taking.{current_want, wanted_at, takes, actor_begun, child_of, run_by, run_at}
+use Rattle.sthread_life.specs.Take.{current_want, wanted_at, takes, actor_begun, child_of, run_by, run_at}
 use Rattle.run_laws.specs.Worlds.{WorldState, actor_named, put_actor, with_begun, event_at, join_event, is_ended, ended_with, ready}
 use Rattle.run_laws.proofs.Between.{takes_name}
 use Rattle.run_laws.proofs.FamilyKept.{brings_back, next_is_new}
@@ -41,10 +41,10 @@ use Rattle.wedge_core.proofs.AtRest.{family_rests, rest_end, recorded_at_rest}
 use Rattle.wedge_core.proofs.Turning.{found_set, cell_turn, family_turn, ended_alike}
 
 -- a name that no actor has, where one goes on under its own
-pub none_set : (actors : List ActorState) (place : ℕ) (a new : ActorState) (m : List ℕ) → slice_get actors place ≡ Some a → new.name ≡ a.name → actor_named actors m ≡ None
-    → actor_named (slice_set actors place new) m ≡ None
-none_set [] place a new m there own none = none
-none_set (y ∷ ys) place a new m there own none = by_name (same y.name m) refl none place there (λ n at others. none_set ys n a new m at own others)
+pub none_set : (actors : List ActorState) (index : ℕ) (a new : ActorState) (m : List ℕ) → slice_get actors index ≡ Some a → new.name ≡ a.name → actor_named actors m ≡ None
+    → actor_named (slice_set actors index new) m ≡ None
+none_set [] index a new m there own none = none
+none_set (y ∷ ys) index a new m there own none = by_name (same y.name m) refl none index there (λ n at others. none_set ys n a new m at own others)
   where
     skip : same y.name m ≡ false → (as_ : List ActorState) → actor_named (y ∷ as_) m ≡ actor_named as_ m
     skip e as_ = ap (λ t. if t then Some y else actor_named as_ m) e
@@ -63,18 +63,18 @@ none_set (y ∷ ys) place a new m there own none = by_name (same y.name m) refl 
 
 -- ---- an event by which another begins
 -- no actor had its name, and none has
-pub begun_fresh : (i : Image) (actors : List ActorState) (place : ℕ) (e : Event) (c : ActorState) (mid : List ActorState) → IsBeginning i actors place e → HasTaken i actors place e (Some c) mid → actor_named mid c.name ≡ None
-begun_fresh i actors place e c mid b t =
+pub begun_fresh : (i : Image) (actors : List ActorState) (index : ℕ) (e : Event) (c : ActorState) (mid : List ActorState) → IsBeginning i actors index e → HasTaken i actors index e (Some c) mid → actor_named mid c.name ≡ None
+begun_fresh i actors index e c mid b t =
     let is : t.actor ≡ b.actor = one_of (sym t.there ∙ b.there) in
     let same_one : b.begun_ ≡ c = one_of (sym b.begins ∙ (ap (λ x. actor_begun i x e) (sym is) ∙ sym t.begins)) in
-    ap (λ as_. actor_named as_ c.name) t.new_is ∙ none_set actors place t.actor (takes i t.actor e) c.name t.there (takes_name i t.actor e) (ap (λ (x : ActorState). actor_named actors x.name) (sym same_one) ∙ b.fresh)
+    ap (λ as_. actor_named as_ c.name) t.new_is ∙ none_set actors index t.actor (takes i t.actor e) c.name t.there (takes_name i t.actor e) (ap (λ (x : ActorState). actor_named actors x.name) (sym same_one) ∙ b.fresh)
   where
     one_of : {x y : ActorState} → Some x ≡ Some y → x ≡ y
     one_of h = cc
 
 -- one always begins
-pub begins_some : (i : Image) (actors : List ActorState) (place : ℕ) (e : Event) (o : Option ActorState) (mid : List ActorState) → IsBeginning i actors place e → HasTaken i actors place e o mid → o ≡ None → ⊥
-begins_some i actors place e o mid b t none =
+pub begins_some : (i : Image) (actors : List ActorState) (index : ℕ) (e : Event) (o : Option ActorState) (mid : List ActorState) → IsBeginning i actors index e → HasTaken i actors index e o mid → o ≡ None → ⊥
+begins_some i actors index e o mid b t none =
     let is : t.actor ≡ b.actor = one_of (sym t.there ∙ b.there) in
     let f : Some b.begun_ ≡ None = sym b.begins ∙ (ap (λ x. actor_begun i x e) (sym is) ∙ (sym t.begins ∙ none)) in
     absurd cc
@@ -82,24 +82,24 @@ begins_some i actors place e o mid b t none =
     one_of : {x y : ActorState} → Some x ≡ Some y → x ≡ y
     one_of h = cc
 
-pub begun_done : (i : Image) (actors : List ActorState) (place : ℕ) (e : Event) (c : ActorState) (mid new : List ActorState) (name : List ℕ) (entries new_entries : List LogEntry)
-    → HasTaken i actors place e (Some c) mid → new ≡ mid ++ c ∷ [] → Notes entries name e new_entries → HasDone i actors place e entries name new new_entries
-begun_done i actors place e c mid new name entries new_entries t is noted = record {
+pub begun_done : (i : Image) (actors : List ActorState) (index : ℕ) (e : Event) (c : ActorState) (mid new : List ActorState) (name : List ℕ) (entries new_entries : List LogEntry)
+    → HasTaken i actors index e (Some c) mid → new ≡ mid ++ c ∷ [] → Notes entries name e new_entries → HasDone i actors index e entries name new new_entries
+begun_done i actors index e c mid new name entries new_entries t is noted = record {
   actor = t.actor;
   there = t.there;
-  new_is = is ∙ (ap (λ as_. as_ ++ c ∷ []) t.new_is ∙ ap (with_begun (slice_set actors place (takes i t.actor e))) t.begins);
+  new_is = is ∙ (ap (λ as_. as_ ++ c ∷ []) t.new_is ∙ ap (with_begun (slice_set actors index (takes i t.actor e))) t.begins);
   noted = noted;
 }
 
 -- ---- an event by which none begins
-pub alone_done : (i : Image) (actors : List ActorState) (place : ℕ) (e : Event) (o : Option ActorState) (new : List ActorState) (name : List ℕ) (entries new_entries : List LogEntry)
-    → IsGoingAlone i actors place e → HasTaken i actors place e o new → Notes entries name e new_entries → HasDone i actors place e entries name new new_entries
-alone_done i actors place e o new name entries new_entries g t noted =
+pub alone_done : (i : Image) (actors : List ActorState) (index : ℕ) (e : Event) (o : Option ActorState) (new : List ActorState) (name : List ℕ) (entries new_entries : List LogEntry)
+    → IsGoingAlone i actors index e → HasTaken i actors index e o new → Notes entries name e new_entries → HasDone i actors index e entries name new new_entries
+alone_done i actors index e o new name entries new_entries g t noted =
     let is : t.actor ≡ g.actor = one_of (sym t.there ∙ g.there) in
     record {
       actor = t.actor;
       there = t.there;
-      new_is = t.new_is ∙ ap (with_begun (slice_set actors place (takes i t.actor e))) (sym (ap (λ x. actor_begun i x e) is ∙ g.begins_none));
+      new_is = t.new_is ∙ ap (with_begun (slice_set actors index (takes i t.actor e))) (sym (ap (λ x. actor_begun i x e) is ∙ g.begins_none));
       noted = noted;
     }
   where
@@ -107,10 +107,10 @@ alone_done i actors place e o new name entries new_entries g t noted =
     one_of h = cc
 
 -- ---- what is wanted is done
-pub done_at : (i : Image) (cells new_cells : Cells) (actors : List ActorState) (place : ℕ) (name : List ℕ) (q : Want) (e : Event) (entries : List LogEntry) (new : List ActorState) (new_entries : List LogEntry)
-    → WantsOfFamily i cells actors place name q → ((a : ActorState) → event_at (state_of i cells actors) a q ≡ Some e) → new_cells ≡ cells_after cells e
-    → HasDone i actors place e entries name new new_entries → IsDoneAt i cells actors place q entries name new_cells new new_entries
-done_at i cells new_cells actors place name q e entries new new_entries w comes after d = record {
+pub done_at : (i : Image) (cells new_cells : Cells) (actors : List ActorState) (index : ℕ) (name : List ℕ) (q : Want) (e : Event) (entries : List LogEntry) (new : List ActorState) (new_entries : List LogEntry)
+    → WantsOfFamily i cells actors index name q → ((a : ActorState) → event_at (state_of i cells actors) a q ≡ Some e) → new_cells ≡ cells_after cells e
+    → HasDone i actors index e entries name new new_entries → IsDoneAt i cells actors index q entries name new_cells new new_entries
+done_at i cells new_cells actors index name q e entries new new_entries w comes after d = record {
   actor = d.actor;
   inside = w.inside;
   there = d.there;
@@ -150,9 +150,9 @@ given_back actors a k e fuel f there listed ends =
     let small : fuel ≤ given.0 = omega (arith, least, o.fuel_is) in
     subst (λ p. IsSomeAnd p (λ g. fuel ≤ g)) (sym given.1) small
 
-pub joining_alone : (i : Image) (actors : List ActorState) (place : ℕ) (name : List ℕ) (child : ℕ) (e : End) (fuel : ℕ) → IsJoining actors place name child → ended_with (actor_named actors (child_name name child)) ≡ Some (e, fuel)
-    → IsGoingAlone i actors place (event.Join child e fuel)
-joining_alone i actors place name child e fuel j ends =
+pub joining_alone : (i : Image) (actors : List ActorState) (index : ℕ) (name : List ℕ) (child : ℕ) (e : End) (fuel : ℕ) → IsJoining actors index name child → ended_with (actor_named actors (child_name name child)) ≡ Some (e, fuel)
+    → IsGoingAlone i actors index (event.Join child e fuel)
+joining_alone i actors index name child e fuel j ends =
     let named : actor_named actors j.actor.name ≡ Some j.actor = ap (actor_named actors) j.own ∙ j.named in
     let own_ends = ap (λ n. ended_with (actor_named actors (child_name n child))) j.own ∙ ends in
     record {
@@ -163,10 +163,10 @@ joining_alone i actors place name child e fuel j ends =
       begins_none = refl;
     }
 
-pub joined : (i : Image) (cells : Cells) (actors : List ActorState) (place : ℕ) (name : List ℕ) (child : ℕ) (e : End) (fuel : ℕ) (new : List ActorState) (entries new_entries : List LogEntry)
-    → (j : IsJoining actors place name child) → ended_with (actor_named actors (child_name name child)) ≡ Some (e, fuel) → HasDone i actors place (event.Join child e fuel) entries name new new_entries
-    → IsDoneAt i cells actors place (want.Join child) entries name cells new new_entries
-joined i cells actors place name child e fuel new entries new_entries j ends d =
+pub joined : (i : Image) (cells : Cells) (actors : List ActorState) (index : ℕ) (name : List ℕ) (child : ℕ) (e : End) (fuel : ℕ) (new : List ActorState) (entries new_entries : List LogEntry)
+    → (j : IsJoining actors index name child) → ended_with (actor_named actors (child_name name child)) ≡ Some (e, fuel) → HasDone i actors index (event.Join child e fuel) entries name new new_entries
+    → IsDoneAt i cells actors index (want.Join child) entries name cells new new_entries
+joined i cells actors index name child e fuel new entries new_entries j ends d =
     let is : d.actor ≡ j.actor = one_of (sym d.there ∙ j.there) in
     let own : d.actor.name ≡ name = ap (λ (x : ActorState). x.name) is ∙ j.own in
     record {
@@ -185,43 +185,43 @@ joined i cells actors place name child e fuel new entries new_entries j ends d =
 
 -- ---- what an actor at rest wants that other actors have part in
 -- the name of its next start is that of nobody
-next_fresh : (i : Image) (cells : Cells) (actors : List ActorState) (place : ℕ) (name : List ℕ) (q : Want) (child : List ℕ) → (w : WantsOfFamily i cells actors place name q) → child ≡ child_name w.actor.name (w.actor.starts + 1) → actor_named actors child ≡ None
-next_fresh i cells actors place name q child w is = ap (actor_named actors) is ∙ next_is_new actors w.family w.actor (ap (actor_named actors) w.own ∙ w.named)
+next_fresh : (i : Image) (cells : Cells) (actors : List ActorState) (index : ℕ) (name : List ℕ) (q : Want) (child : List ℕ) → (w : WantsOfFamily i cells actors index name q) → child ≡ child_name w.actor.name (w.actor.starts + 1) → actor_named actors child ≡ None
+next_fresh i cells actors index name q child w is = ap (actor_named actors) is ∙ next_is_new actors w.family w.actor (ap (actor_named actors) w.own ∙ w.named)
 
 -- an actor that wants to start a child may
-pub starting : (i : Image) (cells : Cells) (actors : List ActorState) (place : ℕ) (name child : List ℕ) → WantsOfFamily i cells actors place name (want.Start child) → IsBeginning i actors place (event.Start child)
-starting i cells actors place name child w = record {
+pub starting : (i : Image) (cells : Cells) (actors : List ActorState) (index : ℕ) (name child : List ℕ) → WantsOfFamily i cells actors index name (want.Start child) → IsBeginning i actors index (event.Start child)
+starting i cells actors index name child w = record {
   actor = w.actor;
   inside = w.inside;
   there = w.there;
   fits = (tt, w.fits.0);
   begun_ = child_of i w.actor child;
   begins = refl;
-  fresh = next_fresh i cells actors place name (want.Start child) child w w.fits.1;
+  fresh = next_fresh i cells actors index name (want.Start child) child w w.fits.1;
 }
 
 -- one that is about to enter a gate may, in a run of its next name
-run_begins : (i : Image) (cells : Cells) (actors : List ActorState) (place : ℕ) (name run : List ℕ) (q : Want) (e : Event) (kept : Option PrivateMemory) (w : WantsOfFamily i cells actors place name q) → run ≡ child_name w.actor.name (w.actor.starts + 1)
-    → ((a : ActorState) → TakesFit a e) → ((a : ActorState) → actor_begun i a e ≡ run_at a run kept a.phase) → (p : Phase) → w.actor.phase ≡ p → IsAtGate p → IsBeginning i actors place e
-run_begins i cells actors place name run q e kept w next fits begins (phase.Entering x) at gate = record {
+run_begins : (i : Image) (cells : Cells) (actors : List ActorState) (index : ℕ) (name run : List ℕ) (q : Want) (e : Event) (kept : Option PrivateMemory) (w : WantsOfFamily i cells actors index name q) → run ≡ child_name w.actor.name (w.actor.starts + 1)
+    → ((a : ActorState) → TakesFit a e) → ((a : ActorState) → actor_begun i a e ≡ run_at a run kept a.phase) → (p : Phase) → w.actor.phase ≡ p → IsAtGate p → IsBeginning i actors index e
+run_begins i cells actors index name run q e kept w next fits begins (phase.Entering x) at gate = record {
   actor = w.actor;
   inside = w.inside;
   there = w.there;
   fits = fits w.actor;
   begun_ = run_by w.actor run kept x;
   begins = begins w.actor ∙ ap (run_at w.actor run kept) at;
-  fresh = next_fresh i cells actors place name q run w next;
+  fresh = next_fresh i cells actors index name q run w next;
 }
-run_begins i cells actors place name run q e kept w next fits begins p at gate = absurd gate
+run_begins i cells actors index name run q e kept w next fits begins p at gate = absurd gate
 
-pub entering : (i : Image) (cells : Cells) (actors : List ActorState) (place : ℕ) (name run : List ℕ) → WantsOfFamily i cells actors place name (want.Enter run) → IsBeginning i actors place (event.Enter run)
-entering i cells actors place name run w = run_begins i cells actors place name run (want.Enter run) (event.Enter run) None w w.fits.1 (λ a. (tt, tt)) (λ a. refl) w.actor.phase refl w.fits.0
+pub entering : (i : Image) (cells : Cells) (actors : List ActorState) (index : ℕ) (name run : List ℕ) → WantsOfFamily i cells actors index name (want.Enter run) → IsBeginning i actors index (event.Enter run)
+entering i cells actors index name run w = run_begins i cells actors index name run (want.Enter run) (event.Enter run) None w w.fits.1 (λ a. (tt, tt)) (λ a. refl) w.actor.phase refl w.fits.0
 
 -- ---- a recycled gate
 -- whoever wants to leave one is in it
-pub leaves_entered : (i : Image) (cells : Cells) (actors : List ActorState) (place : ℕ) (name : List ℕ) (id : GateId) (x : End) (m : PrivateMemory) → WantsOfFamily i cells actors place name (want.Gate id (gate_ask.Leave x m))
+pub leaves_entered : (i : Image) (cells : Cells) (actors : List ActorState) (index : ℕ) (name : List ℕ) (id : GateId) (x : End) (m : PrivateMemory) → WantsOfFamily i cells actors index name (want.Gate id (gate_ask.Leave x m))
     → (kept_in cells id).entered ≡ true
-leaves_entered i cells actors place name id x m w = by_run w.actor.run_of refl w.fits
+leaves_entered i cells actors index name id x m w = by_run w.actor.run_of refl w.fits
   where
     live : has_ended w.actor.phase ≡ false
     live = by_phase w.actor.phase refl
@@ -238,19 +238,19 @@ entry_is : (cells : Cells) (id : GateId) (q : GateAsk) (e : Event) → event_of 
 entry_is cells id q e is = cc
 
 -- whoever wants to enter one may
-pub entering_gate : (i : Image) (cells : Cells) (actors : List ActorState) (place : ℕ) (name run : List ℕ) (id : GateId) (m : PrivateMemory) (e : Event) → WantsOfFamily i cells actors place name (want.Gate id (gate_ask.Enter run m))
-    → event_of cells (ask.Gate id (gate_ask.Enter run m)) ≡ Some e → IsBeginning i actors place e
-entering_gate i cells actors place name run id m e w comes =
+pub entering_gate : (i : Image) (cells : Cells) (actors : List ActorState) (index : ℕ) (name run : List ℕ) (id : GateId) (m : PrivateMemory) (e : Event) → WantsOfFamily i cells actors index name (want.Gate id (gate_ask.Enter run m))
+    → event_of cells (ask.Gate id (gate_ask.Enter run m)) ≡ Some e → IsBeginning i actors index e
+entering_gate i cells actors index name run id m e w comes =
     let memory = unwrap_or (kept_in cells id).kept m in
     let x : Event = event.Gate id (gate_ask.Enter run m) (gate_replies.Entered memory) in
-    subst (IsBeginning i actors place) (entry_is cells id (gate_ask.Enter run m) e comes)
-    (run_begins i cells actors place name run (want.Gate id (gate_ask.Enter run m)) x (Some memory) w w.fits.1 (λ a. (tt, tt)) (λ a. refl) w.actor.phase refl w.fits.0)
+    subst (IsBeginning i actors index) (entry_is cells id (gate_ask.Enter run m) e comes)
+    (run_begins i cells actors index name run (want.Gate id (gate_ask.Enter run m)) x (Some memory) w w.fits.1 (λ a. (tt, tt)) (λ a. refl) w.actor.phase refl w.fits.0)
 
 -- and whoever wants to leave one leaves it alone
-pub leaving_gate : (i : Image) (cells : Cells) (actors : List ActorState) (place : ℕ) (name : List ℕ) (id : GateId) (x : End) (m : PrivateMemory) (e : Event) → WantsOfFamily i cells actors place name (want.Gate id (gate_ask.Leave x m))
-    → event_of cells (ask.Gate id (gate_ask.Leave x m)) ≡ Some e → IsGoingAlone i actors place e
-leaving_gate i cells actors place name id x m e w comes =
-    subst (IsGoingAlone i actors place) (entry_is cells id (gate_ask.Leave x m) e comes)
+pub leaving_gate : (i : Image) (cells : Cells) (actors : List ActorState) (index : ℕ) (name : List ℕ) (id : GateId) (x : End) (m : PrivateMemory) (e : Event) → WantsOfFamily i cells actors index name (want.Gate id (gate_ask.Leave x m))
+    → event_of cells (ask.Gate id (gate_ask.Leave x m)) ≡ Some e → IsGoingAlone i actors index e
+leaving_gate i cells actors index name id x m e w comes =
+    subst (IsGoingAlone i actors index) (entry_is cells id (gate_ask.Leave x m) e comes)
     (record { actor = w.actor; inside = w.inside; there = w.there; fits = (tt, tt); begins_none = refl })
 
 -- the entry comes where no run is in the gate
@@ -258,11 +258,11 @@ pub entry_comes : (w : WorldState) (a : ActorState) (id : GateId) (run : List �
     → event_at w a (want.Gate id (gate_ask.Enter run m)) ≡ Some e
 entry_comes w a id run m e free comes = ap (λ t. if t then None else event_of w.cells (ask.Gate id (gate_ask.Enter run m))) free ∙ comes
 
-pub leaving : (i : Image) (cells : Cells) (actors : List ActorState) (place : ℕ) (name : List ℕ) (x : End) → WantsOfFamily i cells actors place name (want.Leave x) → IsGoingAlone i actors place (event.Leave x)
-leaving i cells actors place name x w = record { actor = w.actor; inside = w.inside; there = w.there; fits = (tt, tt); begins_none = refl }
+pub leaving : (i : Image) (cells : Cells) (actors : List ActorState) (index : ℕ) (name : List ℕ) (x : End) → WantsOfFamily i cells actors index name (want.Leave x) → IsGoingAlone i actors index (event.Leave x)
+leaving i cells actors index name x w = record { actor = w.actor; inside = w.inside; there = w.there; fits = (tt, tt); begins_none = refl }
 
-pub joining : (i : Image) (cells : Cells) (actors : List ActorState) (place : ℕ) (name : List ℕ) (child : ℕ) → WantsOfFamily i cells actors place name (want.Join child) → IsJoining actors place name child
-joining i cells actors place name child w = record {
+pub joining : (i : Image) (cells : Cells) (actors : List ActorState) (index : ℕ) (name : List ℕ) (child : ℕ) → WantsOfFamily i cells actors index name (want.Join child) → IsJoining actors index name child
+joining i cells actors index name child w = record {
   actor = w.actor;
   inside = w.inside;
   there = w.there;
@@ -272,16 +272,16 @@ joining i cells actors place name child w = record {
   family = w.family;
 }
 
--- an actor that has come to rest in its place
-pub wants_of_family : (i : Image) (cells : Cells) (actors : List ActorState) (place : ℕ) (name : List ℕ) (a : ActorState) (q : Want) (new : ActorState) → IsFirstNamed actors name place a → has_ended a.phase ≡ false → IsAwake a.phase → Family actors
-    → IsRecorded cells a → IsLeft i a q new → WantsOfFamily i cells (slice_set actors place new) place name q
-wants_of_family i cells actors place name a q new found lives awake family recorded left =
+-- an actor that has come to rest, at its index
+pub wants_of_family : (i : Image) (cells : Cells) (actors : List ActorState) (index : ℕ) (name : List ℕ) (a : ActorState) (q : Want) (new : ActorState) → IsFirstNamed actors name index a → has_ended a.phase ≡ false → IsAwake a.phase → Family actors
+    → IsRecorded cells a → IsLeft i a q new → WantsOfFamily i cells (slice_set actors index new) index name q
+wants_of_family i cells actors index name a q new found lives awake family recorded left =
     let b = rest i a in
     let name_is = found_name actors name a found.named in
     let own : b.name ≡ name = rest-name i a ∙ name_is in
-    let at = found_set actors name place a b found own in
+    let at = found_set actors name index a b found own in
     let there : actor_named actors a.name ≡ Some a = ap (actor_named actors) name_is ∙ found.named in
-    subst (λ x. WantsOfFamily i cells (slice_set actors place x) place name q) (sym left.rests)
+    subst (λ x. WantsOfFamily i cells (slice_set actors index x) index name q) (sym left.rests)
     (record {
       actor = b;
       inside = at.inside;
@@ -295,22 +295,22 @@ wants_of_family i cells actors place name a q new found lives awake family recor
       recorded = recorded_at_rest cells i a recorded;
     })
 
--- an actor that has come to rest in its place, and takes no turn
-module _ (i : Image) (cells new_cells : Cells) (actors new : List ActorState) (place : ℕ) (name : List ℕ) (a : ActorState) (q : Want) (b : ActorState) (found : IsFirstNamed actors name place a) (awake : IsAwake a.phase) (left : IsLeft i a q b) where
+-- an actor that has come to rest, at its index, and takes no turn
+module _ (i : Image) (cells new_cells : Cells) (actors new : List ActorState) (index : ℕ) (name : List ℕ) (a : ActorState) (q : Want) (b : ActorState) (found : IsFirstNamed actors name index a) (awake : IsAwake a.phase) (left : IsLeft i a q b) where
   at_rest_so : rest i (ready actors a) ≡ rest i a
   at_rest_so = ap (rest i) (ready_else actors a awake)
 
-  put_so : slice_set actors place b ≡ put_actor actors (rest i a)
+  put_so : slice_set actors index b ≡ put_actor actors (rest i a)
   put_so =
       let own : b.name ≡ name = ap (λ (x : ActorState). x.name) left.rests ∙ (rest-name i a ∙ found_name actors name a found.named) in
       sym (found.put b own) ∙ ap (put_actor actors) left.rests
 
-  rested_so : new ≡ slice_set actors place b → new_cells ≡ cells → state_of i new_cells new ≡ rested (state_of i cells actors) name
+  rested_so : new ≡ slice_set actors index b → new_cells ≡ cells → state_of i new_cells new ≡ rested (state_of i cells actors) name
   rested_so is same_cells =
       ap (λ c. state_of i c new) same_cells ∙ (ap (λ as_. state_of i cells as_) (is ∙ put_so) ∙ (ap (λ x. state_of i cells (put_actor actors x)) (sym at_rest_so) ∙ ap (λ o. state_of i cells (rested_in i actors o)) (sym found.named)))
 
   -- it has to wait for a child
-  pub waited : (child : ℕ) → q ≡ want.Join child → is_ended (actor_named (slice_set actors place b) (child_name name child)) ≡ false → new ≡ slice_set actors place b → new_cells ≡ cells
+  pub waited : (child : ℕ) → q ≡ want.Join child → is_ended (actor_named (slice_set actors index b) (child_name name child)) ≡ false → new ≡ slice_set actors index b → new_cells ≡ cells
       → HasWaited i cells actors name new_cells new
   waited child join not_ended is same_cells =
       let there : actor_named actors a.name ≡ Some a = ap (actor_named actors) (found_name actors name a found.named) ∙ found.named in
@@ -327,7 +327,7 @@ module _ (i : Image) (cells new_cells : Cells) (actors new : List ActorState) (p
       }
 
   -- a run is in the gate that it is to enter
-  pub met_busy : FindsBusy cells q → new ≡ slice_set actors place b → new_cells ≡ cells → HasMetBusy i cells actors name new_cells new
+  pub met_busy : FindsBusy cells q → new ≡ slice_set actors index b → new_cells ≡ cells → HasMetBusy i cells actors name new_cells new
   met_busy busy is same_cells = record {
     busy = record {
       actor = a;
@@ -359,25 +359,25 @@ pub if_some : {X A : Type 0} (o : Option X) (x : X) → o ≡ Some x → IfSome 
 if_some None x e h = absurd cc
 if_some (Some y) x e h = h
 
-pub family_taken : (i : Image) (cells mid_cells new_cells : Cells) (actors new : List ActorState) (place : ℕ) (name : List ℕ) (a : ActorState) (q : Want) (b : ActorState) (entries mid_entries new_entries : List LogEntry)
-    → IsFirstNamed actors name place a → IsAwake a.phase → IsLeft i a q b → IsDoneAt i mid_cells (slice_set actors place b) place q mid_entries name new_cells new new_entries → mid_cells ≡ cells → mid_entries ≡ entries
+pub family_taken : (i : Image) (cells mid_cells new_cells : Cells) (actors new : List ActorState) (index : ℕ) (name : List ℕ) (a : ActorState) (q : Want) (b : ActorState) (entries mid_entries new_entries : List LogEntry)
+    → IsFirstNamed actors name index a → IsAwake a.phase → IsLeft i a q b → IsDoneAt i mid_cells (slice_set actors index b) index q mid_entries name new_cells new new_entries → mid_cells ≡ cells → mid_entries ≡ entries
     → WasTaken i cells actors entries name new_cells new new_entries
-family_taken i cells mid_cells new_cells actors new place name a q b entries mid_entries new_entries found awake left done same_cells same =
-    let at : IsDoneAt i cells (slice_set actors place (rest i a)) place q entries name new_cells new new_entries =
-    subst (λ x. IsDoneAt i cells (slice_set actors place x) place q entries name new_cells new new_entries) left.rests
-    (subst (λ es. IsDoneAt i cells (slice_set actors place b) place q es name new_cells new new_entries) same
-    (subst (λ c. IsDoneAt i c (slice_set actors place b) place q mid_entries name new_cells new new_entries) same_cells done)) in
+family_taken i cells mid_cells new_cells actors new index name a q b entries mid_entries new_entries found awake left done same_cells same =
+    let at : IsDoneAt i cells (slice_set actors index (rest i a)) index q entries name new_cells new new_entries =
+    subst (λ x. IsDoneAt i cells (slice_set actors index x) index q entries name new_cells new new_entries) left.rests
+    (subst (λ es. IsDoneAt i cells (slice_set actors index b) index q es name new_cells new new_entries) same
+    (subst (λ c. IsDoneAt i c (slice_set actors index b) index q mid_entries name new_cells new new_entries) same_cells done)) in
     record {
       event = at.event;
-      turn = family_turn i cells new_cells actors new place name a q entries new_entries found awake left.wants at;
+      turn = family_turn i cells new_cells actors new index name a q entries new_entries found awake left.wants at;
       noted = at.noted;
     }
 
-pub cell_taken : (i : Image) (cells new_cells : Cells) (actors : List ActorState) (place : ℕ) (name : List ℕ) (a new : ActorState) (q : Want) (entries new_entries : List LogEntry)
-    → IsFirstNamed actors name place a → IsAwake a.phase → current_want (rest i a) ≡ Some q → IsOfCell q → IsEventDone i cells (rest i a) q entries name new_cells new new_entries
-    → WasTaken i cells actors entries name new_cells (slice_set actors place new) new_entries
-cell_taken i cells new_cells actors place name a new q entries new_entries found awake wants of_cell m = record {
+pub cell_taken : (i : Image) (cells new_cells : Cells) (actors : List ActorState) (index : ℕ) (name : List ℕ) (a new : ActorState) (q : Want) (entries new_entries : List LogEntry)
+    → IsFirstNamed actors name index a → IsAwake a.phase → current_want (rest i a) ≡ Some q → IsOfCell q → IsEventDone i cells (rest i a) q entries name new_cells new new_entries
+    → WasTaken i cells actors entries name new_cells (slice_set actors index new) new_entries
+cell_taken i cells new_cells actors index name a new q entries new_entries found awake wants of_cell m = record {
   event = m.event;
-  turn = cell_turn i cells new_cells actors place name a new q m.event found awake wants of_cell m.comes m.cells_are m.takes_it (m.name_stays ∙ (rest-name i a ∙ found_name actors name a found.named));
+  turn = cell_turn i cells new_cells actors index name a new q m.event found awake wants of_cell m.comes m.cells_are m.takes_it (m.name_stays ∙ (rest-name i a ∙ found_name actors name a found.named));
   noted = m.noted;
 }

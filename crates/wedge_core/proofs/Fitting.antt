@@ -19,7 +19,7 @@ use Rattle.wedge_events.specs.declared.cells.LivesAsk.TheVariants as lives_ask
 use Rattle.wedge_events.specs.Directories.{directory_reply}
 use Rattle.sthread_life.specs.Between.{WantFits, IsInBounds, SuitsActor, TakesFit}
 use Rattle.run_laws.specs.Cells.{Cells, AskFits, live_at, slot_in, stream_in, event_of}
-use Rattle.sthread_life.specs.Taking.{asks, pair, actor_begun}
+use Rattle.sthread_life.specs.Take.{asks, pair, actor_begun}
 use Rattle.run_laws.specs.Worlds.{WorldState, event_at}
 use Rattle.wedge_core.specs.Turning.{IsOfCell, event_asked}
 
@@ -52,8 +52,8 @@ asks_fit c a b (want.Gate id q) h k = absurd k
 -- what comes of an ask of a cell suits whoever asked
 event_suits : (c : Cells) (a : ActorState) (q : Want) (l : Option ℕ) (e : Event) → WantFits a q → IsOfCell q → event_of c (asks a l q) ≡ Some e → SuitsActor a e
 event_suits c a (want.Slots directory_ask.Claim) l e h k comes = let is : event.Slots directory_ask.Claim (directory_reply c.places directory_ask.Claim) ≡ e = cc in subst (SuitsActor a) is h
-event_suits c a (want.Slots (directory_ask.Release place)) l e h k comes =
-    let is : event.Slots (directory_ask.Release place) (directory_reply c.places (directory_ask.Release place)) ≡ e = cc in
+event_suits c a (want.Slots (directory_ask.Release index)) l e h k comes =
+    let is : event.Slots (directory_ask.Release index) (directory_reply c.places (directory_ask.Release index)) ≡ e = cc in
     subst (SuitsActor a) is tt
 event_suits c a (want.Slot slot q) l e h k comes = let is : event.Slot slot (slot_ask_with q (pair a l)) (slot_reply (slot_in c slot) (slot_ask_with q (pair a l))) ≡ e = cc in subst (SuitsActor a) is tt
 event_suits c a (want.Fds q) l e h k comes = let is : event.Fds q (directory_reply c.numbers q) ≡ e = cc in subst (SuitsActor a) is tt

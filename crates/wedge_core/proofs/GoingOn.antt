@@ -11,7 +11,7 @@ use Rattle.run_laws.specs.Cells.{Cells}
 use Rattle.sthread_life.specs.Children.{fuel_given, without_child, child_name}
 use Rattle.run_laws.specs.FamilyTrees.{WaitsForOwn, Family}
 use Rattle.sthread_life.specs.Local.{has_ended, run_awaited}
-use Rattle.sthread_life.specs.Taking.{has_joined, answered_end}
+use Rattle.sthread_life.specs.Take.{has_joined, answered_end}
 use Rattle.run_laws.specs.Worlds.{actor_named, put_actor, ended_with, resumes, ready_at, ready}
 use Rattle.run_laws.proofs.FamilyRuns.{resumed_family}
 use Rattle.run_laws.proofs.Named.{found_name}
@@ -39,57 +39,57 @@ waits_at (phase.Waiting j) k is = cc
 waits_at (phase.Ending e) k is = absurd cc
 waits_at (phase.Ended e) k is = absurd cc
 
-pub awaited_there : (actors : List ActorState) (place : ℕ) (a : ActorState) (o : Option ℕ) → slice_get actors place ≡ Some a → IfSome (slice_get actors place) (λ x. o ≡ run_awaited x.phase) → o ≡ run_awaited a.phase
-awaited_there actors place a o there h = subst (λ x. IfSome x (λ y. o ≡ run_awaited y.phase)) there h
+pub awaited_there : (actors : List ActorState) (index : ℕ) (a : ActorState) (o : Option ℕ) → slice_get actors index ≡ Some a → IfSome (slice_get actors index) (λ x. o ≡ run_awaited x.phase) → o ≡ run_awaited a.phase
+awaited_there actors index a o there h = subst (λ x. IfSome x (λ y. o ≡ run_awaited y.phase)) there h
 
-pub ended_there : (actors : List ActorState) (place : ℕ) (a : ActorState) (t : Bool) → slice_get actors place ≡ Some a → IfSome (slice_get actors place) (λ x. t ≡ has_ended x.phase) → t ≡ has_ended a.phase
-ended_there actors place a t there h = subst (λ x. IfSome x (λ y. t ≡ has_ended y.phase)) there h
+pub ended_there : (actors : List ActorState) (index : ℕ) (a : ActorState) (t : Bool) → slice_get actors index ≡ Some a → IfSome (slice_get actors index) (λ x. t ≡ has_ended x.phase) → t ≡ has_ended a.phase
+ended_there actors index a t there h = subst (λ x. IfSome x (λ y. t ≡ has_ended y.phase)) there h
 
 -- one that waits for no run stays as it is
-pub stays_awake : (actors : List ActorState) (place : ℕ) (name : List ℕ) (a : ActorState) → IsFirstNamed actors name place a → run_awaited a.phase ≡ None → HasGoneOn actors place name actors
-stays_awake actors place name a found none =
+pub stays_awake : (actors : List ActorState) (index : ℕ) (name : List ℕ) (a : ActorState) → IsFirstNamed actors name index a → run_awaited a.phase ≡ None → HasGoneOn actors index name actors
+stays_awake actors index name a found none =
     let calm : ready actors a ≡ a = ready_else actors a (awake_of a.phase none) in
     record {
       actor = a;
       found = found;
       awake = ap (λ (x : ActorState). run_awaited x.phase) calm ∙ none;
-      new_is = sym (set_same actors place a found.there) ∙ ap (slice_set actors place) (sym calm);
+      new_is = sym (set_same actors index a found.there) ∙ ap (slice_set actors index) (sym calm);
     }
 
 -- one that waits for a run that has ended goes on from it
-pub gone_back : (actors : List ActorState) (place : ℕ) (name : List ℕ) (a : ActorState) (k : ℕ) (e : End) (fuel : ℕ) (new : ActorState) → IsFirstNamed actors name place a → a.phase ≡ phase.Waiting k
-    → ended_with (actor_named actors (child_name name k)) ≡ Some (e, fuel) → new ≡ has_joined a k e fuel → HasGoneOn actors place name (slice_set actors place new)
-gone_back actors place name a k e fuel new found at ends is =
+pub gone_back : (actors : List ActorState) (index : ℕ) (name : List ℕ) (a : ActorState) (k : ℕ) (e : End) (fuel : ℕ) (new : ActorState) → IsFirstNamed actors name index a → a.phase ≡ phase.Waiting k
+    → ended_with (actor_named actors (child_name name k)) ≡ Some (e, fuel) → new ≡ has_joined a k e fuel → HasGoneOn actors index name (slice_set actors index new)
+gone_back actors index name a k e fuel new found at ends is =
     let own : a.name ≡ name = found_name actors name a found.named in
     let goes : ready actors a ≡ has_joined a k e fuel = ap (ready_at actors a) at ∙ (ap (λ n. resumes a k (ended_with (actor_named actors (child_name n k)))) own ∙ ap (resumes a k) ends) in
     record {
       actor = a;
       found = found;
       awake = ap (λ (x : ActorState). run_awaited x.phase) goes ∙ ap (λ p. run_awaited (answered_end (record a { fuel = a.fuel + fuel; unjoined = without_child a.unjoined k }) p e).phase) at;
-      new_is = ap (slice_set actors place) (is ∙ sym goes);
+      new_is = ap (slice_set actors index) (is ∙ sym goes);
     }
 
 -- the run brings back at most what it was given
-pub back_given : (actors : List ActorState) (place : ℕ) (name : List ℕ) (a : ActorState) (k : ℕ) (e : End) (fuel : ℕ) → IsFirstNamed actors name place a → Family actors → a.phase ≡ phase.Waiting k
+pub back_given : (actors : List ActorState) (index : ℕ) (name : List ℕ) (a : ActorState) (k : ℕ) (e : End) (fuel : ℕ) → IsFirstNamed actors name index a → Family actors → a.phase ≡ phase.Waiting k
     → ended_with (actor_named actors (child_name name k)) ≡ Some (e, fuel) → IsSomeAnd (fuel_given a.unjoined k) (λ g. fuel ≤ g)
-back_given actors place name a k e fuel found family at ends =
+back_given actors index name a k e fuel found family at ends =
     let own : a.name ≡ name = found_name actors name a found.named in
     given_back actors a k e fuel family (own_there actors name a found.named) (subst (λ p. WaitsForOwn p a.unjoined) at (family.waits name a found.named)) (ap (λ n. ended_with (actor_named actors (child_name n k))) own ∙ ends)
 
 -- ---- what follows
 
 -- the actor that is read at its index, awake
-pub record ReadsAwake (cells : Cells) (items : List ActorState) (name : List ℕ) (place : ℕ) (a : ActorState) : Type 0 where
-  pub found : IsFirstNamed items name place a
+pub record ReadsAwake (cells : Cells) (items : List ActorState) (name : List ℕ) (index : ℕ) (a : ActorState) : Type 0 where
+  pub found : IsFirstNamed items name index a
   pub lives : has_ended a.phase ≡ false
   pub awake : IsAwake a.phase
   pub family : Family items
   pub recorded : IsRecorded cells a
 
-pub reads_awake : (cells : Cells) (items actors : List ActorState) (place : ℕ) (name : List ℕ) (a : ActorState) → items ≡ actors → IsAwakeAt cells actors place name → a ≡ get_or items place a → ReadsAwake cells items name place a
-reads_awake cells items actors place name a same h value =
-    let found = found_through items actors name place a same (h.actor, h.found) value in
-    let is : h.actor ≡ a = one_of (sym h.found.there ∙ (ap (λ as_. slice_get as_ place) (sym same) ∙ found.there)) in
+pub reads_awake : (cells : Cells) (items actors : List ActorState) (index : ℕ) (name : List ℕ) (a : ActorState) → items ≡ actors → IsAwakeAt cells actors index name → a ≡ get_or items index a → ReadsAwake cells items name index a
+reads_awake cells items actors index name a same h value =
+    let found = found_through items actors name index a same (h.actor, h.found) value in
+    let is : h.actor ≡ a = one_of (sym h.found.there ∙ (ap (λ as_. slice_get as_ index) (sym same) ∙ found.there)) in
     record {
       found = found;
       lives = subst (λ (x : ActorState). has_ended x.phase ≡ false) is h.lives;
@@ -101,16 +101,16 @@ reads_awake cells items actors place name a same h value =
     one_of : {x y : ActorState} → Some x ≡ Some y → x ≡ y
     one_of e = cc
 
--- it is awake then, in its place, and the family is kept
-pub gone_on : (i : Image) (cells : Cells) (actors : List ActorState) (place : ℕ) (name : List ℕ) (new : List ActorState) (h : HasGoneOn actors place name new) → Family actors → IsRecorded cells h.actor → has_ended h.actor.phase ≡ false
-    → IsAwakeAt cells new place name
-gone_on i cells actors place name new h f recorded lives =
+-- it is awake then, at its index, and the family is kept
+pub gone_on : (i : Image) (cells : Cells) (actors : List ActorState) (index : ℕ) (name : List ℕ) (new : List ActorState) (h : HasGoneOn actors index name new) → Family actors → IsRecorded cells h.actor → has_ended h.actor.phase ≡ false
+    → IsAwakeAt cells new index name
+gone_on i cells actors index name new h f recorded lives =
     let a = h.actor in
     let b = ready actors a in
     let own : b.name ≡ name = ready_name actors a ∙ found_name actors name a h.found.named in
-    let at = found_set actors name place a b h.found own in
+    let at = found_set actors name index a b h.found own in
     let put = h.found.put b own in
-    subst (λ as_. IsAwakeAt cells as_ place name) (sym h.new_is)
+    subst (λ as_. IsAwakeAt cells as_ index name) (sym h.new_is)
     (record {
       actor = b;
       found = at;
@@ -120,14 +120,14 @@ gone_on i cells actors place name new h f recorded lives =
       recorded = recorded_ready cells actors a recorded;
     })
 
-put_is : (actors : List ActorState) (place : ℕ) (name : List ℕ) (mid : List ActorState) (h : HasGoneOn actors place name mid) → mid ≡ put_actor actors (ready actors h.actor)
-put_is actors place name mid h = h.new_is ∙ sym (h.found.put (ready actors h.actor) (ready_name actors h.actor ∙ found_name actors name h.actor h.found.named))
+put_is : (actors : List ActorState) (index : ℕ) (name : List ℕ) (mid : List ActorState) (h : HasGoneOn actors index name mid) → mid ≡ put_actor actors (ready actors h.actor)
+put_is actors index name mid h = h.new_is ∙ sym (h.found.put (ready actors h.actor) (ready_name actors h.actor ∙ found_name actors name h.actor h.found.named))
 
 -- a turn then is one of the actor as it was
-pub goes_taken : (i : Image) (cells new_cells : Cells) (actors mid new : List ActorState) (place : ℕ) (name : List ℕ) (entries new_entries : List LogEntry) → HasGoneOn actors place name mid
+pub goes_taken : (i : Image) (cells new_cells : Cells) (actors mid new : List ActorState) (index : ℕ) (name : List ℕ) (entries new_entries : List LogEntry) → HasGoneOn actors index name mid
     → WasTaken i cells mid entries name new_cells new new_entries → WasTaken i cells actors entries name new_cells new new_entries
-goes_taken i cells new_cells actors mid new place name entries new_entries h taken =
-    let put = put_is actors place name mid h in
+goes_taken i cells new_cells actors mid new index name entries new_entries h taken =
+    let put = put_is actors index name mid h in
     let t = subst (λ as_. WasTaken i cells as_ entries name new_cells new new_entries) put taken in
     record {
       event = t.event;
@@ -136,12 +136,12 @@ goes_taken i cells new_cells actors mid new place name entries new_entries h tak
     }
 
 -- and so is a wait
-pub goes_waited : (i : Image) (cells new_cells : Cells) (actors mid new : List ActorState) (place : ℕ) (name : List ℕ) → HasGoneOn actors place name mid
+pub goes_waited : (i : Image) (cells new_cells : Cells) (actors mid new : List ActorState) (index : ℕ) (name : List ℕ) → HasGoneOn actors index name mid
     → HasWaited i cells mid name new_cells new → HasWaited i cells actors name new_cells new
-goes_waited i cells new_cells actors mid new place name h waited =
-    goes_waiting i cells new_cells actors new name h.actor h.found.named (awake_of (ready actors h.actor).phase h.awake) (subst (λ as_. HasWaited i cells as_ name new_cells new) (put_is actors place name mid h) waited)
+goes_waited i cells new_cells actors mid new index name h waited =
+    goes_waiting i cells new_cells actors new name h.actor h.found.named (awake_of (ready actors h.actor).phase h.awake) (subst (λ as_. HasWaited i cells as_ name new_cells new) (put_is actors index name mid h) waited)
 
-pub goes_met : (i : Image) (cells new_cells : Cells) (actors mid new : List ActorState) (place : ℕ) (name : List ℕ) → HasGoneOn actors place name mid
+pub goes_met : (i : Image) (cells new_cells : Cells) (actors mid new : List ActorState) (index : ℕ) (name : List ℕ) → HasGoneOn actors index name mid
     → HasMetBusy i cells mid name new_cells new → HasMetBusy i cells actors name new_cells new
-goes_met i cells new_cells actors mid new place name h met =
-    goes_busy i cells new_cells actors new name h.actor h.found.named (awake_of (ready actors h.actor).phase h.awake) (subst (λ as_. HasMetBusy i cells as_ name new_cells new) (put_is actors place name mid h) met)
+goes_met i cells new_cells actors mid new index name h met =
+    goes_busy i cells new_cells actors new name h.actor h.found.named (awake_of (ready actors h.actor).phase h.awake) (subst (λ as_. HasMetBusy i cells as_ name new_cells new) (put_is actors index name mid h) met)

@@ -17,7 +17,7 @@ use Rattle.sthread_life.specs.declared.phase.Phase.TheVariants as phase
 use Rattle.sthread_life.specs.Actors.{ActorState}
 use Rattle.sthread_life.specs.Children.{child_name, without_child}
 use Rattle.sthread_life.specs.Local.{has_ended, is_running, run_awaited, rest}
-use Rattle.sthread_life.specs.Taking.{current_want, wanted_at, making_want, answered_end, has_joined}
+use Rattle.sthread_life.specs.Take.{current_want, wanted_at, making_want, answered_end, has_joined}
 use Rattle.run_laws.specs.Cells.{Cells, event_of, kept_in}
 use Rattle.run_laws.specs.Worlds.{WorldState, Taken, actor_named, put_actor, apply_event, ended_with, join_event, gate_event, event_at, wanting, resumes, ready_at, ready, resumed, turn_with, turn_of, is_ended, at_rest}
 use Rattle.sthread_life.proofs.Resting.{rest-name, rest-stops, rest-uncalm}

@@ -1,4 +1,4 @@
--- The index of actors by name: what it says of a name, and how it goes on.
+-- The map of actors by name: what it says of a name, and how it goes on.
 use Rattle.std.proofs.Common.{◌≡◌, ℕ, zero, suc, ◌+◌, Bool, true, false, cond, List, [], ◌∷◌, ◌++◌, length, refl, sym, ap, subst, ◌∙◌, arith}
 use Rattle.std.specs.Prelude.{Option, Some, None, IfSome, IfNone, slice_get, slice_set, option_map, unwrap_or}
 use Rattle.std.specs.Global.{Vec}
@@ -10,10 +10,10 @@ use Rattle.std.proofs.Common.{⊎_elim}
 use Rattle.wedge_base.specs.Names.{same}
 use Rattle.sthread_life.specs.Actors.{ActorState}
 use Rattle.run_laws.specs.Worlds.{actor_named}
-use Rattle.wedge_core.specs.Progress.{IsFirstNamed, IsPlaceOf}
-use Rattle.wedge_core.specs.Places.{place_in, IsIndexOf}
+use Rattle.wedge_core.specs.Progress.{IsFirstNamed, IsIndexOf}
+use Rattle.wedge_core.specs.Indices.{index_in, IsNameMap}
 
--- ---- the place of a name
+-- ---- the index of a name
 
 found_first : (y : ActorState) (ys : List ActorState) (name : List ℕ) → same y.name name ≡ true → IsFirstNamed (y ∷ ys) name 0 y
 found_first y ys name e = record {
@@ -31,15 +31,15 @@ found_later y ys name n a e f = record {
   put = λ new named. rw (subst (λ n. same y.name n ≡ false) (sym named) e) (ap (λ zs. y ∷ zs) (f.put new named));
 }
 
-place_step : (y : ActorState) (ys : List ActorState) (name : List ℕ) (b : Bool) (o : Option ℕ) → same y.name name ≡ b → IfSome o (IsPlaceOf ys name)
-    → IfSome (cond b (Some 0) (option_map (λ n. n + 1) o)) (IsPlaceOf (y ∷ ys) name)
-place_step y ys name true o e h = (y, found_first y ys name e)
-place_step y ys name false None e h = tt
-place_step y ys name false (Some n) e h = let one : suc n ≡ n + 1 = omega arith in subst (IsPlaceOf (y ∷ ys) name) one (h.0, found_later y ys name n h.0 e h.1)
+index_step : (y : ActorState) (ys : List ActorState) (name : List ℕ) (b : Bool) (o : Option ℕ) → same y.name name ≡ b → IfSome o (IsIndexOf ys name)
+    → IfSome (cond b (Some 0) (option_map (λ n. n + 1) o)) (IsIndexOf (y ∷ ys) name)
+index_step y ys name true o e h = (y, found_first y ys name e)
+index_step y ys name false None e h = tt
+index_step y ys name false (Some n) e h = let one : suc n ≡ n + 1 = omega arith in subst (IsIndexOf (y ∷ ys) name) one (h.0, found_later y ys name n h.0 e h.1)
 
-pub place_found : (actors : List ActorState) (name : List ℕ) → IfSome (place_in actors name) (IsPlaceOf actors name)
-place_found [] name = tt
-place_found (y ∷ ys) name = place_step y ys name (same y.name name) (place_in ys name) refl (place_found ys name)
+pub index_found : (actors : List ActorState) (name : List ℕ) → IfSome (index_in actors name) (IsIndexOf actors name)
+index_found [] name = tt
+index_found (y ∷ ys) name = index_step y ys name (same y.name name) (index_in ys name) refl (index_found ys name)
 
 none_step : (y : ActorState) (ys : List ActorState) (name : List ℕ) (b : Bool) (o : Option ℕ) → same y.name name ≡ b → IfNone o (actor_named ys name ≡ None)
     → IfNone (cond b (Some 0) (option_map (λ n. n + 1) o)) (actor_named (y ∷ ys) name ≡ None)
@@ -47,24 +47,24 @@ none_step y ys name true o e h = tt
 none_step y ys name false (Some n) e h = tt
 none_step y ys name false None e h = rw e h
 
-pub place_none : (actors : List ActorState) (name : List ℕ) → IfNone (place_in actors name) (actor_named actors name ≡ None)
-place_none [] name = refl
-place_none (y ∷ ys) name = none_step y ys name (same y.name name) (place_in ys name) refl (place_none ys name)
+pub index_none : (actors : List ActorState) (name : List ℕ) → IfNone (index_in actors name) (actor_named actors name ≡ None)
+index_none [] name = refl
+index_none (y ∷ ys) name = none_step y ys name (same y.name name) (index_in ys name) refl (index_none ys name)
 
 -- ---- an actor put back with the name that it had
 
-pub place_put_back : (actors : List ActorState) (place : ℕ) (x new : ActorState) → slice_get actors place ≡ Some x → new.name ≡ x.name
-    → (name : List ℕ) → place_in (slice_set actors place new) name ≡ place_in actors name
-place_put_back [] place x new there e name = refl
-place_put_back (y ∷ ys) zero x new there e name =
+pub index_put_back : (actors : List ActorState) (index : ℕ) (x new : ActorState) → slice_get actors index ≡ Some x → new.name ≡ x.name
+    → (name : List ℕ) → index_in (slice_set actors index new) name ≡ index_in actors name
+index_put_back [] index x new there e name = refl
+index_put_back (y ∷ ys) zero x new there e name =
     let is : x ≡ y = sym (ap (λ (o : Option ActorState). unwrap_or o y) there) in
-    ap (λ (n : List ℕ). cond (same n name) (Some 0) (option_map (λ k. k + 1) (place_in ys name))) (e ∙ ap (λ (z : ActorState). z.name) is)
-place_put_back (y ∷ ys) (suc n) x new there e name =
-    ap (λ (o : Option ℕ). cond (same y.name name) (Some 0) (option_map (λ k. k + 1) o)) (place_put_back ys n x new there e name)
+    ap (λ (n : List ℕ). cond (same n name) (Some 0) (option_map (λ k. k + 1) (index_in ys name))) (e ∙ ap (λ (z : ActorState). z.name) is)
+index_put_back (y ∷ ys) (suc n) x new there e name =
+    ap (λ (o : Option ℕ). cond (same y.name name) (Some 0) (option_map (λ k. k + 1) o)) (index_put_back ys n x new there e name)
 
-pub index_put_back : {S : Type 0} (index : HashMap (Vec ℕ) ℕ S) (actors : List ActorState) (place : ℕ) (x new : ActorState) → slice_get actors place ≡ Some x → new.name ≡ x.name
-    → IsIndexOf index actors → IsIndexOf index (slice_set actors place new)
-index_put_back index actors place x new there e was = λ name. was name ∙ sym (place_put_back actors place x new there e name)
+pub name_map_put_back : {S : Type 0} (by_name : HashMap (Vec ℕ) ℕ S) (actors : List ActorState) (index : ℕ) (x new : ActorState) → slice_get actors index ≡ Some x → new.name ≡ x.name
+    → IsNameMap by_name actors → IsNameMap by_name (slice_set actors index new)
+name_map_put_back by_name actors index x new there e was = λ name. was name ∙ sym (index_put_back actors index x new there e name)
 
 -- ---- one more actor, of a name that none has
 
@@ -84,12 +84,12 @@ other_first : {A : Type 0} (y : ActorState) (ys : List ActorState) (name : List 
 other_first y ys name true e none use_ = let first : actor_named (y ∷ ys) name ≡ Some y = rw e refl in absurd cc
 other_first y ys name false e none use_ = let rest : actor_named (y ∷ ys) name ≡ actor_named ys name = rw e refl in use_ e (sym rest ∙ none)
 
-pub place_push : (actors : List ActorState) (a : ActorState) (name : List ℕ) → actor_named actors a.name ≡ None
-    → place_in (actors ++ a ∷ []) name ≡ cond (same a.name name) (Some (length actors)) (place_in actors name)
-place_push [] a name none = refl
-place_push (y ∷ ys) a name none = other_first y ys a.name (same y.name a.name) refl none (λ other rest.
-    ap (λ (o : Option ℕ). cond (same y.name name) (Some 0) (option_map (λ k. k + 1) o)) (place_push ys a name rest)
-    ∙ after_other y a ys name (place_in ys name) (same a.name name) other refl)
+pub index_push : (actors : List ActorState) (a : ActorState) (name : List ℕ) → actor_named actors a.name ≡ None
+    → index_in (actors ++ a ∷ []) name ≡ cond (same a.name name) (Some (length actors)) (index_in actors name)
+index_push [] a name none = refl
+index_push (y ∷ ys) a name none = other_first y ys a.name (same y.name a.name) refl none (λ other rest.
+    ap (λ (o : Option ℕ). cond (same y.name name) (Some 0) (option_map (λ k. k + 1) o)) (index_push ys a name rest)
+    ∙ after_other y a ys name (index_in ys name) (same a.name name) other refl)
 
 -- ---- a map from lists of numbers
 
@@ -111,12 +111,12 @@ updates_by_items m n key w h qs =
     ∙ sym (cond-false (same key.items qs) w (lookup (λ k. same qs k.items) m.entries) e))
     (cases_Bool (same key.items qs))
 
-pub index_push : {S : Type 0} (index new : HashMap (Vec ℕ) ℕ S) (key : Vec ℕ) (actors : List ActorState) (a : ActorState) (place : ℕ) → IsIndexOf index actors
-    → actor_named actors a.name ≡ None → key.items ≡ a.name → place ≡ length actors → UpdatesBy (λ x y. same x.items y.items) (λ k. same key.items k.items) index new (Some place)
-    → IsIndexOf new (actors ++ a ∷ [])
-index_push index new key actors a place was none is at put = λ name.
-    updates_by_items index new key (Some place) put name
-    ∙ ap (λ (o : Option ℕ). cond (same key.items name) (Some place) o) (was name)
-    ∙ ap (λ (ps : List ℕ). cond (same ps name) (Some place) (place_in actors name)) is
-    ∙ ap (λ (n : ℕ). cond (same a.name name) (Some n) (place_in actors name)) at
-    ∙ sym (place_push actors a name none)
+pub name_map_push : {S : Type 0} (by_name new : HashMap (Vec ℕ) ℕ S) (key : Vec ℕ) (actors : List ActorState) (a : ActorState) (index : ℕ) → IsNameMap by_name actors
+    → actor_named actors a.name ≡ None → key.items ≡ a.name → index ≡ length actors → UpdatesBy (λ x y. same x.items y.items) (λ k. same key.items k.items) by_name new (Some index)
+    → IsNameMap new (actors ++ a ∷ [])
+name_map_push by_name new key actors a index was none is at put = λ name.
+    updates_by_items by_name new key (Some index) put name
+    ∙ ap (λ (o : Option ℕ). cond (same key.items name) (Some index) o) (was name)
+    ∙ ap (λ (ps : List ℕ). cond (same ps name) (Some index) (index_in actors name)) is
+    ∙ ap (λ (n : ℕ). cond (same a.name name) (Some n) (index_in actors name)) at
+    ∙ sym (index_push actors a name none)

@@ -1,5 +1,5 @@
--- The actor at a place, and the first cell of a gate by its place.
-pub mod Places
+-- The actor at an index, and the first cell of a gate by its index.
+pub mod Indices
 -- How a run begins and goes on.
 pub mod Runs
 -- What makes a turn.
@@ -12,8 +12,8 @@ pub mod FamilyTurns
 pub mod GoingOn
 -- Entries by their places.
 pub mod Numbering
--- Places of cells.
-pub mod CellPlaces
+-- Indices of cells.
+pub mod CellIndices
 -- What an actor wants fits the cells.
 pub mod Fitting
 -- Events of the directories, of slots and of streams are in bounds.

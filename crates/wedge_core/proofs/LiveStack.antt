@@ -18,14 +18,14 @@ use Rattle.sthread_life.specs.declared.phase.Phase.TheVariants as phase
 use Rattle.sthread_life.specs.Actors.{ActorState, root}
 use Rattle.sthread_life.specs.Calls.{a0}
 use Rattle.sthread_life.specs.Children.{Children, is_number, fuel_given, is_child, without_child, child_name}
-use Rattle.sthread_life.specs.Entrances.{Entrance}
+use Rattle.sthread_life.specs.Entrance.{Entrance}
 use Rattle.run_laws.specs.FamilyTrees.{Holds, AllBehind, WaitsForOwn, Family}
 use Rattle.run_laws.specs.GatesWithin.{is_under}
 use Rattle.run_laws.specs.Holding.{gate_for}
 use Rattle.sthread_life.specs.Local.{has_ended}
 use Rattle.sthread_life.specs.Opening.{FileOpening}
 use Rattle.run_laws.specs.Names.{IsNew, AreDistinct}
-use Rattle.sthread_life.specs.Taking.{next_start, making_want, starting_want, opening_want, entering_want, leaving_want, current_want, wanted_at, last_want, ending_want}
+use Rattle.sthread_life.specs.Take.{next_start, making_want, starting_want, opening_want, entering_want, leaving_want, current_want, wanted_at, last_want, ending_want}
 use Rattle.run_laws.specs.Worlds.{WorldState, initial_state, actor_named, put_actor, ready, at_rest, Runs, is_ended}
 use Rattle.run_laws.proofs.EnteringGates.{IsEnterable}
 use Rattle.run_laws.proofs.FamilyKept.{found_apart}
@@ -41,7 +41,7 @@ use Rattle.run_laws.proofs.Trees.{apart_too}
 use Rattle.run_laws.proofs.Turns.{Readies, Stays, Back, readies}
 use Rattle.wedge_core.specs.Progress.{Progress, Awaits, IsWaiting, IsBusy, initial_progress}
 use Rattle.wedge_core.specs.Serial.{newest, live_names, AreUnder, AreNested, IsSerial}
-use Rattle.wedge_core.specs.declared.serially.Live.{Live}
+use Rattle.wedge_core.specs.declared.serially.LiveActor.{LiveActor}
 use Rattle.wedge_core.proofs.AtRest.{unjoined_at_rest}
 use Rattle.wedge_core.proofs.FamilyTurns.{is_given}
 
@@ -107,7 +107,7 @@ newest_is [] behind a lives others =
 newest_is (y ∷ ys) behind a lives others =
     ap (λ o. elim o [ Some name ↦ Some name | None ↦ if has_ended y.phase then None else Some y.name ]) (newest_is ys behind a lives others)
 
--- ---- its place among actors of which no two have one name
+-- ---- its index among actors of which no two have one name
 
 new_in : (n : List ℕ) (before behind : List ActorState) (a : ActorState) → IsNew n (before ++ a ∷ behind) → same a.name n ≡ false
 new_in n [] behind a new = new.0
@@ -373,7 +373,7 @@ newest_busy_not i turns w a name run n own nested s =
 
 -- ---- the stack of those that live
 
-pub opening_serial : (i : Image) (p : Progress) (live : List Live) → p ≡ initial_progress i → live ≡ record { name = root_name; place = 0 } ∷ [] → IsSerial i p live
+pub opening_serial : (i : Image) (p : Progress) (live : List LiveActor) → p ≡ initial_progress i → live ≡ record { name = root_name; index = 0 } ∷ [] → IsSerial i p live
 unfolding root
 opening_serial i p live is one = subst (λ q. IsSerial i q live) (sym is) (subst (λ ls. IsSerial i (initial_progress i) ls) (sym one) (record {
   going = refl;
@@ -381,7 +381,7 @@ opening_serial i p live is one = subst (λ q. IsSerial i q live) (sym is) (subst
   order = tt;
   goes_on = tt;
   stack = refl;
-  placed = (refl, tt);
+  indexed = (refl, tt);
   root_first = record { root_ = root i; others = []; first = refl; named = refl; last = λ e. refl };
   nested = (tt, tt);
 }))

@@ -29,7 +29,7 @@ turns_of-numbered stamp (t ∷ ts) = ap (λ us. t ∷ us) (turns_of-numbered (st
 pub is_numbered : (ts : List Turn) (entries : List LogEntry) → entries ≡ numbered 1 ts → IsNumbered entries
 is_numbered ts entries is = is ∙ ap (numbered 1) (sym (ap turns_of is ∙ turns_of-numbered 1 ts))
 
--- an entry that is added tells its turn, and is numbered by its place
+-- an entry that is added tells its turn, and is numbered by its index
 pub notes_turns : (old new : List LogEntry) (name : List ℕ) (e : Event) → Notes old name e new → turns_of new ≡ turns_of old ++ record { actor = name; event = e } ∷ []
 notes_turns old new name e noted =
     ap turns_of noted ∙ map-append (λ (x : LogEntry). record { actor = x.actor; event = x.event }) old (entry (length old + 1) (record { actor = name; event = e }) ∷ [])
@@ -38,9 +38,9 @@ pub notes_numbered : (old new : List LogEntry) (name : List ℕ) (e : Event) →
 notes_numbered old new name e noted numbered_old =
     let t : Turn = record { actor = name; event = e } in
     let len : length (turns_of old) ≡ length old = length-map old (λ (x : LogEntry). record { actor = x.actor; event = x.event }) in
-    let place : length old + 1 ≡ 1 + length (turns_of old) = omega (arith, len) in
+    let index : length old + 1 ≡ 1 + length (turns_of old) = omega (arith, len) in
     noted ∙ ap (λ (es : List LogEntry). es ++ entry (length old + 1) t ∷ []) numbered_old
-    ∙ ap (λ n. numbered 1 (turns_of old) ++ entry n t ∷ []) place
+    ∙ ap (λ n. numbered 1 (turns_of old) ++ entry n t ∷ []) index
     ∙ sym (numbered-push 1 (turns_of old) t) ∙ ap (numbered 1) (sym (notes_turns old new name e noted))
 
 -- entries whose turns lead to a state in which the root has ended are those of a complete run

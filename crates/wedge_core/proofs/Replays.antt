@@ -16,7 +16,7 @@ use Rattle.run_laws.specs.Cells.{event_of}
 use Rattle.sthread_life.specs.Local.{has_ended}
 use Rattle.run_laws.specs.Moments.{EachTurn}
 use Rattle.sthread_life.specs.Children.{child_name}
-use Rattle.sthread_life.specs.Taking.{current_want, wanted_at}
+use Rattle.sthread_life.specs.Take.{current_want, wanted_at}
 use Rattle.sthread_life.specs.declared.phase.Phase.{Phase}
 use Rattle.sthread_life.specs.declared.phase.Phase.TheVariants as phase
 use Rattle.run_laws.specs.Worlds.{WorldState, Taken, initial_state, actor_named, is_ended, join_event, event_at, apply_event, wanting, turn_with, turn_of, resumed, at_rest, Runs, is_complete}
@@ -27,6 +27,7 @@ use Rattle.run_laws.proofs.AllEnd.{ended_have_joined, all_have_ended}
 use Rattle.run_laws.proofs.GrantedCopies.{copies_granted, runs_alone}
 use Rattle.run_laws.proofs.GatesWithin.{none_within, held_older}
 use Rattle.run_laws.proofs.KnownGates.{gates_kept}
+use Rattle.run_laws.proofs.FittingAsks.{asks_fit}
 use Rattle.run_laws.proofs.OccupiedRuns.{slots_occupied}
 use Rattle.run_laws.proofs.Mediating.{moments_lawful}
 use Rattle.run_laws.proofs.Writing.{runs_write_their_own}
@@ -286,6 +287,7 @@ complete_of i turns last run complete goes = record {
   paid = (fuel_kept i turns last run).1;
   bound = runs_end i turns last run;
   suit = (slots_occupied i turns last run).suit;
+  fit = asks_fit i turns last run;
 }
 
 pub replays_are_complete : ReplaysAreComplete

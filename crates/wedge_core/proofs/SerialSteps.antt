@@ -17,7 +17,7 @@ use Rattle.sthread_life.specs.Children.{child_name}
 use Rattle.run_laws.specs.Fuel.{work_left}
 use Rattle.sthread_life.specs.Local.{rest, has_ended}
 use Rattle.run_laws.specs.Names.{IsNew, AreDistinct}
-use Rattle.sthread_life.specs.Taking.{next_start, takes, actor_begun, child_of, has_entered, run_by, run_at}
+use Rattle.sthread_life.specs.Take.{next_start, takes, actor_begun, child_of, has_entered, run_by, run_at}
 use Rattle.run_laws.specs.FamilyTrees.{Family}
 use Rattle.run_laws.specs.Worlds.{WorldState, Taken, initial_state, actor_named, put_actor, with_begun, ready, resumed, Runs, is_ended, is_complete}
 use Rattle.run_laws.proofs.Between.{takes_name}
@@ -28,12 +28,12 @@ use Rattle.run_laws.proofs.Settling.{AllReady, run_ready, turn_ready, opening_re
 use Rattle.run_laws.proofs.Trees.{apart_too}
 use Rattle.run_laws.proofs.Turns.{ready_name, turn_from}
 use Rattle.run_laws.proofs.WorkLeft.{turn_works}
-use Rattle.wedge_core.specs.Progress.{Progress, IsFirstNamed, IsPlaceOf, IsTurn, IsWaiting, IsBusy, TookTurnOf, HasEnded}
-use Rattle.wedge_core.specs.Serial.{newest, live_names, AreNested, InSerialOrder, RootGoesOn, RootIsFirst, ArePlaced, names_of_live, IsSerial, LivesAfter, LivingGoOn, SerialOrderGoesOn}
-use Rattle.wedge_core.specs.Places.{place_in}
-use Rattle.wedge_core.specs.declared.serially.Live.{Live}
+use Rattle.wedge_core.specs.Progress.{Progress, IsFirstNamed, IsIndexOf, IsTurn, IsWaiting, IsBusy, TookTurnOf, HasEnded}
+use Rattle.wedge_core.specs.Serial.{newest, live_names, AreNested, InSerialOrder, RootGoesOn, RootIsFirst, AreIndexed, names_of_live, IsSerial, LivesAfter, LivingGoOn, SerialOrderGoesOn}
+use Rattle.wedge_core.specs.Indices.{index_in}
+use Rattle.wedge_core.specs.declared.serially.LiveActor.{LiveActor}
 use Rattle.wedge_core.proofs.HavingTurns.{HasTurn, Awaiting, AtBusy, turning}
-use Rattle.wedge_core.proofs.Indexing.{place_found, place_push, place_put_back}
+use Rattle.wedge_core.proofs.Indexing.{index_found, index_push, index_put_back}
 use Rattle.wedge_core.proofs.Advancing.{length-push}
 use Rattle.wedge_core.proofs.Replays.{EachTurn-push}
 use Rattle.wedge_core.proofs.Runs.{Runs-push}
@@ -98,40 +98,40 @@ newest_by i p turns live name run stack some at =
       named = ap (actor_named p.state.actors) own ∙ (ap (λ as_. actor_named as_ n.0.name) n.1.is ∙ named_in n.1.before n.1.behind n.0 all);
     }
 
-get_name : (live : List Live) (n : ℕ) (l : Live) → n < length live → l ≡ get_or live n l → l.name ≡ get_or (names_of_live live) n l.name
+get_name : (live : List LiveActor) (n : ℕ) (l : LiveActor) → n < length live → l ≡ get_or live n l → l.name ≡ get_or (names_of_live live) n l.name
 get_name [] n l lt is = absurd (omega (arith, lt))
-get_name (x ∷ xs) zero l lt is = ap (λ (y : Live). y.name) is
+get_name (x ∷ xs) zero l lt is = ap (λ (y : LiveActor). y.name) is
 get_name (x ∷ xs) (suc n) l lt is = get_name xs n l (omega (arith, lt)) is
 
-count_names : (live : List Live) → length (names_of_live live) ≡ length live
+count_names : (live : List LiveActor) → length (names_of_live live) ≡ length live
 count_names [] = refl
 count_names (l ∷ ls) = ap suc (count_names ls)
 
 -- the last of those that live is the newest, and is at its index
-pub newest_named : (i : Image) (p : Progress) (live : List Live) (l : Live) → IsSerial i p live → 0 < length live → l ≡ get_or live (length live - 1) l → Newest p l.name
+pub newest_named : (i : Image) (p : Progress) (live : List LiveActor) (l : LiveActor) → IsSerial i p live → 0 < length live → l ≡ get_or live (length live - 1) l → Newest p l.name
 newest_named i p live l s some at =
     let count = count_names live in
     newest_by i p p.turns (names_of_live live) l.name s.run s.stack (omega (arith, some, count))
     (get_name live (length live - 1) l (omega (arith, some)) at ∙ ap (λ n. get_or (names_of_live live) (n - 1) l.name) (sym count))
 
-placed_at : (actors : List ActorState) (live : List Live) (n : ℕ) (l : Live) → ArePlaced actors live → n < length live → l ≡ get_or live n l → place_in actors l.name ≡ Some l.place
-placed_at actors [] n l all lt is = absurd (omega (arith, lt))
-placed_at actors (x ∷ xs) zero l all lt is = subst (λ (y : Live). place_in actors y.name ≡ Some y.place) (sym is) all.0
-placed_at actors (x ∷ xs) (suc n) l all lt is = placed_at actors xs n l all.1 (omega (arith, lt)) is
+indexed_at : (actors : List ActorState) (live : List LiveActor) (n : ℕ) (l : LiveActor) → AreIndexed actors live → n < length live → l ≡ get_or live n l → index_in actors l.name ≡ Some l.index
+indexed_at actors [] n l all lt is = absurd (omega (arith, lt))
+indexed_at actors (x ∷ xs) zero l all lt is = subst (λ (y : LiveActor). index_in actors y.name ≡ Some y.index) (sym is) all.0
+indexed_at actors (x ∷ xs) (suc n) l all lt is = indexed_at actors xs n l all.1 (omega (arith, lt)) is
 
-pub newest_placed : (i : Image) (p : Progress) (live : List Live) (l : Live) → IsSerial i p live → 0 < length live → l ≡ get_or live (length live - 1) l → IsPlaceOf p.state.actors l.name l.place
-newest_placed i p live l s some at =
-    subst (λ o. IfSome o (IsPlaceOf p.state.actors l.name)) (placed_at p.state.actors live (length live - 1) l s.placed (omega (arith, some)) at) (place_found p.state.actors l.name)
+pub newest_indexed : (i : Image) (p : Progress) (live : List LiveActor) (l : LiveActor) → IsSerial i p live → 0 < length live → l ≡ get_or live (length live - 1) l → IsIndexOf p.state.actors l.name l.index
+newest_indexed i p live l s some at =
+    subst (λ o. IfSome o (IsIndexOf p.state.actors l.name)) (indexed_at p.state.actors live (length live - 1) l s.indexed (omega (arith, some)) at) (index_found p.state.actors l.name)
 
 -- it has not ended, and it does not wait
 pub newest_lives : {A : Type 0} (p : Progress) (name : List ℕ) → Newest p name → HasEnded p.state.actors name → A
 newest_lives p name n ended = not_ended p.state.actors name n.actor n.named n.is_newest.lives ended
 
-pub newest_goes_on : {A : Type 0} (i : Image) (p : Progress) (live : List Live) (name : List ℕ) → IsSerial i p live → Newest p name → IsWaiting p.state name → A
+pub newest_goes_on : {A : Type 0} (i : Image) (p : Progress) (live : List LiveActor) (name : List ℕ) → IsSerial i p live → Newest p name → IsWaiting p.state name → A
 newest_goes_on i p live name s n waits = absurd (newest_waits_not i p.turns p.state n.actor name s.run n.is_newest n.own waits)
 
 -- and no gate that it is to enter is busy
-pub newest_enters : {A : Type 0} (i : Image) (p : Progress) (live : List Live) (name : List ℕ) → IsSerial i p live → Newest p name → IsBusy p.state name → A
+pub newest_enters : {A : Type 0} (i : Image) (p : Progress) (live : List LiveActor) (name : List ℕ) → IsSerial i p live → Newest p name → IsBusy p.state name → A
 newest_enters i p live name s n busy = absurd (newest_busy_not i p.turns p.state n.actor name s.run n.is_newest n.own s.nested busy)
 
 -- ---- what its turn leaves
@@ -212,25 +212,25 @@ left p name n q g =
     }
 
 -- the names of those that live then
-record NamesAfter (actors : List ActorState) (place count : ℕ) (old new : List (List ℕ)) : Type 0 where
+record NamesAfter (actors : List ActorState) (index count : ℕ) (old new : List (List ℕ)) : Type 0 where
   begun : count < length actors → (c : ActorState) × (slice_get actors count ≡ Some c) × (new ≡ old ++ c.name ∷ [])
-  ended : length actors ≤ count → (a : ActorState) → slice_get actors place ≡ Some a → has_ended a.phase ≡ true → (name : List ℕ) × (old ≡ new ++ name ∷ [])
-  goes_on : length actors ≤ count → (a : ActorState) → slice_get actors place ≡ Some a → has_ended a.phase ≡ false → new ≡ old
+  ended : length actors ≤ count → (a : ActorState) → slice_get actors index ≡ Some a → has_ended a.phase ≡ true → (name : List ℕ) × (old ≡ new ++ name ∷ [])
+  goes_on : length actors ≤ count → (a : ActorState) → slice_get actors index ≡ Some a → has_ended a.phase ≡ false → new ≡ old
 
-names_push : (live : List Live) (l : Live) → names_of_live (live ++ l ∷ []) ≡ names_of_live live ++ l.name ∷ []
+names_push : (live : List LiveActor) (l : LiveActor) → names_of_live (live ++ l ∷ []) ≡ names_of_live live ++ l.name ∷ []
 names_push [] l = refl
 names_push (x ∷ xs) l = ap (λ ns. x.name ∷ ns) (names_push xs l)
 
-names_after : (actors : List ActorState) (place count : ℕ) (old new : List Live) → LivesAfter actors place count old new → NamesAfter actors place count (names_of_live old) (names_of_live new)
-names_after actors place count old new after = record {
-  begun = λ more. let b = after.begun more in (b.0, b.1, ap names_of_live b.2 ∙ names_push old (record { name = b.0.name; place = count }));
+names_after : (actors : List ActorState) (index count : ℕ) (old new : List LiveActor) → LivesAfter actors index count old new → NamesAfter actors index count (names_of_live old) (names_of_live new)
+names_after actors index count old new after = record {
+  begun = λ more. let b = after.begun more in (b.0, b.1, ap names_of_live b.2 ∙ names_push old (record { name = b.0.name; index = count }));
   ended = λ few a at e. let l = after.ended few a at e in (l.0.name, ap names_of_live l.1 ∙ names_push new l.0);
   goes_on = λ few a at e. ap names_of_live (after.goes_on few a at e);
 }
 
-stack_after : (p q : Progress) (live new : List (List ℕ)) (name : List ℕ) (place : ℕ) (n : Newest p name) → live ≡ live_names p.state.actors → IsPlaceOf p.state.actors name place
-    → Left p name n q → NamesAfter q.state.actors place (length p.state.actors) live new → new ≡ live_names q.state.actors
-stack_after p q live new name place n stack at l after = by_begun l.begins refl
+stack_after : (p q : Progress) (live new : List (List ℕ)) (name : List ℕ) (index : ℕ) (n : Newest p name) → live ≡ live_names p.state.actors → IsIndexOf p.state.actors name index
+    → Left p name n q → NamesAfter q.state.actors index (length p.state.actors) live new → new ≡ live_names q.state.actors
+stack_after p q live new name index n stack at l after = by_begun l.begins refl
   where
     before : List ActorState
     before = n.is_newest.before
@@ -238,23 +238,23 @@ stack_after p q live new name place n stack at l after = by_begun l.begins refl
     behind : List ActorState
     behind = n.is_newest.behind
 
-    f : IsFirstNamed p.state.actors name place at.0
+    f : IsFirstNamed p.state.actors name index at.0
     f = at.1
 
     was : live ≡ live_names before ++ name ∷ []
     was = stack ∙ (ap live_names n.is_newest.is ∙ (live_where before behind n.actor n.is_newest.lives n.is_newest.others ∙ ap (λ m. live_names before ++ m ∷ []) n.own))
 
-    set : put_actor p.state.actors l.after ≡ slice_set p.state.actors place l.after
+    set : put_actor p.state.actors l.after ≡ slice_set p.state.actors index l.after
     set = f.put l.after l.own
 
     count : length (put_actor p.state.actors l.after) ≡ length p.state.actors
-    count = ap length set ∙ set_length p.state.actors place l.after
+    count = ap length set ∙ set_length p.state.actors index l.after
 
     goes_on : has_ended l.after.phase ≡ false → live_names (put_actor p.state.actors l.after) ≡ live
     goes_on e = ap live_names l.put ∙ (live_where before behind l.after e n.is_newest.others ∙ (ap (λ m. live_names before ++ m ∷ []) l.own ∙ sym was))
 
-    there : q.state.actors ≡ put_actor p.state.actors l.after → slice_get q.state.actors place ≡ Some l.after
-    there is = ap (λ as_. slice_get as_ place) (is ∙ set) ∙ set_get p.state.actors place l.after f.inside
+    there : q.state.actors ≡ put_actor p.state.actors l.after → slice_get q.state.actors index ≡ Some l.after
+    there is = ap (λ as_. slice_get as_ index) (is ∙ set) ∙ set_get p.state.actors index l.after f.inside
 
     by_end : (t : Bool) → has_ended l.after.phase ≡ t → q.state.actors ≡ put_actor p.state.actors l.after → new ≡ live_names q.state.actors
     by_end true e is =
@@ -319,13 +319,13 @@ nested_after p q name n nested all l = by_begun l.begins refl
 -- ---- each is at its index still
 
 -- one of those behind whom another was added
-placed_before : (actors : List ActorState) (live : List Live) (l : Live) → ArePlaced actors (live ++ l ∷ []) → ArePlaced actors live
-placed_before actors [] l all = tt
-placed_before actors (x ∷ xs) l all = (all.0, placed_before actors xs l all.1)
+indexed_before : (actors : List ActorState) (live : List LiveActor) (l : LiveActor) → AreIndexed actors (live ++ l ∷ []) → AreIndexed actors live
+indexed_before actors [] l all = tt
+indexed_before actors (x ∷ xs) l all = (all.0, indexed_before actors xs l all.1)
 
-placed_put : (actors : List ActorState) (place : ℕ) (a x : ActorState) (live : List Live) → slice_get actors place ≡ Some a → x.name ≡ a.name → ArePlaced actors live → ArePlaced (slice_set actors place x) live
-placed_put actors place a x [] there own all = tt
-placed_put actors place a x (l ∷ ls) there own all = (place_put_back actors place a x there own l.name ∙ all.0, placed_put actors place a x ls there own all.1)
+indexed_put : (actors : List ActorState) (index : ℕ) (a x : ActorState) (live : List LiveActor) → slice_get actors index ≡ Some a → x.name ≡ a.name → AreIndexed actors live → AreIndexed (slice_set actors index x) live
+indexed_put actors index a x [] there own all = tt
+indexed_put actors index a x (l ∷ ls) there own all = (index_put_back actors index a x there own l.name ∙ all.0, indexed_put actors index a x ls there own all.1)
 
 -- the last of actors that have names of their own
 last_fresh : (actors : List ActorState) (c : ActorState) → AreDistinct (actors ++ c ∷ []) → actor_named actors c.name ≡ None
@@ -336,50 +336,50 @@ last_fresh (y ∷ ys) c all = ap (λ t. if t then Some y else actor_named ys c.n
     new_last [] new = new.0
     new_last (z ∷ zs) new = new_last zs new.1
 
-not_there : (actors : List ActorState) (name : List ℕ) (place : ℕ) → place_in actors name ≡ Some place → actor_named actors name ≡ None → ⊥
-not_there actors name place is none = let found = subst (λ o. IfSome o (IsPlaceOf actors name)) is (place_found actors name) in let there = found.1.named in cc
+not_there : (actors : List ActorState) (name : List ℕ) (index : ℕ) → index_in actors name ≡ Some index → actor_named actors name ≡ None → ⊥
+not_there actors name index is none = let found = subst (λ o. IfSome o (IsIndexOf actors name)) is (index_found actors name) in let there = found.1.named in cc
 
-placed_push : (actors : List ActorState) (c : ActorState) (live : List Live) → actor_named actors c.name ≡ None → ArePlaced actors live → ArePlaced (actors ++ c ∷ []) (live ++ record { name = c.name; place = length actors } ∷ [])
-placed_push actors c [] none all = (place_push actors c c.name none ∙ ap (λ t. cond t (Some (length actors)) (place_in actors c.name)) (same_self c.name), tt)
-placed_push actors c (l ∷ ls) none all = (by_name (same c.name l.name) refl, placed_push actors c ls none all.1)
+indexed_push : (actors : List ActorState) (c : ActorState) (live : List LiveActor) → actor_named actors c.name ≡ None → AreIndexed actors live → AreIndexed (actors ++ c ∷ []) (live ++ record { name = c.name; index = length actors } ∷ [])
+indexed_push actors c [] none all = (index_push actors c c.name none ∙ ap (λ t. cond t (Some (length actors)) (index_in actors c.name)) (same_self c.name), tt)
+indexed_push actors c (l ∷ ls) none all = (by_name (same c.name l.name) refl, indexed_push actors c ls none all.1)
   where
-    by_name : (t : Bool) → same c.name l.name ≡ t → place_in (actors ++ c ∷ []) l.name ≡ Some l.place
-    by_name true e = absurd (not_there actors l.name l.place all.0 (ap (actor_named actors) (sym (same_equal c.name l.name e)) ∙ none))
-    by_name false e = place_push actors c l.name none ∙ (ap (λ t. cond t (Some (length actors)) (place_in actors l.name)) e ∙ all.0)
+    by_name : (t : Bool) → same c.name l.name ≡ t → index_in (actors ++ c ∷ []) l.name ≡ Some l.index
+    by_name true e = absurd (not_there actors l.name l.index all.0 (ap (actor_named actors) (sym (same_equal c.name l.name e)) ∙ none))
+    by_name false e = index_push actors c l.name none ∙ (ap (λ t. cond t (Some (length actors)) (index_in actors l.name)) e ∙ all.0)
 
-placed_after : (p q : Progress) (live new : List Live) (name : List ℕ) (place : ℕ) (n : Newest p name) → ArePlaced p.state.actors live → IsPlaceOf p.state.actors name place
-    → AreDistinct q.state.actors → Left p name n q → LivesAfter q.state.actors place (length p.state.actors) live new → ArePlaced q.state.actors new
-placed_after p q live new name place n all at distinct l after = by_begun l.begins refl
+indexed_after : (p q : Progress) (live new : List LiveActor) (name : List ℕ) (index : ℕ) (n : Newest p name) → AreIndexed p.state.actors live → IsIndexOf p.state.actors name index
+    → AreDistinct q.state.actors → Left p name n q → LivesAfter q.state.actors index (length p.state.actors) live new → AreIndexed q.state.actors new
+indexed_after p q live new name index n all at distinct l after = by_begun l.begins refl
   where
-    f : IsFirstNamed p.state.actors name place at.0
+    f : IsFirstNamed p.state.actors name index at.0
     f = at.1
 
     put : List ActorState
     put = put_actor p.state.actors l.after
 
-    set : put ≡ slice_set p.state.actors place l.after
+    set : put ≡ slice_set p.state.actors index l.after
     set = f.put l.after l.own
 
     count : length put ≡ length p.state.actors
-    count = ap length set ∙ set_length p.state.actors place l.after
+    count = ap length set ∙ set_length p.state.actors index l.after
 
-    still : ArePlaced put live
-    still = subst (λ as_. ArePlaced as_ live) (sym set)
-        (placed_put p.state.actors place at.0 l.after live f.there (l.own ∙ sym (found_name p.state.actors name at.0 f.named)) all)
+    still : AreIndexed put live
+    still = subst (λ as_. AreIndexed as_ live) (sym set)
+        (indexed_put p.state.actors index at.0 l.after live f.there (l.own ∙ sym (found_name p.state.actors name at.0 f.named)) all)
 
-    there : q.state.actors ≡ put → slice_get q.state.actors place ≡ Some l.after
-    there is = ap (λ as_. slice_get as_ place) (is ∙ set) ∙ set_get p.state.actors place l.after f.inside
+    there : q.state.actors ≡ put → slice_get q.state.actors index ≡ Some l.after
+    there is = ap (λ as_. slice_get as_ index) (is ∙ set) ∙ set_get p.state.actors index l.after f.inside
 
-    by_end : (t : Bool) → has_ended l.after.phase ≡ t → q.state.actors ≡ put → ArePlaced q.state.actors new
+    by_end : (t : Bool) → has_ended l.after.phase ≡ t → q.state.actors ≡ put → AreIndexed q.state.actors new
     by_end true e is =
         let few : length q.state.actors ≤ length p.state.actors = let same_length = ap length is ∙ count in omega (arith, same_length) in
         let popped = after.ended few l.after (there is) e in
-        subst (λ as_. ArePlaced as_ new) (sym is) (placed_before put new popped.0 (subst (ArePlaced put) popped.1 still))
+        subst (λ as_. AreIndexed as_ new) (sym is) (indexed_before put new popped.0 (subst (AreIndexed put) popped.1 still))
     by_end false e is =
         let few : length q.state.actors ≤ length p.state.actors = let same_length = ap length is ∙ count in omega (arith, same_length) in
-        subst (λ as_. ArePlaced as_ new) (sym is) (subst (ArePlaced put) (sym (after.goes_on few l.after (there is) e)) still)
+        subst (λ as_. AreIndexed as_ new) (sym is) (subst (AreIndexed put) (sym (after.goes_on few l.after (there is) e)) still)
 
-    by_begun : (o : Option ActorState) → l.begins ≡ o → ArePlaced q.state.actors new
+    by_begun : (o : Option ActorState) → l.begins ≡ o → AreIndexed q.state.actors new
     by_begun None e = by_end (has_ended l.after.phase) refl (l.are ∙ ap (with_begun put) e)
     by_begun (Some c) e =
         let is : q.state.actors ≡ put ++ c ∷ [] = l.are ∙ ap (with_begun put) e in
@@ -388,9 +388,9 @@ placed_after p q live new name place n all at distinct l after = by_begun l.begi
         let pushed = after.begun more in
         let last : slice_get q.state.actors (length p.state.actors) ≡ Some c = ap (λ as_. slice_get as_ (length p.state.actors)) is ∙ (ap (slice_get (put ++ c ∷ [])) (sym count) ∙ get_last put c) in
         let one : pushed.0 ≡ c = one_of (sym pushed.1 ∙ last) in
-        let are : new ≡ live ++ record { name = c.name; place = length put } ∷ [] = pushed.2 ∙ (ap (λ (x : ActorState). live ++ record { name = x.name; place = length p.state.actors } ∷ []) one
-        ∙ ap (λ k. live ++ record { name = c.name; place = k } ∷ []) (sym count)) in
-        subst (λ as_. ArePlaced as_ new) (sym is) (subst (ArePlaced (put ++ c ∷ [])) (sym are) (placed_push put c live (last_fresh put c (subst AreDistinct is distinct)) still))
+        let are : new ≡ live ++ record { name = c.name; index = length put } ∷ [] = pushed.2 ∙ (ap (λ (x : ActorState). live ++ record { name = x.name; index = length p.state.actors } ∷ []) one
+        ∙ ap (λ k. live ++ record { name = c.name; index = k } ∷ []) (sym count)) in
+        subst (λ as_. AreIndexed as_ new) (sym is) (subst (AreIndexed (put ++ c ∷ [])) (sym are) (indexed_push put c live (last_fresh put c (subst AreDistinct is distinct)) still))
       where
         one_of : {x y : ActorState} → Some x ≡ Some y → x ≡ y
         one_of h = cc
@@ -455,7 +455,7 @@ not_complete w live r stack some = is_complete_first w r ∙ by_end (has_ended r
         absurd (omega (arith, some, no))
 
 -- once none does, it has ended
-pub whole_at_last : (i : Image) (p : Progress) (live : List Live) → IsSerial i p live → length live ≤ 0 → is_complete p.state ≡ true
+pub whole_at_last : (i : Image) (p : Progress) (live : List LiveActor) → IsSerial i p live → length live ≤ 0 → is_complete p.state ≡ true
 whole_at_last i p live s none = let r = s.root_first in is_complete_first p.state r ∙ by_end r (has_ended r.root_.phase) refl
   where
     by_end : (r : RootIsFirst p.state.actors) (t : Bool) → has_ended r.root_.phase ≡ t → has_ended r.root_.phase ≡ true
@@ -468,12 +468,12 @@ whole_at_last i p live s none = let r = s.root_first in is_complete_first p.stat
 
 -- ---- the next turn
 
-pub serial_next : (i : Image) (p q : Progress) (live new : List Live) (name : List ℕ) (place count : ℕ) → IsSerial i p live → 0 < length live → (n : Newest p name) → IsPlaceOf p.state.actors name place
-    → count ≡ length p.state.actors → TookTurnOf p name q → q.stopped ≡ false → LivesAfter q.state.actors place count live new → IsSerial i q new
-serial_next i p q live new name place count s some n at many g going after =
+pub serial_next : (i : Image) (p q : Progress) (live new : List LiveActor) (name : List ℕ) (index count : ℕ) → IsSerial i p live → 0 < length live → (n : Newest p name) → IsIndexOf p.state.actors name index
+    → count ≡ length p.state.actors → TookTurnOf p name q → q.stopped ≡ false → LivesAfter q.state.actors index count live new → IsSerial i q new
+serial_next i p q live new name index count s some n at many g going after =
     let t : Turn = record { actor = name; event = g.event } in
     let l = left p name n q g in
-    let after_all = subst (λ k. LivesAfter q.state.actors place k live new) many after in
+    let after_all = subst (λ k. LivesAfter q.state.actors index k live new) many after in
     let names = count_names live in
     let run : Runs (initial_state i) q.turns q.state = subst (λ ts. Runs (initial_state i) ts q.state) (sym g.noted) (Runs-push (initial_state i) p.state q.state p.turns t s.run g.turn) in
     let is_newest = ap newest n.is_newest.is ∙ (newest_is n.is_newest.before n.is_newest.behind n.actor n.is_newest.lives n.is_newest.others ∙ ap (λ m. Some m) n.own) in
@@ -482,20 +482,20 @@ serial_next i p q live new name place count s some n at many g going after =
       run = run;
       order = subst (λ ts. InSerialOrder (initial_state i) ts) (sym g.noted) (EachTurn-push _ (initial_state i) p.state q.state p.turns t s.order s.run g.turn is_newest);
       goes_on = subst (λ ts. RootGoesOn (initial_state i) ts) (sym g.noted) (EachTurn-push _ (initial_state i) p.state q.state p.turns t s.goes_on s.run g.turn (not_complete p.state (names_of_live live) s.root_first s.stack (omega (arith, some, names))));
-      stack = stack_after p q (names_of_live live) (names_of_live new) name place n s.stack at l (names_after q.state.actors place (length p.state.actors) live new after_all);
-      placed = placed_after p q live new name place n s.placed at (run_family i q.turns q.state run).distinct l after_all;
+      stack = stack_after p q (names_of_live live) (names_of_live new) name index n s.stack at l (names_after q.state.actors index (length p.state.actors) live new after_all);
+      indexed = indexed_after p q live new name index n s.indexed at (run_family i q.turns q.state run).distinct l after_all;
       root_first = root_after p q name n s.root_first l;
       nested = nested_after p q name n s.nested (run_ready i p.turns p.state s.run) l;
     }
 
-pub serial_less : (i : Image) (p q : Progress) (live : List Live) (name : List ℕ) → IsSerial i p live → TookTurnOf p name q → work_left q.state < work_left p.state
+pub serial_less : (i : Image) (p q : Progress) (live : List LiveActor) (name : List ℕ) → IsSerial i p live → TookTurnOf p name q → work_left q.state < work_left p.state
 serial_less i p q live name s g = turn_works p.state name g.event q.state (run_ready i p.turns p.state s.run) (run_family i p.turns p.state s.run) g.turn
 
 -- an actor begun stands at the end
-pub place_still : (p q : Progress) (name : List ℕ) (place : ℕ) → IsPlaceOf p.state.actors name place → TookTurnOf p name q → place < length q.state.actors
-place_still p q name place at g =
+pub index_still : (p q : Progress) (name : List ℕ) (index : ℕ) → IsIndexOf p.state.actors name index → TookTurnOf p name q → index < length q.state.actors
+index_still p q name index at g =
     let t = turn_leaves p.state name g.event q.state g.turn in
-    let count : length (put_actor p.state.actors t.after) ≡ length p.state.actors = ap length (at.1.put t.after t.own) ∙ set_length p.state.actors place t.after in
+    let count : length (put_actor p.state.actors t.after) ≡ length p.state.actors = ap length (at.1.put t.after t.own) ∙ set_length p.state.actors index t.after in
     let are : length q.state.actors ≡ length (with_begun (put_actor p.state.actors t.after) t.begins) = ap length t.are in
     let inside = at.1.inside in
     let more = longer (put_actor p.state.actors t.after) t.begins in
@@ -506,8 +506,8 @@ place_still p q name place at g =
     longer as_ (Some c) = let h = length-push as_ c in omega (arith, h)
 
 -- the actor at an index is one
-pub ends_as : (actors : List ActorState) (place : ℕ) (a x : ActorState) → slice_get actors place ≡ Some a → slice_get actors place ≡ Some x → has_ended a.phase ≡ has_ended x.phase
-ends_as actors place a x is at = let one : a ≡ x = one_of (sym is ∙ at) in ap (λ (y : ActorState). has_ended y.phase) one
+pub ends_as : (actors : List ActorState) (index : ℕ) (a x : ActorState) → slice_get actors index ≡ Some a → slice_get actors index ≡ Some x → has_ended a.phase ≡ has_ended x.phase
+ends_as actors index a x is at = let one : a ≡ x = one_of (sym is ∙ at) in ap (λ (y : ActorState). has_ended y.phase) one
   where
     one_of : {y z : ActorState} → Some y ≡ Some z → y ≡ z
     one_of e = cc

@@ -9,17 +9,17 @@ use Rattle.wedge_events.specs.declared.events.LogEntry.{LogEntry}
 use Rattle.wedge_events.specs.declared.events.Turn.{Turn}
 use Rattle.sthread_life.specs.Actors.{ActorState}
 use Rattle.sthread_life.specs.Local.{rest, has_ended, is_running}
-use Rattle.sthread_life.specs.Taking.{current_want, takes, actor_begun}
+use Rattle.sthread_life.specs.Take.{current_want, takes, actor_begun}
 use Rattle.run_laws.specs.Cells.{Cells, cells_after}
 use Rattle.run_laws.specs.Worlds.{WorldState, initial_state, actor_named, put_actor, all_at_rest, with_begun, event_at, apply_event, wanting, turn_with, turn_of, turn_in, is_ended, ended_with, resumes, ready_at, ready, resumed}
 use Rattle.run_laws.proofs.Between.{takes_name}
 use Rattle.run_laws.proofs.Named.{found_name, named_put, put_put}
 use Rattle.sthread_life.proofs.Resting.{rest-name, rest-stays}
 use Rattle.run_laws.proofs.Settling.{EndAlike, turns_alike, put_ends, ends_event, resumed_ends, rests_settled}
-use Rattle.wedge_core.specs.Progress.{IsRunSoFar, IsTurn, HasEnded, IsFirstNamed, IsPlaceOf, Awaits, state_of, rested, rested_in}
+use Rattle.wedge_core.specs.Progress.{IsRunSoFar, IsTurn, HasEnded, IsFirstNamed, IsIndexOf, Awaits, state_of, rested, rested_in}
 use Rattle.wedge_core.specs.Turning.{event_asked, IsOfCell, StillWaits, IsDoneAt, HasWaited, HasMetBusy}
 use Rattle.wedge_core.proofs.Fitting.{asked_is, begins_none}
-use Rattle.wedge_core.proofs.Places.{get_at}
+use Rattle.wedge_core.proofs.Indices.{get_at}
 use Rattle.wedge_core.proofs.Runs.{Runs-push}
 use Rattle.sthread_life.specs.Children.{child_name}
 use Rattle.run_laws.proofs.Turns.{ready_else, ready_named}
@@ -48,16 +48,16 @@ is_turn i cells after actors new name a q e named awake wants comes after_is new
     ∙ ap (λ (as_ : List ActorState). Some (record { event = e; world = state_of i after as_ })) (sym new_is)))))
 
 -- an event of a cell makes a turn
-pub cell_turn : (i : Image) (cells after : Cells) (actors : List ActorState) (place : ℕ) (name : List ℕ) (a new : ActorState) (q : Want) (e : Event)
-    → IsFirstNamed actors name place a → IsAwake a.phase → current_want (rest i a) ≡ Some q → IsOfCell q → event_asked cells (rest i a) q ≡ Some e → after ≡ cells_after cells e → new ≡ takes i (rest i a) e → new.name ≡ name
-    → IsTurn (state_of i cells actors) name e (state_of i after (slice_set actors place new))
-cell_turn i cells after actors place name a new q e found awake wants of_cell comes after_is new_is own =
+pub cell_turn : (i : Image) (cells after : Cells) (actors : List ActorState) (index : ℕ) (name : List ℕ) (a new : ActorState) (q : Want) (e : Event)
+    → IsFirstNamed actors name index a → IsAwake a.phase → current_want (rest i a) ≡ Some q → IsOfCell q → event_asked cells (rest i a) q ≡ Some e → after ≡ cells_after cells e → new ≡ takes i (rest i a) e → new.name ≡ name
+    → IsTurn (state_of i cells actors) name e (state_of i after (slice_set actors index new))
+cell_turn i cells after actors index name a new q e found awake wants of_cell comes after_is new_is own =
     let w = state_of i cells actors in
     let b = rest i a in
-    is_turn i cells after actors (slice_set actors place new) name a q e found.named awake wants (asked_is w b q of_cell ∙ comes) after_is
+    is_turn i cells after actors (slice_set actors index new) name a q e found.named awake wants (asked_is w b q of_cell ∙ comes) after_is
     (sym (found.put new own) ∙ (ap (put_actor actors) new_is ∙ ap (with_begun (put_actor actors (takes i b e))) (sym (begins_none i cells b q e of_cell comes))))
 
--- ---- an actor that has come to rest, in its place
+-- ---- an actor that has come to rest, at its index
 
 pub set_get : {X : Type 0} (xs : List X) (n : ℕ) (x : X) → n < length xs → slice_get (slice_set xs n x) n ≡ Some x
 set_get [] n x lt = absurd (omega (arith, lt))
@@ -74,41 +74,41 @@ set_length [] n x = refl
 set_length (y ∷ ys) zero x = refl
 set_length (y ∷ ys) (suc n) x = ap suc (set_length ys n x)
 
--- one that is put in its place is found there
-pub found_set : (actors : List ActorState) (name : List ℕ) (place : ℕ) (a x : ActorState) → IsFirstNamed actors name place a → x.name ≡ name → IsFirstNamed (slice_set actors place x) name place x
-found_set actors name place a x found own =
+-- one that is put at its index is found there
+pub found_set : (actors : List ActorState) (name : List ℕ) (index : ℕ) (a x : ActorState) → IsFirstNamed actors name index a → x.name ≡ name → IsFirstNamed (slice_set actors index x) name index x
+found_set actors name index a x found own =
     let put = found.put x own in
     let there : actor_named actors x.name ≡ Some a = ap (actor_named actors) own ∙ found.named in
     record {
-      inside = subst (λ n. place < n) (sym (set_length actors place x)) found.inside;
-      there = set_get actors place x found.inside;
+      inside = subst (λ n. index < n) (sym (set_length actors index x)) found.inside;
+      there = set_get actors index x found.inside;
       named = ap (λ as_. actor_named as_ name) (sym put) ∙ (ap (actor_named (put_actor actors x)) (sym own) ∙ named_put actors x a there);
-      put = λ new same_name. ap (λ as_. put_actor as_ new) (sym put) ∙ (put_put actors x new (same_name ∙ sym own) ∙ (found.put new same_name ∙ sym (set_set actors place x new)));
+      put = λ new same_name. ap (λ as_. put_actor as_ new) (sym put) ∙ (put_put actors x new (same_name ∙ sym own) ∙ (found.put new same_name ∙ sym (set_set actors index x new)));
     }
 
 -- what another comes to is the same before and after
-pub rested_event : (i : Image) (c : Cells) (actors : List ActorState) (name : List ℕ) (place : ℕ) (a b : ActorState) (q : Want) → IsFirstNamed actors name place a
-    → event_at (state_of i c (slice_set actors place (rest i a))) b q ≡ event_at (state_of i c actors) b q
-rested_event i c actors name place a b q found =
+pub rested_event : (i : Image) (c : Cells) (actors : List ActorState) (name : List ℕ) (index : ℕ) (a b : ActorState) (q : Want) → IsFirstNamed actors name index a
+    → event_at (state_of i c (slice_set actors index (rest i a))) b q ≡ event_at (state_of i c actors) b q
+rested_event i c actors name index a b q found =
     let own : (rest i a).name ≡ name = rest-name i a ∙ found_name actors name a found.named in
     ap (λ as_. event_at (state_of i c as_) b q) (sym (found.put (rest i a) own))
     ∙ ends_event (state_of i c (put_actor actors (rest i a))) (state_of i c actors) b q refl (put_ends actors a (rest i a) (own_there actors name a found.named) (rest-name i a) (rest_end i a))
 
 -- what other actors have part in makes a turn
-pub family_turn : (i : Image) (cells new_cells : Cells) (actors new : List ActorState) (place : ℕ) (name : List ℕ) (a : ActorState) (q : Want) (entries new_entries : List LogEntry)
-    → IsFirstNamed actors name place a → IsAwake a.phase → current_want (rest i a) ≡ Some q → (d : IsDoneAt i cells (slice_set actors place (rest i a)) place q entries name new_cells new new_entries)
+pub family_turn : (i : Image) (cells new_cells : Cells) (actors new : List ActorState) (index : ℕ) (name : List ℕ) (a : ActorState) (q : Want) (entries new_entries : List LogEntry)
+    → IsFirstNamed actors name index a → IsAwake a.phase → current_want (rest i a) ≡ Some q → (d : IsDoneAt i cells (slice_set actors index (rest i a)) index q entries name new_cells new new_entries)
     → IsTurn (state_of i cells actors) name d.event (state_of i new_cells new)
-family_turn i cells new_cells actors new place name a q entries new_entries found awake wants d =
+family_turn i cells new_cells actors new index name a q entries new_entries found awake wants d =
     let b = rest i a in
-    let is : d.actor ≡ b = one_of (sym d.there ∙ set_get actors place b found.inside) in
+    let is : d.actor ≡ b = one_of (sym d.there ∙ set_get actors index b found.inside) in
     let e = d.event in
     let own : (takes i b e).name ≡ name = takes_name i b e ∙ (rest-name i a ∙ found_name actors name a found.named) in
-    let put : put_actor actors (takes i b e) ≡ slice_set actors place (takes i b e) = found.put (takes i b e) own in
+    let put : put_actor actors (takes i b e) ≡ slice_set actors index (takes i b e) = found.put (takes i b e) own in
     is_turn i cells new_cells actors new name a q e found.named awake wants
-    (sym (rested_event i cells actors name place a b q found) ∙ (ap (λ x. event_at (state_of i cells (slice_set actors place b)) x q) (sym is) ∙ d.comes))
+    (sym (rested_event i cells actors name index a b q found) ∙ (ap (λ x. event_at (state_of i cells (slice_set actors index b)) x q) (sym is) ∙ d.comes))
     d.cells_are
-    (d.new_is ∙ (ap (λ x. with_begun (slice_set (slice_set actors place b) place (takes i x e)) (actor_begun i x e)) is
-    ∙ ap (λ as_. with_begun as_ (actor_begun i b e)) (set_set actors place b (takes i b e) ∙ sym put)))
+    (d.new_is ∙ (ap (λ x. with_begun (slice_set (slice_set actors index b) index (takes i x e)) (actor_begun i x e)) is
+    ∙ ap (λ as_. with_begun as_ (actor_begun i b e)) (set_set actors index b (takes i b e) ∙ sym put)))
   where
     one_of : {x y : ActorState} → Some x ≡ Some y → x ≡ y
     one_of e = cc
@@ -137,21 +137,21 @@ run_goes_on i cells new_cells actors new_actors turns new_turns name e stopped r
       current = λ s. t.alike;
     }
 
--- the actor at a place is the one that was found there
-one_at : (actors : List ActorState) (name : List ℕ) (place : ℕ) (a x : ActorState) → IsFirstNamed actors name place x → slice_get actors place ≡ Some a → IsFirstNamed actors name place a
-one_at actors name place a x found there = let is : x ≡ a = cc in subst (λ (y : ActorState). IsFirstNamed actors name place y) is found
+-- the actor at an index is the one that was found there
+one_at : (actors : List ActorState) (name : List ℕ) (index : ℕ) (a x : ActorState) → IsFirstNamed actors name index x → slice_get actors index ≡ Some a → IsFirstNamed actors name index a
+one_at actors name index a x found there = let is : x ≡ a = cc in subst (λ (y : ActorState). IsFirstNamed actors name index y) is found
   where
-    at : slice_get actors place ≡ Some x
+    at : slice_get actors index ≡ Some x
     at = found.there
 
-pub found_at : (actors : List ActorState) (name : List ℕ) (place : ℕ) (a : ActorState) → IsPlaceOf actors name place → slice_get actors place ≡ Some a → IsFirstNamed actors name place a
-found_at actors name place a found there = one_at actors name place a found.0 found.1 there
+pub found_at : (actors : List ActorState) (name : List ℕ) (index : ℕ) (a : ActorState) → IsIndexOf actors name index → slice_get actors index ≡ Some a → IsFirstNamed actors name index a
+found_at actors name index a found there = one_at actors name index a found.0 found.1 there
 
 -- the same where a list of them is read through a view
-pub found_through : (items actors : List ActorState) (name : List ℕ) (place : ℕ) (a : ActorState) → items ≡ actors → IsPlaceOf actors name place → a ≡ get_or items place a → IsFirstNamed items name place a
-found_through items actors name place a same at value =
-    let here : IsPlaceOf items name place = subst (λ (as_ : List ActorState). IsPlaceOf as_ name place) (sym same) at in
-    found_at items name place a here (get_at items place a here.1.inside value)
+pub found_through : (items actors : List ActorState) (name : List ℕ) (index : ℕ) (a : ActorState) → items ≡ actors → IsIndexOf actors name index → a ≡ get_or items index a → IsFirstNamed items name index a
+found_through items actors name index a same at value =
+    let here : IsIndexOf items name index = subst (λ (as_ : List ActorState). IsIndexOf as_ name index) (sym same) at in
+    found_at items name index a here (get_at items index a here.1.inside value)
 
 -- a world in which one actor is put at rest differs in local events alone
 pub rested_settled : (w : WorldState) (name : List ℕ) (a : ActorState) → actor_named w.actors name ≡ Some a → all_at_rest (rested w name) ≡ all_at_rest w
@@ -236,8 +236,8 @@ goes_busy i cells new_cells actors new name a named awake h =
     one_of e = cc
 
 -- an actor that waits still is at rest
-pub still_waiting : (i : Image) (cells new_cells : Cells) (actors new : List ActorState) (place : ℕ) (name : List ℕ) → StillWaits actors place name new → new_cells ≡ cells → HasWaited i cells actors name new_cells new
-still_waiting i cells new_cells actors new place name h same_cells =
+pub still_waiting : (i : Image) (cells new_cells : Cells) (actors new : List ActorState) (index : ℕ) (name : List ℕ) → StillWaits actors index name new → new_cells ≡ cells → HasWaited i cells actors name new_cells new
+still_waiting i cells new_cells actors new index name h same_cells =
     let a = h.actor in
     let k = h.number in
     let own : a.name ≡ name = found_name actors name a h.found.named in
@@ -256,7 +256,7 @@ still_waiting i cells new_cells actors new place name h same_cells =
           ∙ (ap (λ x. state_of i cells (put_actor actors x)) (sym rest_is) ∙ sym (ap (λ o. state_of i cells (rested_in i actors o)) h.found.named)));
     }
 
--- an actor that has ended stays in its place
+-- an actor that has ended stays at its index
 pub set_same : {X : Type 0} (xs : List X) (n : ℕ) (x : X) → slice_get xs n ≡ Some x → slice_set xs n x ≡ xs
 set_same [] n x there = refl
 set_same (y ∷ ys) zero x there = let is : y ≡ x = cc in ap (λ z. z ∷ ys) (sym is)

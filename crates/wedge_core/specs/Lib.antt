@@ -1,5 +1,5 @@
 -- Where the actor of a name is among actors, and an index that says so.
-pub mod Places
+pub mod Indices
 -- What a world keeps.
 pub mod Progress
 -- Complete runs.

@@ -10,7 +10,7 @@ use Rattle.sthread_life.specs.Actors.{ActorState}
 use Rattle.sthread_life.specs.Local.{rest, has_ended}
 use Rattle.sthread_life.specs.Children.{child_name}
 use Rattle.run_laws.specs.RecycledGates.{IsInside}
-use Rattle.sthread_life.specs.Taking.{current_want}
+use Rattle.sthread_life.specs.Take.{current_want}
 use Rattle.cow_pages.specs.PrivateMemory.{PrivateMemory}
 use Rattle.wedge_events.specs.declared.cells.GateAsk.TheVariants as gate_ask
 use Rattle.wedge_events.specs.declared.events.Want.TheVariants as want
@@ -54,24 +54,24 @@ abbrev pub initial_progress : Image → Progress
 initial_progress i = record { state = initial_state i; turns = []; stopped = false }
 
 -- at this index is the first actor of a name
-pub record IsFirstNamed (actors : List ActorState) (name : List ℕ) (place : ℕ) (a : ActorState) : Type 0 where
-  pub inside : place < length actors
-  pub there : slice_get actors place ≡ Some a
+pub record IsFirstNamed (actors : List ActorState) (name : List ℕ) (index : ℕ) (a : ActorState) : Type 0 where
+  pub inside : index < length actors
+  pub there : slice_get actors index ≡ Some a
   pub named : actor_named actors name ≡ Some a
-  pub put : (new : ActorState) → new.name ≡ name → put_actor actors new ≡ slice_set actors place new
+  pub put : (new : ActorState) → new.name ≡ name → put_actor actors new ≡ slice_set actors index new
 
-abbrev pub IsPlaceOf : List ActorState → List ℕ → ℕ → Type 0
-IsPlaceOf actors name place = (a : ActorState) × IsFirstNamed actors name place a
+abbrev pub IsIndexOf : List ActorState → List ℕ → ℕ → Type 0
+IsIndexOf actors name index = (a : ActorState) × IsFirstNamed actors name index a
 
 -- at this index is the cell of a recycled gate
-pub record IsCellOf (cells : List GateCell) (id : GateId) (place : ℕ) (c : GateCell) : Type 0 where
-  pub inside : place < length cells
-  pub there : slice_get cells place ≡ Some c
+pub record IsCellOf (cells : List GateCell) (id : GateId) (index : ℕ) (c : GateCell) : Type 0 where
+  pub inside : index < length cells
+  pub there : slice_get cells index ≡ Some c
   pub kept : kept_among cells id ≡ c.kept
-  pub put : (k : Kept) → put_kept cells id k ≡ slice_set cells place (record c { kept = k })
+  pub put : (k : Kept) → put_kept cells id k ≡ slice_set cells index (record c { kept = k })
 
 abbrev pub IsGateAt : List GateCell → GateId → ℕ → Type 0
-IsGateAt cells id place = (c : GateCell) × IsCellOf cells id place c
+IsGateAt cells id index = (c : GateCell) × IsCellOf cells id index c
 
 -- ---- an actor that waits
 

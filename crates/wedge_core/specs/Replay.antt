@@ -11,7 +11,7 @@ use Rattle.wedge_events.specs.Journals.{turns_of}
 use Rattle.sthread_life.specs.Actors.{ActorState}
 use Rattle.sthread_life.specs.Local.{has_ended}
 use Rattle.run_laws.specs.Outcomes.{outcome_of}
-use Rattle.sthread_life.specs.Taking.{current_want}
+use Rattle.sthread_life.specs.Take.{current_want}
 use Rattle.run_laws.specs.Worlds.{WorldState, initial_state, actor_named, turn_of, at_rest, Runs, is_complete}
 use Rattle.wedge_core.specs.declared.error.Why.{Why}
 use Rattle.wedge_core.specs.declared.error.Why.TheVariants as why

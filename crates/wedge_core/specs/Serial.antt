@@ -2,9 +2,9 @@
 use Rattle.std.specs.Prelude.{◌≡◌, ◌+◌, ◌<◌, ◌≤◌, ◌++◌, ◌∷◌, [], length, map, slice_get, ℕ, true, false, List, Option, Some, None, is_some, ◌⊎◌, if◌then◌else◌}
 use Rattle.wedge_base.specs.Images.{Image}
 use Rattle.wedge_base.specs.Names.{root_name}
-use Rattle.wedge_core.specs.Places.{place_in}
+use Rattle.wedge_core.specs.Indices.{index_in}
 use Rattle.wedge_core.specs.Progress.{Progress, IsWaiting, IsBusy}
-use Rattle.wedge_core.specs.declared.serially.Live.{Live}
+use Rattle.wedge_core.specs.declared.serially.LiveActor.{LiveActor}
 use Rattle.wedge_events.specs.Journals.{turns_of, numbered}
 use Rattle.wedge_events.specs.Lives.{most_lives}
 use Rattle.wedge_events.specs.declared.events.LogEntry.{LogEntry}
@@ -24,6 +24,7 @@ use Rattle.run_laws.specs.Laws.{IsLawful, IsWrittenByOwners, IsReadByHolders}
 use Rattle.run_laws.specs.LiveSthreads.{lives_in}
 use Rattle.run_laws.specs.Names.{AreDistinct}
 use Rattle.run_laws.specs.Occupancy.{AreOccupied, SlotsSuit}
+use Rattle.run_laws.specs.FittingAsks.{TurnFits}
 use Rattle.run_laws.specs.Worlds.{WorldState, initial_state, actor_named, turn_of, Runs, is_complete}
 use Rattle.run_laws.specs.Outcomes.{outcome_of}
 
@@ -55,8 +56,8 @@ pub record IsSoundState (i : Image) (w : WorldState) : Type 0 where
 -- ended: each moment of it is lawful, and each state sound; after each of its turns the bytes of each
 -- tag and of each stream come from those who may write them alone, and they are given to those alone
 -- who may read them; each turn takes exactly its units of the image's fuel, and there are no more
--- turns than that gives; and a slot is claimed and released, and a tag opened, as the slots are
--- occupied.
+-- turns than that gives; a slot is claimed and released, and a tag opened, as the slots are
+-- occupied; and whatever is asked of a cell fits it.
 pub record IsCompleteRun (i : Image) (turns : List Turn) (last : WorldState) : Type 0 where
   pub run : Runs (initial_state i) turns last
   pub complete : is_complete last ≡ true
@@ -71,6 +72,7 @@ pub record IsCompleteRun (i : Image) (turns : List Turn) (last : WorldState) : T
   pub paid : EachTurn TakesItsUnits (initial_state i) turns
   pub bound : length turns ≤ most_turns i.fuel
   pub suit : EachTurn SlotsSuit (initial_state i) turns
+  pub fit : EachTurn TurnFits (initial_state i) turns
 
 -- the entries of a journal are a complete run of the image, with this outcome
 pub record IsJournaledRun (i : Image) (entries : List LogEntry) (outcome : Outcome) : Type 0 where
@@ -121,11 +123,11 @@ pub record RootIsFirst (actors : List ActorState) : Type 0 where
   pub last : has_ended root_.phase ≡ true → live_names others ≡ []
 
 -- each is at its index
-abbrev pub ArePlaced : List ActorState → List Live → Type 0
-ArePlaced actors [] = Unit {0}
-ArePlaced actors (l ∷ ls) = (place_in actors l.name ≡ Some l.place) × ArePlaced actors ls
+abbrev pub AreIndexed : List ActorState → List LiveActor → Type 0
+AreIndexed actors [] = Unit {0}
+AreIndexed actors (l ∷ ls) = (index_in actors l.name ≡ Some l.index) × AreIndexed actors ls
 
-abbrev pub names_of_live : List Live → List (List ℕ)
+abbrev pub names_of_live : List LiveActor → List (List ℕ)
 names_of_live live = map (λ l. l.name) live
 
 -- each is under every one before it
@@ -138,19 +140,19 @@ AreNested [] = Unit {0}
 AreNested (n ∷ ns) = AreUnder n ns × AreNested ns
 
 -- turns taken in serial order so far, and the actors that have not ended
-pub record IsSerial (i : Image) (p : Progress) (live : List Live) : Type 0 where
+pub record IsSerial (i : Image) (p : Progress) (live : List LiveActor) : Type 0 where
   pub going : p.stopped ≡ false
   pub run : Runs (initial_state i) p.turns p.state
   pub order : InSerialOrder (initial_state i) p.turns
   pub goes_on : RootGoesOn (initial_state i) p.turns
   pub stack : names_of_live live ≡ live_names p.state.actors
-  pub placed : ArePlaced p.state.actors live
+  pub indexed : AreIndexed p.state.actors live
   pub root_first : RootIsFirst p.state.actors
   pub nested : AreNested (live_names p.state.actors)
 
 -- Those that live after a turn, by those before: one behind them where there is an actor more, and
 -- one less where the actor at this index has ended.
-pub record LivesAfter (actors : List ActorState) (place count : ℕ) (old new : List Live) : Type 0 where
-  pub begun : count < length actors → (c : ActorState) × (slice_get actors count ≡ Some c) × (new ≡ old ++ record { name = c.name; place = count } ∷ [])
-  pub ended : length actors ≤ count → (a : ActorState) → slice_get actors place ≡ Some a → has_ended a.phase ≡ true → (l : Live) × (old ≡ new ++ l ∷ [])
-  pub goes_on : length actors ≤ count → (a : ActorState) → slice_get actors place ≡ Some a → has_ended a.phase ≡ false → new ≡ old
+pub record LivesAfter (actors : List ActorState) (index count : ℕ) (old new : List LiveActor) : Type 0 where
+  pub begun : count < length actors → (c : ActorState) × (slice_get actors count ≡ Some c) × (new ≡ old ++ record { name = c.name; index = count } ∷ [])
+  pub ended : length actors ≤ count → (a : ActorState) → slice_get actors index ≡ Some a → has_ended a.phase ≡ true → (l : LiveActor) × (old ≡ new ++ l ∷ [])
+  pub goes_on : length actors ≤ count → (a : ActorState) → slice_get actors index ≡ Some a → has_ended a.phase ≡ false → new ≡ old

@@ -14,7 +14,7 @@ use Rattle.run_laws.specs.Cells.{Cells, live_at, event_of, cells_after, kept_in}
 use Rattle.sthread_life.specs.Children.{is_child, child_name}
 use Rattle.run_laws.specs.FamilyTrees.{Family}
 use Rattle.sthread_life.specs.Local.{rest, run_awaited, has_ended}
-use Rattle.sthread_life.specs.Taking.{current_want, asks, takes, actor_begun}
+use Rattle.sthread_life.specs.Take.{current_want, asks, takes, actor_begun}
 use Rattle.run_laws.specs.Worlds.{with_begun, event_at, actor_named, ready, is_ended}
 use Rattle.wedge_core.specs.Progress.{IsTurn, IsWaiting, IsBusy, IsRecorded, state_of, rested, IsFirstNamed}
 use Rattle.wedge_core.specs.Serial.{Notes}
@@ -61,35 +61,35 @@ pub record IsLeft (i : Image) (old : ActorState) (q : Want) (new : ActorState) :
 -- ---- of the actor at an index
 
 -- it was waiting for no run, or for one that has ended, and has gone on
-pub record HasGoneOn (actors : List ActorState) (place : ℕ) (name : List ℕ) (new : List ActorState) : Type 0 where
+pub record HasGoneOn (actors : List ActorState) (index : ℕ) (name : List ℕ) (new : List ActorState) : Type 0 where
   pub actor : ActorState
-  pub found : IsFirstNamed actors name place actor
+  pub found : IsFirstNamed actors name index actor
   pub awake : run_awaited (ready actors actor).phase ≡ None
-  pub new_is : new ≡ slice_set actors place (ready actors actor)
+  pub new_is : new ≡ slice_set actors index (ready actors actor)
 
 -- or it waits for a run that has not ended
-pub record StillWaits (actors : List ActorState) (place : ℕ) (name : List ℕ) (new : List ActorState) : Type 0 where
+pub record StillWaits (actors : List ActorState) (index : ℕ) (name : List ℕ) (new : List ActorState) : Type 0 where
   pub actor : ActorState
   pub number : ℕ
-  pub found : IsFirstNamed actors name place actor
+  pub found : IsFirstNamed actors name index actor
   pub at : actor.phase ≡ phase.Waiting number
   pub not_ended : is_ended (actor_named actors (child_name name number)) ≡ false
   pub new_is : new ≡ actors
 
 -- it is the one of a name, has not ended and waits for no run
-pub record IsAwakeAt (cells : Cells) (actors : List ActorState) (place : ℕ) (name : List ℕ) : Type 0 where
+pub record IsAwakeAt (cells : Cells) (actors : List ActorState) (index : ℕ) (name : List ℕ) : Type 0 where
   pub actor : ActorState
-  pub found : IsFirstNamed actors name place actor
+  pub found : IsFirstNamed actors name index actor
   pub lives : has_ended actor.phase ≡ false
   pub awake : run_awaited actor.phase ≡ None
   pub family : Family actors
   pub recorded : IsRecorded cells actor
 
 -- it is the one of a name, and wants what other actors have part in
-pub record WantsOfFamily (i : Image) (cells : Cells) (actors : List ActorState) (place : ℕ) (name : List ℕ) (q : Want) : Type 0 where
+pub record WantsOfFamily (i : Image) (cells : Cells) (actors : List ActorState) (index : ℕ) (name : List ℕ) (q : Want) : Type 0 where
   pub actor : ActorState
-  pub inside : place < length actors
-  pub there : slice_get actors place ≡ Some actor
+  pub inside : index < length actors
+  pub there : slice_get actors index ≡ Some actor
   pub named : actor_named actors name ≡ Some actor
   pub own : actor.name ≡ name
   pub wants : current_want actor ≡ Some q
@@ -99,63 +99,63 @@ pub record WantsOfFamily (i : Image) (cells : Cells) (actors : List ActorState) 
   pub recorded : IsRecorded cells actor
 
 -- it may take an event by which another begins, of a name that no actor has
-pub record IsBeginning (i : Image) (actors : List ActorState) (place : ℕ) (e : Event) : Type 0 where
+pub record IsBeginning (i : Image) (actors : List ActorState) (index : ℕ) (e : Event) : Type 0 where
   pub actor : ActorState
-  pub inside : place < length actors
-  pub there : slice_get actors place ≡ Some actor
+  pub inside : index < length actors
+  pub there : slice_get actors index ≡ Some actor
   pub fits : TakesFit actor e
   pub begun_ : ActorState
   pub begins : actor_begun i actor e ≡ Some begun_
   pub fresh : actor_named actors begun_.name ≡ None
 
 -- it may take an event by which none begins
-pub record IsGoingAlone (i : Image) (actors : List ActorState) (place : ℕ) (e : Event) : Type 0 where
+pub record IsGoingAlone (i : Image) (actors : List ActorState) (index : ℕ) (e : Event) : Type 0 where
   pub actor : ActorState
-  pub inside : place < length actors
-  pub there : slice_get actors place ≡ Some actor
+  pub inside : index < length actors
+  pub there : slice_get actors index ≡ Some actor
   pub fits : TakesFit actor e
   pub begins_none : actor_begun i actor e ≡ None
 
 -- it wants to join one of its children
-pub record IsJoining (actors : List ActorState) (place : ℕ) (name : List ℕ) (child : ℕ) : Type 0 where
+pub record IsJoining (actors : List ActorState) (index : ℕ) (name : List ℕ) (child : ℕ) : Type 0 where
   pub actor : ActorState
-  pub inside : place < length actors
-  pub there : slice_get actors place ≡ Some actor
+  pub inside : index < length actors
+  pub there : slice_get actors index ≡ Some actor
   pub named : actor_named actors name ≡ Some actor
   pub own : actor.name ≡ name
   pub listed : is_child actor.unjoined child ≡ true
   pub family : Family actors
 
 -- it may take an event
-pub record IsTaking (actors : List ActorState) (place : ℕ) (e : Event) : Type 0 where
+pub record IsTaking (actors : List ActorState) (index : ℕ) (e : Event) : Type 0 where
   pub actor : ActorState
-  pub inside : place < length actors
-  pub there : slice_get actors place ≡ Some actor
+  pub inside : index < length actors
+  pub there : slice_get actors index ≡ Some actor
   pub fits : TakesFit actor e
 
 -- and has taken it; this is the actor that the event begins, if it begins one
-pub record HasTaken (i : Image) (actors : List ActorState) (place : ℕ) (e : Event) (o : Option ActorState) (new : List ActorState) : Type 0 where
+pub record HasTaken (i : Image) (actors : List ActorState) (index : ℕ) (e : Event) (o : Option ActorState) (new : List ActorState) : Type 0 where
   pub actor : ActorState
-  pub there : slice_get actors place ≡ Some actor
-  pub new_is : new ≡ slice_set actors place (takes i actor e)
+  pub there : slice_get actors index ≡ Some actor
+  pub new_is : new ≡ slice_set actors index (takes i actor e)
   pub begins : o ≡ actor_begun i actor e
 
 -- it has taken an event, which is noted; another stands behind the others if the event begins one
-pub record HasDone (i : Image) (actors : List ActorState) (place : ℕ) (e : Event) (entries : List LogEntry) (name : List ℕ) (new : List ActorState) (new_entries : List LogEntry) : Type 0 where
+pub record HasDone (i : Image) (actors : List ActorState) (index : ℕ) (e : Event) (entries : List LogEntry) (name : List ℕ) (new : List ActorState) (new_entries : List LogEntry) : Type 0 where
   pub actor : ActorState
-  pub there : slice_get actors place ≡ Some actor
-  pub new_is : new ≡ with_begun (slice_set actors place (takes i actor e)) (actor_begun i actor e)
+  pub there : slice_get actors index ≡ Some actor
+  pub new_is : new ≡ with_begun (slice_set actors index (takes i actor e)) (actor_begun i actor e)
   pub noted : Notes entries name e new_entries
 
 -- its event takes place, and is noted
-pub record IsDoneAt (i : Image) (cells : Cells) (actors : List ActorState) (place : ℕ) (q : Want) (entries : List LogEntry) (name : List ℕ) (new_cells : Cells) (new : List ActorState) (new_entries : List LogEntry) : Type 0 where
+pub record IsDoneAt (i : Image) (cells : Cells) (actors : List ActorState) (index : ℕ) (q : Want) (entries : List LogEntry) (name : List ℕ) (new_cells : Cells) (new : List ActorState) (new_entries : List LogEntry) : Type 0 where
   pub actor : ActorState
-  pub inside : place < length actors
-  pub there : slice_get actors place ≡ Some actor
+  pub inside : index < length actors
+  pub there : slice_get actors index ≡ Some actor
   pub event : Event
   pub comes : event_at (state_of i cells actors) actor q ≡ Some event
   pub cells_are : new_cells ≡ cells_after cells event
-  pub new_is : new ≡ with_begun (slice_set actors place (takes i actor event)) (actor_begun i actor event)
+  pub new_is : new ≡ with_begun (slice_set actors index (takes i actor event)) (actor_begun i actor event)
   pub noted : Notes entries name event new_entries
 
 -- it is to enter a recycled gate in which a run is

@@ -172,7 +172,7 @@ fn tag_in(slots: &[SlotState], slot: Slot) -> Option<TagNo>
 }
 
 /// A block that is placed in a slot begins inside its window, and a copy of a tag has as many pages as a tag may have.
-#[tactic(auto, using(crate::proofs::CellPlaces::held_at, crate::proofs::Placing::places_inside, crate::proofs::Placing::snaps_inside, crate::proofs::Placing::others_inside))]
+#[tactic(auto, using(crate::proofs::CellIndices::held_at, crate::proofs::Placing::places_inside, crate::proofs::Placing::snaps_inside, crate::proofs::Placing::others_inside))]
 #[inline(always)]
 fn is_in_bounds(slots: &[SlotState], slot: Slot, ask: &SlotAsk)
     requires inside { slot < most_slots }
@@ -223,7 +223,7 @@ fn ask_numbers(numbers: &mut Directory, ask: DirectoryAsk) -> Result<DirectoryRe
 }
 
 /// Asks a slot.
-#[tactic(auto, using(crate::proofs::CellPlaces::held_at))]
+#[tactic(auto, using(crate::proofs::CellIndices::held_at))]
 #[inline(always)]
 fn ask_slot(slots: &mut Vec<SlotState>, slot: Slot, ask: &SlotAsk) -> Result<SlotReply, NoMemory>
     requires inside { slot < length slots.old.items }
@@ -241,7 +241,7 @@ fn ask_slot(slots: &mut Vec<SlotState>, slot: Slot, ask: &SlotAsk) -> Result<Slo
 }
 
 /// Asks the stream behind a descriptor.
-#[tactic(auto, using(crate::proofs::CellPlaces::held_at, crate::proofs::Placing::gives_inside))]
+#[tactic(auto, using(crate::proofs::CellIndices::held_at, crate::proofs::Placing::gives_inside))]
 fn ask_stream(streams: &mut Vec<Stream>, fd: FdNo, ask: &StreamAsk) -> Result<StreamReply, NoMemory>
     requires { fd < length streams.old.items }
     ensures is { IfOk result (λ r. r

@@ -9,7 +9,7 @@ ghost use Rattle.std.specs.Cmp.Lexicographic.{slice_cmp};
 ghost use Rattle.sthread_life.specs.Actors.{whole};
 ghost use Rattle.std.specs.Option.{option_copied};
 ghost use Rattle.run_laws.specs.Outcomes as outcomes;
-ghost use Rattle.sthread_life.specs.declared.files.StreamLabel.{StreamLabel as ALabel};
+ghost use Rattle.sthread_life.specs.declared.opening.StreamLabel.{StreamLabel as ALabel};
 
 use crate::residents::Resident;
 use crate::world::World;

@@ -40,9 +40,9 @@ impl GateCell {
 pub(crate) fn is_entered(gates: &[GateCell], id: &GateId) -> bool
     ensures { result ≡ (kept_among gates.now id.now).entered }
 {
-    match place_of(gates, id) {
-        Some(place) => {
-            let cell = &gates[place];
+    match index_of(gates, id) {
+        Some(index) => {
+            let cell = &gates[index];
             cell.kept.entered()
         }
         None => false,
@@ -63,8 +63,8 @@ pub(crate) fn ask_gate(
         (gate_next (kept_among gates.old.items id.now) ask.now)) }
     ensures err { OnErr result (gates.new.items ≡ gates.old.items) }
 {
-    match place_of(gates, id) {
-        Some(place) => ask_at(gates, place, id, ask),
+    match index_of(gates, id) {
+        Some(index) => ask_at(gates, index, id, ask),
         None => ask_new(alloc, gates, id, ask),
     }
 }
@@ -72,11 +72,11 @@ pub(crate) fn ask_gate(
 /// Asks the gate at an index.
 fn ask_at(
     gates: &mut Vec<GateCell>,
-    place: usize,
+    index: usize,
     id: &GateId,
     ask: &GateAsk,
 ) -> Result<GateReply, NoMemory>
-    requires there { IsGateAt gates.old.items id.now place }
+    requires there { IsGateAt gates.old.items id.now index }
     requires fits { GateFits (kept_among gates.old.items id.now) ask.now }
     ensures is { IfOk result (λ r. r ≡ gate_reply (kept_among gates.old.items id.now) ask.now) }
     ensures after { OnOk result (gates.new.items
@@ -84,7 +84,7 @@ fn ask_at(
         (gate_next (kept_among gates.old.items id.now) ask.now)) }
     ensures err { OnErr result (gates.new.items ≡ gates.old.items) }
 {
-    let cell = &mut gates[place];
+    let cell = &mut gates[index];
     cell.kept.act_once(ask)
 }
 
@@ -109,7 +109,7 @@ fn ask_new(
 }
 
 /// The index of the cell of a gate.
-fn place_of(gates: &[GateCell], id: &GateId) -> Option<usize>
+fn index_of(gates: &[GateCell], id: &GateId) -> Option<usize>
     ensures found { IfSome result (IsGateAt gates.now id.now) }
     ensures unknown { IfNone result (kept_among gates.now id.now ≡ gate_opening) }
     ensures behind { IfNone result ((k : AKept)

@@ -87,9 +87,9 @@ fn root_has_ended(world: &World<'_>, root: &ActorName) -> bool
     requires { root.now ≡ root_name }
     ensures { result ≡ is_complete world.now.state }
 {
-    match world.residents.place_of(root) {
-        Some(place) => {
-            let resident = &world.residents.as_slice()[place];
+    match world.residents.index_of(root) {
+        Some(index) => {
+            let resident = &world.residents.as_slice()[index];
             resident.actor.has_ended()
         }
         None => false,

@@ -5,8 +5,8 @@ ghost use Rattle.sthread_life.specs.Children.{child_name};
 ghost use Rattle.sthread_life.specs.Local.{has_ended, run_awaited};
 ghost use Rattle.run_laws.specs.Worlds as worlds;
 ghost use Rattle.run_laws.specs.Worlds.{actor_named};
-ghost use Rattle.wedge_core.specs.Places.{IsIndexOf};
-ghost use Rattle.wedge_core.specs.Progress.{IsPlaceOf};
+ghost use Rattle.wedge_core.specs.Indices.{IsNameMap};
+ghost use Rattle.wedge_core.specs.Progress.{IsIndexOf};
 
 use cow_pages::PrivateView;
 use std::alloc::Global;
@@ -44,19 +44,19 @@ impl Resident {
 #[derive(Drop)]
 pub(crate) struct Residents {
     pub(crate) list: Vec<Resident>,
-    pub(crate) index: HashMap<Vec<u32>, usize>,
+    pub(crate) by_name: HashMap<Vec<u32>, usize>,
 }
 
 impl Model for Residents {
     ghost use Rattle.std.specs.Prelude.{List};
     ghost use Rattle.sthread_life.specs.Actors.{ActorState};
-    ghost use Rattle.wedge_core.specs.Places.{IsIndexOf};
+    ghost use Rattle.wedge_core.specs.Indices.{IsNameMap};
 
     ghost Value = { List ActorState };
 
     ghost view = { λ r. r.list.items };
 
-    ghost invariant = { λ r. IsIndexOf r.index r.list.items };
+    ghost invariant = { λ r. IsNameMap r.by_name r.list.items };
 }
 
 impl Residents {
@@ -66,7 +66,7 @@ impl Residents {
     {
         Residents {
             list: Vec::new(alloc),
-            index: HashMap::new(alloc),
+            by_name: HashMap::new(alloc),
         }
     }
 
@@ -87,39 +87,39 @@ impl Residents {
     }
 
     /// The index of the first actor of a name, by one look-up.
-    pub fn place_of(&self, name: &ActorName) -> Option<usize>
-        ensures found { IfSome result (IsPlaceOf self.now name.now) }
+    pub fn index_of(&self, name: &ActorName) -> Option<usize>
+        ensures found { IfSome result (IsIndexOf self.now name.now) }
         ensures unknown { IfNone result (actor_named self.now name.now ≡ None) }
     {
-        self.index.get(name.parts()).copied()
+        self.by_name.get(name.parts()).copied()
     }
 
     /// The index of the first actor of the name of a child: the k-th that the actor of this name starts.
-    pub fn place_of_child(&self, name: &ActorName, k: u32) -> Result<Option<usize>, NoMemory>
-        ensures found { IfOk result (λ o. IfSome o (IsPlaceOf self.now (child_name name.now k))) }
+    pub fn index_of_child(&self, name: &ActorName, k: u32) -> Result<Option<usize>, NoMemory>
+        ensures found { IfOk result (λ o. IfSome o (IsIndexOf self.now (child_name name.now k))) }
         ensures unknown { IfOk result (λ o. IfNone o (actor_named self.now (child_name name.now k)
             ≡ None)) }
     {
         let alloc = *self.list.allocator();
         let mut parts = Vec::from_slice(alloc, name.parts())?;
         parts.push(k)?;
-        Ok(self.index.get(parts.as_slice()).copied())
+        Ok(self.by_name.get(parts.as_slice()).copied())
     }
 
     /// Whether the actor at an index has ended.
-    pub fn has_ended(&self, place: usize) -> bool
-        requires { place < length self.now }
-        ensures { IfSome (slice_get self.now place) (λ a. result ≡ has_ended a.phase) }
+    pub fn has_ended(&self, index: usize) -> bool
+        requires { index < length self.now }
+        ensures { IfSome (slice_get self.now index) (λ a. result ≡ has_ended a.phase) }
     {
-        self.list[place].actor.has_ended()
+        self.list[index].actor.has_ended()
     }
 
     /// The number of the run for which the actor at an index waits.
-    pub fn run_awaited(&self, place: usize) -> Option<u32>
-        requires { place < length self.now }
-        ensures { IfSome (slice_get self.now place) (λ a. result ≡ run_awaited a.phase) }
+    pub fn run_awaited(&self, index: usize) -> Option<u32>
+        requires { index < length self.now }
+        ensures { IfSome (slice_get self.now index) (λ a. result ≡ run_awaited a.phase) }
     {
-        self.list[place].actor.run_awaited()
+        self.list[index].actor.run_awaited()
     }
 
     /// The end of the k-th that the actor of this name started or entered, and the fuel that it has left, if it has ended.
@@ -127,10 +127,10 @@ impl Residents {
         ensures { IfOk result (λ o. o
             ≡ worlds.ended_with (actor_named self.now (child_name name.now k))) }
     {
-        let Some(place) = self.place_of_child(name, k)? else {
+        let Some(index) = self.index_of_child(name, k)? else {
             return Ok(None);
         };
-        let actor = &self.list[place].actor;
+        let actor = &self.list[index].actor;
         match actor.end_reached() {
             None => Ok(None),
             Some(end) => Ok(Some((end, actor.fuel()))),
@@ -146,7 +146,7 @@ impl Residents {
         let alloc = *self.list.allocator();
         let parts = Vec::from_slice(alloc, child.name().parts())?;
         self.list.reserve(1)?;
-        self.index.insert(parts, self.list.len())?;
+        self.by_name.insert(parts, self.list.len())?;
         add_in_room(&mut self.list, child);
         Ok(())
     }
@@ -164,11 +164,11 @@ fn add_in_room<T: Drop>(list: &mut Vec<T>, item: T)
 
 /// Drops all actors and their index. When out of memory not even an actor's name is known, so the index can't be kept.
 #[inline(never)]
-pub(crate) fn drop_all(list: &mut Vec<Resident>, index: &mut HashMap<Vec<u32>, usize>)
+pub(crate) fn drop_all(list: &mut Vec<Resident>, by_name: &mut HashMap<Vec<u32>, usize>)
     ensures none { list.new.items ≡ [] }
-    ensures index { IsIndexOf index.new [] }
+    ensures by_name { IsNameMap by_name.new [] }
 {
     let alloc = *list.allocator();
     *list = Vec::new(alloc);
-    *index = HashMap::new(alloc);
+    *by_name = HashMap::new(alloc);
 }

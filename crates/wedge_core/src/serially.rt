@@ -16,9 +16,9 @@ use wedge_events::Journal;
 
 /// An actor that has not ended: its name, and its index among the actors.
 #[derive(Drop)]
-pub(crate) struct Live {
+pub(crate) struct LiveActor {
     pub name: ActorName,
-    pub place: usize,
+    pub index: usize,
 }
 
 /// A complete run of an image, on the calling thread: its journal and its outcome. The stamps of the
@@ -32,9 +32,9 @@ pub fn serial(alloc: Global, image: &Image) -> Result<(Journal, Outcome), NoMemo
 {
     let mut world = open_world(alloc, image)?;
     let mut live = Vec::new(alloc);
-    live.push(Live {
+    live.push(LiveActor {
         name: ActorName::root(alloc)?,
-        place: 0,
+        index: 0,
     })?;
     while !live.is_empty() {
         take_turn(&mut world, &mut live)?;
@@ -47,7 +47,7 @@ pub fn serial(alloc: Global, image: &Image) -> Result<(Journal, Outcome), NoMemo
 }
 
 /// A turn of the actor that was started last and has not ended: the last of those that live.
-fn take_turn(world: &mut World<'_>, live: &mut Vec<Live>) -> Result<(), NoMemory>
+fn take_turn(world: &mut World<'_>, live: &mut Vec<LiveActor>) -> Result<(), NoMemory>
     requires serial { IsSerial world.old.state.image world.old live.old.items }
     requires some { 0 < length live.old.items }
     ensures serial { OnOk result (IsSerial world.new.state.image world.new live.new.items) }
@@ -55,10 +55,10 @@ fn take_turn(world: &mut World<'_>, live: &mut Vec<Live>) -> Result<(), NoMemory
     ensures less { OnOk result (work_left world.new.state < work_left world.old.state) }
 {
     let newest = &live[live.len() - 1];
-    let place = newest.place;
+    let index = newest.index;
     let count = world.residents.as_slice().len();
-    match advance(world, &newest.name, place)? {
-        Went::Took => note_lives(world, live, place, count),
+    match advance(world, &newest.name, index)? {
+        Went::Took => note_lives(world, live, index, count),
         Went::Ended => unreachable!(),
         Went::Waits => unreachable!(),
         Went::Busy => unreachable!(),
@@ -68,22 +68,22 @@ fn take_turn(world: &mut World<'_>, live: &mut Vec<Live>) -> Result<(), NoMemory
 /// Notes who lives after a turn of the actor at an index, before which there were so many actors.
 fn note_lives(
     world: &World<'_>,
-    live: &mut Vec<Live>,
-    place: usize,
+    live: &mut Vec<LiveActor>,
+    index: usize,
     count: usize,
 ) -> Result<(), NoMemory>
-    requires inside { place < length world.now.state.actors }
+    requires inside { index < length world.now.state.actors }
     requires some { 0 < length live.old.items }
     ensures { OnOk result
-        (LivesAfter world.now.state.actors place count live.old.items live.new.items) }
+        (LivesAfter world.now.state.actors index count live.old.items live.new.items) }
 {
     let actors = world.residents.as_slice();
     if count < actors.len() {
         let name = actors[count].name().copy()?;
-        live.push(Live { name, place: count })?;
+        live.push(LiveActor { name, index: count })?;
         return Ok(());
     }
-    let resident = &actors[place];
+    let resident = &actors[index];
     if resident.actor.has_ended() {
         live.pop();
     }

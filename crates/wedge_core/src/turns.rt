@@ -11,10 +11,10 @@ ghost use Rattle.run_laws.specs.Laws.{IsLawful};
 ghost use Rattle.run_laws.specs.FamilyTrees.{Family};
 ghost use Rattle.sthread_life.specs.Local.{rest, has_ended, run_awaited};
 ghost use Rattle.run_laws.specs.Moments.{TurnHas};
-ghost use Rattle.sthread_life.specs.Taking.{current_want, takes};
+ghost use Rattle.sthread_life.specs.Take.{current_want, takes};
 ghost use Rattle.run_laws.specs.Worlds.{actor_named, is_ended};
 ghost use Rattle.run_laws.specs.Written.{TurnAppendsOwn, TurnWritesOwn};
-ghost use Rattle.wedge_core.specs.Progress.{IsTurn, HasEnded, IsPlaceOf, IsWaiting, IsBusy, AreRecorded, rested, TookTurnOf};
+ghost use Rattle.wedge_core.specs.Progress.{IsTurn, HasEnded, IsIndexOf, IsWaiting, IsBusy, AreRecorded, rested, TookTurnOf};
 ghost use Rattle.wedge_core.specs.Serial.{Notes};
 ghost use Rattle.wedge_core.specs.Turning.{event_asked, IsOfCell, IsOfFamily, IsEventDone, IsLeft, HasGoneOn, StillWaits, IsAwakeAt, WantsOfFamily, IsBeginning, IsGoingAlone, IsJoining, IsTaking, HasTaken, HasDone, IsDoneAt, FindsBusy, WasTaken, HasWaited, HasMetBusy};
 
@@ -89,10 +89,10 @@ pub fn turn(world: &mut World<'_>, name: &ActorName) -> Result<Taken, NoTurn>
     if world.stopped {
         return Err(NoTurn::NoMemory);
     }
-    let Some(place) = world.residents.place_of(name) else {
+    let Some(index) = world.residents.index_of(name) else {
         return Err(NoTurn::Unknown);
     };
-    match advance(world, name, place) {
+    match advance(world, name, index) {
         Err(NoMemory) => Err(NoTurn::NoMemory),
         Ok(Went::Ended) => Err(NoTurn::Ended),
         Ok(Went::Waits) => Err(NoTurn::Waits),
@@ -112,10 +112,10 @@ pub fn turn(world: &mut World<'_>, name: &ActorName) -> Result<Taken, NoTurn>
 pub(crate) fn advance(
     world: &mut World<'_>,
     name: &ActorName,
-    place: usize,
+    index: usize,
 ) -> Result<Went, NoMemory>
     requires going { world.old.stopped ≡ false }
-    requires there { IsPlaceOf world.old.state.actors name.now place }
+    requires there { IsIndexOf world.old.state.actors name.now index }
     ensures took { IfOk result (λ r. r ≡ Went.Took → TookTurnOf world.old name.now world.new) }
     ensures ended { IfOk result (λ r. r ≡ Went.Ended
         → HasEnded world.old.state.actors name.now × (world.new ≡ world.old)) }
@@ -135,7 +135,7 @@ pub(crate) fn advance(
         &mut world.residents,
         &mut world.entries,
         name,
-        place,
+        index,
     ) {
         Ok(went) => Ok(went),
         Err(NoMemory) => {
@@ -152,9 +152,9 @@ fn advance_over(
     residents: &mut Residents,
     entries: &mut Vec<LogEntry>,
     name: &ActorName,
-    place: usize,
+    index: usize,
 ) -> Result<Went, NoMemory>
-    requires there { IsPlaceOf residents.old name.now place }
+    requires there { IsIndexOf residents.old name.now index }
     requires family { Family residents.old }
     requires recorded { AreRecorded cells.old residents.old }
     ensures took { IfOk result
@@ -171,32 +171,32 @@ fn advance_over(
     ensures lives { OnErr result (HasEnded residents.old name.now → ⊥) }
     ensures kept { OnErr result (entries.new.items ≡ entries.old.items) }
 {
-    if residents.has_ended(place) {
+    if residents.has_ended(index) {
         return Ok(Went::Ended);
     }
-    if !go_on(residents, name, place)? {
+    if !go_on(residents, name, index)? {
         return Ok(Went::Waits);
     }
-    advance_awake(program, cells, residents, entries, name, place)
+    advance_awake(program, cells, residents, entries, name, index)
 }
 
 /// The actor at an index goes on if it waits for the run of a gate that has ended. Returns false where it waits still.
-fn go_on(residents: &mut Residents, name: &ActorName, place: usize) -> Result<bool, NoMemory>
-    requires there { IsPlaceOf residents.old name.now place }
+fn go_on(residents: &mut Residents, name: &ActorName, index: usize) -> Result<bool, NoMemory>
+    requires there { IsIndexOf residents.old name.now index }
     requires family { Family residents.old }
     ensures goes { IfOk result (λ r. r ≡ true
-        → HasGoneOn residents.old place name.now residents.new) }
+        → HasGoneOn residents.old index name.now residents.new) }
     ensures waits { IfOk result (λ r. r ≡ false
-        → StillWaits residents.old place name.now residents.new) }
+        → StillWaits residents.old index name.now residents.new) }
     ensures err { OnErr result (residents.new ≡ residents.old) }
 {
-    let Some(run) = residents.run_awaited(place) else {
+    let Some(run) = residents.run_awaited(index) else {
         return Ok(true);
     };
     let Some((end, fuel)) = residents.ended_with(name, run)? else {
         return Ok(false);
     };
-    let resident = &mut residents.list[place];
+    let resident = &mut residents.list[index];
     resident.actor.resume(run, end, fuel);
     Ok(true)
 }
@@ -208,9 +208,9 @@ fn advance_awake(
     residents: &mut Residents,
     entries: &mut Vec<LogEntry>,
     name: &ActorName,
-    place: usize,
+    index: usize,
 ) -> Result<Went, NoMemory>
-    requires { IsAwakeAt cells.old residents.old place name.now }
+    requires { IsAwakeAt cells.old residents.old index name.now }
     ensures took { IfOk result
         (λ r. r ≡ Went.Took → WasTaken program.now cells.old residents.old
         entries.old.items name.now cells.new residents.new entries.new.items) }
@@ -223,14 +223,14 @@ fn advance_awake(
         (λ r. (r ≡ Went.Took → ⊥) → entries.new.items ≡ entries.old.items) }
     ensures kept { OnErr result (entries.new.items ≡ entries.old.items) }
 {
-    let resident = &mut residents.list[place];
+    let resident = &mut residents.list[index];
     match advance_one(program, cells, resident, entries, name) {
         Err(NoMemory) => {
-            drop_all(&mut residents.list, &mut residents.index);
+            drop_all(&mut residents.list, &mut residents.by_name);
             Err(NoMemory)
         }
         Ok(None) => Ok(Went::Took),
-        Ok(Some(want)) => do_family(program, cells, residents, entries, name, place, want),
+        Ok(Some(want)) => do_family(program, cells, residents, entries, name, index, want),
     }
 }
 
@@ -307,12 +307,12 @@ fn do_family(
     residents: &mut Residents,
     entries: &mut Vec<LogEntry>,
     name: &ActorName,
-    place: usize,
+    index: usize,
     want: Want,
 ) -> Result<Went, NoMemory>
-    requires { WantsOfFamily program.now cells.old residents.old place name.now want }
+    requires { WantsOfFamily program.now cells.old residents.old index name.now want }
     ensures took { IfOk result (λ r. r ≡ Went.Took
-        → IsDoneAt program.now cells.old residents.old place want
+        → IsDoneAt program.now cells.old residents.old index want
         entries.old.items name.now cells.new residents.new entries.new.items) }
     ensures waits { IfOk result
         (λ r. r ≡ Went.Waits → (child : ℕ) × (want ≡ AWant.Join child)
@@ -330,7 +330,7 @@ fn do_family(
                 residents,
                 entries,
                 name,
-                place,
+                index,
                 Event::Start { child },
             )?;
             Ok(Went::Took)
@@ -341,7 +341,7 @@ fn do_family(
                 residents,
                 entries,
                 name,
-                place,
+                index,
                 Event::Enter { run },
             )?;
             Ok(Went::Took)
@@ -352,14 +352,14 @@ fn do_family(
                 residents,
                 entries,
                 name,
-                place,
+                index,
                 Event::Leave { end },
             )?;
             Ok(Went::Took)
         }
-        Want::Join { child } => join(program, residents, entries, name, place, child),
+        Want::Join { child } => join(program, residents, entries, name, index, child),
         Want::Gate { gate, ask } => {
-            do_gate(program, cells, residents, entries, name, place, gate, ask)
+            do_gate(program, cells, residents, entries, name, index, gate, ask)
         }
         _ => unreachable!(),
     }
@@ -372,14 +372,14 @@ fn do_gate(
     residents: &mut Residents,
     entries: &mut Vec<LogEntry>,
     name: &ActorName,
-    place: usize,
+    index: usize,
     gate: GateId,
     ask: GateAsk,
 ) -> Result<Went, NoMemory>
-    requires { WantsOfFamily program.now cells.old residents.old place name.now
+    requires { WantsOfFamily program.now cells.old residents.old index name.now
         (AWant.Gate gate ask) }
     ensures took { IfOk result (λ r. r ≡ Went.Took
-        → IsDoneAt program.now cells.old residents.old place
+        → IsDoneAt program.now cells.old residents.old index
         (AWant.Gate gate ask) entries.old.items name.now cells.new residents.new
         entries.new.items) }
     ensures busy { IfOk result
@@ -396,13 +396,13 @@ fn do_gate(
             }
             let ask = GateAsk::Enter { run, memory };
             let event = cells.act(Ask::Gate { gate, ask })?;
-            begin(program, residents, entries, name, place, event)?;
+            begin(program, residents, entries, name, index, event)?;
             Ok(Went::Took)
         }
         GateAsk::Leave { end, memory } => {
             let ask = GateAsk::Leave { end, memory };
             let event = cells.act(Ask::Gate { gate, ask })?;
-            go_alone(program, residents, entries, name, place, event)?;
+            go_alone(program, residents, entries, name, index, event)?;
             Ok(Went::Took)
         }
     }
@@ -414,15 +414,15 @@ fn begin(
     residents: &mut Residents,
     entries: &mut Vec<LogEntry>,
     name: &ActorName,
-    place: usize,
+    index: usize,
     event: Event,
 ) -> Result<(), NoMemory>
-    requires { IsBeginning program.now residents.old place event }
-    ensures done { OnOk result (HasDone program.now residents.old place event entries.old.items
+    requires { IsBeginning program.now residents.old index event }
+    ensures done { OnOk result (HasDone program.now residents.old index event entries.old.items
         name.now residents.new entries.new.items) }
     ensures kept { OnErr result (entries.new.items ≡ entries.old.items) }
 {
-    let Some((actor, memory)) = take_at(program, residents, place, &event)? else {
+    let Some((actor, memory)) = take_at(program, residents, index, &event)? else {
         unreachable!()
     };
     residents.push(Resident { actor, memory })?;
@@ -435,15 +435,15 @@ fn go_alone(
     residents: &mut Residents,
     entries: &mut Vec<LogEntry>,
     name: &ActorName,
-    place: usize,
+    index: usize,
     event: Event,
 ) -> Result<(), NoMemory>
-    requires { IsGoingAlone program.now residents.old place event }
-    ensures done { OnOk result (HasDone program.now residents.old place event entries.old.items
+    requires { IsGoingAlone program.now residents.old index event }
+    ensures done { OnOk result (HasDone program.now residents.old index event entries.old.items
         name.now residents.new entries.new.items) }
     ensures kept { OnErr result (entries.new.items ≡ entries.old.items) }
 {
-    take_at(program, residents, place, &event)?;
+    take_at(program, residents, index, &event)?;
     note(entries, name, event)
 }
 
@@ -452,18 +452,18 @@ fn go_alone(
 fn take_at(
     program: &Program<'_>,
     residents: &mut Residents,
-    place: usize,
+    index: usize,
     event: &Event,
 ) -> Result<Option<(Actor, PrivateView)>, NoMemory>
-    requires { IsTaking residents.old place event.now }
-    ensures { IfOk result (λ o. HasTaken program.now residents.old place event.now
+    requires { IsTaking residents.old index event.now }
+    ensures { IfOk result (λ o. HasTaken program.now residents.old index event.now
         (option_map (λ p. whole p.0 p.1) o) residents.new) }
 {
-    let resident = &mut residents.list[place];
+    let resident = &mut residents.list[index];
     match resident.actor.take(program, &mut resident.memory, event) {
         Ok(begun) => Ok(begun),
         Err(NoMemory) => {
-            drop_all(&mut residents.list, &mut residents.index);
+            drop_all(&mut residents.list, &mut residents.by_name);
             Err(NoMemory)
         }
     }
@@ -475,12 +475,12 @@ fn join(
     residents: &mut Residents,
     entries: &mut Vec<LogEntry>,
     name: &ActorName,
-    place: usize,
+    index: usize,
     child: u32,
 ) -> Result<Went, NoMemory>
-    requires { IsJoining residents.old place name.now child }
+    requires { IsJoining residents.old index name.now child }
     ensures took { IfOk result (λ r. r ≡ Went.Took → (c : SomeCells)
-        → IsDoneAt program.now c residents.old place
+        → IsDoneAt program.now c residents.old index
         (AWant.Join child) entries.old.items name.now c residents.new entries.new.items) }
     ensures waits { IfOk result (λ r. r ≡ Went.Waits
         → is_ended (actor_named residents.old (child_name name.now child)) ≡ false) }
@@ -494,7 +494,7 @@ fn join(
         return Ok(Went::Waits);
     };
     let event = Event::Join { child, end, fuel };
-    go_alone(program, residents, entries, name, place, event)?;
+    go_alone(program, residents, entries, name, index, event)?;
     Ok(Went::Took)
 }
 

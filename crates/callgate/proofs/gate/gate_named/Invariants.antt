@@ -1,6 +1,6 @@
 use Rattle.std.proofs.Common.{◌≡◌, drop, map}
 use Rattle.std.specs.Arc.{arc_value}
-use Rattle.callgate.specs.Gates as known
+use Rattle.callgate.specs.Gate as known
 use Rattle.callgate.proofs.gate.gate_named.Given as goal
 
 abbrev pub invariant-loop-gate : goal.invariant-loop-gate

@@ -1,5 +1,5 @@
 use Rattle.std.proofs.Common.{◌≡◌, drop}
-use Rattle.sthread_life.specs.Copying.{with_declared}
+use Rattle.sthread_life.specs.Preparation.{with_declared}
 use Rattle.sthread_life.proofs.actor.copy_declared.Given as goal
 
 abbrev pub invariant-loop-tag : goal.invariant-loop-tag

@@ -2,7 +2,7 @@ use Rattle.std.proofs.Common.{◌≡◌, [], ◌++◌, map, drop, sym, ap, ◌�
 use Rattle.std.proofs.Math.ListN.{drop_of_length-le}
 use Rattle.std.proofs.lemmas.List.{append-nil}
 use Rattle.wedge_base.specs.Sheets.{tag_granted}
-use Rattle.sthread_life.specs.Copying.{copy_grants}
+use Rattle.sthread_life.specs.CopyGrant.{copy_grants}
 use Rattle.sthread_life.proofs.SlotsHeld.{copies_inside}
 use Rattle.sthread_life.proofs.copy_grant.copy_grants.Goals as goal
 

@@ -1,6 +1,6 @@
 use Rattle.std.proofs.Common.{◌≡◌, ◌++◌, drop, map}
 use Rattle.wedge_base.specs.Sheets.{tag_granted}
-use Rattle.sthread_life.specs.Copying.{copy_grants}
+use Rattle.sthread_life.specs.CopyGrant.{copy_grants}
 use Rattle.sthread_life.proofs.copy_grant.copy_grants.Given as goal
 
 abbrev pub invariant-loop-number : goal.invariant-loop-number

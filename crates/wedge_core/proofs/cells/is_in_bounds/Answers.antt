@@ -8,7 +8,7 @@ use Rattle.wedge_events.specs.declared.cells.SlotAsk.TheVariants as ask
 use Rattle.wedge_events.specs.declared.events.Event.TheVariants as event
 use Rattle.sthread_life.specs.Between.{IsInBounds}
 use Rattle.run_laws.specs.Cells.{held}
-use Rattle.wedge_core.proofs.CellPlaces.{held_at}
+use Rattle.wedge_core.proofs.CellIndices.{held_at}
 use Rattle.wedge_core.proofs.Placing.{places_inside, snaps_inside}
 use Rattle.wedge_core.proofs.cells.is_in_bounds.Goals as goal
 

@@ -3,7 +3,7 @@ use Rattle.std.specs.Prelude.{None}
 use Rattle.wedge_base.specs.Images.{slots as most_slots}
 use Rattle.wedge_events.specs.Slots.{declared_slots}
 use Rattle.run_laws.specs.Cells.{nothings}
-use Rattle.wedge_core.proofs.CellPlaces.{nothings_push, nothings_none, declared_count}
+use Rattle.wedge_core.proofs.CellIndices.{nothings_push, nothings_none, declared_count}
 use Rattle.wedge_core.proofs.cells.opening_slots.Goals as goal
 
 pub loop-alloc-init : goal.loop-alloc-init

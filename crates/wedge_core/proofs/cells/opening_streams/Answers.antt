@@ -2,7 +2,7 @@ use Rattle.std.proofs.Common.{◌≡◌, ◌∙◌, ◌<◌, ◌≤◌, ◌+◌,
 use Rattle.std.specs.Prelude.{None}
 use Rattle.wedge_events.specs.Streams.{most_fds}
 use Rattle.run_laws.specs.Cells.{nothings}
-use Rattle.wedge_core.proofs.CellPlaces.{nothings_push, nothings_none}
+use Rattle.wedge_core.proofs.CellIndices.{nothings_push, nothings_none}
 use Rattle.wedge_core.proofs.cells.opening_streams.Goals as goal
 
 pub loop-streams-preserved : goal.loop-streams-preserved

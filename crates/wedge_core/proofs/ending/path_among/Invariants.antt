@@ -1,5 +1,5 @@
 use Rattle.std.proofs.Common.{◌≡◌, List, ◌++◌, drop}
-use Rattle.sthread_life.specs.declared.files.StreamLabel.{StreamLabel}
+use Rattle.sthread_life.specs.declared.opening.StreamLabel.{StreamLabel}
 use Rattle.run_laws.specs.Outcomes as outcomes
 use Rattle.wedge_core.proofs.ending.path_among.Given as goal
 

@@ -11,7 +11,7 @@ use Rattle.wedge_core.proofs.serially.serial.Goals as goal
 
 pub loop-world-init : goal.loop-world-init
 loop-world-init c =
-    let one : c.push.new.self.items ≡ record { name = root_name; place = 0 } ∷ [] = search rules in
+    let one : c.push.new.self.items ≡ record { name = root_name; index = 0 } ∷ [] = search rules in
     record {
       image = ap (λ (p : Progress). p.state.image) c.in_ok-world.ensures;
       serial = opening_serial c.args.image.now c.in_ok-world.world c.push.new.self.items c.in_ok-world.ensures one;

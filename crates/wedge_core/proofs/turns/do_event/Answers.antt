@@ -4,7 +4,7 @@ use Rattle.wedge_events.specs.declared.events.Ask.{Ask}
 use Rattle.sthread_life.specs.Actors.{whole}
 use Rattle.sthread_life.specs.Between.{WantFits}
 use Rattle.run_laws.specs.Cells.{AskFits, live_at, event_of}
-use Rattle.sthread_life.specs.Taking.{asks}
+use Rattle.sthread_life.specs.Take.{asks}
 use Rattle.wedge_core.proofs.Fitting.{asks_fit, event_fits}
 use Rattle.wedge_core.proofs.turns.do_event.Goals as goal
 

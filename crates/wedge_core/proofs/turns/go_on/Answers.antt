@@ -4,73 +4,73 @@ use Rattle.sthread_life.specs.declared.phase.Phase.TheVariants as phase
 use Rattle.sthread_life.specs.Actors.{ActorState, whole}
 use Rattle.sthread_life.specs.Children.{child_name, fuel_given}
 use Rattle.sthread_life.specs.Local.{run_awaited}
-use Rattle.sthread_life.specs.Taking.{has_joined}
+use Rattle.sthread_life.specs.Take.{has_joined}
 use Rattle.run_laws.specs.Worlds.{actor_named, ended_with}
 use Rattle.wedge_core.specs.Progress.{IsFirstNamed}
 use Rattle.wedge_core.specs.Turning.{HasGoneOn}
 use Rattle.wedge_core.proofs.GoingOn.{waits_at, awaited_there, stays_awake, gone_back, back_given}
-use Rattle.wedge_core.proofs.Indexing.{index_put_back}
+use Rattle.wedge_core.proofs.Indexing.{name_map_put_back}
 use Rattle.wedge_core.proofs.Turning.{found_through}
 use Rattle.wedge_core.proofs.turns.go_on.Goals as goal
 
 pub returns-in_default-clause-goes : goal.returns-in_default-clause-goes
 returns-in_default-clause-goes c = λ _.
     let at = c.requires.there in
-    let none : None ≡ run_awaited at.0.phase = sym c.in_default.is ∙ awaited_there c.args.residents.now c.args.place at.0 c.run_awaited.result at.1.there c.run_awaited.ensures in
-    stays_awake c.args.residents.now c.args.place c.args.name.now at.0 at.1 (sym none)
+    let none : None ≡ run_awaited at.0.phase = sym c.in_default.is ∙ awaited_there c.args.residents.now c.args.index at.0 c.run_awaited.result at.1.there c.run_awaited.ensures in
+    stays_awake c.args.residents.now c.args.index c.args.name.now at.0 at.1 (sym none)
 
 pub resume-requires-clause-waits : goal.resume-requires-clause-waits
 resume-requires-clause-waits c =
     let items = c.residents.inside.list.items in
     let actors = c.args.residents.now in
-    let place = c.args.place in
+    let index = c.args.index in
     let name = c.args.name.now in
     let a = c.index_mut-resident.result.now in
-    let there : IsFirstNamed items name place a = found_through items actors name place a c.residents.view_is c.requires.there c.index_mut-resident.ensures.value in
-    let f : IsFirstNamed actors name place a = subst (λ as_. IsFirstNamed as_ name place a) c.residents.view_is there in
-    let at : a.phase ≡ phase.Waiting c.in-Some.run' = waits_at a.phase c.in-Some.run' (sym c.in-Some.is ∙ awaited_there actors place a c.run_awaited.result f.there c.run_awaited.ensures) in
+    let there : IsFirstNamed items name index a = found_through items actors name index a c.residents.view_is c.requires.there c.index_mut-resident.ensures.value in
+    let f : IsFirstNamed actors name index a = subst (λ as_. IsFirstNamed as_ name index a) c.residents.view_is there in
+    let at : a.phase ≡ phase.Waiting c.in-Some.run' = waits_at a.phase c.in-Some.run' (sym c.in-Some.is ∙ awaited_there actors index a c.run_awaited.result f.there c.run_awaited.ensures) in
     ap (λ (x : ActorState). x.phase) c.resident.view_is ∙ at
 
 pub resume-requires-clause-back : goal.resume-requires-clause-back
 resume-requires-clause-back c =
     let items = c.residents.inside.list.items in
     let actors = c.args.residents.now in
-    let place = c.args.place in
+    let index = c.args.index in
     let name = c.args.name.now in
     let a = c.index_mut-resident.result.now in
-    let there : IsFirstNamed items name place a = found_through items actors name place a c.residents.view_is c.requires.there c.index_mut-resident.ensures.value in
-    let f : IsFirstNamed actors name place a = subst (λ as_. IsFirstNamed as_ name place a) c.residents.view_is there in
-    let at : a.phase ≡ phase.Waiting c.in-Some.run' = waits_at a.phase c.in-Some.run' (sym c.in-Some.is ∙ awaited_there actors place a c.run_awaited.result f.there c.run_awaited.ensures) in
+    let there : IsFirstNamed items name index a = found_through items actors name index a c.residents.view_is c.requires.there c.index_mut-resident.ensures.value in
+    let f : IsFirstNamed actors name index a = subst (λ as_. IsFirstNamed as_ name index a) c.residents.view_is there in
+    let at : a.phase ≡ phase.Waiting c.in-Some.run' = waits_at a.phase c.in-Some.run' (sym c.in-Some.is ∙ awaited_there actors index a c.run_awaited.result f.there c.run_awaited.ensures) in
     let ends : ended_with (actor_named actors (child_name name c.in-Some.run')) ≡ Some (c.in-Some-2.end, c.in-Some-2.fuel) = sym c.in_ok-end.ensures ∙ c.in-Some-2.is in
     subst (λ (x : ActorState). IsSomeAnd (fuel_given x.unjoined c.in-Some.run') (λ g. c.in-Some-2.fuel ≤ g)) (sym c.resident.view_is)
-    (back_given actors place name a c.in-Some.run' c.in-Some-2.end c.in-Some-2.fuel f c.requires.family at ends)
+    (back_given actors index name a c.in-Some.run' c.in-Some-2.end c.in-Some-2.fuel f c.requires.family at ends)
 
 pub invariant_of-residents : goal.invariant_of-residents
 invariant_of-residents c =
     let items = c.residents.inside.list.items in
     let actors = c.args.residents.now in
-    let place = c.args.place in
+    let index = c.args.index in
     let name = c.args.name.now in
     let a = c.index_mut-resident.result.now in
-    let there : IsFirstNamed items name place a = found_through items actors name place a c.residents.view_is c.requires.there c.index_mut-resident.ensures.value in
-    let f : IsFirstNamed actors name place a = subst (λ as_. IsFirstNamed as_ name place a) c.residents.view_is there in
-    let at : a.phase ≡ phase.Waiting c.in-Some.run' = waits_at a.phase c.in-Some.run' (sym c.in-Some.is ∙ awaited_there actors place a c.run_awaited.result f.there c.run_awaited.ensures) in
+    let there : IsFirstNamed items name index a = found_through items actors name index a c.residents.view_is c.requires.there c.index_mut-resident.ensures.value in
+    let f : IsFirstNamed actors name index a = subst (λ as_. IsFirstNamed as_ name index a) c.residents.view_is there in
+    let at : a.phase ≡ phase.Waiting c.in-Some.run' = waits_at a.phase c.in-Some.run' (sym c.in-Some.is ∙ awaited_there actors index a c.run_awaited.result f.there c.run_awaited.ensures) in
     let new = whole c.resume.new.self c.resident.inside.memory in
     let own : new.name ≡ a.name = c.resume.ensures.name ∙ ap (λ (x : ActorState). x.name) c.resident.view_is in
-    index_put_back c.residents.inside.index items place a new there.there own c.residents.invariant
+    name_map_put_back c.residents.inside.by_name items index a new there.there own c.residents.invariant
 
 pub returns-clause-goes : goal.returns-clause-goes
 returns-clause-goes c = λ _.
     let items = c.residents.inside.list.items in
     let actors = c.args.residents.now in
-    let place = c.args.place in
+    let index = c.args.index in
     let name = c.args.name.now in
     let a = c.index_mut-resident.result.now in
-    let there : IsFirstNamed items name place a = found_through items actors name place a c.residents.view_is c.requires.there c.index_mut-resident.ensures.value in
-    let f : IsFirstNamed actors name place a = subst (λ as_. IsFirstNamed as_ name place a) c.residents.view_is there in
-    let at : a.phase ≡ phase.Waiting c.in-Some.run' = waits_at a.phase c.in-Some.run' (sym c.in-Some.is ∙ awaited_there actors place a c.run_awaited.result f.there c.run_awaited.ensures) in
+    let there : IsFirstNamed items name index a = found_through items actors name index a c.residents.view_is c.requires.there c.index_mut-resident.ensures.value in
+    let f : IsFirstNamed actors name index a = subst (λ as_. IsFirstNamed as_ name index a) c.residents.view_is there in
+    let at : a.phase ≡ phase.Waiting c.in-Some.run' = waits_at a.phase c.in-Some.run' (sym c.in-Some.is ∙ awaited_there actors index a c.run_awaited.result f.there c.run_awaited.ensures) in
     let ends : ended_with (actor_named actors (child_name name c.in-Some.run')) ≡ Some (c.in-Some-2.end, c.in-Some-2.fuel) = sym c.in_ok-end.ensures ∙ c.in-Some-2.is in
     let new = whole c.resume.new.self c.resident.inside.memory in
     let goes : new ≡ has_joined a c.in-Some.run' c.in-Some-2.end c.in-Some-2.fuel = c.resume.ensures.goes c.resident.inside.memory ∙ ap (λ x. has_joined x c.in-Some.run' c.in-Some-2.end c.in-Some-2.fuel) c.resident.view_is in
-    subst (λ as_. HasGoneOn actors place name (slice_set as_ place new)) (sym c.residents.view_is)
-    (gone_back actors place name a c.in-Some.run' c.in-Some-2.end c.in-Some-2.fuel new f at ends goes)
+    subst (λ as_. HasGoneOn actors index name (slice_set as_ index new)) (sym c.residents.view_is)
+    (gone_back actors index name a c.in-Some.run' c.in-Some-2.end c.in-Some-2.fuel new f at ends goes)

@@ -1,7 +1,7 @@
 use Rattle.std.proofs.Common.{◌≡◌, sym, ap, ◌∙◌}
 use Rattle.sthread_life.specs.declared.phase.Phase.TheVariants as phase
 use Rattle.sthread_life.specs.Actors.{ActorRecord, whole}
-use Rattle.sthread_life.specs.Taking.{has_entered}
+use Rattle.sthread_life.specs.Take.{has_entered}
 use Rattle.sthread_life.proofs.actor.Actor.enter.Goals as goal
 
 pub returns-in-Entering-clause-takes : goal.returns-in-Entering-clause-takes

@@ -7,7 +7,7 @@ use Rattle.wedge_base.specs.declared.rights.Denial.{Denial}
 use Rattle.callgate.specs.declared.gate.Gate.{Gate}
 use Rattle.sthread_life.specs.Actors.{ActorState, ActorRecord, refuses, whole}
 use Rattle.sthread_life.specs.Calls.{a2, lent_asked, enter_checked, enter_lending}
-use Rattle.sthread_life.specs.Lending.{excess_lent, may_lend}
+use Rattle.sthread_life.specs.Entering.{excess_lent, may_lend}
 use Rattle.sthread_life.proofs.Creating.{on_ok}
 use Rattle.sthread_life.proofs.actor.Actor.enter_lending.Goals as goal
 

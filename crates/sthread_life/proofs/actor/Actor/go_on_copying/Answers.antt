@@ -3,7 +3,7 @@ use Rattle.std.proofs.Common.{map, option_map, ◌≡◌, sym, ap, subst, ◌∙
 use Rattle.sthread_life.specs.declared.phase.Phase.TheVariants as phase
 use Rattle.sthread_life.specs.Actors.{ActorRecord, whole}
 use Rattle.sthread_life.specs.Calls.{a0, draft_at, continue_gate}
-use Rattle.sthread_life.specs.Taking.{has_snapped}
+use Rattle.sthread_life.specs.Take.{has_snapped}
 use Rattle.sthread_life.proofs.Creating.{on_ok}
 use Rattle.sthread_life.proofs.GatesMade.{making_at}
 use Rattle.sthread_life.proofs.actor.Actor.go_on_copying.Goals as goal

@@ -1,7 +1,7 @@
 use Rattle.std.proofs.Common.{Some, ap, ◌∙◌}
 use Rattle.cow_pages.specs.PrivateMemory.{no_memory}
 use Rattle.sthread_life.specs.Actors.{ActorRecord, whole}
-use Rattle.sthread_life.specs.Taking.{has_started}
+use Rattle.sthread_life.specs.Take.{has_started}
 use Rattle.sthread_life.proofs.actor.Actor.start.Goals as goal
 
 pub returns-clause-takes : goal.returns-clause-takes

@@ -1,6 +1,6 @@
 use Rattle.std.proofs.Common.{◌≡◌, length}
 use Rattle.sthread_life.specs.Between.{AreInSlots}
-use Rattle.sthread_life.specs.Copying.{prepare_copies}
+use Rattle.sthread_life.specs.Preparation.{prepare_copies}
 use Rattle.sthread_life.proofs.preparation.Preparation.copy_own.Given as goal
 
 abbrev pub invariant-loop-grant : goal.invariant-loop-grant

@@ -2,13 +2,13 @@ use Rattle.std.proofs.Common.{◌≡◌, ◌++◌, ◌∷◌, [], List, length, 
 use Rattle.std.specs.Prelude.{None}
 use Rattle.sthread_life.specs.Actors.{ActorState}
 use Rattle.run_laws.specs.Worlds.{actor_named}
-use Rattle.wedge_core.specs.Places.{IsIndexOf}
-use Rattle.wedge_core.proofs.Indexing.{index_push}
+use Rattle.wedge_core.specs.Indices.{IsNameMap}
+use Rattle.wedge_core.proofs.Indexing.{name_map_push}
 use Rattle.wedge_core.proofs.residents.Residents.push.Goals as goal
 
 pub invariant_of-self-2 : goal.invariant_of-self-2
 invariant_of-self-2 c =
-    let index = c.self.inside.index in
+    let by_name = c.self.inside.by_name in
     let actors = c.self.inside.list.items in
     let child = c.args.child in
     let key = c.in_ok-parts.parts in
@@ -16,5 +16,5 @@ invariant_of-self-2 c =
     let pushed : c.add_in_room.new.list.items ≡ actors ++ child ∷ [] = search rules in
     let named : key.items ≡ child.name = search rules in
     let at : c.len.result ≡ length actors = search rules in
-    subst (λ (as_ : List ActorState). IsIndexOf c.insert.new.self as_) (sym pushed)
-    (index_push index c.insert.new.self key actors child c.len.result c.self.invariant none named at c.in_ok-insert.ensures.updates)
+    subst (λ (as_ : List ActorState). IsNameMap c.insert.new.self as_) (sym pushed)
+    (name_map_push by_name c.insert.new.self key actors child c.len.result c.self.invariant none named at c.in_ok-insert.ensures.updates)

@@ -1,4 +1,4 @@
--- What a caller lends to the run of a gate.
+-- What a caller lends to the run of a gate that it enters.
 
 use Rattle.std.specs.Prelude.{Bool, true, Option, Some, None}
 use Rattle.wedge_base.specs.Sheets.{Sheet, Draft, first_excess, sheet_of_draft, is_lendable}

@@ -1,7 +1,7 @@
 use Rattle.std.proofs.Common.{◌≡◌, ◌++◌, take, drop}
 use Rattle.wedge_events.specs.Gates.{Kept}
 use Rattle.run_laws.specs.Cells.{kept_among, put_kept}
-use Rattle.wedge_core.proofs.gates.place_of.Given as goal
+use Rattle.wedge_core.proofs.gates.index_of.Given as goal
 
 abbrev pub invariant-loop-i : goal.invariant-loop-i
 invariant-loop-i l = record {

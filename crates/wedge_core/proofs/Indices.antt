@@ -1,4 +1,4 @@
--- The actor at a place, and the first cell of a gate by its place.
+-- The actor at an index, and the first cell of a gate by its index.
 use Rattle.std.proofs.Common.{◌≡◌, ℕ, zero, suc, ◌<◌, true, List, [], ◌∷◌, ◌++◌, length, get_or, take, drop, sym, ap, subst, ◌∙◌, arith}
 use Rattle.std.specs.Prelude.{Some, slice_get, option_map, unwrap_or, find, if◌then◌else◌}
 use Rattle.std.proofs.Math.ListN.{set}

@@ -1,19 +1,12 @@
 -- The private copies with which actors begin.
-use Rattle.std.specs.Prelude.{ℕ, ◌+◌, Bool, true, false, List, [], ◌∷◌, Option, Some, None, if◌then◌else◌}
+use Rattle.std.specs.Prelude.{ℕ, ◌+◌, List, [], ◌∷◌, Option, Some, None, if◌then◌else◌}
 use Rattle.cow_pages.specs.Copies.{Copies, copy_at, with_copy}
 use Rattle.cow_pages.specs.PrivateMemory.{PrivateMemory}
-use Rattle.wedge_base.specs.Maps.{Map}
-use Rattle.wedge_base.specs.Sheets.{Sheet, Made, right_on, is_copy}
+use Rattle.wedge_base.specs.Sheets.{Sheet, Made, right_on}
 use Rattle.wedge_events.specs.Slots.{declared_segment}
 use Rattle.wedge_base.specs.declared.image.TagEntry.{TagEntry}
-use Rattle.wedge_base.specs.declared.rights.Grant.{Grant}
-use Rattle.wedge_base.specs.declared.rights.Right.{Right}
-use Rattle.wedge_base.specs.declared.rights.Right.TheVariants as right
+use Rattle.sthread_life.specs.CopyGrant.{is_copy_alone}
 use Rattle.sthread_life.specs.declared.copy_grant.CopyGrant.{CopyGrant}
-
-abbrev pub is_copy_alone : Option Right → Bool
-is_copy_alone (Some right.Cow) = true
-is_copy_alone r = false
 
 -- ---- the root
 
@@ -24,11 +17,6 @@ with_declared copies n [] = copies
 with_declared copies n (t ∷ ts) = with_declared (if is_copy_alone t.right then with_copy copies n (declared_segment n t).bytes else copies) (n + 1) ts
 
 -- ---- a child, and the runs of a gate
-
--- the grants of copies of a sheet, in the order of the tags' numbers
-abbrev pub copy_grants : Map Grant → List CopyGrant
-copy_grants [] = []
-copy_grants (e ∷ es) = if is_copy e.1.right then record { tag = e.0; slot = e.1.slot } ∷ copy_grants es else copy_grants es
 
 -- The memory with which a child, or the runs of a gate, are to begin, as it is prepared: the memory
 -- so far, and the grants of copies of which none is made yet.

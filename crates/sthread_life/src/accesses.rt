@@ -6,7 +6,7 @@ ghost use Rattle.rv_isa.specs.Table.{HasRegisters};
 ghost use Rattle.rv_hart.specs.Local as hart;
 ghost use Rattle.sthread_life.specs.declared.phase.Phase.TheVariants as phase;
 ghost use Rattle.sthread_life.specs.Actors.{whole};
-ghost use Rattle.sthread_life.specs.Private as private;
+ghost use Rattle.sthread_life.specs.Accesses as accesses;
 
 use crate::actor::Actor;
 use crate::phase::Phase;
@@ -31,10 +31,10 @@ impl Actor {
     )
         requires running { self.old.phase ≡ phase.Running }
         requires registers { HasRegisters instr }
-        requires width { private.IsWidth width }
+        requires width { accesses.IsWidth width }
         requires needed { (hart.local instr self.old.hart).need ≡ Need.Load address width signed }
         ensures { whole self.new memory.now
-            ≡ private.loads program.now instr signed (whole self.old memory.now) address width }
+            ≡ accesses.loads program.now instr signed (whole self.old memory.now) address width }
     {
         if address % u32::from(width) != 0 {
             self.end(End::Misaligned);
@@ -70,10 +70,10 @@ impl Actor {
     )
         requires running { self.old.phase ≡ phase.Running }
         requires registers { HasRegisters instr }
-        requires width { private.IsWidth width }
+        requires width { accesses.IsWidth width }
         requires aligned { address % width ≡ 0 }
         requires needed { (hart.local instr self.old.hart).need ≡ Need.Load address width signed }
-        ensures { whole self.new memory.now ≡ private.load_window instr signed
+        ensures { whole self.new memory.now ≡ accesses.load_window instr signed
             (whole self.old memory.now) width (slot_of address) }
     {
         let Some(Place { slot, offset }) = slot_of(address) else {
@@ -100,9 +100,9 @@ impl Actor {
         value: u32,
     ) -> Result<(), NoMemory>
         requires running { self.old.phase ≡ phase.Running }
-        requires width { private.IsWidth width }
+        requires width { accesses.IsWidth width }
         requires aligned { address % width ≡ 0 }
-        ensures { OnOk result (whole self.new memory.new ≡ private.store_window
+        ensures { OnOk result (whole self.new memory.new ≡ accesses.store_window
             (whole self.old memory.old) width value (slot_of address)) }
     {
         let Some(Place { slot, offset }) = slot_of(address) else {
@@ -135,9 +135,9 @@ impl Actor {
         value: u32,
     ) -> Result<(), NoMemory>
         requires running { self.old.phase ≡ phase.Running }
-        requires width { private.IsWidth width }
+        requires width { accesses.IsWidth width }
         ensures { OnOk result (whole self.new memory.new
-            ≡ private.stores program.now (whole self.old memory.old) address width value) }
+            ≡ accesses.stores program.now (whole self.old memory.old) address width value) }
     {
         if address % u32::from(width) != 0 {
             self.end(End::Misaligned);

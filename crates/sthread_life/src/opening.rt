@@ -2,7 +2,7 @@
 
 ghost use Rattle.std.specs.Prelude.{◌≡◌, Some, IfOk};
 ghost use Rattle.sthread_life.specs.Calls.{opening_of};
-ghost use Rattle.sthread_life.specs.Taking.{opening_want};
+ghost use Rattle.sthread_life.specs.Take.{opening_want};
 
 use std::alloc::Global;
 use std::marker::Model;

@@ -49,14 +49,15 @@ use Rattle.sthread_life.specs.Opening.{FileOpening}
 use Rattle.sthread_life.specs.declared.phase.Phase.{Phase}
 use Rattle.sthread_life.specs.declared.phase.Phase.TheVariants as phase
 use Rattle.sthread_life.specs.Actors.{ActorState, pristine, opening_hart, right_of, answers, answers_more, refuses, notes, denies, ends, spends}
-use Rattle.sthread_life.specs.Private.{has_loaded, has_stored}
+use Rattle.sthread_life.specs.Accesses.{has_loaded, has_stored}
 use Rattle.sthread_life.specs.Calls.{a0, a1, a2, a3, draft_at, continue_gate}
 use Rattle.sthread_life.specs.Children.{Children, least_child, with_child, without_child, child_name}
-use Rattle.sthread_life.specs.Copying.{Preparation, copy_grants, copied_from, prepare_copies, behind_first}
+use Rattle.sthread_life.specs.CopyGrant.{copy_grants}
+use Rattle.sthread_life.specs.Preparation.{Preparation, copied_from, prepare_copies, behind_first}
 use Rattle.sthread_life.specs.declared.copy_grant.CopyGrant.{CopyGrant}
 use Rattle.callgate.specs.declared.gate.Gate.{Gate}
 use Rattle.wedge_base.specs.declared.grants.GateId.{GateId}
-use Rattle.sthread_life.specs.Entrances.{Entrance}
+use Rattle.sthread_life.specs.Entrance.{Entrance}
 
 -- the number of the next actor that it starts
 abbrev pub next_start : ActorState → ℕ

@@ -1,7 +1,7 @@
 use Rattle.std.proofs.Common.{◌≡◌, ◌∙◌, true, sym, rules}
 use Rattle.wedge_base.specs.Identities.{same_gate}
-use Rattle.wedge_core.proofs.Places.{get_at, kept_at, put_kept_at}
-use Rattle.wedge_core.proofs.gates.place_of.Goals as goal
+use Rattle.wedge_core.proofs.Indices.{get_at, kept_at, put_kept_at}
+use Rattle.wedge_core.proofs.gates.index_of.Goals as goal
 
 pub returns-then-is_of-clause-found : goal.returns-then-is_of-clause-found
 returns-then-is_of-clause-found c =

@@ -1,4 +1,4 @@
--- Places of cells: past the end there is none.
+-- Indices of cells: past the end there is none.
 use Rattle.std.proofs.Common.{◌≡◌, ℕ, zero, suc, ◌<◌, ◌≤◌, ◌-◌, ◌+◌, List, [], ◌∷◌, ◌++◌, length, get_or, refl, sym, ap, ◌∙◌, append_assoc, arith}
 use Rattle.std.specs.Prelude.{Option, None, slice_get, slice_set}
 use Rattle.std.proofs.lemmas.List.{append-nil}
