@@ -8,8 +8,8 @@ ghost use Rattle.image_form.specs.Reading.{IsImageAnswer, last_of};
 
 use crate::fault::{ImageError, Why};
 use crate::fields::{limited, number, refused, take};
-use crate::text_span::TextSpan;
 use crate::text::{HIGH_END, base};
+use crate::text_span::TextSpan;
 use std::alloc::Global;
 use wedge_base::{Bytes, MemoryRange, NoMemory};
 

@@ -14,10 +14,10 @@ ghost use Rattle.sthread_life.specs.Actors.{whole};
 ghost use Rattle.sthread_life.specs.Local.{has_ended, end_reached, run_awaited};
 ghost use Rattle.sthread_life.specs.Take.{pair, asks};
 
+use crate::children::Children;
 use crate::copy_grant::is_copy_alone;
 use crate::opening::StreamLabel;
 use crate::phase::Phase;
-use crate::children::Children;
 use callgate::Gate;
 use cow_pages::{Pages, PrivateView};
 use grant_sheet::{Draft, Made, Sheet, right_on};

@@ -16,10 +16,10 @@ ghost use Rattle.sthread_life.specs.declared.phase.Phase.TheVariants as phase;
 
 use crate::actor::{Actor, SP};
 use crate::calls::{A0, A1, A2};
+use crate::children::Children;
 use crate::entrance::Entrance;
 use crate::phase::Phase;
 use crate::starting::{copy_of_gates, end_number, end_value};
-use crate::children::Children;
 use callgate::{Gate, gate_named, is_lendable, run_sheet};
 use cow_pages::PrivateView;
 use grant_sheet::{Draft, Made, Sheet, first_excess, gate_at, sheet_of};

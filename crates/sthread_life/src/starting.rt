@@ -17,10 +17,10 @@ ghost use Rattle.sthread_life.specs.Take as taking;
 
 use crate::actor::{Actor, SP};
 use crate::calls::{A0, A1, A2, A3};
+use crate::children::Children;
 use crate::copy_grant::{CopyGrant, copy_grants};
 use crate::phase::Phase;
 use crate::preparation::Preparation;
-use crate::children::Children;
 use callgate::Gate;
 use cow_pages::{Pages, PrivateView};
 use grant_sheet::{Made, first_excess, sheet_of};

@@ -111,7 +111,8 @@ impl Actor {
         pointer: u32,
         length: u32,
     ) -> Result<Bytes, NoMemory>
-        requires { accesses.fits_read image.now (whole self.now memory.now) pointer length ≡ true }
+        requires { accesses.fits_read image.now
+            (whole self.now memory.now) pointer length ≡ true }
         ensures { IfOk result (λ b. b ≡ accesses.buffer image.now
             (whole self.now memory.now) pointer length) }
     {
