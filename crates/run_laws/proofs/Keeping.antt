@@ -229,7 +229,7 @@ open_keeps i a None path = refl
 open_keeps i a (Some b) None = refl
 open_keeps i a (Some b) (Some path) = keeps_if a (refuses a code.FuelShort) _ (nat_lt a.fuel (a1 a)) refl (file_keeps a path b (file_at i path))
 
-call_keeps : (i : Image) (a : ActorState) (n : ℕ) → Keeps a (serves i a n)
+pub call_keeps : (i : Image) (a : ActorState) (n : ℕ) → Keeps a (serves i a n)
 unfolding serves
 call_keeps i a n =
     keeps_if a (exit a) _ (n == 0) refl
@@ -282,11 +282,11 @@ loads_keep a None value = refl
 loads_keep a (Some ins) value = loaded_keeps ins (local ins a.hart).need a value
 
 -- a read that was given bytes
-abbrev IsNoGift : Event → Type 0
+abbrev pub IsNoGift : Event → Type 0
 IsNoGift (event.Fd fd q (reply.Given bytes)) = ⊥
 IsNoGift e = Unit {0}
 
-memory_is : (i : Image) (a : ActorState) (e : Event) → IsNoGift e → (takes i a e).memory ≡ memory_after a.memory e
+pub memory_is : (i : Image) (a : ActorState) (e : Event) → IsNoGift e → (takes i a e).memory ≡ memory_after a.memory e
 unfolding takes
 memory_is i a (event.Slot slot q (slot_reply.Loaded value)) k = loads_keep (runs a) (option_and_then decode (fetch i a.hart.pc)) value
 memory_is i a (event.Slots (directory_ask.Release place) r) k = refl

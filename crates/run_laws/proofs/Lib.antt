@@ -117,6 +117,10 @@ pub mod Occupying
 pub mod OccupiedRuns
 -- Each turn takes work away, so every run ends.
 pub mod WorkLeft
+-- An instruction, and an event that is no end, keep where the ranges of private memory lie.
+pub mod KeepingRanges
+-- The memory with which the runs of a gate begin has the ranges of the image.
+pub mod GateRanges
 -- What is asked of a cell fits it.
 pub mod FittingAsks
 -- A claim of a slot takes a unit of fuel at least, so an image's fuel bounds the numbers of tags.
@@ -127,6 +131,8 @@ pub mod KnownGates
 -- In every run a recycled gate is entered exactly while one run of it lives, and what it keeps
 -- has the copies alone that its sheet grants.
 pub mod RecycledRuns
+-- In every run every private memory has the ranges of the image.
+pub mod ImagesRanges
 -- In every run no actor at or under a run of a gate holds that gate.
 pub mod GatesWithin
 -- No gate of a run gives more on what the image declares than the root has.

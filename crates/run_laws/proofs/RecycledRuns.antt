@@ -421,7 +421,7 @@ fresh_outside w b e y fresh = record {
   runs = λ g own. let one : y.entrance.gate ≡ g = cc in subst (λ x. IsRunOf x (run_by b (child_name b.name (next_start b)) y.kept y.entrance)) one (entry_runs w b e y);
 }
 
-gate_step : (w : WorldState) (b : ActorState) (e : Event) → Happens w b e → GateStep w b e
+pub gate_step : (w : WorldState) (b : ActorState) (e : Event) → Happens w b e → GateStep w b e
 unfolding fresh_entry
 gate_step w b e (Requested r) = let p = request_passes _ w.cells b r.want r.own in passes_one w b (event_for w.cells b r.want) r.is (request_of_one _ w.cells b r.want r.own) p.0 p.1
 gate_step w b e (Joined j) = subst (GateStep w b) (sym j.join.is) (Passes (λ id. refl) refl (λ r begins. absurd cc))

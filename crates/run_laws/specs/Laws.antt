@@ -22,6 +22,7 @@ use Rattle.run_laws.specs.Fuel.{fuel_of, most_turns, TakesItsUnits}
 use Rattle.run_laws.specs.Bounds.{IsWithinRoot}
 use Rattle.run_laws.specs.Occupancy.{AreOccupied, SlotsSuit}
 use Rattle.run_laws.specs.FittingAsks.{TurnFits}
+use Rattle.run_laws.specs.MemoryRanges.{KeepsRanges}
 use Rattle.run_laws.specs.Written.{BytesFollow, TurnWritesOwn, FlowsFollow, TurnAppendsOwn}
 use Rattle.run_laws.specs.Readers.{TurnLoadsOwn, TurnReadsOwn}
 use Rattle.run_laws.specs.LiveSthreads.{lives_in}
@@ -146,6 +147,10 @@ SlotsAreOccupied = (i : Image) (turns : List Turn) (new : WorldState) → Runs (
 -- and in each turn what is asked of a cell fits the cell
 abbrev pub AsksFit : Type 0
 AsksFit = (i : Image) (turns : List Turn) (new : WorldState) → Runs (initial_state i) turns new → EachTurn TurnFits (initial_state i) turns
+
+-- in each world of a run every private memory has the ranges of the image
+abbrev pub RangesAreKept : Type 0
+RangesAreKept = (i : Image) (turns : List Turn) (new : WorldState) → Runs (initial_state i) turns new → KeepsRanges i new.cells new.actors
 
 -- in each world of a run, each private copy of an actor is at the slot of a grant of a copy on its
 -- sheet, and each copy with which the runs of a gate begin that it knows is at the slot of one on

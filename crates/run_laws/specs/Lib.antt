@@ -68,6 +68,8 @@ pub mod RootBegins
 pub mod Bounds
 -- What holds of the slots and the tags of every run.
 pub mod Occupancy
+-- Where the ranges of private memory lie.
+pub mod MemoryRanges
 -- What is asked of a cell fits it.
 pub mod FittingAsks
 -- What holds of every run.

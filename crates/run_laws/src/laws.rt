@@ -1,7 +1,7 @@
 //! Laws of the definitions: each is the contract of a function that does nothing.
 
 ghost use Rattle.wedge_base.specs.Images.{Image};
-ghost use Rattle.run_laws.specs.Laws.{CellsOpen, AccessesAreIsolated, MomentsAreLawful, InstructionsAreLawful, NamesAreDistinct, RunsWriteTheirOwn, RunsReadTheirOwn, LivesAreCounted, FuelIsKept, RootBounds, SlotsAreOccupied, AsksFit, CopiesAreGranted, GatesAreKept, NoneRunsWithin, GatesHeldAreOlder, RunsAreAlone, RunsEnd, EndedHaveJoinedAll, AllHaveEnded, DraftsAreSorted};
+ghost use Rattle.run_laws.specs.Laws.{CellsOpen, AccessesAreIsolated, MomentsAreLawful, InstructionsAreLawful, NamesAreDistinct, RunsWriteTheirOwn, RunsReadTheirOwn, LivesAreCounted, FuelIsKept, RootBounds, SlotsAreOccupied, AsksFit, RangesAreKept, CopiesAreGranted, GatesAreKept, NoneRunsWithin, GatesHeldAreOlder, RunsAreAlone, RunsEnd, EndedHaveJoinedAll, AllHaveEnded, DraftsAreSorted};
 ghost use Rattle.run_laws.specs.RootBegins.{RootBegins};
 ghost use Rattle.run_laws.specs.Walks.{RootsWalk};
 
@@ -98,9 +98,18 @@ pub fn slots_are_occupied()
 
 /// What is asked of a cell in a turn of a run fits the cell: a load or a store is aligned and inside the window of its slot, and
 /// goes there with the right on the tag that lives in the slot; and a recycled gate is free when it is entered, and
-/// entered when a run leaves it.
+/// entered when a run leaves it, each with private memory that has the ranges of the image.
 pub fn asks_fit_their_cells()
     ensures { AsksFit }
+{}
+
+/// In every world of a run every private memory has the ranges of the image, the private range and the data ranges, in
+/// their order, each with the base and the length that it has there: the memory of each actor that has not ended, the one that is
+/// prepared for a child or for the runs of a gate, the one with which the runs of each gate begin that an actor knows, and
+/// the one that a recycled gate keeps for its next run. So a store or a read changes bytes of a range and never where it
+/// lies, and a run begins with ranges as long as the image's.
+pub fn memory_has_the_images_ranges()
+    ensures { RangesAreKept }
 {}
 
 /// In every world of a run, each private copy of an actor is at the slot of a grant of a copy on its own sheet, and each copy with which the

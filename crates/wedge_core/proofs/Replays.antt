@@ -28,6 +28,7 @@ use Rattle.run_laws.proofs.GrantedCopies.{copies_granted, runs_alone}
 use Rattle.run_laws.proofs.GatesWithin.{none_within, held_older}
 use Rattle.run_laws.proofs.KnownGates.{gates_kept}
 use Rattle.run_laws.proofs.FittingAsks.{asks_fit}
+use Rattle.run_laws.proofs.ImagesRanges.{ranges_kept}
 use Rattle.run_laws.proofs.OccupiedRuns.{slots_occupied}
 use Rattle.run_laws.proofs.Mediating.{moments_lawful}
 use Rattle.run_laws.proofs.Writing.{runs_write_their_own}
@@ -258,6 +259,7 @@ sound_state i turns w run = record {
   slots = (slots_occupied i turns w run).occupied;
   bounded = root_bounds i turns w run;
   copies = copies_granted i turns w run;
+  ranges = ranges_kept i turns w run;
   gates = gates_kept i turns w run;
   runs = runs_alone i turns w run;
   within = none_within i turns w run;

@@ -1,4 +1,4 @@
--- Where the actor of a name is among actors, and an index that says so.
+-- Where the actor of a name is among actors, and a map by names that says so.
 use Rattle.std.specs.Prelude.{◌≡◌, ℕ, ◌+◌, List, [], ◌∷◌, Option, Some, None, option_map, if◌then◌else◌}
 use Rattle.std.specs.Global.{Vec}
 use Rattle.std.specs.HashMap.{HashMap, get_by}
@@ -15,6 +15,6 @@ module _ {S : Type 0} where
   abbrev pub index_by : HashMap (Vec ℕ) ℕ S → List ℕ → Option ℕ
   index_by by_name name = get_by (λ k. same name k.items) by_name
 
-  -- it has the index of the first actor of each name
+  -- a map has the index of the first actor of each name
   abbrev pub IsNameMap : HashMap (Vec ℕ) ℕ S → List ActorState → Type 0
   IsNameMap by_name actors = (name : List ℕ) → index_by by_name name ≡ index_in actors name

@@ -25,6 +25,7 @@ use Rattle.run_laws.specs.LiveSthreads.{lives_in}
 use Rattle.run_laws.specs.Names.{AreDistinct}
 use Rattle.run_laws.specs.Occupancy.{AreOccupied, SlotsSuit}
 use Rattle.run_laws.specs.FittingAsks.{TurnFits}
+use Rattle.run_laws.specs.MemoryRanges.{KeepsRanges}
 use Rattle.run_laws.specs.Worlds.{WorldState, initial_state, actor_named, turn_of, Runs, is_complete}
 use Rattle.run_laws.specs.Outcomes.{outcome_of}
 
@@ -35,7 +36,7 @@ RootGoesOn w turns = EachTurn (λ old t new. is_complete old ≡ false) w turns
 -- What holds of each state of a run: no two actors have one name; each slot was never used, or was
 -- released, or is held by one call, or one tag lives there; whatever an actor has on a declared tag
 -- or descriptor, or the sheet of a gate gives, the root began with; each private copy is at the
--- slot of a grant of a copy; a gate is what its maker made, whoever knows it; each run has its
+-- slot of a grant of a copy; every private memory has the ranges of the image; a gate is what its maker made, whoever knows it; each run has its
 -- gate's sheet with what was lent, a recycled gate has one run at a time, and what it keeps has
 -- copies where its sheet grants them alone; nobody at or under a run of a gate holds that gate, but
 -- older ones and those that were made at or under the run; the count of live sthreads is that of
@@ -45,6 +46,7 @@ pub record IsSoundState (i : Image) (w : WorldState) : Type 0 where
   pub slots : AreOccupied w.cells w.actors
   pub bounded : (name : List ℕ) (a : ActorState) → actor_named w.actors name ≡ Some a → IsWithinRoot i a
   pub copies : (name : List ℕ) (a : ActorState) → actor_named w.actors name ≡ Some a → HasCopiesGranted a
+  pub ranges : KeepsRanges i w.cells w.actors
   pub gates : AreGatesKept w.actors
   pub runs : AreRunsAlone w.cells w.actors
   pub within : NoneHoldsItsOwn w.actors

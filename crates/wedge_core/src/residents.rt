@@ -162,7 +162,7 @@ fn add_in_room<T: Drop>(list: &mut Vec<T>, item: T)
     };
 }
 
-/// Drops all actors and their index. When out of memory not even an actor's name is known, so the index can't be kept.
+/// Drops all actors and the map of their names. When out of memory not even an actor's name is known, so the map can't be kept.
 #[inline(never)]
 pub(crate) fn drop_all(list: &mut Vec<Resident>, by_name: &mut HashMap<Vec<u32>, usize>)
     ensures none { list.new.items ≡ [] }

@@ -537,7 +537,8 @@ fn do_slot(
     }
 }
 
-/// A load of an actor at rest.
+/// A load of an actor at rest. Out of line, and with the kind of what is wanted known: so the compiler leaves out of the most
+/// frequent events what only others need.
 #[inline(never)]
 fn load(
     program: &Program<'_>,
@@ -566,7 +567,7 @@ fn load(
     )
 }
 
-/// A store of an actor at rest.
+/// A store of an actor at rest, out of line for the same reason.
 #[inline(never)]
 fn store(
     program: &Program<'_>,
@@ -600,7 +601,7 @@ fn store(
     )
 }
 
-/// Any event that an actor at rest wants.
+/// Any event that an actor at rest wants, out of line so that it is in nobody's way.
 #[inline(never)]
 fn do_other(
     program: &Program<'_>,
