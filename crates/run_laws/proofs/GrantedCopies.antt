@@ -351,7 +351,7 @@ resumed_granted w a all there m y found =
     let goes = ready_is HasGranted w.actors a h (λ k e fuel. record { own = h.own; child = λ p is. absurd cc; making = λ p is. absurd cc; gates = h.gates }) in
     put_granted w a (ready w.actors a) all put goes m y (find_put w.actors a (ready w.actors a) m y put found)
 
-rested_granted : (w : WorldState) (name : List ℕ) (e : Event) (new : WorldState) (p : Turned w name e new) → AllGranted w → HasGranted (rest w.image p.parts.actor)
+pub rested_granted : (w : WorldState) (name : List ℕ) (e : Event) (new : WorldState) (p : Turned w name e new) → AllGranted w → HasGranted (rest w.image p.parts.actor)
 rested_granted w name e new p all =
     let v = resumed w p.actor in
     let a = p.parts.actor in

@@ -79,6 +79,8 @@ pub mod TagMoments
 pub mod StreamMoments
 -- The moments of the call that opens a file.
 pub mod FileMoments
+-- An instruction comes to the event that its word says, and its event asks what its actor came for.
+pub mod Asking
 -- Each moment of a run.
 pub mod Mediating
 -- One cell among others.

@@ -65,7 +65,8 @@ use Rattle.run_laws.specs.Remembering.{WordRemembers, EventRemembers}
 use Rattle.run_laws.specs.TagCalls.{MakesAt}
 use Rattle.run_laws.specs.Laws.{IsLawful, MomentsAreLawful, InstructionsAreLawful}
 use Rattle.run_laws.proofs.Checking.{kept, put_there, checked_denied, checked_allowed, after, stayed, same_slots, pair_on, slot_world}
-use Rattle.run_laws.proofs.TagMoments.{claim_unused, close_answered, place_answered, free_answered, opened_denials, released_denials, claim_slot_next, close_next, place_next, free_next, opened_next, released_next, slots_told, claim_slot_refused, close_refused, place_refused, free_refused, claim_slot_passed, close_passed, place_passed, free_passed, step_makes, want_makes, open_makes, release_makes}
+use Rattle.run_laws.proofs.Asking.{step_comes_with, event_asks}
+use Rattle.run_laws.proofs.TagMoments.{claim_unused, close_answered, place_answered, free_answered, opened_denials, released_denials, claim_slot_next, close_next, place_next, free_next, opened_next, released_next, slots_told, claim_slot_refused, close_refused, place_refused, free_refused, claim_slot_passed, close_passed, place_passed, free_passed, want_makes, open_makes, release_makes}
 use Rattle.run_laws.proofs.StreamMoments.{stream_answered, stream_next, stream_refused, stream_passed}
 use Rattle.run_laws.proofs.FileMoments.{number_denials, file_denials, number_end, file_end, number_next, file_next, number_refuses, file_refuses, claims_number, opens_file}
 use Rattle.run_laws.proofs.Named.{found_name, put_put, named_begun, begun_noted}
@@ -971,7 +972,8 @@ instruction_lawful w a b named run =
       edits = record { drafts = put_such (λ y. y.drafts ≡ drafts_after w.image b None) w b x a named name (step_edits w.image b); answers = step_answers w b };
       remembers = put_such (WordRemembers w.image b (option_and_then decode (fetch w.image b.hart.pc)) b.fuel) w b x a named name (step_remembers w.image b);
       family = step_family w b run;
-      makes = step_makes w b _ refl run;
+      asks = step_comes_with w b _ refl run;
+      makes = tt;
       copies = put_such (λ y. NotPreparing y.phase) w b x a named name (step_unprepared w.image b run);
       snaps = tt;
       gates = put_such (InstrMakesGates (with_actor w b) b b.fuel) w b x a named name (step_makes_gates (with_actor w b) b run);
@@ -989,6 +991,7 @@ event_lawful w a b e named h = record {
   edits = record { drafts = done_such (λ y. y.drafts ≡ b.drafts) w b a e named (event_edits w.image b e); answers = tt };
   remembers = done_such (EventRemembers b e) w b a e named (event_remembers w b e h);
   family = event_family w b e h;
+  asks = event_asks w b e h;
   makes = event_makes w b e h;
   copies = done_such (PreparesBy (with_actor w b) b b.phase e) w b a e named (event_prepares w b e h);
   snaps = event_copies w b e h;

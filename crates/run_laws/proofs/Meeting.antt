@@ -356,7 +356,7 @@ store_comes N a address width value true false None placed run = store_window_co
 
 -- ---- calls on streams
 
-not_below : (m n : ℕ) → nat_le n m ≡ not (nat_lt m n)
+pub not_below : (m n : ℕ) → nat_le n m ≡ not (nat_lt m n)
 not_below m n = grind (arith, nat_tests)
 
 -- a number that no descriptor has, and one that a call on a stream may have
@@ -386,7 +386,7 @@ transfer_comes N a fd q true false v own few = number_comes N a fd q v (own refl
 few_fds : (fd : ℕ) → nat_le most_fds fd ≡ false → fd < most_fds
 few_fds fd e = grind (arith, nat_tests, e)
 
-not_above : (fd : ℕ) → nat_lt fd most_fds ≡ not (nat_le most_fds fd)
+pub not_above : (fd : ℕ) → nat_lt fd most_fds ≡ not (nat_le most_fds fd)
 not_above fd = grind (arith, nat_tests)
 
 enough : (fuel n : ℕ) → nat_lt fuel n ≡ false → n ≤ fuel

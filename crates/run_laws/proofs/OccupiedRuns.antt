@@ -64,7 +64,7 @@ use Rattle.run_laws.proofs.NumbersGiven.{Spends, turn_spends, opening_spends, re
 use Rattle.run_laws.proofs.Occupying.{Turns, IsPlain, occupied_after, stays_so, claims_so, opens_so, closes_so, releases_so}
 use Rattle.run_laws.proofs.Opening.{cells_open}
 use Rattle.sthread_life.proofs.Resting.{rest-name, rest-stays, rest-uncalm}
-use Rattle.run_laws.proofs.Settling.{AreCells, AllReady, turn_happens, turn_ready, opening_ready, turned_there}
+use Rattle.run_laws.proofs.Settling.{AreCells, AllReady, slots_size, turn_happens, turn_ready, opening_ready, turned_there}
 use Rattle.run_laws.proofs.SlotsKnown.{grown_has, rest_has, same_has, child_has, run_of_has}
 use Rattle.run_laws.proofs.Trees.{IsPut, put_same}
 use Rattle.run_laws.proofs.Turns.{Readies, Stays, Back, back, readies, turn_from}
@@ -309,7 +309,7 @@ pub record Occupied (w : WorldState) : Type 0 where
 quiet_turn : (w : WorldState) (a : ActorState) (e : Event) → Occupied w → actor_named w.actors a.name ≡ Some a → slot_of_call (rest w.image a).phase ≡ None → IsQuiet e → (made_by (rest w.image a) (Some e)).tags ≡ (rest w.image a).made.tags → Leads w a e → TurnsBy w a e
 quiet_turn w a e occ there free quiet none l =
     let calls = quiet_calls e (takes w.image (rest w.image a) e).phase quiet (takes_between w.image (rest w.image a) e) in
-    stays_so w.cells (cells_after w.cells e) w.actors a (takes w.image (rest w.image a) e) occ.occupied there (rest_free w.image a free) (l.changed.places ∙ quiet_places w.cells.places e quiet)
+    stays_so w.cells (cells_after w.cells e) w.actors a (takes w.image (rest w.image a) e) occ.occupied (slots_size w.cells e) there (rest_free w.image a free) (l.changed.places ∙ quiet_places w.cells.places e quiet)
     (λ slot. tag_seen (cells_after w.cells e) slot ∙ (ap tag_of (l.changed.occupants slot) ∙ (quiet_tags slot (occupant_in w.cells slot) e quiet ∙ sym (tag_seen w.cells slot))))
     calls.0 calls.1 (still_has w.image a e none l.grows)
 
@@ -317,9 +317,9 @@ quiet_turn w a e occ there free quiet none l =
 claim_turn : (w : WorldState) (a : ActorState) (o : Option Claim) → Occupied w → actor_named w.actors a.name ≡ Some a → slot_of_call (rest w.image a).phase ≡ None → claim w.cells.places ≡ o
     → Turns (record w.cells { places = claim_next w.cells.places o }) w.actors a (takes w.image (rest w.image a) (event.Slots directory_ask.Claim (claim_reply w.cells.places o)))
 unfolding takes
-claim_turn w a None occ there free is = stays_so w.cells w.cells w.actors a _ occ.occupied there (rest_free w.image a free) refl (λ slot. refl) refl refl (still_has w.image a (event.Slots directory_ask.Claim directory_reply.Full) refl (Keeps refl refl refl))
+claim_turn w a None occ there free is = stays_so w.cells w.cells w.actors a _ occ.occupied refl there (rest_free w.image a free) refl (λ slot. refl) refl refl (still_has w.image a (event.Slots directory_ask.Claim directory_reply.Full) refl (Keeps refl refl refl))
 claim_turn w a (Some k) occ there free is =
-    claims_so w.cells (record w.cells { places = k.left }) w.actors a _ k occ.occupied there (rest_free w.image a free) (given_apart.gives w.cells.places k occ.released is) (claimed_rises w.cells.places k is) refl (λ slot. refl) refl refl
+    claims_so w.cells (record w.cells { places = k.left }) w.actors a _ k occ.occupied refl there (rest_free w.image a free) (given_apart.gives w.cells.places k occ.released is) (claimed_rises w.cells.places k is) refl (λ slot. refl) refl refl
     (still_has w.image a (event.Slots directory_ask.Claim (directory_reply.Claimed k.place w.cells.places.number)) refl (Keeps refl refl refl))
 
 if_tag : (t : Bool) (o p : Option Occupant) → tag_of (if t then o else p) ≡ (if t then tag_of o else tag_of p)
@@ -336,7 +336,7 @@ close_turn w a slot tag (Some g) occ there free lives l = by_test (g.tag == tag)
   where
     closed : (g.tag == tag) ≡ true → Leads w a (event.Slot slot (slot_ask.Close tag) slot_reply.Closed) → TurnsBy w a (event.Slot slot (slot_ask.Close tag) slot_reply.Closed)
     closed is l =
-        closes_so w.cells (cells_after w.cells (event.Slot slot (slot_ask.Close tag) slot_reply.Closed)) w.actors a (takes w.image (rest w.image a) (event.Slot slot (slot_ask.Close tag) slot_reply.Closed)) slot tag occ.occupied there (rest_free w.image a free)
+        closes_so w.cells (cells_after w.cells (event.Slot slot (slot_ask.Close tag) slot_reply.Closed)) w.actors a (takes w.image (rest w.image a) (event.Slot slot (slot_ask.Close tag) slot_reply.Closed)) slot tag occ.occupied (slots_size w.cells (event.Slot slot (slot_ask.Close tag) slot_reply.Closed)) there (rest_free w.image a free)
         (ap (option_map (λ x. x.tag)) lives ∙ ap Some (eqb-true g.tag tag is)) refl
         (λ s. tag_seen (cells_after w.cells (event.Slot slot (slot_ask.Close tag) slot_reply.Closed)) s ∙ (ap tag_of (l.changed.occupants s) ∙ (if_tag (slot == s) None (occupant_in w.cells s) ∙ ap (λ o. if slot == s then None else o) (sym (tag_seen w.cells s)))))
         refl refl (still_has w.image a (event.Slot slot (slot_ask.Close tag) slot_reply.Closed) refl l.grows)
@@ -348,12 +348,12 @@ close_turn w a slot tag (Some g) occ there free lives l = by_test (g.tag == tag)
     by_test false is l = quiet_turn w a (event.Slot slot (slot_ask.Close tag) slot_reply.NoSuch) occ there free tt refl l
 
 -- the opening of a tag
-open_turn : (w : WorldState) (a : ActorState) (slot tag pages : ℕ) → Occupied w → actor_named w.actors a.name ≡ Some a → a.phase ≡ phase.Opening slot tag
+open_turn : (w : WorldState) (a : ActorState) (slot tag pages : ℕ) → Occupied w → slot < length w.cells.slots → actor_named w.actors a.name ≡ Some a → a.phase ≡ phase.Opening slot tag
     → IsChanged w.cells (event.Slot slot (slot_ask.Open tag pages) slot_reply.Opened) (cells_after w.cells (event.Slot slot (slot_ask.Open tag pages) slot_reply.Opened))
     → TurnsBy w a (event.Slot slot (slot_ask.Open tag pages) slot_reply.Opened)
 unfolding takes tag_of
-open_turn w a slot tag pages occ there at_ c =
-    opens_so w.cells (cells_after w.cells (event.Slot slot (slot_ask.Open tag pages) slot_reply.Opened)) w.actors a (takes w.image (rest w.image a) (event.Slot slot (slot_ask.Open tag pages) slot_reply.Opened)) slot tag occ.occupied there (ap slot_of_call at_) (ap tag_of_call at_) refl
+open_turn w a slot tag pages occ inside there at_ c =
+    opens_so w.cells (cells_after w.cells (event.Slot slot (slot_ask.Open tag pages) slot_reply.Opened)) w.actors a (takes w.image (rest w.image a) (event.Slot slot (slot_ask.Open tag pages) slot_reply.Opened)) slot tag occ.occupied (slots_size w.cells (event.Slot slot (slot_ask.Open tag pages) slot_reply.Opened)) inside there (ap slot_of_call at_) (ap tag_of_call at_) refl
     (λ s. tag_seen (cells_after w.cells (event.Slot slot (slot_ask.Open tag pages) slot_reply.Opened)) s ∙ (ap tag_of (c.occupants s) ∙ (if_tag (slot == s) (Some (occupant tag [])) (occupant_in w.cells s) ∙ ap (λ o. if slot == s then Some tag else o) (sym (tag_seen w.cells s)))))
     refl refl (opened_has w.image a slot tag pages)
 
@@ -374,7 +374,7 @@ free_again d place e = subst (λ t. is_claimed (if t then record d { released = 
 release_turn : (w : WorldState) (a : ActorState) (slot : ℕ) → Occupied w → actor_named w.actors a.name ≡ Some a → a.phase ≡ phase.Releasing slot → TurnsBy w a (event.Slots (directory_ask.Release slot) directory_reply.Released)
 unfolding takes
 release_turn w a slot occ there at_ =
-    releases_so w.cells (record w.cells { places = release w.cells.places slot }) w.actors a _ slot occ.occupied there (ap slot_of_call at_) (released_number w.cells.places slot)
+    releases_so w.cells (record w.cells { places = release w.cells.places slot }) w.actors a _ slot occ.occupied refl there (ap slot_of_call at_) (released_number w.cells.places slot)
     (free_again w.cells.places slot (occ.occupied.called a.name a slot there (ap slot_of_call at_)).0)
     (λ s apart. released_claims w.cells.places slot s (is_claimed w.cells.places slot) apart) (λ s. refl) refl refl (still_has w.image a (event.Slots (directory_ask.Release slot) directory_reply.Released) refl (Keeps refl refl refl))
 
@@ -422,7 +422,7 @@ by_happening w a e cells occ there (GateSnaps s) =
 by_happening w a e cells occ there (Started s) = subst (TurnsBy w a) (sym s.is) (quiet_turn w a _ occ there (ap slot_of_call s.at) tt refl (subst (Leads w a) s.is (leads w a e cells (Started s))))
 by_happening w a e cells occ there (Opens o) =
     let l = subst (Leads w a) o.is (leads w a e cells (Opens o)) in
-    subst (TurnsBy w a) (sym o.is) (open_turn w a o.slot o.tag (a0 (rest w.image a)) occ there (rest-uncalm w.image a (phase.Opening o.slot o.tag) (λ h. h) o.at) l.changed)
+    subst (TurnsBy w a) (sym o.is) (open_turn w a o.slot o.tag (a0 (rest w.image a)) occ (subst (λ n. o.slot < n) (sym cells.slots) o.inside) there (rest-uncalm w.image a (phase.Opening o.slot o.tag) (λ h. h) o.at) l.changed)
 by_happening w a e cells occ there (Releases r) =
     subst (TurnsBy w a) (sym r.is) (release_turn w a r.slot occ there (rest-uncalm w.image a (phase.Releasing r.slot) (λ h. h) r.at))
 by_happening w a e cells occ there (Numbers n) = subst (TurnsBy w a) (sym n.is) (quiet_turn w a _ occ there (ap slot_of_call n.at) tt refl (subst (Leads w a) n.is (leads w a e cells (Numbers n))))
@@ -474,7 +474,7 @@ cells_released c (event.Enter run) h = h
 cells_released c (event.Leave end) h = h
 
 -- an actor that goes on is in no such call, and has what it had
-resumed_occupied : (w : WorldState) (a : ActorState) → Occupied w → actor_named w.actors a.name ≡ Some a → Occupied (resumed w a)
+pub resumed_occupied : (w : WorldState) (a : ActorState) → Occupied w → actor_named w.actors a.name ≡ Some a → Occupied (resumed w a)
 resumed_occupied w a occ there = by_case (readies w.actors a)
   where
     by_case : Readies w.actors a → Occupied (resumed w a)
@@ -482,11 +482,11 @@ resumed_occupied w a occ there = by_case (readies w.actors a)
     by_case (Back k at r is) =
         let x = back a k r.how r.run.fuel in
         let put : IsPut w.actors a x = record { name = refl; there = there } in
-        let goes = stays_so w.cells w.cells w.actors a x occ.occupied there (ap slot_of_call at) refl (λ slot. refl) refl refl (λ tag slot h. h) in
+        let goes = stays_so w.cells w.cells w.actors a x occ.occupied refl there (ap slot_of_call at) refl (λ slot. refl) refl refl (λ tag slot h. h) in
         subst (λ (y : ActorState). Occupied (with_actor w y)) (sym is)
         (record { occupied = occupied_after w.cells w.cells w.actors a x None occ.occupied put goes (λ c e. absurd cc); released = occ.released })
 
-turn_occupied : (w : WorldState) (name : List ℕ) (e : Event) (new : WorldState) → AllReady w → Occupied w → turn_of w name ≡ Some (record { event = e; world = new }) → Occupied new
+pub turn_occupied : (w : WorldState) (name : List ℕ) (e : Event) (new : WorldState) → AllReady w → Occupied w → turn_of w name ≡ Some (record { event = e; world = new }) → Occupied new
 turn_occupied w name e new all occ t =
     let p = turn_from w name e new t in
     let v = resumed w p.actor in
@@ -675,7 +675,7 @@ root_known n (t ∷ ts) k g e = by_right t.right e (root_known (n + 1) ts k g)
     by_right None f others = let h = others f in (h.0, omega (arith, h.1))
     by_right (Some r) f others = by_key (eq_by_cmp nat_cmp k n) r refl f others
 
-opening_occupied : (i : Image) → Occupied (initial_state i)
+pub opening_occupied : (i : Image) → Occupied (initial_state i)
 unfolding root
 opening_occupied i = record {
   occupied = record {
@@ -720,11 +720,11 @@ opening_occupied i = record {
         let is : g.slot ≡ slot = cc in
         (sym is ∙ h.0, omega (arith, h.1))
 
-    root_held : (m : List ℕ) (a : ActorState) (tag slot : ℕ) → actor_named (initial_state i).actors m ≡ Some a → HasIn a tag slot → (tag < length i.tags) × ((s : ℕ) → tag_in (opening_cells i) s ≡ Some tag → s ≡ slot)
+    root_held : (m : List ℕ) (a : ActorState) (tag slot : ℕ) → actor_named (initial_state i).actors m ≡ Some a → HasIn a tag slot → (tag < length i.tags) × ((s : ℕ) → tag_in (opening_cells i) s ≡ Some tag → s ≡ slot) × (slot < length (opening_cells i).slots)
     root_held m a tag slot there e = by_root (subst (λ (x : ActorState). HasIn x tag slot) (sym (is_root m a (same root_name m) there)) e)
       where
-        by_root : HasIn (root i) tag slot → (tag < length i.tags) × ((s : ℕ) → tag_in (opening_cells i) s ≡ Some tag → s ≡ slot)
-        by_root (inl own) = let h = by_grant tag slot (at (root_tags 0 i.tags) tag) refl own in (h.1, λ s f. (declared_so i s tag f).0 ∙ sym h.0)
+        by_root : HasIn (root i) tag slot → (tag < length i.tags) × ((s : ℕ) → tag_in (opening_cells i) s ≡ Some tag → s ≡ slot) × (slot < length (opening_cells i).slots)
+        by_root (inl own) = let h = by_grant tag slot (at (root_tags 0 i.tags) tag) refl own in (h.1, λ s f. (declared_so i s tag f).0 ∙ sym h.0, subst (λ n. slot < n) (sym (opening_ready i).cells.slots) (omega (arith, h.0, h.1)))
         by_root (inr gate) = absurd gate
 
 runs_occupied : (old : WorldState) (turns : List Turn) (new : WorldState) → AllReady old → Occupied old → Runs old turns new → Occupied new

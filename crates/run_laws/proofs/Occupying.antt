@@ -1,5 +1,5 @@
 -- The slots and the tags of every run are as they should be.
-use Rattle.std.proofs.Common.{◌≡◌, ℕ, ◌+◌, ◌<◌, ◌==◌, Bool, true, false, true≢false, List, refl, sym, ap, subst, ◌∙◌, arith, inl, inr}
+use Rattle.std.proofs.Common.{◌≡◌, ℕ, ◌+◌, ◌<◌, ◌==◌, Bool, true, false, true≢false, List, length, refl, sym, ap, subst, ◌∙◌, arith, inl, inr}
 use Rattle.std.proofs.lemmas.Bool.{eqb-true, eq-eqb}
 use Rattle.std.specs.Prelude.{Option, Some, None, ◌⊎◌, if◌then◌else◌}
 use Rattle.wedge_events.specs.Directories.{Directory, Claim, is_claimed}
@@ -32,8 +32,8 @@ pub record Turns (d : Cells) (actors : List ActorState) (a x : ActorState) : Typ
   pub coming : (tag : ℕ) → tag_of_call x.phase ≡ Some tag → (tag < d.places.number) × ((slot : ℕ) → tag_in d slot ≡ Some tag → ⊥)
   pub coming_others : (m : List ℕ) (y : ActorState) (tag : ℕ) → IsAnother actors a m y → tag_of_call y.phase ≡ Some tag → (tag < d.places.number) × ((slot : ℕ) → tag_in d slot ≡ Some tag → ⊥)
   pub once : (m : List ℕ) (y : ActorState) (tag : ℕ) → IsAnother actors a m y → tag_of_call x.phase ≡ Some tag → tag_of_call y.phase ≡ Some tag → ⊥
-  pub held : (tag slot : ℕ) → HasIn x tag slot → (tag < d.places.number) × ((s : ℕ) → tag_in d s ≡ Some tag → s ≡ slot)
-  pub held_others : (m : List ℕ) (y : ActorState) (tag slot : ℕ) → IsAnother actors a m y → HasIn y tag slot → (tag < d.places.number) × ((s : ℕ) → tag_in d s ≡ Some tag → s ≡ slot)
+  pub held : (tag slot : ℕ) → HasIn x tag slot → (tag < d.places.number) × ((s : ℕ) → tag_in d s ≡ Some tag → s ≡ slot) × (slot < length d.slots)
+  pub held_others : (m : List ℕ) (y : ActorState) (tag slot : ℕ) → IsAnother actors a m y → HasIn y tag slot → (tag < d.places.number) × ((s : ℕ) → tag_in d s ≡ Some tag → s ≡ slot) × (slot < length d.slots)
   pub unheld : (tag slot : ℕ) → tag_of_call x.phase ≡ Some tag → HasIn x tag slot → ⊥
   pub unheld_by : (m : List ℕ) (y : ActorState) (tag slot : ℕ) → IsAnother actors a m y → tag_of_call x.phase ≡ Some tag → HasIn y tag slot → ⊥
   pub unheld_of : (m : List ℕ) (y : ActorState) (tag slot : ℕ) → IsAnother actors a m y → tag_of_call y.phase ≡ Some tag → HasIn x tag slot → ⊥
@@ -102,7 +102,7 @@ module _ (c d : Cells) (actors : List ActorState) (a x : ActorState) (o : Option
   now_once m n y z tag (Begun is) g e f = none_some (tag_of_call y.phase) tag (plain y is).opens e
   now_once m n y z tag g (Begun is) e f = none_some (tag_of_call z.phase) tag (plain z is).opens f
 
-  now_held : (m : List ℕ) (y : ActorState) (tag slot : ℕ) → Found actors a x o m y → HasIn y tag slot → (tag < d.places.number) × ((s : ℕ) → tag_in d s ≡ Some tag → s ≡ slot)
+  now_held : (m : List ℕ) (y : ActorState) (tag slot : ℕ) → Found actors a x o m y → HasIn y tag slot → (tag < d.places.number) × ((s : ℕ) → tag_in d s ≡ Some tag → s ≡ slot) × (slot < length d.slots)
   now_held m y tag slot (TheDoer is same_actor) e = t.held tag slot (subst (λ (z : ActorState). HasIn z tag slot) same_actor e)
   now_held m y tag slot (Another other) e = t.held_others m y tag slot other e
   now_held m y tag slot (Begun is) e = t.held tag slot ((plain y is).holds tag slot e)
@@ -161,9 +161,9 @@ apart_slots o slot s is apart e =
     true≢false (sym (eq-eqb slot s same_slot) ∙ apart)
 
 -- the slots and their directory stay, and the actor was in no such call and is in none
-pub stays_so : (c d : Cells) (actors : List ActorState) (a x : ActorState) → AreOccupied c actors → actor_named actors a.name ≡ Some a → slot_of_call a.phase ≡ None → d.places ≡ c.places → ((slot : ℕ) → tag_in d slot ≡ tag_in c slot)
+pub stays_so : (c d : Cells) (actors : List ActorState) (a x : ActorState) → AreOccupied c actors → length d.slots ≡ length c.slots → actor_named actors a.name ≡ Some a → slot_of_call a.phase ≡ None → d.places ≡ c.places → ((slot : ℕ) → tag_in d slot ≡ tag_in c slot)
     → slot_of_call x.phase ≡ None → tag_of_call x.phase ≡ None → ((tag slot : ℕ) → HasIn x tag slot → HasIn a tag slot) → Turns d actors a x
-stays_so c d actors a x was there free places tags calls opens known = record {
+stays_so c d actors a x was size there free places tags calls opens known = record {
   lived = λ slot tag e. claimed_so slot (was.lived slot tag (moved slot tag e));
   numbered = λ slot tag e. below tag (was.numbered slot tag (moved slot tag e));
   apart = λ s t tag e f. was.apart s t tag (moved s tag e) (moved t tag f);
@@ -174,13 +174,16 @@ stays_so c d actors a x was there free places tags calls opens known = record {
   coming = λ tag e. none_some (tag_of_call x.phase) tag opens e;
   coming_others = λ m y tag other e. let h = was.coming m y tag other.1 e in (below tag h.0, λ slot f. h.1 slot (moved slot tag f));
   once = λ m y tag other e f. none_some (tag_of_call x.phase) tag opens e;
-  held = λ tag slot e. let h = was.held a.name a tag slot there (known tag slot e) in (below tag h.0, λ s f. h.1 s (moved s tag f));
-  held_others = λ m y tag slot other e. let h = was.held m y tag slot other.1 e in (below tag h.0, λ s f. h.1 s (moved s tag f));
+  held = λ tag slot e. let h = was.held a.name a tag slot there (known tag slot e) in (below tag h.0, λ s f. h.1 s (moved s tag f), inside slot h.2);
+  held_others = λ m y tag slot other e. let h = was.held m y tag slot other.1 e in (below tag h.0, λ s f. h.1 s (moved s tag f), inside slot h.2);
   unheld = λ tag slot e f. none_some (tag_of_call x.phase) tag opens e;
   unheld_by = λ m y tag slot other e f. none_some (tag_of_call x.phase) tag opens e;
   unheld_of = λ m y tag slot other e f. was.unheld m a.name y a tag slot other.1 there e (known tag slot f);
 }
   where
+    inside : (slot : ℕ) → slot < length c.slots → slot < length d.slots
+    inside slot h = subst (λ n. slot < n) (sym size) h
+
     moved : (slot tag : ℕ) → tag_in d slot ≡ Some tag → tag_in c slot ≡ Some tag
     moved = tag_moves c d tags
 
@@ -194,9 +197,9 @@ stays_so c d actors a x was there free places tags calls opens known = record {
     below tag e = subst (λ p. tag < p.number) (sym places) e
 
 -- a slot is claimed for a tag, by an actor that was in no such call
-pub claims_so : (c d : Cells) (actors : List ActorState) (a x : ActorState) (k : Claim) → AreOccupied c actors → actor_named actors a.name ≡ Some a → slot_of_call a.phase ≡ None → IsClaimed c.places k → k.left.number ≡ c.places.number + 1
+pub claims_so : (c d : Cells) (actors : List ActorState) (a x : ActorState) (k : Claim) → AreOccupied c actors → length d.slots ≡ length c.slots → actor_named actors a.name ≡ Some a → slot_of_call a.phase ≡ None → IsClaimed c.places k → k.left.number ≡ c.places.number + 1
     → d.places ≡ k.left → ((slot : ℕ) → tag_in d slot ≡ tag_in c slot) → slot_of_call x.phase ≡ Some k.place → tag_of_call x.phase ≡ Some c.places.number → ((tag slot : ℕ) → HasIn x tag slot → HasIn a tag slot) → Turns d actors a x
-claims_so c d actors a x k was there free new more places tags calls opens known = record {
+claims_so c d actors a x k was size there free new more places tags calls opens known = record {
   lived = λ slot tag e. claimed_so slot (was.lived slot tag (moved slot tag e));
   numbered = λ slot tag e. below tag (was.numbered slot tag (moved slot tag e));
   apart = λ s t tag e f. was.apart s t tag (moved s tag e) (moved t tag f);
@@ -207,13 +210,16 @@ claims_so c d actors a x k was there free new more places tags calls opens known
   coming = λ tag e. let is = the_tag tag e in (top tag is, λ slot f. over tag is (was.numbered slot tag (moved slot tag f)));
   coming_others = λ m y tag other e. let h = was.coming m y tag other.1 e in (below tag h.0, λ slot f. h.1 slot (moved slot tag f));
   once = λ m y tag other e f. over tag (the_tag tag e) (was.coming m y tag other.1 f).0;
-  held = λ tag slot e. let h = was.held a.name a tag slot there (known tag slot e) in (below tag h.0, λ s f. h.1 s (moved s tag f));
-  held_others = λ m y tag slot other e. let h = was.held m y tag slot other.1 e in (below tag h.0, λ s f. h.1 s (moved s tag f));
+  held = λ tag slot e. let h = was.held a.name a tag slot there (known tag slot e) in (below tag h.0, λ s f. h.1 s (moved s tag f), inside slot h.2);
+  held_others = λ m y tag slot other e. let h = was.held m y tag slot other.1 e in (below tag h.0, λ s f. h.1 s (moved s tag f), inside slot h.2);
   unheld = λ tag slot e f. over tag (the_tag tag e) (was.held a.name a tag slot there (known tag slot f)).0;
   unheld_by = λ m y tag slot other e f. over tag (the_tag tag e) (was.held m y tag slot other.1 f).0;
   unheld_of = λ m y tag slot other e f. was.unheld m a.name y a tag slot other.1 there e (known tag slot f);
 }
   where
+    inside : (slot : ℕ) → slot < length c.slots → slot < length d.slots
+    inside slot h = subst (λ n. slot < n) (sym size) h
+
     moved : (slot tag : ℕ) → tag_in d slot ≡ Some tag → tag_in c slot ≡ Some tag
     moved = tag_moves c d tags
 
@@ -259,10 +265,10 @@ claims_so c d actors a x k was there free new more places tags calls opens known
             inr (still_belongs c actors a slot was there taken (sym (tags slot) ∙ f) (λ g. none_some (slot_of_call a.phase) slot free g))
 
 -- the tag of a slot that is claimed for it is opened there
-pub opens_so : (c d : Cells) (actors : List ActorState) (a x : ActorState) (slot tag : ℕ) → AreOccupied c actors → actor_named actors a.name ≡ Some a → slot_of_call a.phase ≡ Some slot → tag_of_call a.phase ≡ Some tag
+pub opens_so : (c d : Cells) (actors : List ActorState) (a x : ActorState) (slot tag : ℕ) → AreOccupied c actors → length d.slots ≡ length c.slots → slot < length c.slots → actor_named actors a.name ≡ Some a → slot_of_call a.phase ≡ Some slot → tag_of_call a.phase ≡ Some tag
     → d.places ≡ c.places → ((s : ℕ) → tag_in d s ≡ (if slot == s then Some tag else tag_in c s)) → slot_of_call x.phase ≡ None → tag_of_call x.phase ≡ None
     → ((t s : ℕ) → HasIn x t s → ((t ≡ tag) × (s ≡ slot)) ⊎ HasIn a t s) → Turns d actors a x
-opens_so c d actors a x slot tag was there holds opens places tags calls none known = record {
+opens_so c d actors a x slot tag was size there_is there holds opens places tags calls none known = record {
   lived = λ s t e. elim (lives s t e) [ inl is ↦ subst (λ n. is_claimed d.places n ≡ true) is.0 (claimed_so slot (was.called a.name a slot there holds).0) | inr f ↦ claimed_so s (was.lived s t f) ];
   numbered = λ s t e. elim (lives s t e) [ inl is ↦ subst (λ n. n < d.places.number) is.1 (below tag (was.coming a.name a tag there opens).0) | inr f ↦ below t (was.numbered s t f) ];
   apart = λ s u t e f. elim (lives s t e) [
@@ -277,7 +283,7 @@ opens_so c d actors a x slot tag was there holds opens places tags calls none kn
   coming_others = λ m y t other e. let h = was.coming m y t other.1 e in (below t h.0, λ s f. elim (lives s t f) [ inl is ↦ apart_names a m other.0 (was.once a.name m a y tag there other.1 opens (subst (λ n. tag_of_call y.phase ≡ Some n) (sym is.1) e)) | inr g ↦ h.1 s g ]);
   once = λ m y t other e f. none_some (tag_of_call x.phase) t none e;
   held = λ t s e. elim (known t s e) [ inl is ↦ opened t s is | inr old ↦ kept t s old ];
-  held_others = λ m y t s other e. let h = was.held m y t s other.1 e in (below t h.0, λ u f. elim (lives u t f) [ inl is ↦ absurd (was.unheld a.name m a y tag s there other.1 opens (subst (λ n. HasIn y n s) (sym is.1) e)) | inr g ↦ h.1 u g ]);
+  held_others = λ m y t s other e. let h = was.held m y t s other.1 e in (below t h.0, λ u f. elim (lives u t f) [ inl is ↦ absurd (was.unheld a.name m a y tag s there other.1 opens (subst (λ n. HasIn y n s) (sym is.1) e)) | inr g ↦ h.1 u g ], inside s h.2);
   unheld = λ t s e f. none_some (tag_of_call x.phase) t none e;
   unheld_by = λ m y t s other e f. none_some (tag_of_call x.phase) t none e;
   unheld_of = λ m y t s other e f. elim (known t s f) [
@@ -286,6 +292,9 @@ opens_so c d actors a x slot tag was there holds opens places tags calls none kn
   ];
 }
   where
+    inside : (slot : ℕ) → slot < length c.slots → slot < length d.slots
+    inside slot h = subst (λ n. slot < n) (sym size) h
+
     claimed_so : (s : ℕ) → is_claimed c.places s ≡ true → is_claimed d.places s ≡ true
     claimed_so s e = ap (λ p. is_claimed p s) places ∙ e
 
@@ -316,21 +325,22 @@ opens_so c d actors a x slot tag was there holds opens places tags calls none kn
         by_slot true is = absurd (apart_names a m other.0 (was.alone a.name m a y s there other.1 (subst (λ n. slot_of_call a.phase ≡ Some n) (eqb-true slot s is) holds) e))
         by_slot false is = was_empty
 
-    opened : (t s : ℕ) → (t ≡ tag) × (s ≡ slot) → (t < d.places.number) × ((u : ℕ) → tag_in d u ≡ Some t → u ≡ s)
+    opened : (t s : ℕ) → (t ≡ tag) × (s ≡ slot) → (t < d.places.number) × ((u : ℕ) → tag_in d u ≡ Some t → u ≡ s) × (s < length d.slots)
     opened t s is = (
       subst (λ n. n < d.places.number) (sym is.0) (below tag (was.coming a.name a tag there opens).0),
       λ u f. elim (lives u t f) [ inl here ↦ sym here.0 ∙ sym is.1 | inr g ↦ absurd (nowhere u (subst (λ n. tag_in c u ≡ Some n) is.0 g)) ],
+      subst (λ n. n < length d.slots) (sym is.1) (inside slot there_is),
     )
 
-    kept : (t s : ℕ) → HasIn a t s → (t < d.places.number) × ((u : ℕ) → tag_in d u ≡ Some t → u ≡ s)
+    kept : (t s : ℕ) → HasIn a t s → (t < d.places.number) × ((u : ℕ) → tag_in d u ≡ Some t → u ≡ s) × (s < length d.slots)
     kept t s old =
         let h = was.held a.name a t s there old in
-        (below t h.0, λ u f. elim (lives u t f) [ inl here ↦ absurd (was.unheld a.name a.name a a tag s there there opens (subst (λ n. HasIn a n s) (sym here.1) old)) | inr g ↦ h.1 u g ])
+        (below t h.0, λ u f. elim (lives u t f) [ inl here ↦ absurd (was.unheld a.name a.name a a tag s there there opens (subst (λ n. HasIn a n s) (sym here.1) old)) | inr g ↦ h.1 u g ], inside s h.2)
 
 -- a tag is closed, by an actor that was in no such call, and its slot is to be released
-pub closes_so : (c d : Cells) (actors : List ActorState) (a x : ActorState) (slot tag : ℕ) → AreOccupied c actors → actor_named actors a.name ≡ Some a → slot_of_call a.phase ≡ None → tag_in c slot ≡ Some tag
+pub closes_so : (c d : Cells) (actors : List ActorState) (a x : ActorState) (slot tag : ℕ) → AreOccupied c actors → length d.slots ≡ length c.slots → actor_named actors a.name ≡ Some a → slot_of_call a.phase ≡ None → tag_in c slot ≡ Some tag
     → d.places ≡ c.places → ((s : ℕ) → tag_in d s ≡ (if slot == s then None else tag_in c s)) → slot_of_call x.phase ≡ Some slot → tag_of_call x.phase ≡ None → ((t s : ℕ) → HasIn x t s → HasIn a t s) → Turns d actors a x
-closes_so c d actors a x slot tag was there free live places tags calls none known = record {
+closes_so c d actors a x slot tag was size there free live places tags calls none known = record {
   lived = λ s t e. claimed_so s (was.lived s t (moved s t e));
   numbered = λ s t e. below t (was.numbered s t (moved s t e));
   apart = λ s u t e f. was.apart s u t (moved s t e) (moved u t f);
@@ -341,13 +351,16 @@ closes_so c d actors a x slot tag was there free live places tags calls none kno
   coming = λ t e. none_some (tag_of_call x.phase) t none e;
   coming_others = λ m y t other e. let h = was.coming m y t other.1 e in (below t h.0, λ s f. h.1 s (moved s t f));
   once = λ m y t other e f. none_some (tag_of_call x.phase) t none e;
-  held = λ t s e. let h = was.held a.name a t s there (known t s e) in (below t h.0, λ u f. h.1 u (moved u t f));
-  held_others = λ m y t s other e. let h = was.held m y t s other.1 e in (below t h.0, λ u f. h.1 u (moved u t f));
+  held = λ t s e. let h = was.held a.name a t s there (known t s e) in (below t h.0, λ u f. h.1 u (moved u t f), inside s h.2);
+  held_others = λ m y t s other e. let h = was.held m y t s other.1 e in (below t h.0, λ u f. h.1 u (moved u t f), inside s h.2);
   unheld = λ t s e f. none_some (tag_of_call x.phase) t none e;
   unheld_by = λ m y t s other e f. none_some (tag_of_call x.phase) t none e;
   unheld_of = λ m y t s other e f. was.unheld m a.name y a t s other.1 there e (known t s f);
 }
   where
+    inside : (slot : ℕ) → slot < length c.slots → slot < length d.slots
+    inside slot h = subst (λ n. slot < n) (sym size) h
+
     claimed_so : (s : ℕ) → is_claimed c.places s ≡ true → is_claimed d.places s ≡ true
     claimed_so s e = ap (λ p. is_claimed p s) places ∙ e
 
@@ -380,10 +393,10 @@ closes_so c d actors a x slot tag was there free live places tags calls none kno
         by_slot false is g = inr (still_belongs c actors a s was there (ap (λ p. is_claimed p s) (sym places) ∙ e) g (λ h. none_some (slot_of_call a.phase) s free h))
 
 -- the slot of a tag that was closed is released
-pub releases_so : (c d : Cells) (actors : List ActorState) (a x : ActorState) (slot : ℕ) → AreOccupied c actors → actor_named actors a.name ≡ Some a → slot_of_call a.phase ≡ Some slot
+pub releases_so : (c d : Cells) (actors : List ActorState) (a x : ActorState) (slot : ℕ) → AreOccupied c actors → length d.slots ≡ length c.slots → actor_named actors a.name ≡ Some a → slot_of_call a.phase ≡ Some slot
     → d.places.number ≡ c.places.number → is_claimed d.places slot ≡ false → ((s : ℕ) → (slot == s) ≡ false → is_claimed d.places s ≡ is_claimed c.places s) → ((s : ℕ) → tag_in d s ≡ tag_in c s)
     → slot_of_call x.phase ≡ None → tag_of_call x.phase ≡ None → ((t s : ℕ) → HasIn x t s → HasIn a t s) → Turns d actors a x
-releases_so c d actors a x slot was there holds number given_up places tags calls none known = record {
+releases_so c d actors a x slot was size there holds number given_up places tags calls none known = record {
   lived = λ s t e. claimed_so s (was.lived s t (moved s t e)) (λ is. none_some (tag_in c slot) t (was.called a.name a slot there holds).1 (subst (λ n. tag_in c n ≡ Some t) (sym is) (moved s t e)));
   numbered = λ s t e. below t (was.numbered s t (moved s t e));
   apart = λ s u t e f. was.apart s u t (moved s t e) (moved u t f);
@@ -396,13 +409,16 @@ releases_so c d actors a x slot was there holds number given_up places tags call
   coming = λ t e. none_some (tag_of_call x.phase) t none e;
   coming_others = λ m y t other e. let h = was.coming m y t other.1 e in (below t h.0, λ s f. h.1 s (moved s t f));
   once = λ m y t other e f. none_some (tag_of_call x.phase) t none e;
-  held = λ t s e. let h = was.held a.name a t s there (known t s e) in (below t h.0, λ u f. h.1 u (moved u t f));
-  held_others = λ m y t s other e. let h = was.held m y t s other.1 e in (below t h.0, λ u f. h.1 u (moved u t f));
+  held = λ t s e. let h = was.held a.name a t s there (known t s e) in (below t h.0, λ u f. h.1 u (moved u t f), inside s h.2);
+  held_others = λ m y t s other e. let h = was.held m y t s other.1 e in (below t h.0, λ u f. h.1 u (moved u t f), inside s h.2);
   unheld = λ t s e f. none_some (tag_of_call x.phase) t none e;
   unheld_by = λ m y t s other e f. none_some (tag_of_call x.phase) t none e;
   unheld_of = λ m y t s other e f. was.unheld m a.name y a t s other.1 there e (known t s f);
 }
   where
+    inside : (slot : ℕ) → slot < length c.slots → slot < length d.slots
+    inside slot h = subst (λ n. slot < n) (sym size) h
+
     moved : (s t : ℕ) → tag_in d s ≡ Some t → tag_in c s ≡ Some t
     moved = tag_moves c d tags
 

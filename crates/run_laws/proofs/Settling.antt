@@ -565,10 +565,22 @@ set_length [] n x = refl
 set_length (y ∷ ys) zero x = refl
 set_length (y ∷ ys) (suc n) x = ap suc (set_length ys n x)
 
+-- an event leaves as many slots as there were
+pub slots_size : (c : Cells) (e : Event) → length (cells_after c e).slots ≡ length c.slots
+slots_size c (event.Slot slot q r) = set_length c.slots slot (slot_after (slot_in c slot) q r)
+slots_size c (event.Slots q r) = refl
+slots_size c (event.Fds q r) = refl
+slots_size c (event.Fd fd q r) = refl
+slots_size c (event.Lives q r) = refl
+slots_size c (event.Gate id q r) = refl
+slots_size c (event.Start child) = refl
+slots_size c (event.Join k end fuel) = refl
+slots_size c (event.Enter run) = refl
+slots_size c (event.Leave end) = refl
+
 cells_kept : (i : Image) (c : Cells) (e : Event) → AreCells i c → AreCells i (cells_after c e)
 cells_kept i c (event.Slots q r) h = record { places = next_sound (slots_in i) c.places q h.places; slots = h.slots; numbers = h.numbers; streams = h.streams }
-cells_kept i c (event.Slot slot q r) h =
-    record { places = h.places; slots = set_length c.slots slot (slot_after (slot_in c slot) q r) ∙ h.slots; numbers = h.numbers; streams = h.streams }
+cells_kept i c (event.Slot slot q r) h = record { places = h.places; slots = slots_size c (event.Slot slot q r) ∙ h.slots; numbers = h.numbers; streams = h.streams }
 cells_kept i c (event.Fds q r) h = record { places = h.places; slots = h.slots; numbers = next_sound (fds_in i) c.numbers q h.numbers; streams = h.streams }
 cells_kept i c (event.Fd fd q r) h =
     record { places = h.places; slots = h.slots; numbers = h.numbers; streams = set_length c.streams fd (stream_after (stream_in c fd) q r) ∙ h.streams }

@@ -1,11 +1,11 @@
 -- The moments of calls on tags: what the directory and the slot answer, and what their actor then is.
-use Rattle.std.proofs.Common.{◌≡◌, ℕ, zero, suc, ◌+◌, ◌-◌, Bool, true, false, true≢false, List, [], ◌∷◌, length, refl, sym, ap, subst, ◌∙◌, arith}
+use Rattle.std.proofs.Common.{◌≡◌, ℕ, ◌+◌, Bool, true, false, true≢false, List, [], ◌∷◌, length, refl, sym, ap, subst, ◌∙◌}
 use Rattle.std.proofs.lemmas.Bool.{eqb-true, eq-eqb}
 use Rattle.std.specs.Prelude.{Option, Some, None, is_some, is_none, option_map, not, ◌&&◌, ◌==◌, nat_lt, if◌then◌else◌}
 use Rattle.cow_pages.specs.Copies.{without_copy}
 use Rattle.wedge_base.specs.Blocks.{Block, rounded, first_fit, block_at}
 use Rattle.wedge_events.specs.Directories.{Directory, Claim, no_number, claim_from, claim, claim_reply, claim_next as left_by}
-use Rattle.wedge_base.specs.Images.{Image, fetch, address_of}
+use Rattle.wedge_base.specs.Images.{Image, address_of}
 use Rattle.wedge_base.specs.Maps.{at}
 use Rattle.wedge_base.specs.Sheets.{made_tag, slot_on}
 use Rattle.wedge_events.specs.Slots.{Segment, place_reply, slot_reply as slot_reply_of}
@@ -24,24 +24,16 @@ use Rattle.wedge_events.specs.declared.cells.SlotAsk.TheVariants as slot_ask
 use Rattle.wedge_events.specs.declared.cells.StreamAsk.TheVariants as stream_ask
 use Rattle.wedge_events.specs.declared.cells.SlotReply.{SlotReply}
 use Rattle.wedge_events.specs.declared.cells.SlotReply.TheVariants as slot_reply
-use Rattle.rv_isa.specs.declared.Instr.{Instr}
-use Rattle.rv_isa.specs.Table.{decode}
-use Rattle.rv_hart.specs.declared.Hart.{Hart}
-use Rattle.rv_hart.specs.declared.Need.{Need}
-use Rattle.rv_hart.specs.declared.Need.TheVariants as need
-use Rattle.rv_hart.specs.Local.{local}
 use Rattle.sthread_life.specs.declared.phase.Phase.TheVariants as phase
-use Rattle.sthread_life.specs.Actors.{ActorState, right_of, answers, refuses, wants}
+use Rattle.sthread_life.specs.Actors.{ActorState, right_of, answers, refuses}
 use Rattle.run_laws.specs.Allowed.{may_use, answered_hart}
-use Rattle.sthread_life.specs.Calls.{a0, a7, are_pages, serves}
+use Rattle.sthread_life.specs.Calls.{a0}
 use Rattle.run_laws.specs.Cells.{slot_in, tag_in}
-use Rattle.sthread_life.specs.Children.{is_child}
 use Rattle.run_laws.specs.Families.{answered_twice}
-use Rattle.sthread_life.specs.Local.{step_with_need, step_with_instr, step_with_fuel, step_with_word, step}
 use Rattle.run_laws.specs.Moments.{NothingDenied, is_use, gap_in, IsPlaced, IsClosed, IsChecked, IsAnswered}
 use Rattle.run_laws.specs.Refusals.{full, no_such, bad, is_left, slots_refusal, close_refusal, gap_refusal, place_refusal, block_refusal, slot_refuses, is_refusal, refused}
 use Rattle.run_laws.specs.Requests.{Deletes, Allots, Frees}
-use Rattle.run_laws.specs.TagCalls.{call_want, need_want, instr_want, word_want, want_at, ComesWith, MakesAt}
+use Rattle.run_laws.specs.TagCalls.{MakesAt}
 use Rattle.sthread_life.specs.Take.{pair, takes}
 use Rattle.run_laws.specs.Worlds.{WorldState, actor_named, put_actor, with_actor}
 use Rattle.sthread_life.proofs.ByNumber.{found_gone, found_elsewhere}
@@ -50,7 +42,7 @@ use Rattle.run_laws.proofs.Between.{event_for}
 use Rattle.run_laws.proofs.Bounding.{with_same}
 use Rattle.run_laws.proofs.Checking.{slot_cells, kept, put_there, checked_denied, checked_allowed, after, stayed, same_slots, pair_on, slot_world}
 use Rattle.run_laws.proofs.Going.{IsNext}
-use Rattle.run_laws.proofs.Meeting.{IsRequest, pages_tests}
+use Rattle.run_laws.proofs.Meeting.{IsRequest}
 use Rattle.run_laws.proofs.Named.{put_put}
 
 -- ---- the claim of a slot, and what follows it
@@ -324,55 +316,6 @@ free_passed b offset (Some g) told = by_tests (may_use b g.tag right.ReadWrite) 
     by_tests false o told = refl
     by_tests true (Some x) told = refl
     by_tests true None told = absurd cc
-
--- ---- the calls that no sheet may forbid
-
-call_wants : (i : Image) (p : ActorState) (n : ℕ) (q : Want) → call_want p p.hart.regs n ≡ Some q → serves i p n ≡ wants p q
-unfolding serves
-call_wants i p n q told = by_two (n == 2) refl (n == 3) refl told
-  where
-    join_wants : (t : Bool) → (if t then Some (want.Join (a0 p)) else None) ≡ Some q → (if t then wants p (want.Join (a0 p)) else refuses p code.NoSuch) ≡ wants p q
-    join_wants true e = let is : want.Join (a0 p) ≡ q = cc in ap (wants p) is
-    join_wants false e = absurd cc
-
-    new_wants : (t : Bool) → (if t then Some (want.Slots directory_ask.Claim) else None) ≡ Some q → (if t then wants p (want.Slots directory_ask.Claim) else refuses p code.Bad) ≡ wants p q
-    new_wants true e = let is : want.Slots directory_ask.Claim ≡ q = cc in ap (wants p) is
-    new_wants false e = absurd cc
-
-    by_two : (t : Bool) → (n == 2) ≡ t → (u : Bool) → (n == 3) ≡ u
-        → (if t then (if is_child p.unjoined (a0 p) then Some (want.Join (a0 p)) else None) else if u then (if nat_lt 0 (a0 p) && nat_lt (a0 p) 17 then Some (want.Slots directory_ask.Claim) else None) else None) ≡ Some q → serves i p n ≡ wants p q
-    by_two true e u f told = subst (λ m. serves i p m ≡ wants p q) (sym (eqb-true n 2 e)) (join_wants (is_child p.unjoined (a0 p)) told)
-    by_two false e true f told =
-        subst (λ m. serves i p m ≡ wants p q) (sym (eqb-true n 3 f))
-        (new_wants (are_pages (a0 p)) (ap (λ t. if t then Some (want.Slots directory_ask.Claim) else None) (sym (pages_tests (a0 p))) ∙ told))
-    by_two false e false f told = absurd cc
-
-need_wants : (i : Image) (ins : Instr) (p : ActorState) (h : Hart) (n : Need) (q : Want) → need_want p n ≡ Some q → step_with_need i ins p h n ≡ wants p q
-need_wants i ins p h need.Done q told = absurd cc
-need_wants i ins p h (need.Load address width s) q told = absurd cc
-need_wants i ins p h (need.Store address width value) q told = absurd cc
-need_wants i ins p h need.Call q told = call_wants i p (a7 p) q told
-need_wants i ins p h need.Break q told = absurd cc
-need_wants i ins p h need.JumpMisaligned q told = absurd cc
-
-instr_wants : (i : Image) (p : ActorState) (ins : Option Instr) (q : Want) → instr_want p ins ≡ Some q → step_with_instr i p ins ≡ wants p q
-instr_wants i p None q told = absurd cc
-instr_wants i p (Some ins) q told = need_wants i ins p (local ins p.hart).hart (local ins p.hart).need q told
-
-word_wants : (i : Image) (b : ActorState) (n : ℕ) (o : Option ℕ) (q : Want) → b.fuel ≡ suc n → word_want (record b { fuel = n }) o ≡ Some q → step_with_word i b o ≡ record b { fuel = n; phase = phase.Within q }
-word_wants i b n None q has told = absurd cc
-word_wants i b n (Some word) q has told =
-    let left : b.fuel - 1 ≡ n = omega (arith, has) in
-    ap (step_with_fuel i b word) has ∙ (ap (λ m. step_with_instr i (record b { fuel = m }) (decode word)) left ∙ instr_wants i (record b { fuel = n }) (decode word) q told)
-
-step_wants : (i : Image) (b : ActorState) (n : ℕ) (q : Want) → b.fuel ≡ suc n → want_at i (record b { fuel = n }) ≡ Some q → step i b ≡ record b { fuel = n; phase = phase.Within q }
-unfolding step
-step_wants i b n q has told = word_wants i b n (fetch i b.hart.pc) q has told
-
-pub step_makes : (w : WorldState) (b : ActorState) (n : ℕ) → b.fuel ≡ n → b.phase ≡ phase.Running → ComesWith (with_actor w b) b n (with_actor w (step w.image b))
-step_makes w b zero has run = tt
-step_makes w b (suc n) has run = λ q told.
-    ap (with_actor w) (step_wants w.image b n q has told) ∙ ap (λ (as_ : List ActorState). record w { actors = as_ }) (sym (put_put w.actors b (record b { fuel = n; phase = phase.Within q }) refl))
 
 -- ---- what their events make
 

@@ -33,6 +33,7 @@ use Rattle.run_laws.specs.Refusals.{RefusesByRow}
 use Rattle.run_laws.specs.Paying.{Pays}
 use Rattle.run_laws.specs.Drafting.{EditsDrafts}
 use Rattle.run_laws.specs.Families.{KeepsFamily}
+use Rattle.run_laws.specs.Asking.{AsksByWord}
 use Rattle.run_laws.specs.TagCalls.{MakesTags}
 use Rattle.run_laws.specs.GateCalls.{MakesGates}
 use Rattle.run_laws.specs.ChildCopies.{MakesCopies, SnapsForCopies}
@@ -46,10 +47,10 @@ use Rattle.run_laws.specs.Remembering.{Remembers}
 -- what holds of a moment: the image stays, its request is mediated, a call is refused by its row,
 -- an actor ends by its cause, it goes on as it should, it pays what the moment costs, its drafts are
 -- as its calls made them, its private bytes are those that it stored, it starts and joins its own
--- children alone, none of which has more rights than it has, it makes tags by its own claims alone,
--- the copies with which its children and the runs of its gates begin are made of its own copies and
--- of the tags as they are then, and tags are copied for nothing else; and it makes gates by its own
--- calls alone
+-- children alone, none of which has more rights than it has, it comes to the event that its word
+-- says and asks there what it came for, it makes tags by its own claims alone, the copies with which
+-- its children and the runs of its gates begin are made of its own copies and of the tags as they
+-- are then, and tags are copied for nothing else; and it makes gates by its own calls alone
 pub record IsLawful (old : WorldState) (a : ActorState) (e : Option Event) (new : WorldState) : Type 0 where
   pub image : new.image ≡ old.image
   pub mediated : IsMediated old a e new
@@ -60,6 +61,7 @@ pub record IsLawful (old : WorldState) (a : ActorState) (e : Option Event) (new 
   pub edits : EditsDrafts old a e new
   pub remembers : Remembers old a e new
   pub family : KeepsFamily old a e new
+  pub asks : AsksByWord old a e new
   pub makes : MakesTags old a e new
   pub copies : MakesCopies old a e new
   pub snaps : SnapsForCopies a e

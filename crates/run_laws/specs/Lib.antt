@@ -21,7 +21,9 @@ pub mod Paying
 pub mod Families
 -- What the call that opens a file leaves, once it is allowed.
 pub mod FileCalls
--- The calls that no sheet may forbid, and what the calls that make and delete tags leave.
+-- What an instruction comes to ask of a cell, and what its event asks.
+pub mod Asking
+-- What the calls that make and delete tags leave.
 pub mod TagCalls
 -- The copies with which a child begins, read off the draft, the starter's rights and own
 -- copies, and the slots.

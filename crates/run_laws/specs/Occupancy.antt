@@ -47,7 +47,7 @@ HasIn a tag slot = (slot_known a tag ≡ Some slot) ⊎ GateHasIn a.gates tag sl
 -- the call of some actor. Every number is below the directory's next one; no tag lives in two
 -- slots, and one that is to be opened lives nowhere, is held by nobody and is to be opened by one
 -- call. A tag that an actor holds, or that the sheet of a gate names which it knows, lives, if it
--- does, in the slot in which that actor or that sheet has it.
+-- does, in the slot in which that actor or that sheet has it, and that slot is one that there is.
 pub record AreOccupied (c : Cells) (actors : List ActorState) : Type 0 where
   pub lived : (slot tag : ℕ) → tag_in c slot ≡ Some tag → is_claimed c.places slot ≡ true
   pub called : (name : List ℕ) (a : ActorState) (slot : ℕ) → actor_named actors name ≡ Some a → slot_of_call a.phase ≡ Some slot
@@ -61,7 +61,7 @@ pub record AreOccupied (c : Cells) (actors : List ActorState) : Type 0 where
       → (tag < c.places.number) × ((slot : ℕ) → tag_in c slot ≡ Some tag → ⊥)
   pub once : (m n : List ℕ) (a b : ActorState) (tag : ℕ) → actor_named actors m ≡ Some a → actor_named actors n ≡ Some b → tag_of_call a.phase ≡ Some tag → tag_of_call b.phase ≡ Some tag → m ≡ n
   pub held : (name : List ℕ) (a : ActorState) (tag slot : ℕ) → actor_named actors name ≡ Some a → HasIn a tag slot
-      → (tag < c.places.number) × ((s : ℕ) → tag_in c s ≡ Some tag → s ≡ slot)
+      → (tag < c.places.number) × ((s : ℕ) → tag_in c s ≡ Some tag → s ≡ slot) × (slot < length c.slots)
   pub unheld : (m n : List ℕ) (a b : ActorState) (tag slot : ℕ) → actor_named actors m ≡ Some a → actor_named actors n ≡ Some b → tag_of_call a.phase ≡ Some tag → HasIn b tag slot → ⊥
 
 -- the most numbers of tags that a run of an image can use: those that it declares, and one for each

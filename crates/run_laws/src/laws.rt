@@ -8,7 +8,8 @@ ghost use Rattle.run_laws.specs.Walks.{RootsWalk};
 /// In every run, whatever the image and the order of the turns, each request that an instruction makes
 /// takes place exactly where the actor's sheet allows it and nothing else refuses it; a denial names the
 /// missing grant, and all else stays but that a load or store ends its actor and a call answers that it is
-/// denied; where no request is in question nothing is denied. A call is refused with the code of its row. Each
+/// denied; where no request is in question nothing is denied. An instruction comes to the event that its word, the registers and
+/// private memory say, and asks there for just that, whatever is replied. A call is refused with the code of its row. Each
 /// actor ends exactly by the cause of its end, passes no instruction over, and pays exactly what each moment
 /// costs: a unit of fuel for an instruction, and one for each byte that it reads or appends, and of the path of a root
 /// directory or of a file that it opens. Its drafts are as its calls made them. Its private bytes are those that it stored, and
@@ -88,7 +89,8 @@ pub fn rights_are_within_the_roots()
 {}
 
 /// In every world of a run a slot was never used, or was released, or is held by the call of one actor, or one tag lives
-/// there; no two live tags have one number, and a tag lives nowhere but in the slot in which those that hold it have it. So a
+/// there; no two live tags have one number, and a tag lives nowhere but in the slot in which those that hold it have it, which is
+/// one that there is. So a
 /// claim gives a slot that was not claimed and is empty, and none is free where it gives none, since the numbers of tags outlast
 /// the fuel of any image; a tag is opened in a claimed slot that is empty; and a slot that is released was claimed and is
 /// empty, and can be claimed again.
@@ -96,7 +98,7 @@ pub fn slots_are_occupied()
     ensures { SlotsAreOccupied }
 {}
 
-/// What is asked of a cell in a turn of a run fits the cell: a load or a store is aligned and inside the window of its slot, and
+/// What is asked of a cell in a turn of a run fits the cell: a slot and a descriptor are there; a load or a store is aligned and inside the window of its slot, and
 /// goes there with the right on the tag that lives in the slot; and a recycled gate is free when it is entered, and
 /// entered when a run leaves it, each with private memory that has the ranges of the image.
 pub fn asks_fit_their_cells()
