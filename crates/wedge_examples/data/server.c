@@ -30,15 +30,22 @@ WEDGE_ENTRY(parse, argument)
     return request->words[request->index];
 }
 
-/* Has a request parsed by a child, and says how the child ended: with a value, or denied. */
+/* Has a request parsed by a child, and says how the child ended: with a value, or denied; or that none was started. A
+ * call that is refused has no line in the report unless it is denied, so each code is looked at. */
 static void ask(uint32_t draft, uint32_t tag)
 {
     struct wedge_reply child = wedge_create(draft, parse, (uint32_t)wedge_declared(tag), 100);
-    struct wedge_joined joined = wedge_join(child.value);
+    struct wedge_joined joined;
     char line[] = "0: value 00\n";
 
     line[0] = '1' + tag;
-    if (joined.end == WEDGE_END_EXITED) {
+    if (child.code != WEDGE_OK) {
+        wedge_append(FD_OUT, line, 3);
+        wedge_append(FD_OUT, "no child\n", 9);
+        return;
+    }
+    joined = wedge_join(child.value);
+    if (joined.code == WEDGE_OK && joined.end == WEDGE_END_EXITED) {
         line[9] = '0' + joined.value / 10 % 10;
         line[10] = '0' + joined.value % 10;
         wedge_append(FD_OUT, line, sizeof line - 1);
@@ -52,8 +59,9 @@ WEDGE_ENTRY(main, argument)
 {
     uint32_t draft = wedge_draft().value;
 
-    wedge_grant_tag(draft, TAG_REQUEST1, WEDGE_READ);
-    wedge_grant_tag(draft, TAG_REQUEST2, WEDGE_READ);
+    if (wedge_grant_tag(draft, TAG_REQUEST1, WEDGE_READ).code != WEDGE_OK
+        || wedge_grant_tag(draft, TAG_REQUEST2, WEDGE_READ).code != WEDGE_OK)
+        return 1;
     ask(draft, TAG_REQUEST1);
     ask(draft, TAG_REQUEST2);
     return 0;
