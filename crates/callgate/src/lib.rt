@@ -3,8 +3,6 @@
 
 mod gate;
 mod lending;
-#[cfg(test)]
-mod tests;
 
 pub use gate::{Gate, gate_named};
 pub use lending::{is_lendable, run_sheet};

@@ -1,9 +1,13 @@
 pub mod BelowWindows
 pub mod CopyEntries
+pub mod Deciding
 pub mod ListPieces
 pub mod PaddedContent
 pub mod PageLists
 pub mod PageOffsets
 pub mod RangeFronts
 pub mod RangeSearch
+pub mod SameBytes
+pub mod SameMemory
+pub mod SamePages
 pub mod SharedPages

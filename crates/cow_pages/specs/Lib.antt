@@ -1,5 +1,6 @@
 pub mod Below
 pub mod Copies
+pub mod Equality
 pub mod Listed
 pub mod PrivateMemory
 pub mod RangeIndex

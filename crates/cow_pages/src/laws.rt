@@ -1,10 +1,12 @@
 //! Laws of pages.
 
-ghost use Rattle.std.specs.Prelude.{◌≡◌, ◌+◌, ◌%◌, ◌≤◌, ◌⊎◌, ℕ, List, length, IfOk, OnOk, OnErr};
+ghost use Rattle.std.specs.Prelude.{◌≡◌, ◌+◌, ◌%◌, ◌≤◌, ◌⊎◌, ℕ, List, length, true, ◌↔◌, IfOk, OnOk, OnErr};
 ghost use Rattle.wedge_base.specs.Bytes.{overwrite, bytes_of};
 ghost use Rattle.wedge_base.specs.Images.{page};
 ghost use Rattle.wedge_base.specs.Pages.{pages_of};
+ghost use Rattle.cow_pages.specs.Equality.{is_same_memory};
 ghost use Rattle.cow_pages.specs.Listed.{bytes_listed};
+ghost use Rattle.cow_pages.specs.PrivateMemory.{PrivateMemory};
 
 use crate::pages::Pages;
 use wedge_base::NoMemory;
@@ -12,6 +14,12 @@ use wedge_base::NoMemory;
 /// The pages of whole pages of bytes, one after another, are those bytes.
 pub fn snaps_are_the_bytes()
     ensures { (b : List ℕ) → length b % page ≡ 0 → bytes_listed (pages_of b) ≡ b }
+{}
+
+/// `==` of private memory answers whether it is the same: the ranges with their addresses and bytes, and
+/// the copies with their slots and bytes.
+pub fn equal_memory_is_the_same()
+    ensures { (a b : PrivateMemory) → (is_same_memory a b ≡ true) ↔ (a ≡ b) }
 {}
 
 /// A snapshot, and then a store into its source, which leaves the snapshot as it was. When out of

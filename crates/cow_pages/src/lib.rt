@@ -6,10 +6,10 @@ mod page_list;
 mod paged_range;
 mod pages;
 mod private_view;
-#[cfg(test)]
-mod tests;
 
-pub use laws::{snaps_are_the_bytes, store_after_snapshot, store_into_snapshot};
+pub use laws::{
+    equal_memory_is_the_same, snaps_are_the_bytes, store_after_snapshot, store_into_snapshot,
+};
 pub use paged_range::PagedRange;
 pub use pages::Pages;
 pub use private_view::PrivateView;

@@ -38,6 +38,24 @@ impl Clone for PagedRange {
     }
 }
 
+impl PartialEq for PagedRange {
+    ghost use Rattle.std.specs.Prelude.{◌==◌};
+    ghost use Rattle.std.specs.Cmp.Lexicographic.{pointwise};
+    ghost use Rattle.std.specs.Cmp.Rules.{comparing};
+    ghost use Rattle.std.specs.Ordering.{on, eq_of_both};
+    ghost use Rattle.std.proofs.Common.{rules};
+
+    ghost eq = { eq_of_both (on (λ r. r.base) ◌==◌) (on (λ r. r.bytes) (pointwise ◌==◌)) };
+
+    ghost laws = { Prim.search (comparing, rules) };
+
+    fn eq(&self, other: &Self) -> bool {
+        self.base == other.base
+            && self.size == other.size
+            && self.pages.starts_as(&other.pages, self.size as usize)
+    }
+}
+
 impl PagedRange {
     /// A range of this content, from an address on that is a multiple of 4.
     pub fn new(alloc: Global, base: u32, content: &[u8]) -> Result<PagedRange, NoMemory>

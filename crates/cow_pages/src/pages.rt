@@ -1,6 +1,6 @@
 //! Memory in pages that are shared until they are written.
 
-ghost use Rattle.std.specs.Prelude.{◌≡◌, ◌+◌, ◌*◌, ◌/◌, ◌%◌, ◌<◌, ◌≤◌, ◌^◌, ◌⊎◌, length, slice_range, IfOk, OnOk, OnErr};
+ghost use Rattle.std.specs.Prelude.{◌≡◌, ◌+◌, ◌*◌, ◌/◌, ◌%◌, ◌<◌, ◌≤◌, ◌^◌, ◌⊎◌, length, slice_range, take, true, ◌↔◌, IfOk, OnOk, OnErr};
 ghost use Rattle.std.specs.Arc.{arc_value};
 ghost use Rattle.wedge_base.specs.Bytes.{overwrite, number_of, bytes_of, zeros};
 ghost use Rattle.wedge_base.specs.Images.{page};
@@ -42,6 +42,21 @@ impl Clone for Pages {
 
     fn clone(&self) -> Result<Pages, AllocError> {
         self.snapshot().map_err(|_| AllocError)
+    }
+}
+
+impl PartialEq for Pages {
+    ghost use Rattle.std.specs.Prelude.{◌==◌};
+    ghost use Rattle.std.specs.Cmp.Lexicographic.{pointwise};
+    ghost use Rattle.std.specs.Cmp.Rules.{comparing};
+    ghost use Rattle.std.proofs.Common.{rules};
+
+    ghost eq = { pointwise ◌==◌ };
+
+    ghost laws = { Prim.search (comparing, rules) };
+
+    fn eq(&self, other: &Self) -> bool {
+        self.len() == other.len() && self.starts_as(other, self.len())
     }
 }
 
@@ -144,6 +159,15 @@ impl Pages {
         })
     }
 
+    /// Whether so many first bytes of both are equal.
+    pub(crate) fn starts_as(&self, other: &Pages, size: usize) -> bool
+        requires own { size ≤ length self.now }
+        requires others { size ≤ length other.now }
+        ensures { (result ≡ true) ↔ (take size self.now ≡ take size other.now) }
+    {
+        begin_alike(self.pages.as_slice(), other.pages.as_slice(), size)
+    }
+
     /// The same bytes, in pages that both hold.
     pub fn snapshot(&self) -> Result<Pages, NoMemory>
         ensures { IfOk result (λ p. p ≡ self.now) }
@@ -195,6 +219,36 @@ fn copy_range(
         next += count;
     }
     Ok(bytes)
+}
+
+/// Whether so many first bytes of both are equal, page by page.
+fn begin_alike(left: &[Arc<Page>], right: &[Arc<Page>], size: usize) -> bool
+    requires left_whole { HaveLength page (contents left.now) }
+    requires right_whole { HaveLength page (contents right.now) }
+    requires in_left { size ≤ length (bytes_in left.now) }
+    requires in_right { size ≤ length (bytes_in right.now) }
+    requires small { size < 2 ^ 44 }
+    ensures { (result ≡ true) ↔ (take size (bytes_in left.now) ≡ take size (bytes_in right.now)) }
+{
+    let mut next = 0;
+    while next < size {
+        let (page, from) = (next / PAGE_BYTES, next % PAGE_BYTES);
+        let count = (PAGE_BYTES - from).min(size - next);
+        if !are_alike(&left[page], &right[page], from, count) {
+            return false;
+        }
+        next += count;
+    }
+    true
+}
+
+/// Whether so many bytes from an offset on are equal in two pages.
+fn are_alike(left: &Page, right: &Page, from: usize, count: usize) -> bool
+    requires { from + count ≤ page }
+    ensures { (result ≡ true) ↔ (slice_range left.now from (from + count)
+        ≡ slice_range right.now from (from + count)) }
+{
+    left.as_slice()[from..from + count] == right.as_slice()[from..from + count]
 }
 
 /// Writes bytes over those from an offset on, page by page.

@@ -39,6 +39,18 @@ impl Model for PrivateView {
     ghost invariant = { λ v. AreBelow v.ranges.items × IsOrdered nat_cmp v.copies };
 }
 
+impl PartialEq for PrivateView {
+    ghost use Rattle.cow_pages.specs.Equality.{is_same_memory, same_memory_laws};
+
+    ghost eq = { is_same_memory };
+
+    ghost laws = { same_memory_laws };
+
+    fn eq(&self, other: &Self) -> bool {
+        self.ranges == other.ranges && self.copies == other.copies
+    }
+}
+
 impl PrivateView {
     /// Private memory as an actor begins: a private range of zeros, the data ranges, in pages that both
     /// hold, and no copies.

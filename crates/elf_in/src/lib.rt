@@ -16,6 +16,3 @@ pub use fault::{ElfError, Fault, Why};
 pub use laws::{loads_keep_their_bytes, procedures_are_apart};
 pub use program::ElfProgram;
 pub use reading::read_elf;
-
-#[cfg(test)]
-mod tests;

@@ -5,8 +5,6 @@ mod fault;
 mod object;
 mod opened;
 mod stream;
-#[cfg(test)]
-mod tests;
 
 pub use fault::StreamFault;
 pub use stream::Stream;

@@ -12,6 +12,7 @@ use crate::opened::Opened;
 use std::alloc::Global;
 use std::marker::Model;
 use wedge_base::{Bytes, FdBits, FdEntry, NoMemory, StreamKind};
+use wedge_events::Boxed;
 
 /// The cell of a descriptor: the stream behind it, once it is opened.
 #[derive(Debug, Drop)]
@@ -134,7 +135,7 @@ impl Stream {
     }
 
     /// Copies the next bytes, so many at most, and stays where it is.
-    fn next_copied(&self, bits: FdBits, count: usize) -> Result<Bytes, StreamFault>
+    fn next_copied(&self, bits: FdBits, count: usize) -> Result<Boxed<Bytes>, StreamFault>
         ensures ok { let q = ask.Read bits count
             in IfOk result (λ b. streams.stream_reply self.now q ≡ reply.Given b) }
         ensures fault { let q = ask.Read bits count
@@ -146,11 +147,12 @@ impl Stream {
         };
         opened.check_read(bits)?;
         let next = opened.next_bytes(count);
-        Ok(Bytes::from_slice(opened.allocator(), next)?)
+        let copy = Bytes::from_slice(opened.allocator(), next)?;
+        Ok(Boxed::new(opened.allocator(), copy)?)
     }
 
     /// Reads the next bytes, so many at most.
-    pub(crate) fn give(&mut self, bits: FdBits, count: usize) -> Result<Bytes, StreamFault>
+    pub(crate) fn give(&mut self, bits: FdBits, count: usize) -> Result<Boxed<Bytes>, StreamFault>
         ensures ok { let q = ask.Read bits count
             in IfOk result (λ b. streams.stream_reply self.old q ≡ reply.Given b) }
         ensures next { OnOk result (self.new
@@ -166,6 +168,7 @@ impl Stream {
         opened.check_read(bits)?;
         let next = opened.next_bytes(count);
         let given = Bytes::from_slice(opened.allocator(), next)?;
+        let given = Boxed::new(opened.allocator(), given)?;
         opened.go_on(given.as_slice().len());
         Ok(given)
     }
@@ -175,7 +178,7 @@ impl Stream {
         &mut self,
         bits: FdBits,
         count: usize,
-    ) -> Result<(Bytes, Bytes), StreamFault>
+    ) -> Result<(Boxed<Bytes>, Boxed<Bytes>), StreamFault>
         ensures first { let q = ask.Read bits count
             in IfOk result (λ r. streams.stream_reply self.old q ≡ reply.Given r.0) }
         ensures second { IfOk result (λ r. r.1 ≡ r.0) }

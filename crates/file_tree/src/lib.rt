@@ -5,8 +5,6 @@ mod fault;
 mod lookup;
 mod modes;
 mod paths;
-#[cfg(test)]
-mod tests;
 
 pub use fault::PathFault;
 pub use lookup::file_at;

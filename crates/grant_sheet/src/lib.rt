@@ -12,8 +12,6 @@ mod number_map;
 mod paths;
 mod rights;
 mod sheet;
-#[cfg(test)]
-mod tests;
 
 pub use draft::{Draft, MOST_GRANTS};
 pub use excess::first_excess;

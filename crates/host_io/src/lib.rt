@@ -13,8 +13,6 @@ mod plan;
 mod real_files;
 mod real_sinks;
 mod sinks;
-#[cfg(test)]
-mod tests;
 mod whole;
 
 pub use errors::{Failed, ReadFault, WriteFault};

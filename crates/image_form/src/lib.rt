@@ -27,8 +27,3 @@ pub use parts::ImageParts;
 pub use reading::read_image;
 pub use text_span::TextSpan;
 pub use writing::write_image;
-
-#[cfg(test)]
-mod table_tests;
-#[cfg(test)]
-mod tests;

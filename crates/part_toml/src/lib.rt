@@ -9,8 +9,6 @@ mod joining;
 mod keys;
 mod reading;
 mod tables;
-#[cfg(test)]
-mod tests;
 mod values;
 
 pub use fault::PartFault;

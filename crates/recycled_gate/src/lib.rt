@@ -4,8 +4,6 @@
 mod kept;
 mod laws;
 mod object;
-#[cfg(test)]
-mod tests;
 
 pub use kept::Kept;
 pub use laws::next_begins_with_what_was_left;

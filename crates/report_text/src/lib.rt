@@ -5,10 +5,6 @@ mod fault;
 mod lines;
 mod numbers;
 mod reading;
-#[cfg(test)]
-mod schedule_tests;
-#[cfg(test)]
-mod tests;
 mod text;
 mod words;
 mod writing;

@@ -6,15 +6,15 @@ use Rattle.wedge_base.specs.Images.{Image}
 use Rattle.wedge_base.specs.Names.{same, root_name}
 use Rattle.wedge_events.specs.declared.events.Event.{Event}
 use Rattle.wedge_events.specs.declared.events.Turn.{Turn}
-use Rattle.sthread_life.specs.Actors.{ActorState, root}
-use Rattle.sthread_life.specs.Children.{is_child, child_name}
-use Rattle.sthread_life.specs.Local.{has_ended, rest}
-use Rattle.sthread_life.specs.Take.{next_start, takes, actor_begun, child_of, run_by}
+use Rattle.machine.specs.Actors.{ActorState, root}
+use Rattle.machine.specs.Children.{is_child, child_name}
+use Rattle.machine.specs.Local.{has_ended, rest}
+use Rattle.machine.specs.Take.{next_start, takes, actor_begun, child_of, run_by}
 use Rattle.run_laws.specs.Ends.{is_end_event}
 use Rattle.run_laws.specs.FamilyTrees.{IsChildOf, IsOfTree, Family}
 use Rattle.run_laws.specs.Fuel.{starter_of, number_in, has_child}
 use Rattle.run_laws.specs.Laws.{EndedHaveJoinedAll, AllHaveEnded}
-use Rattle.run_laws.specs.Worlds.{WorldState, initial_state, actor_named, put_actor, with_begun, Runs, ready, resumed, is_ended}
+use Rattle.machine.specs.Worlds.{WorldState, initial_state, actor_named, put_actor, with_begun, Runs, ready, resumed, is_ended}
 use Rattle.run_laws.proofs.Between.{event_for, takes_name}
 use Rattle.run_laws.proofs.FamilyRuns.{Acts, ActsAlone, Starts, Enters, Joins, acts, one_begins, run_family}
 use Rattle.run_laws.proofs.Happening.{Happens, Requested, Joined, Snaps, GateSnaps, Started, Opens, Releases, Numbers, OpensFile, LastJoined, Ended, EntersGate, LeavesGate, EntersRecycled, LeavesRecycled}
@@ -24,7 +24,7 @@ use Rattle.run_laws.proofs.RecycledRuns.{request_passes}
 use Rattle.run_laws.proofs.Settling.{AllReady, turn_happens, turn_ready, opening_ready, turned_there}
 use Rattle.run_laws.proofs.Trees.{starter-child, IsPut, find_put, IsDoer, IsOther, found_or_last}
 use Rattle.run_laws.proofs.Turns.{Readies, Stays, Back, readies, ready_name, ready_ended, Turned, turn_from}
-use Rattle.sthread_life.proofs.Resting.{rest-name}
+use Rattle.machine.proofs.Resting.{rest-name}
 
 -- in a list of actors, those that have ended have nobody left to join
 abbrev NoneLeft : List ActorState → Type 0

@@ -24,15 +24,15 @@ use Rattle.rv_hart.specs.declared.Hart.{Hart}
 use Rattle.rv_hart.specs.declared.Need.{Need}
 use Rattle.rv_hart.specs.declared.Need.TheVariants as need
 use Rattle.rv_hart.specs.Local.{local}
-use Rattle.sthread_life.specs.declared.phase.Phase.TheVariants as phase
-use Rattle.sthread_life.specs.Accesses.{has_loaded, load_copy, load_window, load_range, store_copy, store_window, store_range, fits_read, fits_write, buffer}
-use Rattle.sthread_life.specs.Actors.{ActorState, bits_of, ends, refuses, wants}
-use Rattle.sthread_life.specs.Calls.{a0, a1, a2, a7, are_pages, serves, free_at}
-use Rattle.sthread_life.specs.Children.{is_child}
-use Rattle.sthread_life.specs.Local.{step_with_need, step_with_instr, step_with_fuel, step_with_word, step}
-use Rattle.run_laws.specs.Asking.{window_want, free_want, read_want, append_want, close_want, join_want, claim_want, call_want, need_want, instr_want, word_want, want_at, ComesWith, AsksFor, AsksAt}
+use Rattle.machine.specs.declared.phase.Phase.TheVariants as phase
+use Rattle.machine.specs.Accesses.{has_loaded, load_copy, load_window, load_range, store_copy, store_window, store_range, fits_read, fits_write, buffer}
+use Rattle.machine.specs.Actors.{ActorState, bits_of, ends, refuses, wants}
+use Rattle.machine.specs.Calls.{a0, a1, a2, a7, are_pages, serves, free_at}
+use Rattle.machine.specs.Children.{is_child}
+use Rattle.machine.specs.Local.{step_with_need, step_with_instr, step_with_fuel, step_with_word, step}
+use Rattle.run_laws.specs.Asking.{window_want, free_want, read_want, append_want, close_want, join_want, claim_want, call_want, need_want, instr_want, word_want, want_at, ComesWith, AsksFor, AsksNumber, AsksAt}
 use Rattle.run_laws.specs.Requests.{buffer_bytes}
-use Rattle.run_laws.specs.Worlds.{WorldState, with_actor}
+use Rattle.machine.specs.Worlds.{WorldState, with_actor}
 use Rattle.run_laws.proofs.Between.{event_for}
 use Rattle.run_laws.proofs.Buffers.{buffer_is}
 use Rattle.run_laws.proofs.Happening.{Happens, Requested, Joined, Snaps, GateSnaps, Started, Opens, Releases, Numbers, OpensFile, LastJoined, Ended, EntersGate, LeavesGate, EntersRecycled, LeavesRecycled}
@@ -183,8 +183,8 @@ event_asks w b e (GateSnaps s) = subst (λ ph. AsksAt (with_actor w b) b ph e) (
 event_asks w b e (Started s) = subst (λ ph. AsksAt (with_actor w b) b ph e) (sym s.at) tt
 event_asks w b e (Opens o) = subst (λ ph. AsksAt (with_actor w b) b ph e) (sym o.at) tt
 event_asks w b e (Releases r) = subst (λ ph. AsksAt (with_actor w b) b ph e) (sym r.at) tt
-event_asks w b e (Numbers n) = subst (λ ph. AsksAt (with_actor w b) b ph e) (sym n.at) tt
-event_asks w b e (OpensFile f) = subst (λ ph. AsksAt (with_actor w b) b ph e) (sym f.at) tt
+event_asks w b e (Numbers n) = subst (λ ph. AsksAt (with_actor w b) b ph e) (sym n.at) (subst (λ m. AsksNumber m e) (sym n.none) (_, n.is))
+event_asks w b e (OpensFile f) = subst (λ ph. AsksAt (with_actor w b) b ph e) (sym f.at) (subst (λ m. AsksNumber m e) (sym f.some) tt)
 event_asks w b e (LastJoined j) = subst (λ ph. AsksAt (with_actor w b) b ph e) (sym j.at) tt
 event_asks w b e (Ended f) = subst (λ ph. AsksAt (with_actor w b) b ph e) (sym f.at) tt
 event_asks w b e (EntersGate x) = subst (λ ph. AsksAt (with_actor w b) b ph e) (sym x.at) tt

@@ -27,17 +27,17 @@ use Rattle.wedge_events.specs.declared.cells.StreamReply.TheVariants as stream_r
 use Rattle.wedge_events.specs.declared.cells.LivesAsk.TheVariants as lives_ask
 use Rattle.wedge_events.specs.declared.cells.LivesReply.TheVariants as lives_reply
 use Rattle.wedge_base.specs.declared.rights.End.{End}
-use Rattle.sthread_life.specs.declared.phase.Phase.{Phase}
-use Rattle.sthread_life.specs.declared.phase.Phase.TheVariants as phase
-use Rattle.sthread_life.specs.Actors.{ActorState, answers, answers_more, spends}
-use Rattle.sthread_life.specs.Calls.{a1, a0, draft_at, new_gate, has_gate, makes_or_waits, continue_gate}
-use Rattle.sthread_life.specs.Opening.{FileOpening}
+use Rattle.machine.specs.declared.phase.Phase.{Phase}
+use Rattle.machine.specs.declared.phase.Phase.TheVariants as phase
+use Rattle.machine.specs.Actors.{ActorState, answers, answers_more, spends}
+use Rattle.machine.specs.Calls.{a1, a0, draft_at, new_gate, has_gate, makes_or_waits, continue_gate}
+use Rattle.machine.specs.Opening.{FileOpening}
 use Rattle.wedge_base.specs.Sheets.{made_fd, Draft}
-use Rattle.sthread_life.specs.Between.{IsBetween}
-use Rattle.sthread_life.specs.Children.{without_child, child_name, with_child}
-use Rattle.sthread_life.specs.Local.{rest, end_reached}
-use Rattle.sthread_life.specs.Take.{current_want, pair, runs, loads_by, loads_at, has_snapped, has_number, has_opened_file, end_value, end_number, answered_end, takes, copied_on, has_entered, next_start}
-use Rattle.sthread_life.specs.Preparation.{Preparation}
+use Rattle.machine.specs.Between.{IsBetween}
+use Rattle.machine.specs.Children.{without_child, child_name, with_child}
+use Rattle.machine.specs.Local.{rest, end_reached}
+use Rattle.machine.specs.Take.{current_want, pair, runs, loads_by, loads_at, has_snapped, has_number, has_opened_file, end_value, end_number, answered_end, takes, copied_on, has_entered, next_start}
+use Rattle.machine.specs.Preparation.{Preparation}
 use Rattle.cow_pages.specs.Listed.{bytes_listed}
 use Rattle.wedge_events.specs.Directories.{directory_reply}
 use Rattle.wedge_events.specs.Gates.{gate_reply as gate_reply_of}
@@ -46,11 +46,11 @@ use Rattle.wedge_events.specs.Slots.{slot_reply as slot_reply_of}
 use Rattle.wedge_events.specs.Streams.{stream_reply as stream_reply_of}
 use Rattle.wedge_events.specs.Wants.{slot_ask_with}
 use Rattle.wedge_base.specs.declared.rights.End.TheVariants as end_
-use Rattle.run_laws.specs.Cells.{Cells, slot_in, stream_in, kept_in, tag_in}
-use Rattle.run_laws.specs.Worlds.{WorldState, actor_named, join_event, event_at, apply_event, wanting, Taken}
+use Rattle.machine.specs.Cells.{Cells, slot_in, stream_in, kept_in, tag_in}
+use Rattle.machine.specs.Worlds.{WorldState, actor_named, join_event, event_at, apply_event, wanting, Taken}
 use Rattle.callgate.specs.declared.gate.Gate.{Gate}
-use Rattle.sthread_life.specs.declared.copy_grant.CopyGrant.{CopyGrant}
-use Rattle.sthread_life.specs.Entrance.{Entrance}
+use Rattle.machine.specs.declared.copy_grant.CopyGrant.{CopyGrant}
+use Rattle.machine.specs.Entrance.{Entrance}
 
 -- a load that has its value leaves the actor running
 loaded_by : (ins : Instr) (n : Need) (a : ActorState) (value : ℕ) → a.phase ≡ phase.Running → (loads_by ins n a value).phase ≡ phase.Running

@@ -17,23 +17,23 @@ use Rattle.wedge_base.specs.declared.rights.FdBits.{FdBits}
 use Rattle.callgate.specs.Lending.{IsRunSheet, tag_lent, fd_lent}
 use Rattle.callgate.specs.declared.gate.Gate.{Gate}
 use Rattle.grant_sheet.specs.Granting.{IsWithin}
-use Rattle.sthread_life.specs.Actors.{ActorState, root, right_of, bits_of, but_gates}
+use Rattle.machine.specs.Actors.{ActorState, root, right_of, bits_of, but_gates}
 use Rattle.run_laws.specs.Bounds.{HasNoMoreThanRoot}
-use Rattle.sthread_life.specs.Calls.{a0}
-use Rattle.sthread_life.specs.Children.{child_name}
+use Rattle.machine.specs.Calls.{a0}
+use Rattle.machine.specs.Children.{child_name}
 use Rattle.run_laws.specs.Families.{IsRun}
-use Rattle.sthread_life.specs.Entering.{sheet_lent}
+use Rattle.machine.specs.Entering.{sheet_lent}
 use Rattle.run_laws.specs.Laws.{RootBounds}
-use Rattle.sthread_life.specs.Local.{is_running, step, run_local, rest}
-use Rattle.sthread_life.specs.Take.{next_start, takes, child_of, run_by, actor_begun}
-use Rattle.run_laws.specs.Worlds.{WorldState, initial_state, actor_named, put_actor, with_begun, turn_of, ready, resumed, Runs, with_actor}
+use Rattle.machine.specs.Local.{is_running, step, run_local, rest}
+use Rattle.machine.specs.Take.{next_start, takes, child_of, run_by, actor_begun}
+use Rattle.machine.specs.Worlds.{WorldState, initial_state, actor_named, put_actor, with_begun, turn_of, ready, resumed, Runs, with_actor}
 use Rattle.run_laws.proofs.Between.{takes_name}
 use Rattle.run_laws.proofs.Bounding.{IsBounded, AllBounded, least_of, child_user, child_directory, within_bits, given_alone, rest_bounded, back_bounded, turn_bounded, opening_bounded, run_image}
 use Rattle.run_laws.proofs.FamilyRuns.{Acts, ActsAlone, Starts, Enters, Joins, acts, one_begins}
 use Rattle.run_laws.proofs.GateMoments.{event_makes_gates}
 use Rattle.run_laws.proofs.GateRuns.{each_entered}
 use Rattle.run_laws.proofs.KnownGates.{Grows, Keeps, Adds, step_grows, by_phase}
-use Rattle.sthread_life.proofs.Resting.{steps_step, stays, goes_on, rest-name}
+use Rattle.machine.proofs.Resting.{steps_step, stays, goes_on, rest-name}
 use Rattle.run_laws.proofs.Settling.{AllReady, turn_happens, turn_ready, opening_ready, turned_there}
 use Rattle.run_laws.proofs.Trees.{IsPut, IsDoer, IsOther, FoundPut, find_put, found_or_last}
 use Rattle.run_laws.proofs.Turns.{ready_is, ready_name, Turned, turn_from}

@@ -28,18 +28,18 @@ use Rattle.wedge_events.specs.declared.cells.LivesAsk.TheVariants as lives_ask
 use Rattle.wedge_events.specs.declared.cells.LivesReply.TheVariants as lives_reply
 use Rattle.wedge_events.specs.declared.cells.SlotReply.TheVariants as slot_reply
 use Rattle.wedge_events.specs.Directories.{Directory, Claim, no_number, claim_from, claim, claim_reply, claim_next, directory_reply as directory_reply_of, directory_next}
-use Rattle.sthread_life.specs.declared.phase.Phase.{Phase}
-use Rattle.sthread_life.specs.declared.phase.Phase.TheVariants as phase
-use Rattle.sthread_life.specs.Actors.{ActorState, root, right_of, bits_of}
-use Rattle.sthread_life.specs.Between.{IsBetween}
+use Rattle.machine.specs.declared.phase.Phase.{Phase}
+use Rattle.machine.specs.declared.phase.Phase.TheVariants as phase
+use Rattle.machine.specs.Actors.{ActorState, root, right_of, bits_of}
+use Rattle.machine.specs.Between.{IsBetween}
 use Rattle.run_laws.specs.Bounds.{HasNoMoreThanRoot}
-use Rattle.run_laws.specs.Cells.{Cells, cells_after}
-use Rattle.sthread_life.specs.Opening.{FileOpening}
-use Rattle.sthread_life.specs.Children.{child_name}
+use Rattle.machine.specs.Cells.{Cells, cells_after}
+use Rattle.machine.specs.Opening.{FileOpening}
+use Rattle.machine.specs.Children.{child_name}
 use Rattle.run_laws.specs.Families.{IsChild, IsRun, made_under, made_by}
-use Rattle.sthread_life.specs.Local.{rest}
-use Rattle.sthread_life.specs.Take.{next_start, takes, actor_begun, child_of, run_by}
-use Rattle.run_laws.specs.Worlds.{WorldState, initial_state, actor_named, put_actor, with_begun, ready, resumed, Runs}
+use Rattle.machine.specs.Local.{rest}
+use Rattle.machine.specs.Take.{next_start, takes, actor_begun, child_of, run_by}
+use Rattle.machine.specs.Worlds.{WorldState, initial_state, actor_named, put_actor, with_begun, ready, resumed, Runs}
 use Rattle.run_laws.proofs.Between.{event_for, Leaves, IsPreparing, MayPrepare, MayNumber, MayWait, takes_name, takes_between}
 use Rattle.run_laws.proofs.Directing.{claimed_number, next_number}
 use Rattle.run_laws.proofs.Meeting.{IsRequest}
@@ -47,7 +47,7 @@ use Rattle.run_laws.proofs.Families.{MadeBy, MadeNothing, MadeTag, MadeFd, takes
 use Rattle.run_laws.proofs.FamilyRuns.{Acts, ActsAlone, Starts, Enters, Joins, acts, one_begins, kept_at_rest}
 use Rattle.run_laws.proofs.Happening.{Happens, Requested, Joined, Snaps, GateSnaps, Started, Opens, Releases, Numbers, OpensFile, LastJoined, Ended, EntersGate, LeavesGate, EntersRecycled, LeavesRecycled, happens_claim, happens_number, opens_by_claim}
 use Rattle.run_laws.proofs.Named.{same_equal, same_self}
-use Rattle.sthread_life.proofs.Resting.{rest-name, rest-uncalm}
+use Rattle.machine.proofs.Resting.{rest-name, rest-uncalm}
 use Rattle.run_laws.proofs.Settling.{AllReady, turn_happens, turned_there}
 use Rattle.run_laws.proofs.Trees.{IsPut, IsDoer, IsOther, FoundPut, find_put, found_or_last}
 use Rattle.run_laws.proofs.Turns.{ready_is, ready_name, Turned, turn_from}

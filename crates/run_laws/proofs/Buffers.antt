@@ -5,9 +5,9 @@ use Rattle.wedge_base.specs.Images.{Image, in_text}
 use Rattle.wedge_base.specs.Memory.{range_at}
 use Rattle.wedge_base.specs.Paths.{resolve}
 use Rattle.wedge_base.specs.declared.image.MemoryRange.{MemoryRange}
-use Rattle.sthread_life.specs.Actors.{ActorState}
-use Rattle.sthread_life.specs.Calls.{path_in}
-use Rattle.sthread_life.specs.Accesses.{fits_read, buffer, buffer_in}
+use Rattle.machine.specs.Actors.{ActorState}
+use Rattle.machine.specs.Calls.{path_in}
+use Rattle.machine.specs.Accesses.{fits_read, buffer, buffer_in}
 use Rattle.run_laws.specs.Requests.{bytes_in_range, buffer_bytes, path_at}
 
 by_range : (i : Image) (pointer n : ℕ) (t u : Bool) (r : Option MemoryRange)

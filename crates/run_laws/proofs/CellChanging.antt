@@ -26,12 +26,12 @@ use Rattle.wedge_base.specs.declared.rights.StreamKind.{StreamKind}
 use Rattle.wedge_events.specs.declared.cells.StreamReply.TheVariants as stream_reply
 use Rattle.wedge_events.specs.declared.cells.StreamAsk.{StreamAsk}
 use Rattle.wedge_events.specs.declared.cells.StreamAsk.TheVariants as stream_ask
-use Rattle.sthread_life.specs.Actors.{ActorState}
-use Rattle.sthread_life.specs.Local.{rest}
-use Rattle.sthread_life.specs.Calls.{a0}
-use Rattle.sthread_life.specs.Take.{pair}
-use Rattle.run_laws.specs.Cells.{Cells, GateCell, slot_in, stream_in, kept_in, kept_among, put_kept, cells_after}
-use Rattle.run_laws.specs.Worlds.{WorldState, turn_of, resumed, Runs}
+use Rattle.machine.specs.Actors.{ActorState}
+use Rattle.machine.specs.Local.{rest}
+use Rattle.machine.specs.Calls.{a0}
+use Rattle.machine.specs.Take.{pair}
+use Rattle.machine.specs.Cells.{Cells, GateCell, slot_in, stream_in, kept_in, kept_among, put_kept, cells_after}
+use Rattle.machine.specs.Worlds.{WorldState, turn_of, resumed, Runs}
 use Rattle.run_laws.specs.CellHistories.{after_turns, Occupant, occupant, occupant_in, occupant_by, occupant_after_event, StreamMode, mode, mode_in, mode_by, mode_after_event, places_after_event, numbers_after_event, lives_after_event, kept_after_event, CellsFollow}
 use Rattle.run_laws.proofs.Between.{event_for}
 use Rattle.run_laws.proofs.Turns.{turn_from}
@@ -62,11 +62,11 @@ stored_occupant : (offset width value : ℕ) (g : Option Segment) → occupant_o
 stored_occupant offset width value None = refl
 stored_occupant offset width value (Some g) = refl
 
-store_shows : (offset width value : ℕ) (live : Option Live) (g : Option Segment) (r : SlotReply) → occupant_of (slot_after g (slot_ask.Store offset width value live) r) ≡ occupant_of g
+store_shows : (offset width value : ℕ) (live : Option Live) (g : Option Segment) (r : SlotReply) → occupant_of (slot_after g (slot_ask.Store width offset value live) r) ≡ occupant_of g
 store_shows offset width value live g slot_reply.Stored = stored_occupant offset width value g
 store_shows offset width value live g r = refl
 
-store_stays : (offset width value : ℕ) (live : Option Live) (g : Option Segment) (r : SlotReply) → g ≡ None → slot_after g (slot_ask.Store offset width value live) r ≡ None
+store_stays : (offset width value : ℕ) (live : Option Live) (g : Option Segment) (r : SlotReply) → g ≡ None → slot_after g (slot_ask.Store width offset value live) r ≡ None
 store_stays offset width value live g slot_reply.Stored e = ap (option_map (write_segment offset width value)) e
 store_stays offset width value live g r e = e
 
@@ -140,13 +140,13 @@ slot_changes c s q stays shows = record {
   gates = λ id. refl;
 }
 
-load_shows : (offset width : ℕ) (live : Option Live) (g : Option Segment) (r : SlotReply) → occupant_of (slot_after g (slot_ask.Load offset width live) r) ≡ occupant_by (occupant_of g) (slot_ask.Load offset width live) r
+load_shows : (offset width : ℕ) (live : Option Live) (g : Option Segment) (r : SlotReply) → occupant_of (slot_after g (slot_ask.Load width offset live) r) ≡ occupant_by (occupant_of g) (slot_ask.Load width offset live) r
 load_shows offset width live g r = refl
 
 snap_shows : (tag : ℕ) (g : Option Segment) (r : SlotReply) → occupant_of (slot_after g (slot_ask.Snap tag) r) ≡ occupant_by (occupant_of g) (slot_ask.Snap tag) r
 snap_shows tag g r = refl
 
-store_shows_by : (offset width value : ℕ) (live : Option Live) (g : Option Segment) (r : SlotReply) → occupant_of (slot_after g (slot_ask.Store offset width value live) r) ≡ occupant_by (occupant_of g) (slot_ask.Store offset width value live) r
+store_shows_by : (offset width value : ℕ) (live : Option Live) (g : Option Segment) (r : SlotReply) → occupant_of (slot_after g (slot_ask.Store width offset value live) r) ≡ occupant_by (occupant_of g) (slot_ask.Store width offset value live) r
 store_shows_by offset width value live g r = store_shows offset width value live g r
 
 want_changes : (N : ℕ → Type 0) (c : Cells) (b : ActorState) (q : Want) → IsRequest N b q → IsChanged c (event_for c b q) (cells_after c (event_for c b q))
@@ -154,10 +154,10 @@ want_changes N c b (want.Slots directory_ask.Claim) own = record { occupants = �
 want_changes N c b (want.Slot s (slot_want.Close tag)) own = slot_changes c s (slot_ask.Close tag) (close_stays tag (slot_in c s) _) (close_shows tag (slot_in c s) _)
 want_changes N c b (want.Slot s (slot_want.Load offset width)) own =
     let live = pair b (option_map (λ g. g.tag) (slot_in c s)) in
-    slot_changes c s (slot_ask.Load offset width live) (λ e. e) (load_shows offset width live (slot_in c s) (slot_reply_of (slot_in c s) (slot_ask.Load offset width live)))
+    slot_changes c s (slot_ask.Load width offset live) (λ e. e) (load_shows offset width live (slot_in c s) (slot_reply_of (slot_in c s) (slot_ask.Load width offset live)))
 want_changes N c b (want.Slot s (slot_want.Store offset width value)) own =
     let live = pair b (option_map (λ g. g.tag) (slot_in c s)) in
-    slot_changes c s (slot_ask.Store offset width value live) (store_stays offset width value live (slot_in c s) _) (store_shows_by offset width value live (slot_in c s) _)
+    slot_changes c s (slot_ask.Store width offset value live) (store_stays offset width value live (slot_in c s) _) (store_shows_by offset width value live (slot_in c s) _)
 want_changes N c b (want.Slot s (slot_want.Smalloc tag size)) own = slot_changes c s (slot_ask.Smalloc tag size) (place_stays tag size (slot_in c s) _) (place_shows tag size (slot_in c s) _)
 want_changes N c b (want.Slot s (slot_want.Sfree offset)) own =
     let live = pair b (option_map (λ g. g.tag) (slot_in c s)) in

@@ -11,10 +11,10 @@ use Rattle.wedge_events.specs.declared.cells.SlotAsk.{SlotAsk}
 use Rattle.wedge_events.specs.declared.cells.SlotReply.{SlotReply}
 use Rattle.wedge_events.specs.declared.cells.StreamAsk.{StreamAsk}
 use Rattle.wedge_events.specs.declared.cells.StreamReply.{StreamReply}
-use Rattle.sthread_life.specs.Actors.{ActorState, right_of}
-use Rattle.sthread_life.specs.Take.{takes}
-use Rattle.run_laws.specs.Cells.{Cells, held, slot_in, stream_in}
-use Rattle.run_laws.specs.Worlds.{WorldState, actor_named, put_actor, apply_event, with_actor}
+use Rattle.machine.specs.Actors.{ActorState, right_of}
+use Rattle.machine.specs.Take.{takes}
+use Rattle.machine.specs.Cells.{Cells, held, slot_in, stream_in}
+use Rattle.machine.specs.Worlds.{WorldState, actor_named, put_actor, apply_event, with_actor}
 use Rattle.run_laws.specs.Requests.{Request}
 use Rattle.run_laws.specs.Allowed.{lacks, is_refused, IsDone, denied}
 use Rattle.run_laws.specs.Moments.{NothingDenied, IsChecked}

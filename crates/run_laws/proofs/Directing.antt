@@ -7,7 +7,7 @@ use Rattle.wedge_events.specs.Directories.{Directory, Claim, no_number, claim_fr
 use Rattle.wedge_events.specs.declared.cells.DirectoryAsk.{DirectoryAsk}
 use Rattle.wedge_events.specs.declared.cells.DirectoryAsk.TheVariants as directory_ask
 use Rattle.wedge_events.specs.declared.cells.DirectoryReply.TheVariants as directory_reply
-use Rattle.sthread_life.specs.Between.{GivesBelow}
+use Rattle.machine.specs.Between.{GivesBelow}
 
 -- a place that is claimed
 pub record IsClaim (n : ℕ) (d : Directory) (c : Claim) : Type 0 where

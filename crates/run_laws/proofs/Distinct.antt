@@ -2,8 +2,8 @@
 use Rattle.std.proofs.Common.{◌≡◌, ℕ, Bool, true, false, true≢false, List, [], ◌∷◌, refl, sym, ap, subst, ◌∙◌}
 use Rattle.std.specs.Prelude.{if◌then◌else◌}
 use Rattle.wedge_base.specs.Names.{same}
-use Rattle.sthread_life.specs.Actors.{ActorState}
-use Rattle.run_laws.specs.Worlds.{put_actor}
+use Rattle.machine.specs.Actors.{ActorState}
+use Rattle.machine.specs.Worlds.{put_actor}
 use Rattle.run_laws.specs.Names.{IsNew, AreDistinct}
 use Rattle.run_laws.proofs.Named.{same_self, same_equal}
 

@@ -13,18 +13,18 @@ use Rattle.rv_hart.specs.declared.Hart.{Hart}
 use Rattle.rv_hart.specs.declared.Need.{Need}
 use Rattle.rv_hart.specs.declared.Need.TheVariants as need
 use Rattle.rv_hart.specs.Local.{local}
-use Rattle.sthread_life.specs.declared.phase.Phase.TheVariants as phase
-use Rattle.sthread_life.specs.Actors.{ActorState, answers, refuses, spends}
-use Rattle.sthread_life.specs.Calls.{serves, exit, is_procedure, create, join, tag_new, tag_delete, smalloc, sfree, fd_read, fd_append, fd_close, draft_call, sc_new, sc_mem_add, sc_fd_add, sc_cgate_add, add_gate_to, with_draft, add_right, add_right_to, add_bits, add_bits_to, read_append_bits, a0, a1, a2, a7, set_user, sc_user, path_in, set_root, sc_root, file_open, cgate_make, cgate}
-use Rattle.sthread_life.specs.Local.{step_with_need, step_with_instr, step_with_fuel, step_with_word, step}
+use Rattle.machine.specs.declared.phase.Phase.TheVariants as phase
+use Rattle.machine.specs.Actors.{ActorState, answers, refuses, spends}
+use Rattle.machine.specs.Calls.{serves, exit, is_procedure, create, join, tag_new, tag_delete, smalloc, sfree, fd_read, fd_append, fd_close, draft_call, sc_new, sc_mem_add, sc_fd_add, sc_cgate_add, add_gate_to, with_draft, add_right, add_right_to, add_bits, add_bits_to, read_append_bits, a0, a1, a2, a7, set_user, sc_user, path_in, set_root, sc_root, file_open, cgate_make, cgate}
+use Rattle.machine.specs.Local.{step_with_need, step_with_instr, step_with_fuel, step_with_word, step}
 use Rattle.run_laws.specs.Allowed.{answered_hart}
 use Rattle.run_laws.specs.Drafting.{right_of_number, bits_of_number, edited, with_new, drafts_by_call, is_draft_call, draft_value, AnswersNeed, AnswersInstr, AnswersWith, AnswersDrafts}
 use Rattle.run_laws.specs.Refusals.{full, bad, right_refusal, bits_refusal, gate_refusal, fuel_short, user_refusal, root_refusal, draft_refusal}
-use Rattle.run_laws.specs.Worlds.{WorldState, with_actor}
+use Rattle.machine.specs.Worlds.{WorldState, with_actor}
 use Rattle.run_laws.proofs.Buffers.{path_is}
 use Rattle.run_laws.proofs.DraftEdits.{picked, one_not_two}
 use Rattle.run_laws.proofs.Named.{put_put}
-use Rattle.sthread_life.proofs.Resting.{not_below}
+use Rattle.machine.proofs.Resting.{not_below}
 
 -- an actor that goes on at the next word, answered a value, with such drafts and some fuel
 abbrev Answered : ActorState → ℕ → List Draft → ActorState → Type 0

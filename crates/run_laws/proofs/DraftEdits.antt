@@ -38,21 +38,21 @@ use Rattle.rv_hart.specs.Local.{local}
 use Rattle.wedge_base.specs.Files.{may_open}
 use Rattle.wedge_base.specs.declared.image.FileEntry.{FileEntry}
 use Rattle.wedge_base.specs.declared.rights.FdBits.{FdBits}
-use Rattle.sthread_life.specs.Actors.{ActorState, right_of, denies, answers, refuses, ends, spends, gate_held}
+use Rattle.machine.specs.Actors.{ActorState, right_of, denies, answers, refuses, ends, spends, gate_held}
 use Rattle.cow_pages.specs.Listed.{bytes_listed}
 use Rattle.cow_pages.specs.Copies.{copy_at, holds_copy, read_copy}
-use Rattle.sthread_life.specs.Accesses.{loads, stores, load_bytes, load_copy, load_window, load_range, store_copy, store_window, store_range, has_loaded, fits_read, fits_write}
-use Rattle.sthread_life.specs.Children.{is_child, without_child}
+use Rattle.machine.specs.Accesses.{loads, stores, load_bytes, load_copy, load_window, load_range, store_copy, store_window, store_range, has_loaded, fits_read, fits_write}
+use Rattle.machine.specs.Children.{is_child, without_child}
 use Rattle.run_laws.proofs.Between.{joined_is, numbered_is, opened_is, snapped_is, entered_is}
 use Rattle.run_laws.proofs.Buffers.{path_is}
-use Rattle.sthread_life.specs.Calls.{serves, exit, is_procedure, create, create_with, create_checked, join, are_pages, tag_new, tag_delete, smalloc, free_at, sfree, fd_read, fd_append, fd_close, draft_call, sc_new, sc_mem_add, sc_fd_add, sc_cgate_add, add_gate_to, with_draft, add_right, add_right_to, add_bits, add_bits_to, read_append_bits, a0, a1, a2, a3, a7, set_user, sc_user, path_in, set_root, sc_root, file_at, mode_asked, suits, open_file, open_path, file_open, makes_or_waits, may_be_gate, make_checked, make_with, cgate_make, enter_checked, enter_lending, enter_held, cgate, lent_asked}
+use Rattle.machine.specs.Calls.{serves, exit, is_procedure, create, create_with, create_checked, join, are_pages, tag_new, tag_delete, smalloc, free_at, sfree, fd_read, fd_append, fd_close, draft_call, sc_new, sc_mem_add, sc_fd_add, sc_cgate_add, add_gate_to, with_draft, add_right, add_right_to, add_bits, add_bits_to, read_append_bits, a0, a1, a2, a3, a7, set_user, sc_user, path_in, set_root, sc_root, file_at, mode_asked, suits, open_file, open_path, file_open, makes_or_waits, may_be_gate, make_checked, make_with, cgate_make, enter_checked, enter_lending, enter_held, cgate, lent_asked}
 use Rattle.run_laws.specs.Drafting.{right_of_number, bits_of_number, edited, with_new, drafts_by_call, drafts_by_need, drafts_by_instr, drafts_by_fuel, drafts_by_word, drafts_after}
-use Rattle.sthread_life.specs.Local.{step_with_need, step_with_instr, step_with_fuel, step_with_word, step}
+use Rattle.machine.specs.Local.{step_with_need, step_with_instr, step_with_fuel, step_with_word, step}
 use Rattle.run_laws.specs.Refusals.{full, bad, right_refusal, bits_refusal, gate_refusal, fuel_short, user_refusal, root_refusal}
-use Rattle.sthread_life.specs.Take.{runs, loads_by, loads_at, takes}
-use Rattle.sthread_life.specs.Preparation.{Preparation}
-use Rattle.sthread_life.specs.declared.copy_grant.CopyGrant.{CopyGrant}
-use Rattle.sthread_life.specs.Entering.{may_lend, excess_lent}
+use Rattle.machine.specs.Take.{runs, loads_by, loads_at, takes}
+use Rattle.machine.specs.Preparation.{Preparation}
+use Rattle.machine.specs.declared.copy_grant.CopyGrant.{CopyGrant}
+use Rattle.machine.specs.Entering.{may_lend, excess_lent}
 use Rattle.callgate.specs.declared.gate.Gate.{Gate}
 
 -- ---- what leaves them as they are

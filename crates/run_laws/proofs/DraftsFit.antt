@@ -23,17 +23,17 @@ use Rattle.rv_isa.specs.Table.{decode}
 use Rattle.rv_hart.specs.declared.Need.{Need}
 use Rattle.rv_hart.specs.declared.Need.TheVariants as need
 use Rattle.rv_hart.specs.Local.{local, reg}
-use Rattle.sthread_life.specs.declared.copy_grant.CopyGrant.{CopyGrant}
-use Rattle.sthread_life.specs.Actors.{ActorState}
-use Rattle.sthread_life.specs.Calls.{a0, draft_at}
-use Rattle.sthread_life.specs.CopyGrant.{copy_grants}
+use Rattle.machine.specs.declared.copy_grant.CopyGrant.{CopyGrant}
+use Rattle.machine.specs.Actors.{ActorState}
+use Rattle.machine.specs.Calls.{a0, draft_at}
+use Rattle.machine.specs.CopyGrant.{copy_grants}
 use Rattle.run_laws.specs.Drafting.{edited, with_new, right_of_number, bits_of_number, drafts_by_call, drafts_by_need, drafts_by_instr, drafts_by_fuel, drafts_by_word}
-use Rattle.sthread_life.specs.Local.{is_running, step, run_local, rest}
+use Rattle.machine.specs.Local.{is_running, step, run_local, rest}
 use Rattle.run_laws.specs.Refusals.{bad, full, new_refusal, right_refusal, bits_refusal, gate_refusal, user_refusal, root_refusal}
 use Rattle.run_laws.specs.Requests.{path_at}
-use Rattle.sthread_life.specs.Take.{copies_asked, takes}
+use Rattle.machine.specs.Take.{copies_asked, takes}
 use Rattle.run_laws.proofs.DraftEdits.{step_edits, event_edits}
-use Rattle.sthread_life.proofs.Resting.{stays, goes_on}
+use Rattle.machine.proofs.Resting.{stays, goes_on}
 
 -- a draft with at most 1,024 grants, whose items are in order
 pub record IsFew (d : Draft) : Type 0 where

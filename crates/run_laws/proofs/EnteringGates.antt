@@ -3,11 +3,11 @@
 use Rattle.std.proofs.Common.{◌≡◌, ◌≤◌, length, refl, []}
 use Rattle.std.specs.Prelude.{true, nat_lt, Option, Some, None}
 use Rattle.wedge_base.specs.Sheets.{Draft, lent_to, Sheet}
-use Rattle.sthread_life.specs.declared.phase.Phase.{Phase}
-use Rattle.sthread_life.specs.Actors.{ActorState, gate_held}
-use Rattle.sthread_life.specs.Calls.{a0, a2, lent_asked}
-use Rattle.sthread_life.specs.Entrance.{Entrance}
-use Rattle.sthread_life.specs.Entering.{sheet_lent, excess_lent, may_lend}
+use Rattle.machine.specs.declared.phase.Phase.{Phase}
+use Rattle.machine.specs.Actors.{ActorState, gate_held}
+use Rattle.machine.specs.Calls.{a0, a2, lent_asked}
+use Rattle.machine.specs.Entrance.{Entrance}
+use Rattle.machine.specs.Entering.{sheet_lent, excess_lent, may_lend}
 use Rattle.callgate.specs.Lending.{IsRunSheet}
 use Rattle.grant_sheet.proofs.Joined.{at_joined}
 

@@ -34,28 +34,28 @@ use Rattle.rv_isa.specs.Table.{decode}
 use Rattle.rv_hart.specs.declared.Need.{Need}
 use Rattle.rv_hart.specs.declared.Need.TheVariants as need
 use Rattle.rv_hart.specs.Local.{local}
-use Rattle.sthread_life.specs.declared.opening.StreamLabel.{StreamLabel}
-use Rattle.sthread_life.specs.declared.phase.Phase.{Phase}
-use Rattle.sthread_life.specs.declared.phase.Phase.TheVariants as phase
-use Rattle.sthread_life.specs.Actors.{ActorState, but_gates}
-use Rattle.sthread_life.specs.Calls.{a0, draft_at}
-use Rattle.run_laws.specs.Cells.{Cells}
-use Rattle.sthread_life.specs.Children.{Children, is_number, fuel_given, is_child, without_child, child_name}
+use Rattle.machine.specs.declared.opening.StreamLabel.{StreamLabel}
+use Rattle.machine.specs.declared.phase.Phase.{Phase}
+use Rattle.machine.specs.declared.phase.Phase.TheVariants as phase
+use Rattle.machine.specs.Actors.{ActorState, but_gates}
+use Rattle.machine.specs.Calls.{a0, draft_at}
+use Rattle.machine.specs.Cells.{Cells}
+use Rattle.machine.specs.Children.{Children, is_number, fuel_given, is_child, without_child, child_name}
 use Rattle.run_laws.specs.Ends.{is_end_event}
 use Rattle.run_laws.specs.Families.{IsChild, IsStart, IsFirst, IsToJoin, ActsAlone, made_in, made_under, made_by, labelled_under, labels_by, after_join, KeepsFamily, IsRun, IsEnter, EndsAsIs, DoesNext}
-use Rattle.sthread_life.specs.Local.{end_reached, step}
+use Rattle.machine.specs.Local.{end_reached, step}
 use Rattle.cow_pages.specs.Listed.{bytes_listed}
-use Rattle.sthread_life.specs.Preparation.{Preparation}
-use Rattle.sthread_life.specs.Take.{runs, loads_by, loads_at, next_start, takes, child_of, memory_made, has_opened_file, has_entered, run_by, run_at}
-use Rattle.run_laws.specs.Worlds.{WorldState, actor_named, put_actor, apply_event, with_actor, with_begun}
+use Rattle.machine.specs.Preparation.{Preparation}
+use Rattle.machine.specs.Take.{runs, loads_by, loads_at, next_start, takes, child_of, memory_made, has_opened_file, has_entered, run_by, run_at}
+use Rattle.machine.specs.Worlds.{WorldState, actor_named, put_actor, apply_event, with_actor, with_begun}
 use Rattle.run_laws.proofs.Between.{event_for, IsJoin, joined_is, numbered_is, snapped_is, takes_name, entered_is, entered_by}
 use Rattle.run_laws.proofs.Happening.{AtOpen, AtFile, Happens, Requested, Joined, Snaps, GateSnaps, Started, Opens, Releases, Numbers, OpensFile, LastJoined, Ended, joined_at, EntersGate, LeavesGate, EntersRecycled, LeavesRecycled, AtRecycledEnter, memory_for}
 use Rattle.run_laws.proofs.Meeting.{IsRequest, IsStartable}
 use Rattle.run_laws.proofs.Named.{put_put, named_put_other}
-use Rattle.sthread_life.proofs.Resting.{steps_step}
+use Rattle.machine.proofs.Resting.{steps_step}
 use Rattle.callgate.specs.Lending.{IsRunSheet}
-use Rattle.sthread_life.specs.Entrance.{Entrance}
-use Rattle.sthread_life.specs.Entering.{sheet_lent, excess_lent}
+use Rattle.machine.specs.Entrance.{Entrance}
+use Rattle.machine.specs.Entering.{sheet_lent, excess_lent}
 use Rattle.run_laws.proofs.EnteringGates.{IsEnterable, run_is}
 use Rattle.run_laws.specs.Holding.{loan, IsDrafted}
 use Rattle.run_laws.proofs.Drafted.{is_drafted}
@@ -245,8 +245,8 @@ IsNoOpening q = Unit {0}
 pub made_same : (m : Made) (slot : ℕ) (r : SlotReply) (q : SlotAsk) → IsNoOpening q → made_in m slot r q ≡ m
 made_same m slot slot_reply.Opened (slot_ask.Open tag pages) k = absurd k
 made_same m slot slot_reply.Opened (slot_ask.Close tag) k = refl
-made_same m slot slot_reply.Opened (slot_ask.Load offset width live) k = refl
-made_same m slot slot_reply.Opened (slot_ask.Store offset width value live) k = refl
+made_same m slot slot_reply.Opened (slot_ask.Load width offset live) k = refl
+made_same m slot slot_reply.Opened (slot_ask.Store width offset value live) k = refl
 made_same m slot slot_reply.Opened (slot_ask.Smalloc tag size) k = refl
 made_same m slot slot_reply.Opened (slot_ask.Sfree offset live) k = refl
 made_same m slot slot_reply.Opened (slot_ask.Snap tag) k = refl

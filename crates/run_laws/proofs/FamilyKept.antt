@@ -3,15 +3,15 @@
 use Rattle.std.proofs.Common.{◌≡◌, ℕ, ◌+◌, ◌≤◌, Bool, true, false, true≢false, List, [], ◌∷◌, ◌++◌, refl, sym, ap, subst, ◌∙◌, arith, inl, inr}
 use Rattle.std.specs.Prelude.{Option, Some, None, is_some, ◌||◌, ◌⊎◌, if◌then◌else◌}
 use Rattle.wedge_base.specs.Names.{same, root_name}
-use Rattle.sthread_life.specs.Actors.{ActorState}
-use Rattle.sthread_life.specs.Children.{Children, is_number, fuel_given, is_child, with_child, without_child, all_given, child_name}
+use Rattle.machine.specs.Actors.{ActorState}
+use Rattle.machine.specs.Children.{Children, is_number, fuel_given, is_child, with_child, without_child, all_given, child_name}
 use Rattle.run_laws.specs.FamilyTrees.{worth, Holds, AllBehind, IsChildOf, IsOfTree, Family, WaitsForOwn}
 use Rattle.run_laws.specs.Fuel.{starter_of, number_in, has_child, is_unjoined}
 use Rattle.run_laws.specs.Names.{IsNew, AreDistinct}
-use Rattle.sthread_life.specs.Local.{has_ended}
-use Rattle.run_laws.specs.Worlds.{actor_named, put_actor}
+use Rattle.machine.specs.Local.{has_ended}
+use Rattle.machine.specs.Worlds.{actor_named, put_actor}
 use Rattle.run_laws.proofs.Distinct.{put_distinct}
-use Rattle.sthread_life.proofs.FuelGiven.{given_with, taken_back, number_is, number_self, given_there, given_elsewhere, given_gone}
+use Rattle.machine.proofs.FuelGiven.{given_with, taken_back, number_is, number_self, given_there, given_elsewhere, given_gone}
 use Rattle.run_laws.proofs.Named.{same_self, same_equal, named_begun}
 use Rattle.run_laws.proofs.Trees.{starter-child, number-child, child_apart, not_root, apart_too, IsPut, found_put, found_else, IsDoer, IsOther, FoundPut, find_put, found_behind, found_before, none_new, new_none, distinct_behind, found_or_last}
 

@@ -17,18 +17,18 @@ use Rattle.wedge_events.specs.declared.events.Event.TheVariants as event
 use Rattle.wedge_events.specs.declared.events.Turn.{Turn}
 use Rattle.wedge_events.specs.declared.cells.DirectoryAsk.TheVariants as directory_ask
 use Rattle.wedge_events.specs.declared.cells.LivesAsk.TheVariants as lives_ask
-use Rattle.sthread_life.specs.declared.phase.Phase.{Phase}
-use Rattle.sthread_life.specs.declared.phase.Phase.TheVariants as phase
-use Rattle.sthread_life.specs.Actors.{ActorState, root, right_of, bits_of, but_gates}
-use Rattle.run_laws.specs.Cells.{Cells}
-use Rattle.sthread_life.specs.Children.{is_child, with_child, without_child, child_name}
+use Rattle.machine.specs.declared.phase.Phase.{Phase}
+use Rattle.machine.specs.declared.phase.Phase.TheVariants as phase
+use Rattle.machine.specs.Actors.{ActorState, root, right_of, bits_of, but_gates}
+use Rattle.machine.specs.Cells.{Cells}
+use Rattle.machine.specs.Children.{is_child, with_child, without_child, child_name}
 use Rattle.run_laws.specs.Fuel.{is_unjoined, fuel_in, fuel_of, units_of, units_of_turn, TakesItsUnits}
 use Rattle.run_laws.specs.Laws.{NamesAreDistinct, FuelIsKept}
-use Rattle.sthread_life.specs.Local.{step, is_running, has_ended, end_reached, run_local, rest}
+use Rattle.machine.specs.Local.{step, is_running, has_ended, end_reached, run_local, rest}
 use Rattle.run_laws.specs.Moments.{EachTurn}
 use Rattle.run_laws.specs.Paying.{cost_at, cost_by, given_by, brought_by}
-use Rattle.sthread_life.specs.Take.{next_start, takes, actor_begun, child_of, run_by}
-use Rattle.run_laws.specs.Worlds.{WorldState, initial_state, actor_named, put_actor, with_begun, turn_of, Runs, ready, resumed}
+use Rattle.machine.specs.Take.{next_start, takes, actor_begun, child_of, run_by}
+use Rattle.machine.specs.Worlds.{WorldState, initial_state, actor_named, put_actor, with_begun, turn_of, Runs, ready, resumed}
 use Rattle.run_laws.proofs.Between.{event_for, IsJoin, joined_is, takes_name, takes_between, entered_by}
 use Rattle.run_laws.proofs.Families.{IsOfOne, takes_same, first_child}
 use Rattle.run_laws.specs.FamilyTrees.{IsOfTree, Family, WaitsForOwn}
@@ -38,10 +38,10 @@ use Rattle.run_laws.proofs.Happening.{Happens, Requested, Joined, Snaps, GateSna
 use Rattle.run_laws.proofs.Meeting.{IsRequest}
 use Rattle.run_laws.proofs.Named.{found_name, same_equal}
 use Rattle.run_laws.proofs.Paying.{step_pays, event_pays}
-use Rattle.sthread_life.proofs.Resting.{rests, rest-stays, rest-name, rest-ended, stays, goes_on}
+use Rattle.machine.proofs.Resting.{rests, rest-stays, rest-name, rest-ended, stays, goes_on}
 use Rattle.run_laws.proofs.Settling.{AllReady, turn_happens, turn_ready, opening_ready, turned_there}
 use Rattle.run_laws.proofs.Trees.{IsPut, put_same}
-use Rattle.sthread_life.specs.Between.{IsBetween}
+use Rattle.machine.specs.Between.{IsBetween}
 use Rattle.run_laws.proofs.Waits.{waits_none, leaves_awake}
 use Rattle.run_laws.proofs.Turns.{back, RunEnded, Readies, Stays, Back, readies, turn_from}
 

@@ -17,15 +17,15 @@ use Rattle.wedge_events.specs.declared.cells.DirectoryReply.TheVariants as direc
 use Rattle.wedge_events.specs.declared.cells.StreamAsk.{StreamAsk}
 use Rattle.wedge_events.specs.declared.cells.StreamAsk.TheVariants as stream_ask
 use Rattle.wedge_events.specs.declared.cells.StreamReply.TheVariants as stream_reply
-use Rattle.sthread_life.specs.declared.phase.Phase.TheVariants as phase
-use Rattle.sthread_life.specs.Actors.{ActorState, bits_of, refuses}
+use Rattle.machine.specs.declared.phase.Phase.TheVariants as phase
+use Rattle.machine.specs.Actors.{ActorState, bits_of, refuses}
 use Rattle.run_laws.specs.Ends.{end_of}
 use Rattle.run_laws.specs.FileCalls.{OpensAt, ClaimsNumber, OpensFile}
-use Rattle.sthread_life.specs.Local.{has_ended}
-use Rattle.sthread_life.specs.Opening.{FileOpening}
+use Rattle.machine.specs.Local.{has_ended}
+use Rattle.machine.specs.Opening.{FileOpening}
 use Rattle.run_laws.specs.Refusals.{full, RefusesNumber, RefusesOpening, is_refusal, refused}
-use Rattle.sthread_life.specs.Take.{has_number, takes}
-use Rattle.run_laws.specs.Worlds.{WorldState, put_actor, with_actor}
+use Rattle.machine.specs.Take.{has_number, takes}
+use Rattle.machine.specs.Worlds.{WorldState, put_actor, with_actor}
 use Rattle.run_laws.proofs.Between.{numbered_is, opened_is, opened_file, opened_at}
 use Rattle.run_laws.proofs.Bounding.{with_same}
 use Rattle.run_laws.proofs.Checking.{after, stayed}

@@ -18,20 +18,20 @@ use Rattle.wedge_events.specs.declared.events.Want.TheVariants as want
 use Rattle.wedge_events.specs.declared.events.Event.{Event}
 use Rattle.wedge_events.specs.declared.events.Turn.{Turn}
 use Rattle.callgate.specs.declared.gate.Gate.{Gate}
-use Rattle.sthread_life.specs.declared.copy_grant.CopyGrant.{CopyGrant}
-use Rattle.sthread_life.specs.Actors.{ActorState, slot_held}
-use Rattle.sthread_life.specs.Calls.{a0, draft_at}
-use Rattle.sthread_life.specs.Local.{is_running, has_ended, rest}
-use Rattle.sthread_life.specs.Preparation.{Preparation}
-use Rattle.sthread_life.specs.Take.{pair}
-use Rattle.run_laws.specs.Cells.{kept_in, slot_in}
+use Rattle.machine.specs.declared.copy_grant.CopyGrant.{CopyGrant}
+use Rattle.machine.specs.Actors.{ActorState, slot_held}
+use Rattle.machine.specs.Calls.{a0, draft_at}
+use Rattle.machine.specs.Local.{is_running, has_ended, rest}
+use Rattle.machine.specs.Preparation.{Preparation}
+use Rattle.machine.specs.Take.{pair}
+use Rattle.machine.specs.Cells.{kept_in, slot_in}
 use Rattle.run_laws.specs.CopiesGranted.{grants_copy}
 use Rattle.run_laws.specs.FittingAsks.{EventFits, TurnFits}
 use Rattle.run_laws.specs.Laws.{AsksFit}
 use Rattle.run_laws.specs.MemoryRanges.{GateHasRanges, HasRanges}
 use Rattle.run_laws.specs.Moments.{EachTurn}
 use Rattle.run_laws.specs.Occupancy.{slot_known}
-use Rattle.run_laws.specs.Worlds.{WorldState, initial_state, turn_of, Runs, ready, resumed}
+use Rattle.machine.specs.Worlds.{WorldState, initial_state, turn_of, Runs, ready, resumed}
 use Rattle.run_laws.proofs.Between.{event_for}
 use Rattle.run_laws.proofs.GrantedCopies.{HasGranted, AllKept, rested_granted, turn_kept, opening_kept}
 use Rattle.run_laws.proofs.GrantedPreparing.{AreAllGranted, IsGranted, child_grants}
@@ -44,7 +44,7 @@ use Rattle.run_laws.proofs.Settling.{AllReady, AreCells, turn_happens, turn_read
 use Rattle.run_laws.proofs.SlotsKnown.{rest_has}
 use Rattle.run_laws.proofs.TagSlots.{made_slot, used_slot}
 use Rattle.run_laws.proofs.Turns.{ready_is, ready_ended, turn_from}
-use Rattle.sthread_life.proofs.Resting.{rests, rest-stays, rest-ended}
+use Rattle.machine.proofs.Resting.{rests, rest-stays, rest-ended}
 
 -- the pair of an actor names what lives there
 pub pair_names : (s : Option Segment) (a : ActorState) → IsPair s (pair a (option_map (λ (g : Segment). g.tag) s))

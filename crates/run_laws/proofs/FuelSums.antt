@@ -2,16 +2,16 @@
 use Rattle.std.proofs.Common.{◌≡◌, ℕ, ◌+◌, Bool, true, false, List, [], ◌∷◌, ◌++◌, refl, ap, subst, ◌∙◌, arith}
 use Rattle.std.specs.Prelude.{Some, is_some, ◌||◌, if◌then◌else◌}
 use Rattle.wedge_base.specs.Names.{same, root_name}
-use Rattle.sthread_life.specs.Actors.{ActorState}
-use Rattle.sthread_life.specs.Children.{is_child, child_name}
+use Rattle.machine.specs.Actors.{ActorState}
+use Rattle.machine.specs.Children.{is_child, child_name}
 use Rattle.run_laws.specs.Fuel.{has_child, is_unjoined, number_in, starter_of, fuel_where, fuel_in}
 use Rattle.run_laws.specs.Names.{IsNew, AreDistinct}
-use Rattle.sthread_life.specs.Local.{has_ended}
-use Rattle.run_laws.specs.Worlds.{actor_named, put_actor}
+use Rattle.machine.specs.Local.{has_ended}
+use Rattle.machine.specs.Worlds.{actor_named, put_actor}
 use Rattle.run_laws.proofs.Distinct.{put_distinct}
 use Rattle.run_laws.specs.FamilyTrees.{Family}
 use Rattle.run_laws.proofs.FamilyKept.{unjoined_put, unjoined_behind, child_not_root, JoinsChild, joined_others, StartsChild, started_others, started_new, started_unjoined}
-use Rattle.sthread_life.proofs.FuelGiven.{given_gone}
+use Rattle.machine.proofs.FuelGiven.{given_gone}
 use Rattle.run_laws.proofs.Named.{same_equal}
 use Rattle.run_laws.proofs.Trees.{starter-child, number-child, child_apart, IsPut, found_put, found_else, none_new}
 

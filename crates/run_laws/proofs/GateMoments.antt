@@ -30,29 +30,29 @@ use Rattle.rv_hart.specs.declared.Hart.{Hart}
 use Rattle.rv_hart.specs.declared.Need.{Need}
 use Rattle.rv_hart.specs.declared.Need.TheVariants as need
 use Rattle.rv_hart.specs.Local.{local, HasWidth}
-use Rattle.sthread_life.specs.declared.copy_grant.CopyGrant.{CopyGrant}
-use Rattle.sthread_life.specs.declared.phase.Phase.{Phase}
-use Rattle.sthread_life.specs.declared.phase.Phase.TheVariants as phase
-use Rattle.sthread_life.specs.Actors.{ActorState, pristine, refuses}
+use Rattle.machine.specs.declared.copy_grant.CopyGrant.{CopyGrant}
+use Rattle.machine.specs.declared.phase.Phase.{Phase}
+use Rattle.machine.specs.declared.phase.Phase.TheVariants as phase
+use Rattle.machine.specs.Actors.{ActorState, pristine, refuses}
 use Rattle.run_laws.specs.Allowed.{lacks, HasBegunGate}
-use Rattle.sthread_life.specs.Calls.{a0, a1, a4, a7, is_procedure, draft_at, new_gate, makes_or_waits, continue_gate, make_checked, make_with, serves}
-use Rattle.run_laws.specs.Cells.{Cells, slot_in}
+use Rattle.machine.specs.Calls.{a0, a1, a4, a7, is_procedure, draft_at, new_gate, makes_or_waits, continue_gate, make_checked, make_with, serves}
+use Rattle.machine.specs.Cells.{Cells, slot_in}
 use Rattle.run_laws.specs.ChildCopies.{IsPrepared, pages_living, snap_reply}
-use Rattle.sthread_life.specs.Children.{without_child}
-use Rattle.sthread_life.specs.CopyGrant.{copy_grants}
-use Rattle.sthread_life.specs.Preparation.{Preparation, copied_from, prepare_copies, behind_first}
-use Rattle.sthread_life.specs.Resting.{NotMaking}
+use Rattle.machine.specs.Children.{without_child}
+use Rattle.machine.specs.CopyGrant.{copy_grants}
+use Rattle.machine.specs.Preparation.{Preparation, copied_from, prepare_copies, behind_first}
+use Rattle.machine.specs.Resting.{NotMaking}
 use Rattle.run_laws.specs.GateCalls.{KeepsGates, MakesWith, PreparesGate, BeginsUnless, GatesByRequest, InstrMakesGates, SnapsForGate, EventMakesGates}
-use Rattle.sthread_life.specs.Local.{step_with_need, step_with_instr, step_with_fuel, step_with_word, step}
+use Rattle.machine.specs.Local.{step_with_need, step_with_instr, step_with_fuel, step_with_word, step}
 use Rattle.run_laws.specs.Requests.{Request, Loads, Stores, Reads, Appends, Closes, Opens, Creates, Makes, Deletes, Allots, Frees, make_of, call_request, needed_request, instr_request, word_request, Enters}
-use Rattle.sthread_life.specs.Take.{runs, loads_by, loads_at, has_snapped, copied_on, takes}
-use Rattle.run_laws.specs.Worlds.{WorldState, with_actor}
+use Rattle.machine.specs.Take.{runs, loads_by, loads_at, has_snapped, copied_on, takes}
+use Rattle.machine.specs.Worlds.{WorldState, with_actor}
 use Rattle.run_laws.proofs.Between.{IsMaking, joined_is, numbered_is, opened_is, entered_is}
 use Rattle.run_laws.proofs.Happening.{Happens, AtGateSnap, Requested, Joined, Snaps, GateSnaps, Started, Opens as OpensTag, Releases, Numbers, OpensFile, LastJoined, Ended, EntersGate, LeavesGate, EntersRecycled, LeavesRecycled}
 use Rattle.run_laws.proofs.MakingGates.{MayGrant, was_making, longer}
 use Rattle.run_laws.proofs.Meeting.{stuck, suits_so, gate_of_draft, unset, needed_comes, needs_width}
 use Rattle.run_laws.proofs.Preparing.{copies_are, prepared_so}
-use Rattle.sthread_life.proofs.Resting.{Goes, Things, need_makes, goes_needed}
+use Rattle.machine.proofs.Resting.{Goes, Things, need_makes, goes_needed}
 
 -- a gate is made, or waits for copies, with the memory that is prepared
 prepares_gate : (a : ActorState) (d : Draft) (m : PrivateMemory) (gs : List CopyGrant) (p : Preparation) → IsPrepared a m gs p → slice_get a.drafts (a0 a) ≡ Some d → MayGrant a → PreparesGate a d m gs (continue_gate a d p)

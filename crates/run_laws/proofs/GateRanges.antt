@@ -10,25 +10,25 @@ use Rattle.wedge_base.specs.Images.{Image}
 use Rattle.wedge_base.specs.Sheets.{Sheet, Made, Draft, right_on}
 use Rattle.wedge_base.specs.declared.rights.Denial.{Denial}
 use Rattle.wedge_events.specs.declared.events.Event.{Event}
-use Rattle.sthread_life.specs.declared.copy_grant.CopyGrant.{CopyGrant}
-use Rattle.sthread_life.specs.declared.phase.Phase.{Phase}
-use Rattle.sthread_life.specs.declared.phase.Phase.TheVariants as phase
-use Rattle.sthread_life.specs.Actors.{ActorState}
-use Rattle.sthread_life.specs.CopyGrant.{is_copy_alone}
-use Rattle.sthread_life.specs.Local.{is_running, step, run_local, rest}
-use Rattle.sthread_life.specs.Preparation.{Preparation, copied_from, prepare_copies}
-use Rattle.sthread_life.specs.Resting.{NotMaking}
-use Rattle.sthread_life.specs.Take.{takes}
+use Rattle.machine.specs.declared.copy_grant.CopyGrant.{CopyGrant}
+use Rattle.machine.specs.declared.phase.Phase.{Phase}
+use Rattle.machine.specs.declared.phase.Phase.TheVariants as phase
+use Rattle.machine.specs.Actors.{ActorState}
+use Rattle.machine.specs.CopyGrant.{is_copy_alone}
+use Rattle.machine.specs.Local.{is_running, step, run_local, rest}
+use Rattle.machine.specs.Preparation.{Preparation, copied_from, prepare_copies}
+use Rattle.machine.specs.Resting.{NotMaking}
+use Rattle.machine.specs.Take.{takes}
 use Rattle.run_laws.specs.Allowed.{lacks}
-use Rattle.run_laws.specs.Cells.{slot_in}
+use Rattle.machine.specs.Cells.{slot_in}
 use Rattle.run_laws.specs.ChildCopies.{memory_of_image, pages_living}
 use Rattle.run_laws.specs.GateCalls.{KeepsGates, MakesWith, PreparesGate, BeginsUnless, GatesByRequest, InstrMakesGates, SnapsForGate, EventMakesGates}
 use Rattle.run_laws.specs.MemoryRanges.{extent, HasImagesRanges, GateHasRanges}
 use Rattle.run_laws.specs.Requests.{Request, Loads, Stores, Reads, Appends, Closes, Opens, Creates, Makes, Enters, Deletes, Allots, Frees, request_at}
-use Rattle.run_laws.specs.Worlds.{WorldState, initial_state, with_actor}
+use Rattle.machine.specs.Worlds.{WorldState, initial_state, with_actor}
 use Rattle.run_laws.proofs.GateMoments.{step_makes_gates, event_makes_gates}
 use Rattle.run_laws.proofs.Happening.{Happens}
-use Rattle.sthread_life.proofs.Resting.{running_is, stays, goes_on}
+use Rattle.machine.proofs.Resting.{running_is, stays, goes_on}
 
 -- ---- copies that are made leave the ranges where they are
 

@@ -8,15 +8,15 @@ use Rattle.wedge_events.specs.declared.events.Event.{Event}
 use Rattle.wedge_base.specs.declared.grants.GateId.{GateId}
 use Rattle.callgate.specs.Gate.{gate_named}
 use Rattle.callgate.specs.declared.gate.Gate.{Gate}
-use Rattle.sthread_life.specs.Actors.{ActorState, gate_held}
-use Rattle.sthread_life.specs.Children.{child_name}
+use Rattle.machine.specs.Actors.{ActorState, gate_held}
+use Rattle.machine.specs.Children.{child_name}
 use Rattle.cow_pages.specs.PrivateMemory.{PrivateMemory}
-use Rattle.sthread_life.specs.Entrance.{Entrance}
+use Rattle.machine.specs.Entrance.{Entrance}
 use Rattle.run_laws.specs.Families.{made_by}
 use Rattle.run_laws.specs.Paying.{cost_by}
-use Rattle.sthread_life.specs.Take.{next_start, takes, actor_begun, run_by, run_at, has_entered}
-use Rattle.run_laws.specs.Worlds.{WorldState, put_actor, with_begun}
-use Rattle.sthread_life.specs.declared.phase.Phase.TheVariants as phase
+use Rattle.machine.specs.Take.{next_start, takes, actor_begun, run_by, run_at, has_entered}
+use Rattle.machine.specs.Worlds.{WorldState, put_actor, with_begun}
+use Rattle.machine.specs.declared.phase.Phase.TheVariants as phase
 use Rattle.run_laws.proofs.Between.{entered_by}
 use Rattle.run_laws.proofs.EnteringGates.{IsEnterable}
 use Rattle.run_laws.proofs.Happening.{AtEnter, AtRecycledEnter, memory_for}

@@ -14,18 +14,18 @@ use Rattle.wedge_events.specs.declared.events.Event.TheVariants as event
 use Rattle.wedge_events.specs.declared.events.Turn.{Turn}
 use Rattle.callgate.specs.Gate.{gate_named}
 use Rattle.callgate.specs.declared.gate.Gate.{Gate}
-use Rattle.sthread_life.specs.Actors.{ActorState, root}
-use Rattle.sthread_life.specs.Calls.{a0}
-use Rattle.sthread_life.specs.Children.{child_name}
+use Rattle.machine.specs.Actors.{ActorState, root}
+use Rattle.machine.specs.Calls.{a0}
+use Rattle.machine.specs.Children.{child_name}
 use Rattle.run_laws.specs.FamilyTrees.{Family, IsOfTree}
 use Rattle.run_laws.specs.GatesWithin.{is_under, before, IsOlder, MayBeHeld}
 use Rattle.run_laws.specs.KnownGates.{AreAmong, AreInOrder}
 use Rattle.run_laws.specs.Laws.{NoneRunsWithin, GatesHeldAreOlder}
-use Rattle.sthread_life.specs.Entering.{sheet_lent}
+use Rattle.machine.specs.Entering.{sheet_lent}
 use Rattle.run_laws.specs.Holding.{gate_for}
-use Rattle.sthread_life.specs.Local.{is_running, step, run_local, rest}
-use Rattle.sthread_life.specs.Take.{next_start, takes, actor_begun, child_of, run_by}
-use Rattle.run_laws.specs.Worlds.{WorldState, initial_state, actor_named, put_actor, with_begun, turn_of, ready, resumed, at_rest, Runs, with_actor}
+use Rattle.machine.specs.Local.{is_running, step, run_local, rest}
+use Rattle.machine.specs.Take.{next_start, takes, actor_begun, child_of, run_by}
+use Rattle.machine.specs.Worlds.{WorldState, initial_state, actor_named, put_actor, with_begun, turn_of, ready, resumed, at_rest, Runs, with_actor}
 use Rattle.run_laws.proofs.Between.{takes_name}
 use Rattle.run_laws.proofs.Bounding.{with_same, with_other}
 use Rattle.run_laws.proofs.Families.{takes_sheet, child_begins}
@@ -36,7 +36,7 @@ use Rattle.run_laws.proofs.GateRuns.{held_is}
 use Rattle.run_laws.proofs.KnownGates.{named_still, named_or_last, order_known, Grows, Keeps, Adds, step_grows, by_phase, AreHeld, rest_held, resumed_held, turn_held, opening_held}
 use Rattle.run_laws.proofs.Named.{found_name, put_put}
 use Rattle.run_laws.proofs.RecycledRuns.{named_id, entered_known, takes_run_of}
-use Rattle.sthread_life.proofs.Resting.{steps_step, stays, goes_on, rest-name}
+use Rattle.machine.proofs.Resting.{steps_step, stays, goes_on, rest-name}
 use Rattle.run_laws.proofs.Settling.{AllReady, turn_happens, turn_ready, opening_ready, turned_there}
 use Rattle.run_laws.proofs.Trees.{IsPut, IsDoer, IsOther, find_put, found_put, found_or_last}
 use Rattle.run_laws.proofs.Turns.{ready_is, ready_name, ready_sheet, turn_from}

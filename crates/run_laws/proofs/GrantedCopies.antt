@@ -35,34 +35,34 @@ use Rattle.rv_isa.specs.Table.{decode}
 use Rattle.rv_hart.specs.declared.Need.{Need}
 use Rattle.rv_hart.specs.declared.Need.TheVariants as need
 use Rattle.rv_hart.specs.Local.{local}
-use Rattle.sthread_life.specs.declared.copy_grant.CopyGrant.{CopyGrant}
-use Rattle.sthread_life.specs.declared.phase.Phase.TheVariants as phase
-use Rattle.sthread_life.specs.Actors.{ActorState, pristine, root}
-use Rattle.sthread_life.specs.Calls.{a0}
-use Rattle.run_laws.specs.Cells.{slot_in, kept_in}
-use Rattle.sthread_life.specs.Children.{child_name}
+use Rattle.machine.specs.declared.copy_grant.CopyGrant.{CopyGrant}
+use Rattle.machine.specs.declared.phase.Phase.TheVariants as phase
+use Rattle.machine.specs.Actors.{ActorState, pristine, root}
+use Rattle.machine.specs.Calls.{a0}
+use Rattle.machine.specs.Cells.{slot_in, kept_in}
+use Rattle.machine.specs.Children.{child_name}
 use Rattle.run_laws.specs.CopiesGranted.{grants_copy, AreGranted, AreOwnCopiesGranted, AreGateCopiesGranted}
-use Rattle.sthread_life.specs.CopyGrant.{is_copy_alone}
-use Rattle.sthread_life.specs.Preparation.{Preparation, with_declared, copied_from, prepare_copies, behind_first}
+use Rattle.machine.specs.CopyGrant.{is_copy_alone}
+use Rattle.machine.specs.Preparation.{Preparation, with_declared, copied_from, prepare_copies, behind_first}
 use Rattle.run_laws.specs.FamilyTrees.{Family}
 use Rattle.run_laws.specs.Laws.{CopiesAreGranted, RunsAreAlone}
 use Rattle.run_laws.specs.RecycledGates.{AreRunsAlone}
 use Rattle.run_laws.proofs.RecycledRuns.{entered_known, turn_alone, resumed_alone, rested_alone, opening_alone}
 use Rattle.run_laws.proofs.FamilyRuns.{turn_family, opening_family}
 use Rattle.run_laws.proofs.KnownGates.{AreHeld, rest_held, resumed_held, turn_held, opening_held, one_gate}
-use Rattle.sthread_life.specs.Local.{is_running, step, run_local, rest}
+use Rattle.machine.specs.Local.{is_running, step, run_local, rest}
 use Rattle.run_laws.specs.Remembering.{copied_bytes, Elsewhere, copy_target, target_among, LoadGives, StoreWrites, NeedRemembers, InstrRemembers, WordRemembers, memory_in, memory_after}
-use Rattle.sthread_life.specs.Entering.{sheet_lent}
-use Rattle.sthread_life.specs.Take.{copies_asked, has_snapped, next_start, takes, memory_made, child_of, run_by, actor_begun}
-use Rattle.run_laws.specs.Worlds.{WorldState, initial_state, actor_named, put_actor, with_begun, turn_of, ready, resumed, Runs}
+use Rattle.machine.specs.Entering.{sheet_lent}
+use Rattle.machine.specs.Take.{copies_asked, has_snapped, next_start, takes, memory_made, child_of, run_by, actor_begun}
+use Rattle.machine.specs.Worlds.{WorldState, initial_state, actor_named, put_actor, with_begun, turn_of, ready, resumed, Runs}
 use Rattle.run_laws.proofs.Between.{IsPreparing, takes_name}
-use Rattle.sthread_life.proofs.ByNumber.{same_number, number_itself}
+use Rattle.machine.proofs.ByNumber.{same_number, number_itself}
 use Rattle.run_laws.proofs.Families.{takes_sheet}
 use Rattle.run_laws.proofs.FamilyRuns.{Acts, ActsAlone, Starts, Enters, Joins, acts, one_begins}
 use Rattle.run_laws.proofs.Happening.{Happens, snap_cases, Requested, Joined, Snaps, GateSnaps, Started, Opens, Releases, Numbers, OpensFile, LastJoined, Ended, EntersGate, LeavesGate, EntersRecycled, LeavesRecycled, memory_for}
 use Rattle.run_laws.proofs.Keeping.{step_remembers, event_copies}
 use Rattle.run_laws.proofs.Preparing.{was_preparing}
-use Rattle.sthread_life.proofs.Resting.{IsCalm, steps_step, rests, stays, goes_on, rest-stays, rest-name}
+use Rattle.machine.proofs.Resting.{IsCalm, steps_step, rests, stays, goes_on, rest-stays, rest-name}
 use Rattle.run_laws.proofs.Settling.{AllReady, turn_happens, turn_ready, opening_ready, turned_there}
 use Rattle.run_laws.proofs.Trees.{IsPut, IsDoer, IsOther, FoundPut, find_put, found_or_last, found_put}
 use Rattle.run_laws.proofs.GrantedPreparing.{or_true, copied_granted, without_granted, AreAllGranted, IsGranted, grants_granted, prepared_granted, child_grants}
@@ -178,8 +178,8 @@ rest_granted i a true e h =
 slot_granted : (gs : Map Grant) (m : PrivateMemory) (slot : ℕ) (r : SlotReply) (q : SlotAsk) → AreGranted gs m.copies → AreGranted gs (memory_in m slot r q).copies
 slot_granted gs m slot slot_reply.Opened (slot_ask.Open tag pages) all = without_granted gs m.copies slot all
 slot_granted gs m slot slot_reply.Opened (slot_ask.Close tag) all = all
-slot_granted gs m slot slot_reply.Opened (slot_ask.Load offset width live) all = all
-slot_granted gs m slot slot_reply.Opened (slot_ask.Store offset width value live) all = all
+slot_granted gs m slot slot_reply.Opened (slot_ask.Load width offset live) all = all
+slot_granted gs m slot slot_reply.Opened (slot_ask.Store width offset value live) all = all
 slot_granted gs m slot slot_reply.Opened (slot_ask.Smalloc tag size) all = all
 slot_granted gs m slot slot_reply.Opened (slot_ask.Sfree offset live) all = all
 slot_granted gs m slot slot_reply.Opened (slot_ask.Snap tag) all = all

@@ -9,32 +9,32 @@ use Rattle.wedge_base.specs.declared.rights.Denial.{Denial}
 use Rattle.cow_pages.specs.Listed.{bytes_listed}
 use Rattle.std.specs.Prelude.{◌++◌, unwrap_or, slice_get, option_map}
 use Rattle.std.specs.Prelude.{Option, Some, None}
-use Rattle.sthread_life.specs.declared.phase.Phase.TheVariants as phase
-use Rattle.sthread_life.specs.Preparation.{Preparation, copied_from}
+use Rattle.machine.specs.declared.phase.Phase.TheVariants as phase
+use Rattle.machine.specs.Preparation.{Preparation, copied_from}
 use Rattle.callgate.specs.declared.gate.Gate.{Gate}
 use Rattle.run_laws.specs.CopiesGranted.{AreGranted}
-use Rattle.sthread_life.proofs.Resting.{running_is}
+use Rattle.machine.proofs.Resting.{running_is}
 use Rattle.cow_pages.specs.PrivateMemory.{PrivateMemory}
 use Rattle.run_laws.proofs.Happening.{Happens}
-use Rattle.sthread_life.specs.Calls.{a0, draft_at}
-use Rattle.sthread_life.specs.Take.{takes}
+use Rattle.machine.specs.Calls.{a0, draft_at}
+use Rattle.machine.specs.Take.{takes}
 use Rattle.wedge_base.specs.Images.{Image}
-use Rattle.run_laws.specs.Worlds.{WorldState, initial_state, with_actor}
+use Rattle.machine.specs.Worlds.{WorldState, initial_state, with_actor}
 use Rattle.wedge_events.specs.declared.events.Event.{Event}
-use Rattle.run_laws.specs.Cells.{slot_in}
-use Rattle.sthread_life.specs.Actors.{ActorState, pristine}
-use Rattle.sthread_life.proofs.Resting.{stays, goes_on}
+use Rattle.machine.specs.Cells.{slot_in}
+use Rattle.machine.specs.Actors.{ActorState, pristine}
+use Rattle.machine.proofs.Resting.{stays, goes_on}
 use Rattle.std.specs.List.{AllByRecursion}
-use Rattle.sthread_life.specs.Resting.{NotMaking}
+use Rattle.machine.specs.Resting.{NotMaking}
 use Rattle.run_laws.specs.GateCalls.{KeepsGates, MakesWith, PreparesGate, BeginsUnless, GatesByRequest, InstrMakesGates, SnapsForGate, EventMakesGates}
-use Rattle.sthread_life.specs.Local.{is_running, step, run_local, rest}
+use Rattle.machine.specs.Local.{is_running, step, run_local, rest}
 use Rattle.wedge_base.specs.Sheets.{Sheet, sheet_of_draft}
 use Rattle.run_laws.specs.Requests.{Request, Loads, Stores, Reads, Appends, Closes, Opens, Creates, Makes, Enters, Deletes, Allots, Frees, request_at}
-use Rattle.sthread_life.specs.declared.phase.Phase.{Phase}
+use Rattle.machine.specs.declared.phase.Phase.{Phase}
 use Rattle.run_laws.specs.CopiesGranted.{AreGateCopiesGranted}
 use Rattle.run_laws.proofs.GrantedPreparing.{copied_granted, AreAllGranted, IsGranted, grants_granted, so_prepared, child_grants}
 use Rattle.run_laws.proofs.Happening.{happens_making}
-use Rattle.sthread_life.specs.declared.copy_grant.CopyGrant.{CopyGrant}
+use Rattle.machine.specs.declared.copy_grant.CopyGrant.{CopyGrant}
 use Rattle.run_laws.specs.Allowed.{lacks}
 
 abbrev pub AreGatesGranted : List Gate → Type 0

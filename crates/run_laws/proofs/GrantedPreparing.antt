@@ -3,22 +3,22 @@ use Rattle.std.proofs.Common.{◌≡◌, ℕ, Bool, true, false, List, [], ◌�
 use Rattle.std.specs.Prelude.{◌++◌}
 use Rattle.std.specs.Prelude.{Option, Some, None, is_some, ◌&&◌, ◌||◌, ◌==◌, if◌then◌else◌}
 use Rattle.std.specs.Option.{option_or}
-use Rattle.sthread_life.specs.CopyGrant.{copy_grants, is_copy_alone}
-use Rattle.sthread_life.specs.Preparation.{Preparation, copied_from, prepare_copies}
+use Rattle.machine.specs.CopyGrant.{copy_grants, is_copy_alone}
+use Rattle.machine.specs.Preparation.{Preparation, copied_from, prepare_copies}
 use Rattle.cow_pages.specs.Copies.{Copies, is_slot, copy_at, without_copy}
 use Rattle.run_laws.specs.CopiesGranted.{grants_copy, AreGranted}
 use Rattle.cow_pages.specs.PrivateMemory.{PrivateMemory}
-use Rattle.sthread_life.specs.Calls.{a0, draft_at}
-use Rattle.sthread_life.specs.Actors.{ActorState}
+use Rattle.machine.specs.Calls.{a0, draft_at}
+use Rattle.machine.specs.Actors.{ActorState}
 use Rattle.wedge_base.specs.declared.rights.Grant.{Grant}
 use Rattle.run_laws.specs.ChildCopies.{IsPrepared, own_at}
 use Rattle.std.specs.List.{AllByRecursion}
-use Rattle.sthread_life.proofs.ByNumber.{same_number, number_itself, found_with, found_elsewhere, found_gone}
+use Rattle.machine.proofs.ByNumber.{same_number, number_itself, found_with, found_elsewhere, found_gone}
 use Rattle.wedge_base.specs.Sheets.{Sheet, Made, sheet_of_draft, right_on, is_copy}
 use Rattle.wedge_base.specs.Maps.{Map}
 use Rattle.std.proofs.lemmas.Bool.{eq-eqb}
 use Rattle.std.proofs.lemmas.Bool.{eqb-true}
-use Rattle.sthread_life.specs.declared.copy_grant.CopyGrant.{CopyGrant}
+use Rattle.machine.specs.declared.copy_grant.CopyGrant.{CopyGrant}
 
 -- ---- copies that are put, and taken out
 

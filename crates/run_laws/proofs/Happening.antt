@@ -23,31 +23,31 @@ use Rattle.wedge_events.specs.declared.events.Event.{Event}
 use Rattle.wedge_events.specs.declared.events.Event.TheVariants as event
 use Rattle.wedge_events.specs.declared.cells.LivesAsk.TheVariants as lives_ask
 use Rattle.wedge_events.specs.declared.cells.LivesReply.TheVariants as lives_reply
-use Rattle.sthread_life.specs.declared.phase.Phase.{Phase}
-use Rattle.sthread_life.specs.declared.phase.Phase.TheVariants as phase
-use Rattle.sthread_life.specs.Actors.{ActorState}
-use Rattle.sthread_life.specs.Between.{IsBetween, GivesBelow}
-use Rattle.sthread_life.specs.Calls.{a0, a1, draft_at}
-use Rattle.run_laws.specs.Cells.{Cells, slot_in, stream_in, kept_in}
-use Rattle.sthread_life.specs.Children.{Children, is_child, without_child, child_name}
+use Rattle.machine.specs.declared.phase.Phase.{Phase}
+use Rattle.machine.specs.declared.phase.Phase.TheVariants as phase
+use Rattle.machine.specs.Actors.{ActorState}
+use Rattle.machine.specs.Between.{IsBetween, GivesBelow}
+use Rattle.machine.specs.Calls.{a0, a1, draft_at}
+use Rattle.machine.specs.Cells.{Cells, slot_in, stream_in, kept_in}
+use Rattle.machine.specs.Children.{Children, is_child, without_child, child_name}
 use Rattle.run_laws.specs.Refusals.{refusal_after}
 use Rattle.run_laws.specs.Requests.{request_at}
-use Rattle.sthread_life.specs.Preparation.{Preparation}
-use Rattle.sthread_life.specs.Opening.{FileOpening}
+use Rattle.machine.specs.Preparation.{Preparation}
+use Rattle.machine.specs.Opening.{FileOpening}
 use Rattle.wedge_events.specs.Streams.{Stream, stream_reply as stream_reply_of}
 use Rattle.wedge_events.specs.declared.cells.StreamAsk.TheVariants as stream_ask
 use Rattle.wedge_events.specs.declared.cells.StreamReply.TheVariants as stream_reply
 use Rattle.wedge_base.specs.declared.rights.StreamKind.{StreamKind}
-use Rattle.sthread_life.specs.declared.copy_grant.CopyGrant.{CopyGrant}
+use Rattle.machine.specs.declared.copy_grant.CopyGrant.{CopyGrant}
 use Rattle.cow_pages.specs.Listed.{bytes_listed}
-use Rattle.sthread_life.specs.Take.{next_start, starting_want, ending_want, entering_want, leaving_want, current_want, wanted_at, has_snapped, opening_want, answered_end, takes, making_want, copied_on}
-use Rattle.run_laws.specs.Worlds.{WorldState, event_at}
+use Rattle.machine.specs.Take.{next_start, starting_want, ending_want, entering_want, leaving_want, current_want, wanted_at, has_number, has_snapped, opening_want, answered_end, takes, making_want, copied_on}
+use Rattle.machine.specs.Worlds.{WorldState, event_at}
 use Rattle.run_laws.proofs.Between.{event_for, IsJoin, ComesOf, comes_of, Leaves, IsPreparing, MayPrepare, MayNumber, numbered_is, takes_between, IsMaking, made_is, entered_is, waiting_is, MayWait}
 use Rattle.run_laws.proofs.Directing.{claimed_inside}
-use Rattle.run_laws.proofs.Meeting.{request_for, refusal_for, slots_in, fds_in, NumberIn, AsksForPages, IsRequest, IsWanted, IsInCell, IsStartable, startable_at, ReadsAs, LoadsAt}
+use Rattle.run_laws.proofs.Meeting.{IsOpening, request_for, refusal_for, slots_in, fds_in, NumberIn, AsksForPages, IsRequest, IsWanted, IsInCell, IsStartable, startable_at, ReadsAs, LoadsAt}
 use Rattle.run_laws.proofs.MakingGates.{IsMakeable, takes_granting}
 use Rattle.run_laws.proofs.EnteringGates.{IsEnterable}
-use Rattle.sthread_life.specs.Entrance.{Entrance}
+use Rattle.machine.specs.Entrance.{Entrance}
 use Rattle.callgate.specs.declared.gate.Gate.{Gate}
 
 -- the event of a request
@@ -120,6 +120,7 @@ pub record AtNumber (w : WorldState) (b : ActorState) (e : Event) : Type 0 where
   pub opening : FileOpening
   pub at : b.phase ≡ phase.OpeningFile opening
   pub none : opening.number ≡ None
+  pub opens : IsOpening b (λ c. request_at w.image c b) opening
   pub paid : a1 b ≤ b.fuel
   pub is : e ≡ event.Fds directory_ask.Claim (directory_reply_of w.cells.numbers directory_ask.Claim)
 
@@ -129,6 +130,7 @@ pub record AtFile (w : WorldState) (b : ActorState) (e : Event) : Type 0 where
   pub fd : ℕ
   pub at : b.phase ≡ phase.OpeningFile opening
   pub some : opening.number ≡ Some fd
+  pub opens : IsOpening b (λ c. request_at w.image c b) opening
   pub inside : fd < fds_in w.image
   pub paid : a1 b ≤ b.fuel
   pub is : e ≡ event.Fd fd (stream_ask.Open opening.kind opening.bytes) stream_reply.Opened
@@ -278,11 +280,11 @@ module _ (w : WorldState) (b : ActorState) (e : Event) where
       let same : want.Slot g.slot (slot_want.Snap g.tag) ≡ q = cc in
       GateSnaps (record { preparation = pre; grant = g; others = gs; at = at; left = left; granting = granting; is = subst (λ y. ComesOf w b y e) (sym same) comes })
 
-  opening_at : (o : FileOpening) (n : Option ℕ) (q : Want) → b.phase ≡ phase.OpeningFile o → o.number ≡ n → opening_want o n ≡ q → (a1 b ≤ b.fuel) × NumberIn w.image n → ComesOf w b q e → Happens w b e
-  opening_at o None q at none is reads comes = Numbers (record { opening = o; at = at; none = none; paid = reads.0; is = subst (λ y. ComesOf w b y e) (sym is) comes })
+  opening_at : (o : FileOpening) (n : Option ℕ) (q : Want) → b.phase ≡ phase.OpeningFile o → o.number ≡ n → opening_want o n ≡ q → (a1 b ≤ b.fuel) × NumberIn w.image n × IsOpening b (λ c. request_at w.image c b) o → ComesOf w b q e → Happens w b e
+  opening_at o None q at none is reads comes = Numbers (record { opening = o; at = at; none = none; opens = reads.2; paid = reads.0; is = subst (λ y. ComesOf w b y e) (sym is) comes })
   opening_at o (Some fd) q at some is reads comes =
       let same : e ≡ event_for w.cells b (want.Fd fd (stream_ask.Open o.kind o.bytes)) = subst (λ y. ComesOf w b y e) (sym is) comes in
-      OpensFile (record { opening = o; fd = fd; at = at; some = some; inside = reads.1; paid = reads.0; is = same ∙ ap (event.Fd fd (stream_ask.Open o.kind o.bytes)) (stream_opens (stream_in w.cells fd) o.kind o.bytes) })
+      OpensFile (record { opening = o; fd = fd; at = at; some = some; opens = reads.2; inside = reads.1; paid = reads.0; is = same ∙ ap (event.Fd fd (stream_ask.Open o.kind o.bytes)) (stream_opens (stream_in w.cells fd) o.kind o.bytes) })
 
   by_phase : (p : Phase) (q : Want) → b.phase ≡ p → ReadsAs w.image b p → wanted_at b p ≡ Some q → ComesOf w b q e → Happens w b e
   by_phase phase.Running q at reads wants comes = absurd cc
@@ -350,7 +352,7 @@ may_prepare (phase.OpeningFile o) h = absurd h
 may_prepare (phase.Ending e) h = absurd h
 may_prepare (phase.Ended e) h = absurd h
 
-numbered_reads : (i : Image) (x : ActorState) (fd : ℕ) (p : Phase) → MayNumber fd p → (a1 x ≤ x.fuel) × (fd < fds_in i) → ReadsAs i x p
+numbered_reads : (i : Image) (x : ActorState) (fd : ℕ) (p : Phase) → MayNumber fd p → (a1 x ≤ x.fuel) × (fd < fds_in i) × ((o : FileOpening) → p ≡ phase.OpeningFile o → IsOpening x (λ c. request_at i c x) o) → ReadsAs i x p
 numbered_reads i x fd phase.Running h paid = tt
 numbered_reads i x fd (phase.Within q) h paid = absurd h
 numbered_reads i x fd (phase.Starting pre) h paid = absurd h
@@ -359,7 +361,7 @@ numbered_reads i x fd (phase.Opening slot tag) h paid = absurd h
 numbered_reads i x fd (phase.Releasing slot) h paid = absurd h
 numbered_reads i x fd (phase.Entering entrance) h paid = absurd h
 numbered_reads i x fd (phase.Waiting number) h paid = absurd h
-numbered_reads i x fd (phase.OpeningFile o) h paid = (paid.0, subst (NumberIn i) (sym h) paid.1)
+numbered_reads i x fd (phase.OpeningFile o) h paid = (paid.0, subst (NumberIn i) (sym h) paid.1, paid.2 o refl)
 numbered_reads i x fd (phase.Ending e) h paid = absurd h
 numbered_reads i x fd (phase.Ended e) h paid = absurd h
 
@@ -368,7 +370,7 @@ numbered_reads i x fd (phase.Ended e) h paid = absurd h
 -- claimed a slot may open a tag there, and one that claimed a number may open the stream of its file
 leaves_reads : (i : Image) (x : ActorState) (e : Event) (p : Phase) → Leaves e p → (IsPreparing p → IsStartable x) → ((y : Preparation) → p ≡ phase.MakingGate y → IsMakeable x y)
     → ((slot tag : ℕ) → e ≡ event.Slots directory_ask.Claim (directory_reply.Claimed slot tag) → (slot < slots_in i) × AsksForPages x)
-    → ((fd number : ℕ) → e ≡ event.Fds directory_ask.Claim (directory_reply.Claimed fd number) → (a1 x ≤ x.fuel) × (fd < fds_in i)) → ReadsAs i x p
+    → ((fd number : ℕ) → e ≡ event.Fds directory_ask.Claim (directory_reply.Claimed fd number) → (a1 x ≤ x.fuel) × (fd < fds_in i) × ((o : FileOpening) → p ≡ phase.OpeningFile o → IsOpening x (λ c. request_at i c x) o)) → ReadsAs i x p
 leaves_reads i x (event.Lives lives_ask.Claim lives_reply.Claimed) p h ready granting opens numbers = preparing_reads i x p (may_prepare p h) ready granting
 leaves_reads i x (event.Lives lives_ask.Claim lives_reply.Full) p h ready granting opens numbers = between_reads i x p h
 leaves_reads i x (event.Lives lives_ask.Claim lives_reply.Released) p h ready granting opens numbers = between_reads i x p h
@@ -587,13 +589,51 @@ unfolding takes
 numbered_pays i b e fd number is paid =
     subst (λ y. a1 (takes i b y) ≤ (takes i b y).fuel) (sym is) (numbered_is (λ x. a1 x ≤ x.fuel) b b.phase fd paid (λ o. paid))
 
+happens_opening : (w : WorldState) (b : ActorState) (e : Event) (fd number : ℕ) → Happens w b e → e ≡ event.Fds directory_ask.Claim (directory_reply.Claimed fd number)
+    → (o : FileOpening) × (b.phase ≡ phase.OpeningFile o) × IsOpening b (λ c. request_at w.image c b) o
+happens_opening w b e fd number (Requested r) is = absurd (no_claim r.want _ b w.cells fd number r.own (sym r.is ∙ is))
+happens_opening w b e fd number (Joined j) is = let f = sym j.join.is ∙ is in absurd cc
+happens_opening w b e fd number (Snaps s) is = let f = sym s.is ∙ is in absurd cc
+happens_opening w b e fd number (GateSnaps s) is = let f = sym s.is ∙ is in absurd cc
+happens_opening w b e fd number (Started s) is = let f = sym s.is ∙ is in absurd cc
+happens_opening w b e fd number (Opens o) is = let f = sym o.is ∙ is in absurd cc
+happens_opening w b e fd number (Releases r) is = let f = sym r.is ∙ is in absurd cc
+happens_opening w b e fd number (Numbers n) is = (n.opening, n.at, n.opens)
+happens_opening w b e fd number (OpensFile o) is = let g = sym o.is ∙ is in absurd cc
+happens_opening w b e fd number (LastJoined j) is = let f = sym j.join.is ∙ is in absurd cc
+happens_opening w b e fd number (Ended f) is = let g = sym f.is ∙ is in absurd cc
+happens_opening w b e fd number (EntersGate x) is = let g = sym x.is ∙ is in absurd cc
+happens_opening w b e fd number (EntersRecycled x) is = let g = sym x.is ∙ is in absurd cc
+happens_opening w b e fd number (LeavesGate l) is = let g = sym l.is ∙ is in absurd cc
+happens_opening w b e fd number (LeavesRecycled l) is = let g = sym l.is ∙ is in absurd cc
+
+-- it opens the same file still
+numbered_by : (i : Image) (b : ActorState) (e : Event) (fd number : ℕ) (o : FileOpening) → e ≡ event.Fds directory_ask.Claim (directory_reply.Claimed fd number) → b.phase ≡ phase.OpeningFile o
+    → takes i b e ≡ record b { phase = phase.OpeningFile (record o { number = Some fd }) }
+unfolding takes
+numbered_by i b e fd number o is at = ap (takes i b) is ∙ ap (λ p. has_number b p fd) at
+
+numbered_opens : (i : Image) (b : ActorState) (e : Event) (fd number : ℕ) (o : FileOpening) → e ≡ event.Fds directory_ask.Claim (directory_reply.Claimed fd number) → b.phase ≡ phase.OpeningFile o → IsOpening b (λ c. request_at i c b) o
+    → (x : FileOpening) → (takes i b e).phase ≡ phase.OpeningFile x → IsOpening (takes i b e) (λ c. request_at i c (takes i b e)) x
+numbered_opens i b e fd number o is at h x goes =
+    let now = numbered_by i b e fd number o is at in
+    let y : ActorState = record b { phase = phase.OpeningFile (record o { number = Some fd }) } in
+    let both : phase.OpeningFile (record o { number = Some fd }) ≡ phase.OpeningFile x = sym (ap (λ (z : ActorState). z.phase) now) ∙ goes in
+    let same : record o { number = Some fd } ≡ x = cc in
+    let own : IsOpening y (λ c. request_at i c y) (record o { number = Some fd }) =
+    record { path = h.path; file = h.file; bits = h.bits; told = h.told; allowed = h.allowed; passed = h.passed; is = ap (λ (z : FileOpening). record z { number = Some fd }) h.is } in
+    subst (λ (z : ActorState). IsOpening z (λ c. request_at i c z) x) (sym now) (subst (IsOpening y (λ c. request_at i c y)) same own)
+
 pub takes_reads : (w : WorldState) (b : ActorState) (e : Event) → GivesBelow (slots_in w.image) w.cells.places → GivesBelow (fds_in w.image) w.cells.numbers
     → Happens w b e → ReadsAs w.image (takes w.image b e) (takes w.image b e).phase
 takes_reads w b e sound numbers h =
     leaves_reads w.image (takes w.image b e) e (takes w.image b e).phase (takes_between w.image b e) (takes_startable w.image b e (happens_ready w b e h) (happens_preparing w b e h))
     (takes_granting w.image b e (happens_making w b e h))
     (λ slot tag is. let c = happens_claim w b e slot tag h is in (claimed_inside (slots_in w.image) w.cells.places slot tag sound c.1, claimed_pages w.image b e slot tag is c.0))
-    (λ fd number is. let c = happens_number w b e fd number h is in (numbered_pays w.image b e fd number is c.0, claimed_inside (fds_in w.image) w.cells.numbers fd number numbers c.1))
+    (λ fd number is.
+    let c = happens_number w b e fd number h is in
+    let o = happens_opening w b e fd number h is in
+    (numbered_pays w.image b e fd number is c.0, claimed_inside (fds_in w.image) w.cells.numbers fd number numbers c.1, numbered_opens w.image b e fd number o.0 is o.1 o.2))
 
 -- what a join makes of the actor, by what it was at
 pub joined_at : (b : ActorState) (p : Phase) (x : End) (k fuel : ℕ) → b.phase ≡ p

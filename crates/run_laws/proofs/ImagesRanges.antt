@@ -18,17 +18,17 @@ use Rattle.wedge_events.specs.declared.cells.SlotAsk.TheVariants as slot_ask
 use Rattle.wedge_events.specs.declared.events.Event.{Event}
 use Rattle.wedge_events.specs.declared.events.Event.TheVariants as event
 use Rattle.wedge_events.specs.declared.events.Turn.{Turn}
-use Rattle.sthread_life.specs.declared.phase.Phase.TheVariants as phase
-use Rattle.sthread_life.specs.Actors.{ActorState, pristine, root}
-use Rattle.sthread_life.specs.Calls.{a0}
-use Rattle.sthread_life.specs.Children.{child_name}
-use Rattle.sthread_life.specs.Local.{has_ended, is_running, rest}
-use Rattle.sthread_life.specs.Preparation.{Preparation, copied_from, prepare_copies, behind_first}
-use Rattle.sthread_life.specs.Take.{copies_asked, has_snapped, next_start, takes, memory_made, child_of, run_by, actor_begun}
-use Rattle.run_laws.specs.Cells.{kept_in, cells_after, slot_in}
+use Rattle.machine.specs.declared.phase.Phase.TheVariants as phase
+use Rattle.machine.specs.Actors.{ActorState, pristine, root}
+use Rattle.machine.specs.Calls.{a0}
+use Rattle.machine.specs.Children.{child_name}
+use Rattle.machine.specs.Local.{has_ended, is_running, rest}
+use Rattle.machine.specs.Preparation.{Preparation, copied_from, prepare_copies, behind_first}
+use Rattle.machine.specs.Take.{copies_asked, has_snapped, next_start, takes, memory_made, child_of, run_by, actor_begun}
+use Rattle.machine.specs.Cells.{kept_in, cells_after, slot_in}
 use Rattle.run_laws.specs.Laws.{RangesAreKept}
 use Rattle.run_laws.specs.MemoryRanges.{HasImagesRanges, GateHasRanges, HasRanges, KeepsRanges}
-use Rattle.run_laws.specs.Worlds.{WorldState, initial_state, actor_named, put_actor, with_begun, turn_of, ready, resumed, Runs}
+use Rattle.machine.specs.Worlds.{WorldState, initial_state, actor_named, put_actor, with_begun, turn_of, ready, resumed, Runs}
 use Rattle.run_laws.proofs.Between.{IsPreparing, takes_name}
 use Rattle.run_laws.proofs.Bounding.{run_image}
 use Rattle.run_laws.proofs.CellChanging.{gate_changes}
@@ -43,7 +43,7 @@ use Rattle.run_laws.proofs.RecycledRuns.{GateStep, Passes, Ends, EntersIt, Leave
 use Rattle.run_laws.proofs.Settling.{AllReady, turn_happens, turn_ready, opening_ready, turned_there}
 use Rattle.run_laws.proofs.Trees.{IsPut, IsDoer, IsOther, find_put, found_or_last}
 use Rattle.run_laws.proofs.Turns.{Readies, Stays, Back, readies, ready_name, turn_from, Turned}
-use Rattle.sthread_life.proofs.Resting.{IsCalm, rests, rest-stays, rest-name, rest-ended}
+use Rattle.machine.proofs.Resting.{IsCalm, rests, rest-stays, rest-name, rest-ended}
 
 -- ---- an actor comes to rest
 

@@ -24,21 +24,21 @@ use Rattle.wedge_events.specs.declared.events.SlotWant.TheVariants as slot_want
 use Rattle.wedge_events.specs.declared.events.Want.{Want}
 use Rattle.wedge_events.specs.declared.events.Want.TheVariants as want
 use Rattle.wedge_events.specs.Wants.{slot_ask_with}
-use Rattle.sthread_life.specs.declared.phase.Phase.TheVariants as phase
-use Rattle.sthread_life.specs.Actors.{ActorState, bits_of}
+use Rattle.machine.specs.declared.phase.Phase.TheVariants as phase
+use Rattle.machine.specs.Actors.{ActorState, bits_of}
 use Rattle.run_laws.specs.Allowed.{may_use}
-use Rattle.run_laws.specs.Cells.{Cells, slot_in, stream_in, tag_in, cells_after}
+use Rattle.machine.specs.Cells.{Cells, slot_in, stream_in, tag_in, cells_after}
 use Rattle.run_laws.specs.Families.{made_by}
 use Rattle.run_laws.specs.Isolation.{Sight, sight, seen, has_bit, LookAlike, IsSeen}
 use Rattle.run_laws.specs.Laws.{AccessesAreIsolated}
-use Rattle.sthread_life.specs.Local.{rest}
-use Rattle.sthread_life.specs.Take.{pair, current_want, wanted_at, takes, actor_begun}
-use Rattle.run_laws.specs.Worlds.{WorldState, actor_named, put_actor, with_begun, wanting, ready, resumed, at_rest, turn_with, turn_of, apply_event, event_at}
+use Rattle.machine.specs.Local.{rest}
+use Rattle.machine.specs.Take.{pair, current_want, wanted_at, takes, actor_begun}
+use Rattle.machine.specs.Worlds.{WorldState, actor_named, put_actor, with_begun, wanting, ready, resumed, at_rest, turn_with, turn_of, apply_event, event_at}
 use Rattle.run_laws.proofs.Between.{takes_name}
 use Rattle.run_laws.proofs.Families.{takes_sheet, takes_made, IsNoOpening, made_same, made_within}
 use Rattle.run_laws.proofs.Named.{found_name}
 use Rattle.run_laws.proofs.OneCell.{follows}
-use Rattle.sthread_life.proofs.Resting.{rest-name}
+use Rattle.machine.proofs.Resting.{rest-name}
 use Rattle.run_laws.proofs.Trees.{IsPut, found_put}
 use Rattle.run_laws.proofs.Turns.{ready_name, ready_named}
 use Rattle.run_laws.proofs.Writing.{SameRights, at_rest_rights}
@@ -88,8 +88,8 @@ some_sight (Some s) e = (s, refl)
 -- ---- a load or a store of it
 
 abbrev IsAccessAsk : SlotAsk → Type 0
-IsAccessAsk (slot_ask.Load offset width live) = Unit {0}
-IsAccessAsk (slot_ask.Store offset width value live) = Unit {0}
+IsAccessAsk (slot_ask.Load width offset live) = Unit {0}
+IsAccessAsk (slot_ask.Store width offset value live) = Unit {0}
 IsAccessAsk q = ⊥
 
 -- the reply goes by the tag and its bytes
@@ -98,8 +98,8 @@ sight_reply q s = slot_reply_of (Some (record { tag = s.tag; bytes = s.bytes; bl
 
 reply_by_sight : (q : SlotAsk) (g : Segment) → IsAccessAsk q → slot_reply_of (Some g) q ≡ sight_reply q (sight g)
 unfolding sight_reply
-reply_by_sight (slot_ask.Load offset width live) g h = refl
-reply_by_sight (slot_ask.Store offset width value live) g h = refl
+reply_by_sight (slot_ask.Load width offset live) g h = refl
+reply_by_sight (slot_ask.Store width offset value live) g h = refl
 reply_by_sight q g h = absurd h
 
 replies_alike : (a : ActorState) (q : SlotAsk) (o p : Option Segment) (s : Sight) → IsAccessAsk q → IsSight a o s → IsSight a p s → slot_reply_of o q ≡ slot_reply_of p q
@@ -110,7 +110,7 @@ replies_alike a q o p s h first second =
 
 -- what it leaves to be seen
 sight_after : SlotAsk → SlotReply → Option Sight → Option Sight
-sight_after (slot_ask.Store offset width value live) slot_reply.Stored o = option_map (λ (s : Sight). record { tag = s.tag; bytes = overwrite s.bytes offset (bytes_of width value) }) o
+sight_after (slot_ask.Store width offset value live) slot_reply.Stored o = option_map (λ (s : Sight). record { tag = s.tag; bytes = overwrite s.bytes offset (bytes_of width value) }) o
 sight_after q r o = o
 
 stored_seen : (a : ActorState) (offset width value : ℕ) (g : Option Segment)
@@ -125,15 +125,15 @@ stored_seen a offset width value (Some g) = by_right (may_use a g.tag right.Read
 
 access_shows : (a : ActorState) (q : SlotAsk) (r : SlotReply) (g : Option Segment) → IsAccessAsk q → seen a (slot_after g q r) ≡ sight_after q r (seen a g)
 unfolding sight_after
-access_shows a (slot_ask.Store offset width value live) slot_reply.Stored g h = stored_seen a offset width value g
-access_shows a (slot_ask.Store offset width value live) r g h = refl
-access_shows a (slot_ask.Load offset width live) r g h = refl
+access_shows a (slot_ask.Store width offset value live) slot_reply.Stored g h = stored_seen a offset width value g
+access_shows a (slot_ask.Store width offset value live) r g h = refl
+access_shows a (slot_ask.Load width offset live) r g h = refl
 access_shows a q r g h = absurd h
 
 access_stays : (q : SlotAsk) (r : SlotReply) (g : Option Segment) → IsAccessAsk q → g ≡ None → slot_after g q r ≡ None
-access_stays (slot_ask.Store offset width value live) slot_reply.Stored g h e = ap (option_map (write_segment offset width value)) e
-access_stays (slot_ask.Store offset width value live) r g h e = e
-access_stays (slot_ask.Load offset width live) r g h e = e
+access_stays (slot_ask.Store width offset value live) slot_reply.Stored g h e = ap (option_map (write_segment offset width value)) e
+access_stays (slot_ask.Store width offset value live) r g h e = e
+access_stays (slot_ask.Load width offset live) r g h e = e
 access_stays q r g h e = absurd h
 
 -- so the slots still look alike

@@ -29,14 +29,14 @@ use Rattle.rv_hart.specs.declared.Need.TheVariants as need
 use Rattle.rv_hart.specs.Local.{local}
 use Rattle.wedge_base.specs.Files.{may_open}
 use Rattle.wedge_base.specs.declared.image.FileEntry.{FileEntry}
-use Rattle.sthread_life.specs.Actors.{ActorState, right_of, denies, ends, refuses, gate_held}
+use Rattle.machine.specs.Actors.{ActorState, right_of, denies, ends, refuses, gate_held}
 use Rattle.cow_pages.specs.Copies.{copy_at, holds_copy, read_copy}
 use Rattle.cow_pages.specs.Listed.{bytes_listed}
 use Rattle.cow_pages.specs.PrivateMemory.{PrivateMemory}
 use Rattle.std.specs.Option.{option_or}
 use Rattle.wedge_events.specs.declared.cells.GateReply.TheVariants as gate_reply
 use Rattle.wedge_events.specs.declared.cells.GateAsk.TheVariants as gate_ask
-use Rattle.sthread_life.specs.Accesses.{load_bytes, load_copy, load_window, load_range, store_copy, store_window, store_range, has_loaded, has_stored, with_bytes, fits_read, fits_write}
+use Rattle.machine.specs.Accesses.{load_bytes, load_copy, load_window, load_range, store_copy, store_window, store_range, has_loaded, has_stored, with_bytes, fits_read, fits_write}
 use Rattle.wedge_base.specs.Names.{most_parts}
 use Rattle.wedge_base.specs.Sheets.{Draft, takes_tag, takes_fd, takes_gate, first_excess}
 use Rattle.wedge_base.specs.Maps.{has}
@@ -47,23 +47,23 @@ use Rattle.wedge_events.specs.declared.cells.LivesReply.TheVariants as lives_rep
 use Rattle.wedge_base.specs.declared.rights.FdBits.{FdBits}
 use Rattle.wedge_base.specs.declared.rights.Right.{Right}
 use Rattle.wedge_base.specs.declared.rights.Right.TheVariants as right
-use Rattle.sthread_life.specs.Children.{is_child, without_child}
+use Rattle.machine.specs.Children.{is_child, without_child}
 use Rattle.run_laws.proofs.Between.{event_for, joined_is, numbered_is, opened_is, snapped_is, entered_is}
 use Rattle.run_laws.proofs.Happening.{Happens, Requested, Joined, Snaps, GateSnaps, Started, Opens, Releases, Numbers, OpensFile, LastJoined, Ended, EntersGate, LeavesGate, EntersRecycled, LeavesRecycled}
 use Rattle.run_laws.proofs.Meeting.{IsRequest}
 use Rattle.run_laws.proofs.StreamCalls.{IsStreamRequest, append_cases, close_cases}
 use Rattle.run_laws.proofs.Reading.{read_remembers}
-use Rattle.run_laws.specs.Cells.{Cells, stream_in}
-use Rattle.run_laws.specs.Worlds.{WorldState}
+use Rattle.machine.specs.Cells.{Cells, stream_in}
+use Rattle.machine.specs.Worlds.{WorldState}
 use Rattle.run_laws.proofs.WritingCopies.{copied_there}
-use Rattle.sthread_life.specs.Calls.{serves, exit, is_procedure, create, create_with, create_checked, join, are_pages, tag_new, tag_delete, smalloc, free_at, sfree, fd_read, fd_append, fd_close, most_drafts, sc_new, right_asked, bits_asked, add_right, add_right_to, sc_mem_add, add_bits, add_bits_to, sc_fd_add, add_gate_to, sc_cgate_add, draft_call, a0, a1, a2, a3, a7, set_user, sc_user, path_in, put_root, set_root, sc_root, file_at, mode_asked, suits, open_file, open_path, file_open, makes_or_waits, may_be_gate, make_checked, make_with, cgate_make, enter_checked, enter_lending, enter_held, cgate, lent_asked}
-use Rattle.sthread_life.specs.Local.{step_with_need, step_with_instr, step_with_fuel, step_with_word, step}
-use Rattle.sthread_life.specs.Take.{runs, loads_by, loads_at, takes}
+use Rattle.machine.specs.Calls.{serves, exit, is_procedure, create, create_with, create_checked, join, are_pages, tag_new, tag_delete, smalloc, free_at, sfree, fd_read, fd_append, fd_close, most_drafts, sc_new, right_asked, bits_asked, add_right, add_right_to, sc_mem_add, add_bits, add_bits_to, sc_fd_add, add_gate_to, sc_cgate_add, draft_call, a0, a1, a2, a3, a7, set_user, sc_user, path_in, put_root, set_root, sc_root, file_at, mode_asked, suits, open_file, open_path, file_open, makes_or_waits, may_be_gate, make_checked, make_with, cgate_make, enter_checked, enter_lending, enter_held, cgate, lent_asked}
+use Rattle.machine.specs.Local.{step_with_need, step_with_instr, step_with_fuel, step_with_word, step}
+use Rattle.machine.specs.Take.{runs, loads_by, loads_at, takes}
 use Rattle.run_laws.specs.Remembering.{copied_bytes, copy_target, target_among, Elsewhere, LoadGives, StoreWrites, NeedRemembers, InstrRemembers, WordRemembers, EventRemembers, memory_after}
 use Rattle.run_laws.proofs.WritingRanges.{length-bytes_of, written_at}
-use Rattle.sthread_life.specs.Preparation.{Preparation}
-use Rattle.sthread_life.specs.declared.copy_grant.CopyGrant.{CopyGrant}
-use Rattle.sthread_life.specs.Entering.{may_lend, excess_lent}
+use Rattle.machine.specs.Preparation.{Preparation}
+use Rattle.machine.specs.declared.copy_grant.CopyGrant.{CopyGrant}
+use Rattle.machine.specs.Entering.{may_lend, excess_lent}
 use Rattle.callgate.specs.declared.gate.Gate.{Gate}
 
 -- what keeps private memory

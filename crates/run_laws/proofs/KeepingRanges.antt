@@ -24,17 +24,17 @@ use Rattle.rv_hart.specs.declared.Hart.{Hart}
 use Rattle.rv_hart.specs.declared.Need.{Need}
 use Rattle.rv_hart.specs.declared.Need.TheVariants as need
 use Rattle.rv_hart.specs.Local.{local}
-use Rattle.sthread_life.specs.Accesses.{load_bytes, load_copy, load_window, load_range, store_copy, store_window, store_range, has_loaded, has_stored, with_bytes}
-use Rattle.sthread_life.specs.Actors.{ActorState, ends, spends}
-use Rattle.sthread_life.specs.Calls.{a1, a7}
-use Rattle.sthread_life.specs.Local.{is_running, step_with_need, step_with_instr, step_with_fuel, step_with_word, step, run_local, rest}
-use Rattle.sthread_life.specs.Take.{takes}
+use Rattle.machine.specs.Accesses.{load_bytes, load_copy, load_window, load_range, store_copy, store_window, store_range, has_loaded, has_stored, with_bytes}
+use Rattle.machine.specs.Actors.{ActorState, ends, spends}
+use Rattle.machine.specs.Calls.{a1, a7}
+use Rattle.machine.specs.Local.{is_running, step_with_need, step_with_instr, step_with_fuel, step_with_word, step, run_local, rest}
+use Rattle.machine.specs.Take.{takes}
 use Rattle.run_laws.specs.Ends.{is_end_event}
 use Rattle.run_laws.specs.MemoryRanges.{extent, extents}
 use Rattle.run_laws.specs.Remembering.{memory_in, memory_after}
 use Rattle.run_laws.proofs.Keeping.{call_keeps, IsNoGift, memory_is}
 use Rattle.run_laws.proofs.WritingRanges.{length-written, LiesIn, lies_is}
-use Rattle.sthread_life.proofs.Resting.{stays, goes_on}
+use Rattle.machine.proofs.Resting.{stays, goes_on}
 
 -- ---- bytes are written only where they lie in a range
 
@@ -134,8 +134,8 @@ rest_extents i a = run_so i (a.fuel + 1) a _ refl
 slot_so : (m : PrivateMemory) (slot : ℕ) (r : SlotReply) (q : SlotAsk) → extents (memory_in m slot r q) ≡ extents m
 slot_so m slot slot_reply.Opened (slot_ask.Open tag pages) = refl
 slot_so m slot slot_reply.Opened (slot_ask.Close tag) = refl
-slot_so m slot slot_reply.Opened (slot_ask.Load offset width live) = refl
-slot_so m slot slot_reply.Opened (slot_ask.Store offset width value live) = refl
+slot_so m slot slot_reply.Opened (slot_ask.Load width offset live) = refl
+slot_so m slot slot_reply.Opened (slot_ask.Store width offset value live) = refl
 slot_so m slot slot_reply.Opened (slot_ask.Smalloc tag size) = refl
 slot_so m slot slot_reply.Opened (slot_ask.Sfree offset live) = refl
 slot_so m slot slot_reply.Opened (slot_ask.Snap tag) = refl

@@ -16,20 +16,20 @@ use Rattle.wedge_events.specs.declared.events.Turn.{Turn}
 use Rattle.callgate.specs.Gate.{gate_named}
 use Rattle.callgate.specs.declared.gate.Gate.{Gate}
 use Rattle.grant_sheet.specs.Granting.{IsWithin}
-use Rattle.sthread_life.specs.declared.copy_grant.CopyGrant.{CopyGrant}
-use Rattle.sthread_life.specs.declared.phase.Phase.{Phase}
-use Rattle.sthread_life.specs.declared.phase.Phase.TheVariants as phase
-use Rattle.sthread_life.specs.Actors.{ActorState, root}
-use Rattle.sthread_life.specs.Calls.{a0}
-use Rattle.sthread_life.specs.Children.{child_name}
-use Rattle.sthread_life.specs.Preparation.{Preparation}
+use Rattle.machine.specs.declared.copy_grant.CopyGrant.{CopyGrant}
+use Rattle.machine.specs.declared.phase.Phase.{Phase}
+use Rattle.machine.specs.declared.phase.Phase.TheVariants as phase
+use Rattle.machine.specs.Actors.{ActorState, root}
+use Rattle.machine.specs.Calls.{a0}
+use Rattle.machine.specs.Children.{child_name}
+use Rattle.machine.specs.Preparation.{Preparation}
 use Rattle.run_laws.specs.GateCalls.{KeepsGates, MakesWith, PreparesGate, BeginsUnless, GatesByRequest, InstrMakesGates, SnapsForGate, EventMakesGates}
 use Rattle.run_laws.specs.KnownGates.{AreAmong, IsMadeAfter, AreInOrder, KnowsItsGates, IsOfItsMaker}
 use Rattle.run_laws.specs.Laws.{GatesAreKept}
-use Rattle.sthread_life.specs.Local.{is_running, step, run_local, rest}
+use Rattle.machine.specs.Local.{is_running, step, run_local, rest}
 use Rattle.run_laws.specs.Requests.{Request, Loads, Stores, Reads, Appends, Closes, Opens, Creates, Makes, Enters as EntersAt, Deletes, Allots, Frees, request_at}
-use Rattle.sthread_life.specs.Take.{next_start, takes, child_of, run_by, actor_begun}
-use Rattle.run_laws.specs.Worlds.{WorldState, initial_state, actor_named, put_actor, with_begun, turn_of, ready, resumed, Runs, with_actor}
+use Rattle.machine.specs.Take.{next_start, takes, child_of, run_by, actor_begun}
+use Rattle.machine.specs.Worlds.{WorldState, initial_state, actor_named, put_actor, with_begun, turn_of, ready, resumed, Runs, with_actor}
 use Rattle.run_laws.proofs.Between.{takes_name}
 use Rattle.run_laws.proofs.Bounding.{with_same, with_other}
 use Rattle.run_laws.proofs.Families.{takes_sheet, child_begins, run_begins}
@@ -39,7 +39,7 @@ use Rattle.run_laws.proofs.GateRuns.{held_is, IsEntry}
 use Rattle.run_laws.proofs.GateMoments.{step_makes_gates, event_makes_gates}
 use Rattle.run_laws.proofs.Happening.{AtStart}
 use Rattle.run_laws.proofs.Named.{same_self, same_equal, put_put, named_begun}
-use Rattle.sthread_life.proofs.Resting.{steps_step, stays, goes_on, running_is, rest-name}
+use Rattle.machine.proofs.Resting.{steps_step, stays, goes_on, running_is, rest-name}
 use Rattle.run_laws.proofs.Settling.{AllReady, turn_happens, turn_ready, opening_ready, turned_there}
 use Rattle.run_laws.proofs.Trees.{IsPut, IsDoer, IsOther, find_put, found_put, found_else, found_or_last}
 

@@ -147,3 +147,9 @@ pub mod AllEnd
 -- In every run the drafts of each actor have their items in order, and at most 1,024 grants
 -- each.
 pub mod SortedDrafts
+-- A call that is allowed and not refused takes place.
+pub mod TakingPlace
+-- Whoever opens a file does so by a call that is allowed.
+pub mod AllowedOpening
+-- Events of the directories, of slots and of streams are in bounds.
+pub mod Placing

@@ -20,17 +20,17 @@ use Rattle.wedge_events.specs.declared.events.SlotWant.TheVariants as slot_want
 use Rattle.wedge_events.specs.declared.events.Turn.{Turn}
 use Rattle.wedge_events.specs.declared.events.Want.{Want}
 use Rattle.wedge_events.specs.declared.events.Want.TheVariants as want
-use Rattle.sthread_life.specs.declared.phase.Phase.{Phase}
-use Rattle.sthread_life.specs.declared.phase.Phase.TheVariants as phase
-use Rattle.sthread_life.specs.Actors.{ActorState, root}
-use Rattle.sthread_life.specs.Children.{child_name, without_child}
-use Rattle.sthread_life.specs.Local.{has_ended, is_running, rest}
-use Rattle.sthread_life.specs.Take.{takes, actor_begun, run_at, has_snapped, next_start}
-use Rattle.run_laws.specs.Cells.{cells_after, slot_in}
+use Rattle.machine.specs.declared.phase.Phase.{Phase}
+use Rattle.machine.specs.declared.phase.Phase.TheVariants as phase
+use Rattle.machine.specs.Actors.{ActorState, root}
+use Rattle.machine.specs.Children.{child_name, without_child}
+use Rattle.machine.specs.Local.{has_ended, is_running, rest}
+use Rattle.machine.specs.Take.{takes, actor_begun, run_at, has_snapped, next_start}
+use Rattle.machine.specs.Cells.{cells_after, slot_in}
 use Rattle.run_laws.specs.Ends.{is_end_event}
 use Rattle.run_laws.specs.Laws.{LivesAreCounted}
 use Rattle.run_laws.specs.LiveSthreads.{is_starting, lives_of, lives_in}
-use Rattle.run_laws.specs.Worlds.{WorldState, initial_state, actor_named, put_actor, with_begun, turn_of, Runs, ready, resumed}
+use Rattle.machine.specs.Worlds.{WorldState, initial_state, actor_named, put_actor, with_begun, turn_of, Runs, ready, resumed}
 use Rattle.run_laws.proofs.Between.{event_for, IsPreparing, entered_is, joined_is, takes_name}
 use Rattle.run_laws.proofs.CellChanging.{turn_cells}
 use Rattle.run_laws.proofs.Families.{IsOfOne, takes_same}
@@ -41,7 +41,7 @@ use Rattle.run_laws.proofs.Meeting.{IsRequest}
 use Rattle.run_laws.proofs.Preparing.{was_preparing}
 use Rattle.run_laws.proofs.Settling.{AllReady, turn_happens, turn_ready, opening_ready, turned_there}
 use Rattle.run_laws.proofs.Turns.{Readies, Stays, Back, readies, ready_name, turn_from}
-use Rattle.sthread_life.proofs.Resting.{IsCalm, rests, rest-stays, rest-name}
+use Rattle.machine.proofs.Resting.{IsCalm, rests, rest-stays, rest-name}
 
 -- ---- the lives of one actor, by what decides them
 

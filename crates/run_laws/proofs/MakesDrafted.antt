@@ -16,10 +16,10 @@ use Rattle.rv_hart.specs.declared.Need.{Need}
 use Rattle.rv_hart.specs.declared.Need.TheVariants as need
 use Rattle.rv_hart.specs.Local.{local, reg}
 use Rattle.callgate.specs.declared.gate.Gate.{Gate}
-use Rattle.sthread_life.specs.Actors.{ActorState, gate_held}
-use Rattle.sthread_life.specs.Calls.{a0, a7}
-use Rattle.run_laws.specs.Cells.{Cells, slot_in, stream_in}
-use Rattle.sthread_life.specs.Entering.{may_lend}
+use Rattle.machine.specs.Actors.{ActorState, gate_held}
+use Rattle.machine.specs.Calls.{a0, a7}
+use Rattle.machine.specs.Cells.{Cells, slot_in, stream_in}
+use Rattle.machine.specs.Entering.{may_lend}
 use Rattle.run_laws.specs.Requests.{Access, Request, Loads, Stores, Reads, Appends, Closes, Opens, Creates, Makes, Enters, Allots, Frees, reaches_window, in_tag, in_window, buffer_bytes, path_at, in_stream, is_room, append_of, bits_to_open, file_of, open_of, create_of, suits_gate, make_of, lending_of, enter_of, free_of, lent_of, call_request, needed_request, instr_request, word_request, request_at}
 
 if_makes : {X : Type 0} (t : Bool) (x y : Option Request) (d : Draft) → (x ≡ Some (Makes d) → X) → (y ≡ Some (Makes d) → X) → (if t then x else y) ≡ Some (Makes d) → X

@@ -17,16 +17,16 @@ use Rattle.wedge_events.specs.declared.cells.LivesAsk.TheVariants as lives_ask
 use Rattle.wedge_events.specs.declared.cells.LivesReply.TheVariants as lives_reply
 use Rattle.wedge_events.specs.declared.cells.SlotAsk.{SlotAsk}
 use Rattle.wedge_events.specs.declared.cells.SlotReply.TheVariants as slot_reply
-use Rattle.sthread_life.specs.declared.copy_grant.CopyGrant.{CopyGrant}
-use Rattle.sthread_life.specs.declared.phase.Phase.{Phase}
-use Rattle.sthread_life.specs.declared.phase.Phase.TheVariants as phase
-use Rattle.sthread_life.specs.Actors.{ActorState}
-use Rattle.sthread_life.specs.Between.{IsBetween}
-use Rattle.sthread_life.specs.Calls.{a0, draft_at, makes_or_waits}
+use Rattle.machine.specs.declared.copy_grant.CopyGrant.{CopyGrant}
+use Rattle.machine.specs.declared.phase.Phase.{Phase}
+use Rattle.machine.specs.declared.phase.Phase.TheVariants as phase
+use Rattle.machine.specs.Actors.{ActorState}
+use Rattle.machine.specs.Between.{IsBetween}
+use Rattle.machine.specs.Calls.{a0, draft_at, makes_or_waits}
 use Rattle.run_laws.specs.ChildCopies.{snap_reply}
-use Rattle.sthread_life.specs.CopyGrant.{is_copy_alone}
-use Rattle.sthread_life.specs.Preparation.{Preparation, copied_from, prepare_copies, behind_first}
-use Rattle.sthread_life.specs.Take.{copies_asked, copied_on, has_snapped, takes}
+use Rattle.machine.specs.CopyGrant.{is_copy_alone}
+use Rattle.machine.specs.Preparation.{Preparation, copied_from, prepare_copies, behind_first}
+use Rattle.machine.specs.Take.{copies_asked, copied_on, has_snapped, takes}
 use Rattle.run_laws.proofs.Between.{IsPreparing, IsMaking, MayNumber, Leaves, takes_between, waiting_is}
 
 pub longer : {X : Type 0} (xs : List X) (x : X) → xs ++ x ∷ [] ≡ xs → ⊥

@@ -42,20 +42,20 @@ use Rattle.rv_isa.specs.Table.{decode}
 use Rattle.rv_hart.specs.declared.Need.{Need}
 use Rattle.rv_hart.specs.declared.Need.TheVariants as need
 use Rattle.rv_hart.specs.Local.{local, put, extended}
-use Rattle.sthread_life.specs.declared.phase.Phase.{Phase}
-use Rattle.sthread_life.specs.declared.phase.Phase.TheVariants as phase
-use Rattle.sthread_life.specs.Actors.{ActorState, ends, refuses}
-use Rattle.sthread_life.specs.Calls.{a0, draft_at}
-use Rattle.sthread_life.specs.Accesses.{has_stored}
-use Rattle.sthread_life.specs.Local.{step, rest, has_ended, is_running, run_local}
-use Rattle.sthread_life.specs.Children.{child_name, without_child}
+use Rattle.machine.specs.declared.phase.Phase.{Phase}
+use Rattle.machine.specs.declared.phase.Phase.TheVariants as phase
+use Rattle.machine.specs.Actors.{ActorState, ends, refuses}
+use Rattle.machine.specs.Calls.{a0, draft_at}
+use Rattle.machine.specs.Accesses.{has_stored}
+use Rattle.machine.specs.Local.{step, rest, has_ended, is_running, run_local}
+use Rattle.machine.specs.Children.{child_name, without_child}
 use Rattle.cow_pages.specs.Listed.{bytes_listed}
 use Rattle.run_laws.specs.ChildCopies.{NotPreparing, PreparesBy}
-use Rattle.sthread_life.specs.Preparation.{Preparation}
+use Rattle.machine.specs.Preparation.{Preparation}
 use Rattle.run_laws.proofs.Preparing.{step_unprepared, event_prepares}
-use Rattle.sthread_life.specs.Take.{next_start, pair, runs, loads_by, loads_at, has_snapped, answered_end, has_started, takes_lives, takes, child_of, actor_begun, copied_on, has_entered, run_by, current_want, wanted_at}
-use Rattle.run_laws.specs.Cells.{Cells, held, slot_in, stream_in, cells_after}
-use Rattle.run_laws.specs.Worlds.{WorldState, initial_state, actor_named, put_actor, with_begun, turn_of, Runs, with_actor, ready, resumed}
+use Rattle.machine.specs.Take.{next_start, pair, runs, loads_by, loads_at, has_snapped, answered_end, has_started, takes_lives, takes, child_of, actor_begun, copied_on, has_entered, run_by, current_want, wanted_at}
+use Rattle.machine.specs.Cells.{Cells, held, slot_in, stream_in, cells_after}
+use Rattle.machine.specs.Worlds.{WorldState, initial_state, actor_named, put_actor, with_begun, turn_of, Runs, with_actor, ready, resumed}
 use Rattle.run_laws.specs.Requests.{Access, Request, Loads, Stores, Reads, Appends, Closes, Opens, Creates, Deletes, Allots, Frees, request_at, in_tag, Makes, Enters}
 use Rattle.run_laws.specs.Allowed.{may_use, lacks, is_refused, next_word, IsDone, denied, comes_to, HasBegunGate, IsAboutToEnter}
 use Rattle.run_laws.specs.Moments.{EachMoment, EachInstructionOf, TurnHas, is_use, slot_used, NothingDenied, IsChecked, ComesToEvent, IsMet, IsAnswered, Misses, MeetsWith, AnswersAt, GoesOnAs, EachMomentOf}
@@ -65,6 +65,7 @@ use Rattle.run_laws.specs.Remembering.{WordRemembers, EventRemembers}
 use Rattle.run_laws.specs.TagCalls.{MakesAt}
 use Rattle.run_laws.specs.Laws.{IsLawful, MomentsAreLawful, InstructionsAreLawful}
 use Rattle.run_laws.proofs.Checking.{kept, put_there, checked_denied, checked_allowed, after, stayed, same_slots, pair_on, slot_world}
+use Rattle.run_laws.proofs.AllowedOpening.{event_opens}
 use Rattle.run_laws.proofs.Asking.{step_comes_with, event_asks}
 use Rattle.run_laws.proofs.TagMoments.{claim_unused, close_answered, place_answered, free_answered, opened_denials, released_denials, claim_slot_next, close_next, place_next, free_next, opened_next, released_next, slots_told, claim_slot_refused, close_refused, place_refused, free_refused, claim_slot_passed, close_passed, place_passed, free_passed, want_makes, open_makes, release_makes}
 use Rattle.run_laws.proofs.StreamMoments.{stream_answered, stream_next, stream_refused, stream_passed}
@@ -80,7 +81,7 @@ use Rattle.run_laws.proofs.DraftAnswers.{step_answers}
 use Rattle.run_laws.proofs.Snapping.{event_copies}
 use Rattle.run_laws.proofs.DraftEdits.{step_edits, event_edits}
 use Rattle.run_laws.proofs.Going.{IsNext, step_goes}
-use Rattle.sthread_life.proofs.Resting.{steps_step, stays, goes_on, running_is, rest-stops, rest-stays}
+use Rattle.machine.proofs.Resting.{steps_step, stays, goes_on, running_is, rest-stops, rest-stays}
 use Rattle.run_laws.proofs.Between.{event_for, IsJoin, joined_is, opened_is, snapped_is, takes_name, loaded_runs, made_is, entered_is, entered_by, TurnParts}
 use Rattle.run_laws.proofs.Happening.{Happens, snap_cases, Requested, Joined, Snaps, GateSnaps, Started, Opens as OpensTag, Releases, Numbers, OpensFile, LastJoined, Ended, joined_at, EntersGate, LeavesGate, EntersRecycled, LeavesRecycled}
 use Rattle.run_laws.proofs.Families.{step_family, event_family, ended_so}
@@ -88,7 +89,7 @@ use Rattle.run_laws.specs.GateCalls.{InstrMakesGates, EventMakesGates}
 use Rattle.run_laws.proofs.GateMoments.{step_makes_gates, event_makes_gates}
 use Rattle.run_laws.proofs.MakingGates.{longer}
 use Rattle.run_laws.proofs.TagSlots.{made_slot, used_slot, at_slot, of_slot}
-use Rattle.sthread_life.specs.Entrance.{Entrance}
+use Rattle.machine.specs.Entrance.{Entrance}
 use Rattle.run_laws.specs.Families.{after_join}
 use Rattle.run_laws.proofs.Turns.{Readies, Stays, Back, readies, turn_from}
 
@@ -183,7 +184,7 @@ checked_enter w b p x a entry lent named pn pd xn now = by_denial (lacks p r) re
 comes_there : (w : WorldState) (b p x : ActorState) → p.name ≡ b.name → (q : Want) × (x ≡ record p { phase = phase.Within q }) → ComesToEvent (with_actor w b) p (with_actor w x)
 comes_there w b p x pn q = (q.0, ap (with_actor w) q.1 ∙ ap (λ (as_ : List ActorState). record w { actors = as_ }) (sym (put_put w.actors b (record p { phase = phase.Within q.0 }) pn)))
 
-none_lacking : (t : Bool) (d : Denial) → (if t then None else Some d) ≡ None → t ≡ true
+pub none_lacking : (t : Bool) (d : Denial) → (if t then None else Some d) ≡ None → t ≡ true
 none_lacking true d lack = refl
 none_lacking false d lack = absurd cc
 
@@ -230,7 +231,7 @@ run_name i n a false e = ap (λ (x : ActorState). x.name) (stays i n a e)
 run_name i zero a true e = unfold run_local in refl
 run_name i (suc n) a true e = ap (λ (x : ActorState). x.name) (goes_on i n a e) ∙ (run_name i n (step i a) _ refl ∙ (steps_step i a).name)
 
-one_more : (i : Image) (n : ℕ) (a : ActorState) (t : Bool) → is_running a.phase ≡ t → is_running (run_local i n a).phase ≡ true → run_local i (suc n) a ≡ step i (run_local i n a)
+pub one_more : (i : Image) (n : ℕ) (a : ActorState) (t : Bool) → is_running a.phase ≡ t → is_running (run_local i n a).phase ≡ true → run_local i (suc n) a ≡ step i (run_local i n a)
 one_more i n a false e runs = let f : true ≡ false = sym runs ∙ (ap (λ (x : ActorState). is_running x.phase) (stays i n a e) ∙ e) in absurd cc
 one_more i zero a true e runs = goes_on i zero a e ∙ unfold run_local in refl
 one_more i (suc n) a true e runs =
@@ -283,8 +284,8 @@ loads_as b (Some ins) width rd s value h = by_need (local ins b.hart).need h
 -- a load, inside the bytes of the tag or not, with the right or without
 load_checked : (w : WorldState) (b a : ActorState) (slot offset width rd : ℕ) (s : Bool) (value : ℕ) (g : Segment) (t : Bool) → actor_named w.actors b.name ≡ Some a → LoadsAt w.image b.hart rd s width
     → slot_in w.cells slot ≡ Some g → value ≡ number_of (slice_range g.bytes offset (offset + width)) → may_use b g.tag right.Read ≡ t
-    → IsChecked (with_actor w b) b (Loads (access slot offset width g) rd s) (Some (event.Slot slot (slot_ask.Load offset width (pair_on b g)) (if t then slot_reply.Loaded value else slot_reply.Denied g.tag right.Read)))
-    (slot_world w b slot (Some g) (slot_ask.Load offset width (pair_on b g)) (if t then slot_reply.Loaded value else slot_reply.Denied g.tag right.Read))
+    → IsChecked (with_actor w b) b (Loads (access slot offset width g) rd s) (Some (event.Slot slot (slot_ask.Load width offset (pair_on b g)) (if t then slot_reply.Loaded value else slot_reply.Denied g.tag right.Read)))
+    (slot_world w b slot (Some g) (slot_ask.Load width offset (pair_on b g)) (if t then slot_reply.Loaded value else slot_reply.Denied g.tag right.Read))
 unfolding takes
 load_checked w b a slot offset width rd s value g false named loads there is held =
     checked_denied _ b (Loads (access slot offset width g) rd s) _ _ (denial.Tag g.tag right.Read) (ap (λ u. if u then None else Some (denial.Tag g.tag right.Read)) held) (λ e. let f = e.0 in absurd cc) (stayed w b _ _ (same_slots w slot (Some g) there) refl)
@@ -293,50 +294,50 @@ load_checked w b a slot offset width rd s value g true named loads there is held
     let x = loads_at (runs b) (option_and_then decode (fetch w.image b.hart.pc)) value in
     let name : x.name ≡ b.name = ap (λ (y : ActorState). y.name) as_ in
     checked_allowed _ b (Loads (access slot offset width g) rd s) _ _ false (ap (λ u. if u then None else Some (denial.Tag g.tag right.Read)) held) refl
-    (λ e. refl, λ e. (ap (λ v. Some (event.Slot slot (slot_ask.Load offset width (pair_on b g)) (slot_reply.Loaded v))) is, put_there w b x a named name ∙ ap Some (as_ ∙ ap (loaded_as b width rd s) is)))
+    (λ e. refl, λ e. (ap (λ v. Some (event.Slot slot (slot_ask.Load width offset (pair_on b g)) (slot_reply.Loaded v))) is, put_there w b x a named name ∙ ap Some (as_ ∙ ap (loaded_as b width rd s) is)))
     (kept w (record w.cells { slots = slice_set w.cells.slots slot (Some g) }) b x name (ap (λ (y : ActorState). y.denials) as_))
     (λ z. absurd cc)
 
 load_inside : (w : WorldState) (b a : ActorState) (slot offset width rd : ℕ) (s : Bool) (g : Segment) (u : Bool) → actor_named w.actors b.name ≡ Some a → LoadsAt w.image b.hart rd s width → slot_in w.cells slot ≡ Some g
-    → IsAnswered (with_actor w b) b (event.Slot slot (slot_ask.Load offset width (pair_on b g)) (if not u then slot_reply.Unmapped else if may_use b g.tag right.Read then slot_reply.Loaded (number_of (slice_range g.bytes offset (offset + width))) else slot_reply.Denied g.tag right.Read))
+    → IsAnswered (with_actor w b) b (event.Slot slot (slot_ask.Load width offset (pair_on b g)) (if not u then slot_reply.Unmapped else if may_use b g.tag right.Read then slot_reply.Loaded (number_of (slice_range g.bytes offset (offset + width))) else slot_reply.Denied g.tag right.Read))
     (if u then Some (Loads (access slot offset width g) rd s) else None)
-    (slot_world w b slot (Some g) (slot_ask.Load offset width (pair_on b g)) (if not u then slot_reply.Unmapped else if may_use b g.tag right.Read then slot_reply.Loaded (number_of (slice_range g.bytes offset (offset + width))) else slot_reply.Denied g.tag right.Read))
+    (slot_world w b slot (Some g) (slot_ask.Load width offset (pair_on b g)) (if not u then slot_reply.Unmapped else if may_use b g.tag right.Read then slot_reply.Loaded (number_of (slice_range g.bytes offset (offset + width))) else slot_reply.Denied g.tag right.Read))
 unfolding takes
 load_inside w b a slot offset width rd s g false named loads there = (kept w (record w.cells { slots = slice_set w.cells.slots slot (Some g) }) b (ends b end_.Unmapped) refl refl, refl)
 load_inside w b a slot offset width rd s g true named loads there = load_checked w b a slot offset width rd s _ g _ named loads there refl refl
 
 load_answered : (w : WorldState) (b a : ActorState) (slot offset width rd : ℕ) (s : Bool) (g : Option Segment) → actor_named w.actors b.name ≡ Some a → LoadsAt w.image b.hart rd s width → slot_in w.cells slot ≡ g
-    → IsAnswered (with_actor w b) b (event.Slot slot (slot_ask.Load offset width (pair b (option_map (λ x. x.tag) g))) (slot_reply_of g (slot_ask.Load offset width (pair b (option_map (λ x. x.tag) g)))))
+    → IsAnswered (with_actor w b) b (event.Slot slot (slot_ask.Load width offset (pair b (option_map (λ x. x.tag) g))) (slot_reply_of g (slot_ask.Load width offset (pair b (option_map (λ x. x.tag) g)))))
     (in_tag (λ x. Loads x rd s) (record { slot = slot; offset = offset }) width g)
-    (slot_world w b slot g (slot_ask.Load offset width (pair b (option_map (λ x. x.tag) g))) (slot_reply_of g (slot_ask.Load offset width (pair b (option_map (λ x. x.tag) g)))))
+    (slot_world w b slot g (slot_ask.Load width offset (pair b (option_map (λ x. x.tag) g))) (slot_reply_of g (slot_ask.Load width offset (pair b (option_map (λ x. x.tag) g)))))
 unfolding takes
 load_answered w b a slot offset width rd s None named loads there = (kept w (record w.cells { slots = slice_set w.cells.slots slot None }) b (ends b end_.Unmapped) refl refl, refl)
 load_answered w b a slot offset width rd s (Some g) named loads there = load_inside w b a slot offset width rd s g _ named loads there
 
 -- a store
 store_checked : (w : WorldState) (b a : ActorState) (slot offset width value : ℕ) (g : Segment) (t : Bool) → actor_named w.actors b.name ≡ Some a → slot_in w.cells slot ≡ Some g → may_use b g.tag right.ReadWrite ≡ t
-    → IsChecked (with_actor w b) b (Stores (access slot offset width g) value) (Some (event.Slot slot (slot_ask.Store offset width value (pair_on b g)) (if t then slot_reply.Stored else slot_reply.Denied g.tag right.ReadWrite)))
-    (slot_world w b slot (Some g) (slot_ask.Store offset width value (pair_on b g)) (if t then slot_reply.Stored else slot_reply.Denied g.tag right.ReadWrite))
+    → IsChecked (with_actor w b) b (Stores (access slot offset width g) value) (Some (event.Slot slot (slot_ask.Store width offset value (pair_on b g)) (if t then slot_reply.Stored else slot_reply.Denied g.tag right.ReadWrite)))
+    (slot_world w b slot (Some g) (slot_ask.Store width offset value (pair_on b g)) (if t then slot_reply.Stored else slot_reply.Denied g.tag right.ReadWrite))
 unfolding takes
 store_checked w b a slot offset width value g false named there held =
     checked_denied _ b (Stores (access slot offset width g) value) _ _ (denial.Tag g.tag right.ReadWrite) (ap (λ u. if u then None else Some (denial.Tag g.tag right.ReadWrite)) held) (λ e. let f = e.0 in absurd cc) (stayed w b _ _ (same_slots w slot (Some g) there) refl)
 store_checked w b a slot offset width value g true named there held =
     checked_allowed _ b (Stores (access slot offset width g) value) _ _ false (ap (λ u. if u then None else Some (denial.Tag g.tag right.ReadWrite)) held) refl (λ e. refl, λ e. (refl, put_there w b (has_stored (runs b)) a named refl))
-    (kept w (record w.cells { slots = slice_set w.cells.slots slot (slot_after (Some g) (slot_ask.Store offset width value (pair_on b g)) slot_reply.Stored) }) b (has_stored (runs b)) refl refl)
+    (kept w (record w.cells { slots = slice_set w.cells.slots slot (slot_after (Some g) (slot_ask.Store width offset value (pair_on b g)) slot_reply.Stored) }) b (has_stored (runs b)) refl refl)
     (λ z. absurd cc)
 
 store_inside : (w : WorldState) (b a : ActorState) (slot offset width value : ℕ) (g : Segment) (u : Bool) → actor_named w.actors b.name ≡ Some a → slot_in w.cells slot ≡ Some g
-    → IsAnswered (with_actor w b) b (event.Slot slot (slot_ask.Store offset width value (pair_on b g)) (if not u then slot_reply.Unmapped else if may_use b g.tag right.ReadWrite then slot_reply.Stored else slot_reply.Denied g.tag right.ReadWrite))
+    → IsAnswered (with_actor w b) b (event.Slot slot (slot_ask.Store width offset value (pair_on b g)) (if not u then slot_reply.Unmapped else if may_use b g.tag right.ReadWrite then slot_reply.Stored else slot_reply.Denied g.tag right.ReadWrite))
     (if u then Some (Stores (access slot offset width g) value) else None)
-    (slot_world w b slot (Some g) (slot_ask.Store offset width value (pair_on b g)) (if not u then slot_reply.Unmapped else if may_use b g.tag right.ReadWrite then slot_reply.Stored else slot_reply.Denied g.tag right.ReadWrite))
+    (slot_world w b slot (Some g) (slot_ask.Store width offset value (pair_on b g)) (if not u then slot_reply.Unmapped else if may_use b g.tag right.ReadWrite then slot_reply.Stored else slot_reply.Denied g.tag right.ReadWrite))
 unfolding takes
 store_inside w b a slot offset width value g false named there = (kept w (record w.cells { slots = slice_set w.cells.slots slot (Some g) }) b (ends b end_.Unmapped) refl refl, refl)
 store_inside w b a slot offset width value g true named there = store_checked w b a slot offset width value g _ named there refl
 
 store_answered : (w : WorldState) (b a : ActorState) (slot offset width value : ℕ) (g : Option Segment) → actor_named w.actors b.name ≡ Some a → slot_in w.cells slot ≡ g
-    → IsAnswered (with_actor w b) b (event.Slot slot (slot_ask.Store offset width value (pair b (option_map (λ x. x.tag) g))) (slot_reply_of g (slot_ask.Store offset width value (pair b (option_map (λ x. x.tag) g)))))
+    → IsAnswered (with_actor w b) b (event.Slot slot (slot_ask.Store width offset value (pair b (option_map (λ x. x.tag) g))) (slot_reply_of g (slot_ask.Store width offset value (pair b (option_map (λ x. x.tag) g)))))
     (in_tag (λ x. Stores x value) (record { slot = slot; offset = offset }) width g)
-    (slot_world w b slot g (slot_ask.Store offset width value (pair b (option_map (λ x. x.tag) g))) (slot_reply_of g (slot_ask.Store offset width value (pair b (option_map (λ x. x.tag) g)))))
+    (slot_world w b slot g (slot_ask.Store width offset value (pair b (option_map (λ x. x.tag) g))) (slot_reply_of g (slot_ask.Store width offset value (pair b (option_map (λ x. x.tag) g)))))
 unfolding takes
 store_answered w b a slot offset width value None named there = (kept w (record w.cells { slots = slice_set w.cells.slots slot None }) b (ends b end_.Unmapped) refl refl, refl)
 store_answered w b a slot offset width value (Some g) named there = store_inside w b a slot offset width value g _ named there
@@ -368,29 +369,29 @@ answered_for w b a rd s q named own = absurd own
 
 -- an access that reaches no bytes of a tag
 misses_load : (w : WorldState) (b : ActorState) (slot offset width rd : ℕ) (s : Bool) (o : Option Live) (g : Option Segment) → slot_in w.cells slot ≡ g
-    → Misses (with_actor w b) b (want.Slot slot (slot_want.Load offset width)) (event.Slot slot (slot_ask.Load offset width o) (slot_reply_of g (slot_ask.Load offset width o)))
-    (in_tag (λ x. Loads x rd s) (record { slot = slot; offset = offset }) width g) (slot_world w b slot g (slot_ask.Load offset width o) (slot_reply_of g (slot_ask.Load offset width o)))
+    → Misses (with_actor w b) b (want.Slot slot (slot_want.Load offset width)) (event.Slot slot (slot_ask.Load width offset o) (slot_reply_of g (slot_ask.Load width offset o)))
+    (in_tag (λ x. Loads x rd s) (record { slot = slot; offset = offset }) width g) (slot_world w b slot g (slot_ask.Load width offset o) (slot_reply_of g (slot_ask.Load width offset o)))
 unfolding takes
-misses_load w b slot offset width rd s o None there = record { asked = slot_ask.Load offset width o; is = refl; after = stayed w b (ends b end_.Unmapped) _ (same_slots w slot None there) refl }
+misses_load w b slot offset width rd s o None there = record { asked = slot_ask.Load width offset o; is = refl; after = stayed w b (ends b end_.Unmapped) _ (same_slots w slot None there) refl }
 misses_load w b slot offset width rd s o (Some g) there = by_bytes (nat_lt offset (length g.bytes)) _
   where
     by_bytes : (u : Bool) (r : SlotReply)
-        → Misses (with_actor w b) b (want.Slot slot (slot_want.Load offset width)) (event.Slot slot (slot_ask.Load offset width o) (if not u then slot_reply.Unmapped else r))
-        (if u then Some (Loads (access slot offset width g) rd s) else None) (slot_world w b slot (Some g) (slot_ask.Load offset width o) (if not u then slot_reply.Unmapped else r))
-    by_bytes false r = record { asked = slot_ask.Load offset width o; is = refl; after = stayed w b (ends b end_.Unmapped) _ (same_slots w slot (Some g) there) refl }
+        → Misses (with_actor w b) b (want.Slot slot (slot_want.Load offset width)) (event.Slot slot (slot_ask.Load width offset o) (if not u then slot_reply.Unmapped else r))
+        (if u then Some (Loads (access slot offset width g) rd s) else None) (slot_world w b slot (Some g) (slot_ask.Load width offset o) (if not u then slot_reply.Unmapped else r))
+    by_bytes false r = record { asked = slot_ask.Load width offset o; is = refl; after = stayed w b (ends b end_.Unmapped) _ (same_slots w slot (Some g) there) refl }
     by_bytes true r = tt
 
 misses_store : (w : WorldState) (b : ActorState) (slot offset width value : ℕ) (o : Option Live) (g : Option Segment) → slot_in w.cells slot ≡ g
-    → Misses (with_actor w b) b (want.Slot slot (slot_want.Store offset width value)) (event.Slot slot (slot_ask.Store offset width value o) (slot_reply_of g (slot_ask.Store offset width value o)))
-    (in_tag (λ x. Stores x value) (record { slot = slot; offset = offset }) width g) (slot_world w b slot g (slot_ask.Store offset width value o) (slot_reply_of g (slot_ask.Store offset width value o)))
+    → Misses (with_actor w b) b (want.Slot slot (slot_want.Store offset width value)) (event.Slot slot (slot_ask.Store width offset value o) (slot_reply_of g (slot_ask.Store width offset value o)))
+    (in_tag (λ x. Stores x value) (record { slot = slot; offset = offset }) width g) (slot_world w b slot g (slot_ask.Store width offset value o) (slot_reply_of g (slot_ask.Store width offset value o)))
 unfolding takes
-misses_store w b slot offset width value o None there = record { asked = slot_ask.Store offset width value o; is = refl; after = stayed w b (ends b end_.Unmapped) _ (same_slots w slot None there) refl }
+misses_store w b slot offset width value o None there = record { asked = slot_ask.Store width offset value o; is = refl; after = stayed w b (ends b end_.Unmapped) _ (same_slots w slot None there) refl }
 misses_store w b slot offset width value o (Some g) there = by_bytes (nat_lt offset (length g.bytes)) _
   where
     by_bytes : (u : Bool) (r : SlotReply)
-        → Misses (with_actor w b) b (want.Slot slot (slot_want.Store offset width value)) (event.Slot slot (slot_ask.Store offset width value o) (if not u then slot_reply.Unmapped else r))
-        (if u then Some (Stores (access slot offset width g) value) else None) (slot_world w b slot (Some g) (slot_ask.Store offset width value o) (if not u then slot_reply.Unmapped else r))
-    by_bytes false r = record { asked = slot_ask.Store offset width value o; is = refl; after = stayed w b (ends b end_.Unmapped) _ (same_slots w slot (Some g) there) refl }
+        → Misses (with_actor w b) b (want.Slot slot (slot_want.Store offset width value)) (event.Slot slot (slot_ask.Store width offset value o) (if not u then slot_reply.Unmapped else r))
+        (if u then Some (Stores (access slot offset width g) value) else None) (slot_world w b slot (Some g) (slot_ask.Store width offset value o) (if not u then slot_reply.Unmapped else r))
+    by_bytes false r = record { asked = slot_ask.Store width offset value o; is = refl; after = stayed w b (ends b end_.Unmapped) _ (same_slots w slot (Some g) there) refl }
     by_bytes true r = tt
 
 abbrev MissesFor : WorldState → ActorState → Want → Option Request → Type 0
@@ -612,22 +613,22 @@ ends_by w b e (LeavesRecycled l) = subst (λ p. EndsBy w.image b p e) (sym l.at)
 ends_by w b e (Ended f) = subst (λ p. EndsBy w.image b p e) (sym f.at) (subst (EndsBy w.image b (phase.Ending f.end_)) (sym f.is) (last_end w.image b f.end_))
 
 -- the hart after an event
-load_next : (i : Image) (b : ActorState) (slot offset width : ℕ) (o : Option Live) (g : Option Segment) (rd : ℕ) (s : Bool) → LoadsAt i b.hart rd s width → IsNext b.hart (takes i b (event.Slot slot (slot_ask.Load offset width o) (slot_reply_of g (slot_ask.Load offset width o))))
+load_next : (i : Image) (b : ActorState) (slot offset width : ℕ) (o : Option Live) (g : Option Segment) (rd : ℕ) (s : Bool) → LoadsAt i b.hart rd s width → IsNext b.hart (takes i b (event.Slot slot (slot_ask.Load width offset o) (slot_reply_of g (slot_ask.Load width offset o))))
 unfolding takes
 load_next i b slot offset width o None rd s h = (λ e. absurd cc, λ e. refl)
 load_next i b slot offset width o (Some g) rd s h = by_tests _ _
   where
-    by_tests : (u t : Bool) → IsNext b.hart (takes i b (event.Slot slot (slot_ask.Load offset width o) (if not u then slot_reply.Unmapped else if t then slot_reply.Loaded (number_of (slice_range g.bytes offset (offset + width))) else slot_reply.Denied g.tag right.Read)))
+    by_tests : (u t : Bool) → IsNext b.hart (takes i b (event.Slot slot (slot_ask.Load width offset o) (if not u then slot_reply.Unmapped else if t then slot_reply.Loaded (number_of (slice_range g.bytes offset (offset + width))) else slot_reply.Denied g.tag right.Read)))
     by_tests false t = (λ e. absurd cc, λ e. refl)
     by_tests true false = (λ e. absurd cc, λ e. refl)
     by_tests true true = subst (IsNext b.hart) (sym (loads_as b (option_and_then decode (fetch i b.hart.pc)) width rd s (number_of (slice_range g.bytes offset (offset + width))) h)) (λ e. refl, λ e. absurd cc)
 
-store_next : (i : Image) (b : ActorState) (slot offset width value : ℕ) (o : Option Live) (g : Option Segment) → IsNext b.hart (takes i b (event.Slot slot (slot_ask.Store offset width value o) (slot_reply_of g (slot_ask.Store offset width value o))))
+store_next : (i : Image) (b : ActorState) (slot offset width value : ℕ) (o : Option Live) (g : Option Segment) → IsNext b.hart (takes i b (event.Slot slot (slot_ask.Store width offset value o) (slot_reply_of g (slot_ask.Store width offset value o))))
 unfolding takes
 store_next i b slot offset width value o None = (λ e. absurd cc, λ e. refl)
 store_next i b slot offset width value o (Some g) = by_tests _ _
   where
-    by_tests : (u t : Bool) → IsNext b.hart (takes i b (event.Slot slot (slot_ask.Store offset width value o) (if not u then slot_reply.Unmapped else if t then slot_reply.Stored else slot_reply.Denied g.tag right.ReadWrite)))
+    by_tests : (u t : Bool) → IsNext b.hart (takes i b (event.Slot slot (slot_ask.Store width offset value o) (if not u then slot_reply.Unmapped else if t then slot_reply.Stored else slot_reply.Denied g.tag right.ReadWrite)))
     by_tests false t = (λ e. absurd cc, λ e. refl)
     by_tests true false = (λ e. absurd cc, λ e. refl)
     by_tests true true = (λ e. refl, λ e. absurd cc)
@@ -789,7 +790,7 @@ refused_for w b rd s (want.Lives lives_ask.Claim) code own told = unfold takes i
 refused_for w b rd s q code own told = absurd own
 
 -- an event of a call that no code is for refuses nothing
-load_passed : (offset width : ℕ) (live : Option Live) (g : Option Segment) → slot_refuses (slot_reply_of g (slot_ask.Load offset width live)) ≡ false
+load_passed : (offset width : ℕ) (live : Option Live) (g : Option Segment) → slot_refuses (slot_reply_of g (slot_ask.Load width offset live)) ≡ false
 load_passed offset width live None = refl
 load_passed offset width live (Some g) = by_tests _ _
   where
@@ -798,7 +799,7 @@ load_passed offset width live (Some g) = by_tests _ _
     by_tests true false = refl
     by_tests true true = refl
 
-store_passed : (offset width value : ℕ) (live : Option Live) (g : Option Segment) → slot_refuses (slot_reply_of g (slot_ask.Store offset width value live)) ≡ false
+store_passed : (offset width value : ℕ) (live : Option Live) (g : Option Segment) → slot_refuses (slot_reply_of g (slot_ask.Store width offset value live)) ≡ false
 store_passed offset width value live None = refl
 store_passed offset width value live (Some g) = by_tests _ _
   where
@@ -974,6 +975,7 @@ instruction_lawful w a b named run =
       family = step_family w b run;
       asks = step_comes_with w b _ refl run;
       makes = tt;
+      opens = tt;
       copies = put_such (λ y. NotPreparing y.phase) w b x a named name (step_unprepared w.image b run);
       snaps = tt;
       gates = put_such (InstrMakesGates (with_actor w b) b b.fuel) w b x a named name (step_makes_gates (with_actor w b) b run);
@@ -993,6 +995,7 @@ event_lawful w a b e named h = record {
   family = event_family w b e h;
   asks = event_asks w b e h;
   makes = event_makes w b e h;
+  opens = event_opens w b e h;
   copies = done_such (PreparesBy (with_actor w b) b b.phase e) w b a e named (event_prepares w b e h);
   snaps = event_copies w b e h;
   gates = done_such (EventMakesGates (with_actor w b) b b.phase e) w b a e named (event_makes_gates w b e h);

@@ -28,17 +28,17 @@ use Rattle.rv_hart.specs.declared.Hart.{Hart}
 use Rattle.rv_hart.specs.declared.Need.{Need}
 use Rattle.rv_hart.specs.declared.Need.TheVariants as need
 use Rattle.rv_hart.specs.Local.{local, HasWidth, branches, put, next_pc, needs_first}
-use Rattle.sthread_life.specs.declared.phase.Phase.{Phase}
-use Rattle.sthread_life.specs.declared.phase.Phase.TheVariants as phase
+use Rattle.machine.specs.declared.phase.Phase.{Phase}
+use Rattle.machine.specs.declared.phase.Phase.TheVariants as phase
 use Rattle.wedge_base.specs.Files.{bits_from, may_open}
 use Rattle.wedge_base.specs.Rights.{bits_within}
 use Rattle.wedge_base.specs.declared.image.FileEntry.{FileEntry}
 use Rattle.wedge_base.specs.declared.rights.FdBits.{FdBits}
 use Rattle.wedge_base.specs.declared.rights.StreamKind.{StreamKind}
 use Rattle.wedge_base.specs.declared.rights.StreamKind.TheVariants as kind
-use Rattle.sthread_life.specs.Actors.{ActorState, answers, bits_of, slot_held, code_number, denies, ends, refuses, wants, spends, pristine, gate_held}
+use Rattle.machine.specs.Actors.{ActorState, answers, bits_of, slot_held, code_number, denies, ends, refuses, wants, spends, pristine, gate_held}
 use Rattle.cow_pages.specs.Copies.{copy_at, holds_copy}
-use Rattle.sthread_life.specs.Accesses.{load_bytes, load_copy, load_window, load_range, store_copy, store_window, store_range, has_loaded, fits_read, fits_write, buffer}
+use Rattle.machine.specs.Accesses.{load_bytes, load_copy, load_window, load_range, store_copy, store_window, store_range, has_loaded, fits_read, fits_write, buffer}
 use Rattle.wedge_base.specs.Sheets.{Draft, empty_draft, takes_tag, takes_fd, takes_gate, with_gate, first_excess, sheet_of_draft}
 use Rattle.wedge_events.specs.Slots.{Segment, IsAligned}
 use Rattle.wedge_base.specs.declared.rights.Denial.{Denial}
@@ -46,25 +46,26 @@ use Rattle.wedge_base.specs.declared.rights.Denial.TheVariants as denial
 use Rattle.wedge_events.specs.declared.cells.LivesAsk.TheVariants as lives_ask
 use Rattle.wedge_base.specs.declared.rights.Right.TheVariants as right
 use Rattle.run_laws.proofs.Buffers.{buffer_is, path_is}
-use Rattle.sthread_life.specs.Calls.{serves, is_procedure, create_with, create_checked, create_allowed, are_pages, free_at, fd_read, fd_append, fd_close, sc_new, add_right, add_right_to, sc_mem_add, add_bits, add_bits_to, sc_fd_add, add_gate_to, sc_cgate_add, with_draft, read_append_bits, a0, a1, a2, a3, a7, set_user, sc_user, path_in, set_root, sc_root, draft_call, file_at, mode_asked, suits, open_file, open_path, file_open, a4, new_gate, has_gate, makes_or_waits, may_be_gate, make_checked, make_with, enter_allowed, enter_checked, enter_lending, enter_held, lent_asked, entrance_of}
-use Rattle.sthread_life.specs.Local.{step_with_need, step_with_instr, step_with_fuel, step_with_word, step, is_running, run_local, rest}
-use Rattle.sthread_life.proofs.Resting.{stays, goes_on, running_is}
+use Rattle.machine.specs.Calls.{serves, is_procedure, create_with, create_checked, create_allowed, are_pages, free_at, fd_read, fd_append, fd_close, sc_new, add_right, add_right_to, sc_mem_add, add_bits, add_bits_to, sc_fd_add, add_gate_to, sc_cgate_add, with_draft, read_append_bits, a0, a1, a2, a3, a7, set_user, sc_user, path_in, set_root, sc_root, draft_call, file_at, mode_asked, suits, open_file, open_path, file_open, a4, new_gate, has_gate, makes_or_waits, may_be_gate, make_checked, make_with, enter_allowed, enter_checked, enter_lending, enter_held, lent_asked, entrance_of}
+use Rattle.machine.specs.Local.{step_with_need, step_with_instr, step_with_fuel, step_with_word, step, is_running, run_local, rest}
+use Rattle.machine.proofs.Resting.{stays, goes_on, running_is}
 use Rattle.run_laws.proofs.StreamCalls.{stream_request, stream_refusal, IsStreamRequest, request_at_phase, refusal_at_phase, stream_event}
-use Rattle.run_laws.specs.Cells.{Cells, slot_in, stream_in}
+use Rattle.machine.specs.Cells.{Cells, slot_in, stream_in}
 use Rattle.run_laws.specs.Refusals.{fuel_short, full, deep, no_such, bad, start_refusal, create_refusal, pages_refusal, address_refusal, life_refusal, slots_refusal, close_refusal, place_refusal, block_refusal, free_refusal, call_refusal, call_refusal_after, right_refusal, bits_refusal, gate_refusal, number_refusal, read_refusal, append_refusal, need_refusal, instr_refusal, word_refusal, refusal_at, read_refusal_after, append_refusal_after, stream_close_refusal, need_refusal_after, instr_refusal_after, word_refusal_after, refusal_after, refused, user_refusal, root_refusal, draft_refusal, file_refusal, open_refusal, make_refusal, entry_refusal, lending_refusal, enter_refusal}
 use Rattle.run_laws.specs.Requests.{Access, Request, Loads, Stores, Reads, Appends, Closes, Creates, Deletes, Allots, Frees, create_of, in_tag, in_window, buffer_bytes, in_stream, is_room, read_of, append_of, close_of, free_of, call_request, needed_request, instr_request, word_request, request_at, Opens, bits_to_open, file_of, path_at, open_of, Makes, suits_gate, make_of, Enters, lent_of, lending_of, enter_of}
 use Rattle.run_laws.specs.Allowed.{may_use, may_be_opened, lacks, is_refused, is_checked_at_event, denied as denied_of, fits_kind, opened_as, HasBegunGate, IsAboutToEnter, enter_lacks, enter_refused}
-use Rattle.sthread_life.specs.Children.{is_child}
+use Rattle.machine.specs.Children.{is_child}
 use Rattle.run_laws.specs.Ends.{end_of, copy_end, window_end, needed_end, instr_end, fuel_end, word_end, end_at}
 use Rattle.run_laws.specs.MadeGates.{IsGateOf}
-use Rattle.sthread_life.specs.CopyGrant.{copy_grants}
-use Rattle.sthread_life.specs.Preparation.{Preparation, prepare_copies}
-use Rattle.sthread_life.specs.Take.{copies_asked}
-use Rattle.sthread_life.specs.declared.copy_grant.CopyGrant.{CopyGrant}
+use Rattle.machine.specs.Opening.{FileOpening}
+use Rattle.machine.specs.CopyGrant.{copy_grants}
+use Rattle.machine.specs.Preparation.{Preparation, prepare_copies}
+use Rattle.machine.specs.Take.{copies_asked}
+use Rattle.machine.specs.declared.copy_grant.CopyGrant.{CopyGrant}
 use Rattle.run_laws.proofs.MakingGates.{MayGrant, IsMakeable, granting_at, prepared_left}
 use Rattle.cow_pages.specs.PrivateMemory.{PrivateMemory}
 use Rattle.grant_sheet.proofs.SheetWithin.{sheet_within}
-use Rattle.sthread_life.specs.Entering.{may_lend, excess_lent}
+use Rattle.machine.specs.Entering.{may_lend, excess_lent}
 use Rattle.callgate.specs.declared.gate.Gate.{Gate}
 use Rattle.run_laws.proofs.EnteringGates.{IsEnterable, enterable_at}
 use Rattle.run_laws.proofs.Drafted.{is_drafted}
@@ -141,6 +142,16 @@ IsInCell (want.Slot slot (slot_want.Sfree offset)) = (slot < most_slots) × (off
 IsInCell (want.Fd fd q) = fd < most_fds
 IsInCell q = Unit {0}
 
+-- what an actor opens: the file that its request asks for, which is allowed and not refused
+pub record IsOpening (a : ActorState) (asked : Cells → Option Request) (o : FileOpening) : Type 0 where
+  pub path : List ℕ
+  pub file : FileEntry
+  pub bits : FdBits
+  pub told : (c : Cells) → asked c ≡ Some (Opens path file bits)
+  pub allowed : lacks a (Opens path file bits) ≡ None
+  pub passed : is_refused a (Opens path file bits) ≡ false
+  pub is : o ≡ record (opened_as path file bits) { number = o.number }
+
 -- where an instruction leaves its actor, if it wants something
 abbrev pub WantsAs : (ℕ → Bool → ℕ → Type 0) → ActorState → (Cells → Option Request) → (Cells → Option ℕ) → ActorState → Phase → Type 0
 WantsAs N a asked later x (phase.Within q) = (rd : ℕ) × (s : Bool) × (x ≡ record a { phase = phase.Within q }) × ((c : Cells) → asked c ≡ request_for c a rd s q) × IsWanted (N rd s) a q × ((c : Cells) → later c ≡ refusal_for c a q) × IsInCell q
@@ -151,7 +162,7 @@ WantsAs N a asked later x (phase.Opening slot tag) = ⊥
 WantsAs N a asked later x (phase.Releasing slot) = ⊥
 WantsAs N a asked later x (phase.Entering entrance) = (x ≡ record a { phase = phase.Entering entrance }) × IsEnterable a entrance
 WantsAs N a asked later x (phase.Waiting number) = ⊥
-WantsAs N a asked later x (phase.OpeningFile o) = (x ≡ record a { phase = phase.OpeningFile o }) × (o.number ≡ None) × (a1 a ≤ a.fuel)
+WantsAs N a asked later x (phase.OpeningFile o) = (x ≡ record a { phase = phase.OpeningFile o }) × (o.number ≡ None) × (a1 a ≤ a.fuel) × IsOpening a asked o
 WantsAs N a asked later x (phase.Ending e) = Unit {0}
 WantsAs N a asked later x (phase.Ended e) = Unit {0}
 
@@ -229,7 +240,8 @@ wants_as N a asked told later x (phase.Opening slot tag) same w = w
 wants_as N a asked told later x (phase.Releasing slot) same w = w
 wants_as N a asked told later x (phase.Entering entrance) same w = w
 wants_as N a asked told later x (phase.Waiting number) same w = w
-wants_as N a asked told later x (phase.OpeningFile o) same w = w
+wants_as N a asked told later x (phase.OpeningFile o) same w =
+    (w.0, w.1, w.2, record { path = w.3.path; file = w.3.file; bits = w.3.bits; told = λ c. same c ∙ w.3.told c; allowed = w.3.allowed; passed = w.3.passed; is = w.3.is })
 wants_as N a asked told later x (phase.Ending e) same w = tt
 wants_as N a asked told later x (phase.Ended e) same w = tt
 
@@ -767,7 +779,7 @@ file_tests N a path f b true true paid may fits =
       met = λ c r h. subst (λ y. MetBy a y (record a { phase = phase.OpeningFile (opened_as path f b) })) (same_some (Opens path f b) r h)
           (record { denied = λ y e. let g : None ≡ Some y = sym none ∙ e in absurd cc; done = λ e g. refl; refused = λ e g. absurd (true≢false (sym g ∙ is)) });
       ends = refl;
-      wants = (refl, refl, paid);
+      wants = (refl, refl, paid, record { path = path; file = f; bits = b; told = λ c. refl; allowed = none; passed = is; is = refl });
       codes = λ n h. absurd cc;
     }
 
@@ -1159,7 +1171,7 @@ ReadsAs i a (phase.Opening slot tag) = (slot < slots_in i) × AsksForPages a
 ReadsAs i a (phase.Releasing slot) = Unit {0}
 ReadsAs i a (phase.Entering entrance) = IsEnterable a entrance
 ReadsAs i a (phase.Waiting number) = Unit {0}
-ReadsAs i a (phase.OpeningFile o) = (a1 a ≤ a.fuel) × NumberIn i o.number
+ReadsAs i a (phase.OpeningFile o) = (a1 a ≤ a.fuel) × NumberIn i o.number × IsOpening a (λ c. request_at i c a) o
 ReadsAs i a (phase.Ending e) = Unit {0}
 ReadsAs i a (phase.Ended e) = Unit {0}
 
@@ -1203,7 +1215,8 @@ reads_of i p x (phase.Opening slot tag) w = absurd w
 reads_of i p x (phase.Releasing slot) w = absurd w
 reads_of i p x (phase.Entering entrance) w = subst (λ y. ReadsAs i y (phase.Entering entrance)) (sym w.0) (enterable_at p (phase.Entering entrance) entrance w.1)
 reads_of i p x (phase.Waiting number) w = absurd w
-reads_of i p x (phase.OpeningFile o) w = subst (λ y. ReadsAs i y (phase.OpeningFile o)) (sym w.0) (w.2, subst (NumberIn i) (sym w.1) tt)
+reads_of i p x (phase.OpeningFile o) w = subst (λ y. ReadsAs i y (phase.OpeningFile o)) (sym w.0)
+    (w.2, subst (NumberIn i) (sym w.1) tt, record { path = w.3.path; file = w.3.file; bits = w.3.bits; told = w.3.told; allowed = w.3.allowed; passed = w.3.passed; is = w.3.is })
 reads_of i p x (phase.Ending e) w = tt
 reads_of i p x (phase.Ended e) w = tt
 

@@ -4,8 +4,8 @@ use Rattle.std.proofs.lemmas.Bool.{eqb-true, eq-eqb}
 use Rattle.std.specs.Prelude.{Option, Some, None, IfSome, ◌++◌, ◌==◌, ◌&&◌, if◌then◌else◌}
 use Rattle.wedge_base.specs.Names.{same}
 use Rattle.wedge_base.specs.declared.outcome.DenialAt.{DenialAt}
-use Rattle.sthread_life.specs.Actors.{ActorState}
-use Rattle.run_laws.specs.Worlds.{actor_named, put_actor, with_begun}
+use Rattle.machine.specs.Actors.{ActorState}
+use Rattle.machine.specs.Worlds.{actor_named, put_actor, with_begun}
 use Rattle.run_laws.specs.Moments.{noted_by}
 
 pub same_self : (xs : List ℕ) → same xs xs ≡ true

@@ -8,16 +8,16 @@ use Rattle.wedge_events.specs.declared.cells.DirectoryAsk.TheVariants as directo
 use Rattle.wedge_events.specs.declared.events.Event.{Event}
 use Rattle.wedge_events.specs.declared.events.Want.{Want}
 use Rattle.wedge_events.specs.declared.events.Want.TheVariants as want
-use Rattle.sthread_life.specs.declared.phase.Phase.TheVariants as phase
-use Rattle.sthread_life.specs.Actors.{ActorState, root}
-use Rattle.sthread_life.specs.Children.{child_name}
-use Rattle.sthread_life.specs.Local.{is_running, rest}
-use Rattle.sthread_life.specs.Take.{next_start, takes, actor_begun, child_of, run_by}
-use Rattle.run_laws.specs.Cells.{cells_after}
+use Rattle.machine.specs.declared.phase.Phase.TheVariants as phase
+use Rattle.machine.specs.Actors.{ActorState, root}
+use Rattle.machine.specs.Children.{child_name}
+use Rattle.machine.specs.Local.{is_running, rest}
+use Rattle.machine.specs.Take.{next_start, takes, actor_begun, child_of, run_by}
+use Rattle.machine.specs.Cells.{cells_after}
 use Rattle.run_laws.specs.Fuel.{fuel_of, units_of, units_of_turn}
 use Rattle.run_laws.specs.FamilyTrees.{Family}
 use Rattle.run_laws.specs.Occupancy.{most_numbers}
-use Rattle.run_laws.specs.Worlds.{WorldState, initial_state, actor_named, put_actor, with_begun, turn_of, ready, resumed}
+use Rattle.machine.specs.Worlds.{WorldState, initial_state, actor_named, put_actor, with_begun, turn_of, ready, resumed}
 use Rattle.run_laws.proofs.Between.{event_for, takes_between, takes_name}
 use Rattle.run_laws.proofs.FamilyRuns.{Acts, ActsAlone, Starts, Enters, Joins, acts, one_begins, rest_units, turn_keeps, turn_family, opening_family}
 use Rattle.run_laws.proofs.Happening.{Happens, Requested, Joined, Snaps, GateSnaps, Started, Opens, Releases, Numbers, OpensFile, LastJoined, Ended, EntersGate, LeavesGate, EntersRecycled, LeavesRecycled}
@@ -26,7 +26,7 @@ use Rattle.run_laws.proofs.Settling.{AllReady, turn_happens, turned_there}
 use Rattle.run_laws.proofs.Trees.{IsPut, find_put, IsDoer, IsOther, found_or_last}
 use Rattle.run_laws.proofs.Turns.{Stays, Back, readies, ready_name, Turned, turn_from}
 use Rattle.run_laws.proofs.WorkLeft.{NotWithin, leaves_none, paid_within}
-use Rattle.sthread_life.proofs.Resting.{rests, rest-stays, rest-name}
+use Rattle.machine.proofs.Resting.{rests, rest-stays, rest-name}
 
 -- ---- between turns no actor is within a call that wants one event
 

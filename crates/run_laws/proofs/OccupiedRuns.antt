@@ -34,22 +34,22 @@ use Rattle.wedge_events.specs.declared.cells.SlotAsk.{SlotAsk}
 use Rattle.wedge_events.specs.declared.cells.SlotAsk.TheVariants as slot_ask
 use Rattle.wedge_events.specs.declared.cells.SlotReply.{SlotReply}
 use Rattle.wedge_events.specs.declared.cells.SlotReply.TheVariants as slot_reply
-use Rattle.sthread_life.specs.declared.phase.Phase.{Phase}
-use Rattle.sthread_life.specs.declared.phase.Phase.TheVariants as phase
-use Rattle.sthread_life.specs.Actors.{ActorState, root}
-use Rattle.sthread_life.specs.Between.{IsBetween}
-use Rattle.sthread_life.specs.Calls.{a0, are_pages}
+use Rattle.machine.specs.declared.phase.Phase.{Phase}
+use Rattle.machine.specs.declared.phase.Phase.TheVariants as phase
+use Rattle.machine.specs.Actors.{ActorState, root}
+use Rattle.machine.specs.Between.{IsBetween}
+use Rattle.machine.specs.Calls.{a0, are_pages}
 use Rattle.run_laws.specs.CellHistories.{Occupant, occupant, occupant_in, occupant_by, occupant_after_event, places_after_event}
-use Rattle.run_laws.specs.Cells.{Cells, opening_cells, slot_in, tag_in, cells_after}
-use Rattle.sthread_life.specs.Children.{child_name}
+use Rattle.machine.specs.Cells.{Cells, opening_cells, slot_in, tag_in, cells_after}
+use Rattle.machine.specs.Children.{child_name}
 use Rattle.run_laws.specs.Families.{made_under, made_by}
 use Rattle.run_laws.specs.Laws.{SlotsAreOccupied}
-use Rattle.sthread_life.specs.Local.{rest, is_running}
+use Rattle.machine.specs.Local.{rest, is_running}
 use Rattle.run_laws.specs.Moments.{EachTurn}
 use Rattle.run_laws.specs.GateCalls.{EventMakesGates}
 use Rattle.run_laws.specs.Occupancy.{slot_of_call, tag_of_call, slot_known, GateHasIn, HasIn, AreOccupied, AskSuits, most_numbers, IsFreed, SlotsSuit}
-use Rattle.sthread_life.specs.Take.{next_start, takes, actor_begun, child_of, run_by}
-use Rattle.run_laws.specs.Worlds.{WorldState, initial_state, actor_named, with_actor, resumed, turn_of, Runs}
+use Rattle.machine.specs.Take.{next_start, takes, actor_begun, child_of, run_by}
+use Rattle.machine.specs.Worlds.{WorldState, initial_state, actor_named, with_actor, resumed, turn_of, Runs}
 use Rattle.run_laws.proofs.Between.{IsPreparing, MayPrepare, MayNumber, Leaves, event_for, takes_name, takes_between, MayWait}
 use Rattle.run_laws.proofs.Bounding.{equal_keys, with_same, with_other}
 use Rattle.run_laws.proofs.CellChanging.{IsChanged, event_changes}
@@ -63,7 +63,7 @@ use Rattle.run_laws.proofs.Meeting.{IsRequest}
 use Rattle.run_laws.proofs.NumbersGiven.{Spends, turn_spends, opening_spends, released_number}
 use Rattle.run_laws.proofs.Occupying.{Turns, IsPlain, occupied_after, stays_so, claims_so, opens_so, closes_so, releases_so}
 use Rattle.run_laws.proofs.Opening.{cells_open}
-use Rattle.sthread_life.proofs.Resting.{rest-name, rest-stays, rest-uncalm}
+use Rattle.machine.proofs.Resting.{rest-name, rest-stays, rest-uncalm}
 use Rattle.run_laws.proofs.Settling.{AreCells, AllReady, slots_size, turn_happens, turn_ready, opening_ready, turned_there}
 use Rattle.run_laws.proofs.SlotsKnown.{grown_has, rest_has, same_has, child_has, run_of_has}
 use Rattle.run_laws.proofs.Trees.{IsPut, put_same}
@@ -104,8 +104,8 @@ quiet_tag (Some x) (slot_ask.Smalloc tag size) (slot_reply.Placed offset) k = re
 quiet_tag None (slot_ask.Sfree offset live) slot_reply.Freed k = refl
 quiet_tag (Some x) (slot_ask.Sfree offset live) slot_reply.Freed k = refl
 quiet_tag t (slot_ask.Close tag) r k = refl
-quiet_tag t (slot_ask.Load offset width live) r k = refl
-quiet_tag t (slot_ask.Store offset width value live) r k = refl
+quiet_tag t (slot_ask.Load width offset live) r k = refl
+quiet_tag t (slot_ask.Store width offset value live) r k = refl
 quiet_tag t (slot_ask.Smalloc tag size) r k = refl
 quiet_tag t (slot_ask.Sfree offset live) r k = refl
 quiet_tag t (slot_ask.Snap tag) r k = refl
@@ -204,20 +204,20 @@ rest_free i a free = by_running (is_running a.phase) refl
 
 -- ---- the replies to requests that are quiet
 
-load_quiet : (g : Option Segment) (offset width : ℕ) (live : Option Live) → IsQuietSlot (slot_reply_of g (slot_ask.Load offset width live)) (slot_ask.Load offset width live)
+load_quiet : (g : Option Segment) (offset width : ℕ) (live : Option Live) → IsQuietSlot (slot_reply_of g (slot_ask.Load width offset live)) (slot_ask.Load width offset live)
 load_quiet None offset width live = tt
 load_quiet (Some g) offset width live = by_tests _ _
   where
-    by_tests : (u t : Bool) → IsQuietSlot (if not u then slot_reply.Unmapped else if t then slot_reply.Loaded (number_of (slice_range g.bytes offset (offset + width))) else slot_reply.Denied g.tag right.Read) (slot_ask.Load offset width live)
+    by_tests : (u t : Bool) → IsQuietSlot (if not u then slot_reply.Unmapped else if t then slot_reply.Loaded (number_of (slice_range g.bytes offset (offset + width))) else slot_reply.Denied g.tag right.Read) (slot_ask.Load width offset live)
     by_tests false t = tt
     by_tests true false = tt
     by_tests true true = tt
 
-store_quiet : (g : Option Segment) (offset width value : ℕ) (live : Option Live) → IsQuietSlot (slot_reply_of g (slot_ask.Store offset width value live)) (slot_ask.Store offset width value live)
+store_quiet : (g : Option Segment) (offset width value : ℕ) (live : Option Live) → IsQuietSlot (slot_reply_of g (slot_ask.Store width offset value live)) (slot_ask.Store width offset value live)
 store_quiet None offset width value live = tt
 store_quiet (Some g) offset width value live = by_tests _ _
   where
-    by_tests : (u t : Bool) → IsQuietSlot (if not u then slot_reply.Unmapped else if t then slot_reply.Stored else slot_reply.Denied g.tag right.ReadWrite) (slot_ask.Store offset width value live)
+    by_tests : (u t : Bool) → IsQuietSlot (if not u then slot_reply.Unmapped else if t then slot_reply.Stored else slot_reply.Denied g.tag right.ReadWrite) (slot_ask.Store width offset value live)
     by_tests false t = tt
     by_tests true false = tt
     by_tests true true = tt

@@ -4,10 +4,10 @@ use Rattle.std.proofs.lemmas.Bool.{eqb-true, eq-eqb}
 use Rattle.std.specs.Prelude.{Option, Some, None, ◌⊎◌, if◌then◌else◌}
 use Rattle.wedge_events.specs.Directories.{Directory, Claim, is_claimed}
 use Rattle.wedge_base.specs.Names.{same}
-use Rattle.sthread_life.specs.Actors.{ActorState}
-use Rattle.run_laws.specs.Cells.{Cells, tag_in}
+use Rattle.machine.specs.Actors.{ActorState}
+use Rattle.machine.specs.Cells.{Cells, tag_in}
 use Rattle.run_laws.specs.Occupancy.{slot_of_call, tag_of_call, HasIn, AreOccupied}
-use Rattle.run_laws.specs.Worlds.{actor_named, put_actor, with_begun}
+use Rattle.machine.specs.Worlds.{actor_named, put_actor, with_begun}
 use Rattle.run_laws.proofs.Named.{same_self, same_equal, named_begun}
 use Rattle.run_laws.proofs.Trees.{IsPut, IsDoer, IsOther, FoundPut, find_put, found_put, found_else, found_or_last}
 use Rattle.tag_directory.specs.Laws.{IsClaimed}

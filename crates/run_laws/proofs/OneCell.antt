@@ -2,7 +2,7 @@
 use Rattle.std.proofs.Common.{◌≡◌, ℕ, zero, suc, ◌<◌, ◌==◌, Bool, true, false, List, [], ◌∷◌, length, refl, sym, ap, subst, ◌∙◌, arith}
 use Rattle.std.proofs.lemmas.Bool.{eqb-true, eq-eqb}
 use Rattle.std.specs.Prelude.{Option, Some, None, slice_get, slice_set, if◌then◌else◌}
-use Rattle.run_laws.specs.Cells.{held}
+use Rattle.machine.specs.Cells.{held}
 use Rattle.run_laws.proofs.Checking.{set_held}
 
 get_put_same : {X : Type 0} (xs : List (Option X)) (s : ℕ) (old : X) (new : Option X) → held (slice_get xs s) ≡ Some old → held (slice_get (slice_set xs s new) s) ≡ new

@@ -6,7 +6,7 @@ use Rattle.wedge_events.specs.Slots.{declared_segment, declared_slots}
 use Rattle.wedge_events.specs.Streams.{declared_stream}
 use Rattle.wedge_base.specs.declared.image.TagEntry.{TagEntry}
 use Rattle.wedge_base.specs.declared.image.FdEntry.{FdEntry}
-use Rattle.run_laws.specs.Cells.{held, nothings}
+use Rattle.machine.specs.Cells.{held, nothings}
 use Rattle.run_laws.specs.Laws.{CellsOpen}
 
 -- cells with nothing in them, alone and behind others

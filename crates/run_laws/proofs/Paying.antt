@@ -35,28 +35,28 @@ use Rattle.wedge_events.specs.declared.cells.SlotReply.TheVariants as slot_reply
 use Rattle.wedge_events.specs.declared.cells.StreamAsk.{StreamAsk}
 use Rattle.wedge_events.specs.declared.cells.StreamAsk.TheVariants as stream_ask
 use Rattle.rv_isa.specs.Table.{decode}
-use Rattle.sthread_life.specs.Actors.{ActorState, spends}
-use Rattle.sthread_life.specs.Opening.{FileOpening}
+use Rattle.machine.specs.Actors.{ActorState, spends}
+use Rattle.machine.specs.Opening.{FileOpening}
 use Rattle.wedge_base.specs.declared.rights.StreamKind.{StreamKind}
 use Rattle.wedge_events.specs.declared.cells.StreamReply.TheVariants as stream_reply
-use Rattle.sthread_life.specs.declared.phase.Phase.TheVariants as phase
-use Rattle.sthread_life.specs.Calls.{a0, a1, a2, a3, a7, path_in}
-use Rattle.sthread_life.specs.Children.{without_child}
-use Rattle.run_laws.specs.Cells.{Cells, stream_in}
-use Rattle.sthread_life.specs.Local.{step_with_instr, step_with_fuel, step_with_word, step}
-use Rattle.sthread_life.specs.Take.{runs, answered_end, takes, has_entered}
-use Rattle.run_laws.specs.Worlds.{WorldState}
+use Rattle.machine.specs.declared.phase.Phase.TheVariants as phase
+use Rattle.machine.specs.Calls.{a0, a1, a2, a3, a7, path_in}
+use Rattle.machine.specs.Children.{without_child}
+use Rattle.machine.specs.Cells.{Cells, stream_in}
+use Rattle.machine.specs.Local.{step_with_instr, step_with_fuel, step_with_word, step}
+use Rattle.machine.specs.Take.{runs, answered_end, takes, has_entered}
+use Rattle.machine.specs.Worlds.{WorldState}
 use Rattle.run_laws.specs.Refusals.{fuel_short, root_refusal}
 use Rattle.run_laws.specs.Requests.{path_at}
 use Rattle.run_laws.specs.Paying.{unrefused, call_cost, need_cost, instr_cost, cost_of_word, cost_at, cost_by, given_by, brought_by, given_in}
-use Rattle.sthread_life.proofs.Resting.{root_price, call_price, need_price, instr_price, not_below, goes_executed}
+use Rattle.machine.proofs.Resting.{root_price, call_price, need_price, instr_price, not_below, goes_executed}
 use Rattle.run_laws.proofs.Buffers.{path_is}
 use Rattle.cow_pages.specs.Listed.{bytes_listed}
 use Rattle.run_laws.proofs.Between.{event_for, loads_fuel, number_fuel, opened_at, joined_is, snapped_is}
 use Rattle.run_laws.proofs.Happening.{Happens, Requested, Joined, Snaps, GateSnaps, Started, Opens, Releases, Numbers, OpensFile, LastJoined, Ended, EntersGate, LeavesGate, EntersRecycled, LeavesRecycled}
 use Rattle.run_laws.proofs.Meeting.{IsRequest}
 use Rattle.run_laws.proofs.StreamCalls.{IsStreamRequest, read_cases, append_cases, close_cases}
-use Rattle.sthread_life.specs.Entrance.{Entrance}
+use Rattle.machine.specs.Entrance.{Entrance}
 
 -- ---- an instruction
 

@@ -28,23 +28,23 @@ use Rattle.wedge_events.specs.declared.events.Want.{Want}
 use Rattle.wedge_events.specs.declared.events.Want.TheVariants as want
 use Rattle.wedge_base.specs.declared.rights.Right.{Right}
 use Rattle.wedge_base.specs.declared.rights.Right.TheVariants as right
-use Rattle.sthread_life.specs.declared.copy_grant.CopyGrant.{CopyGrant}
-use Rattle.sthread_life.specs.declared.phase.Phase.{Phase}
-use Rattle.sthread_life.specs.declared.phase.Phase.TheVariants as phase
-use Rattle.sthread_life.specs.Actors.{ActorState, pristine, right_of}
-use Rattle.sthread_life.specs.Calls.{a0, draft_at}
-use Rattle.run_laws.specs.Cells.{slot_in}
+use Rattle.machine.specs.declared.copy_grant.CopyGrant.{CopyGrant}
+use Rattle.machine.specs.declared.phase.Phase.{Phase}
+use Rattle.machine.specs.declared.phase.Phase.TheVariants as phase
+use Rattle.machine.specs.Actors.{ActorState, pristine, right_of}
+use Rattle.machine.specs.Calls.{a0, draft_at}
+use Rattle.machine.specs.Cells.{slot_in}
 use Rattle.run_laws.specs.ChildCopies.{copy_asked, copies_in, own_at, IsPrepared, Prepares, pages_living, snap_reply, NotPreparing, SnapsNext, PreparesBy}
-use Rattle.sthread_life.specs.CopyGrant.{copy_grants, is_copy_alone}
-use Rattle.sthread_life.specs.Preparation.{Preparation, copied_from, prepare_copies, behind_first}
-use Rattle.sthread_life.specs.Local.{step}
-use Rattle.sthread_life.specs.Take.{copies_asked, has_snapped, takes, copied_on}
-use Rattle.run_laws.specs.Worlds.{WorldState, with_actor}
+use Rattle.machine.specs.CopyGrant.{copy_grants, is_copy_alone}
+use Rattle.machine.specs.Preparation.{Preparation, copied_from, prepare_copies, behind_first}
+use Rattle.machine.specs.Local.{step}
+use Rattle.machine.specs.Take.{copies_asked, has_snapped, takes, copied_on}
+use Rattle.machine.specs.Worlds.{WorldState, with_actor}
 use Rattle.run_laws.proofs.Between.{event_for, IsPreparing, numbered_is, takes_between, made_is, entered_is}
-use Rattle.sthread_life.proofs.ByNumber.{same_number, number_itself, found_with}
+use Rattle.machine.proofs.ByNumber.{same_number, number_itself, found_with}
 use Rattle.run_laws.proofs.Happening.{Happens, AtSnap, Requested, Joined, Snaps, GateSnaps, Started, Opens, Releases, Numbers, OpensFile, LastJoined, Ended, no_preparing, EntersGate, LeavesGate, EntersRecycled, LeavesRecycled}
 use Rattle.run_laws.proofs.Meeting.{IsRequest}
-use Rattle.sthread_life.proofs.Resting.{IsCalm, steps_step}
+use Rattle.machine.proofs.Resting.{IsCalm, steps_step}
 
 -- ---- the copies of the starter's own
 

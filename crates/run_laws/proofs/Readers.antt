@@ -23,15 +23,15 @@ use Rattle.wedge_events.specs.declared.events.SlotWant.TheVariants as slot_want
 use Rattle.wedge_events.specs.declared.events.Turn.{Turn}
 use Rattle.wedge_events.specs.declared.events.Want.{Want}
 use Rattle.wedge_events.specs.declared.events.Want.TheVariants as want
-use Rattle.sthread_life.specs.Actors.{ActorState, right_of, bits_of}
-use Rattle.sthread_life.specs.Local.{rest}
-use Rattle.sthread_life.specs.Take.{pair}
+use Rattle.machine.specs.Actors.{ActorState, right_of, bits_of}
+use Rattle.machine.specs.Local.{rest}
+use Rattle.machine.specs.Take.{pair}
 use Rattle.run_laws.specs.Allowed.{may_use}
-use Rattle.run_laws.specs.Cells.{Cells, slot_in, stream_in}
+use Rattle.machine.specs.Cells.{Cells, slot_in, stream_in}
 use Rattle.run_laws.specs.Laws.{RunsReadTheirOwn}
 use Rattle.run_laws.specs.Moments.{EachTurn}
 use Rattle.run_laws.specs.Readers.{loads_in, TurnLoadsOwn, reads_of, TurnReadsOwn}
-use Rattle.run_laws.specs.Worlds.{WorldState, initial_state, turn_of, resumed, Runs}
+use Rattle.machine.specs.Worlds.{WorldState, initial_state, turn_of, resumed, Runs}
 use Rattle.run_laws.proofs.Between.{event_for}
 use Rattle.run_laws.proofs.Happening.{Happens, Requested, Joined, Snaps, GateSnaps, Started, Opens, Releases, Numbers, OpensFile, LastJoined, Ended, EntersGate, LeavesGate, EntersRecycled, LeavesRecycled}
 use Rattle.run_laws.proofs.Meeting.{IsRequest}
@@ -48,14 +48,14 @@ IsLoadable c b slot = (g : Segment) × (slot_in c slot ≡ Some g) × (may_use b
 
 -- a load that took place was allowed
 loaded_by : (s slot offset width value : ℕ) (live : Option Live) (tag : ℕ) (within held : Bool)
-    → loads_in slot (event.Slot s (slot_ask.Load offset width live) (if not within then slot_reply.Unmapped else if held then slot_reply.Loaded value else slot_reply.Denied tag right.Read)) ≡ true
+    → loads_in slot (event.Slot s (slot_ask.Load width offset live) (if not within then slot_reply.Unmapped else if held then slot_reply.Loaded value else slot_reply.Denied tag right.Read)) ≡ true
     → ((s == slot) ≡ true) × (held ≡ true)
 loaded_by s slot offset width value live tag false held e = absurd (true≢false (sym e))
 loaded_by s slot offset width value live tag true false e = absurd (true≢false (sym e))
 loaded_by s slot offset width value live tag true true e = (e, refl)
 
 load_owned : (c : Cells) (b : ActorState) (s offset width slot : ℕ) (o : Option Segment) → slot_in c s ≡ o
-    → loads_in slot (event.Slot s (slot_ask.Load offset width (pair b (option_map (λ g. g.tag) o))) (slot_reply_of o (slot_ask.Load offset width (pair b (option_map (λ g. g.tag) o))))) ≡ true → IsLoadable c b slot
+    → loads_in slot (event.Slot s (slot_ask.Load width offset (pair b (option_map (λ g. g.tag) o))) (slot_reply_of o (slot_ask.Load width offset (pair b (option_map (λ g. g.tag) o))))) ≡ true → IsLoadable c b slot
 load_owned c b s offset width slot None there e = absurd (true≢false (sym e))
 load_owned c b s offset width slot (Some g) there e =
     let live = Some (record { tag = g.tag; right = right_of b g.tag }) in

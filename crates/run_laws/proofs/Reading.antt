@@ -13,11 +13,11 @@ use Rattle.wedge_base.specs.declared.rights.FdBits.{FdBits}
 use Rattle.wedge_events.specs.declared.events.Event.TheVariants as event
 use Rattle.wedge_events.specs.declared.cells.StreamAsk.{StreamAsk}
 use Rattle.wedge_events.specs.declared.cells.StreamAsk.TheVariants as stream_ask
-use Rattle.sthread_life.specs.Actors.{ActorState}
-use Rattle.sthread_life.specs.Calls.{a1, a2}
-use Rattle.sthread_life.specs.Accesses.{fits_write}
+use Rattle.machine.specs.Actors.{ActorState}
+use Rattle.machine.specs.Calls.{a1, a2}
+use Rattle.machine.specs.Accesses.{fits_write}
 use Rattle.run_laws.specs.Remembering.{ReadWrites, EventRemembers}
-use Rattle.sthread_life.specs.Take.{takes, has_read}
+use Rattle.machine.specs.Take.{takes, has_read}
 use Rattle.run_laws.proofs.StreamCalls.{read_cases}
 use Rattle.run_laws.proofs.WritingRanges.{written-zero, written-suc, lies_is, written_at}
 

@@ -29,17 +29,17 @@ use Rattle.wedge_events.specs.declared.events.Want.TheVariants as want
 use Rattle.callgate.specs.Gate.{gate_named}
 use Rattle.callgate.specs.Lending.{IsRunSheet}
 use Rattle.callgate.specs.declared.gate.Gate.{Gate}
-use Rattle.sthread_life.specs.Actors.{ActorState, root}
-use Rattle.sthread_life.specs.Calls.{a0}
-use Rattle.run_laws.specs.Cells.{Cells, kept_in, cells_after}
-use Rattle.sthread_life.specs.Children.{child_name, without_child}
+use Rattle.machine.specs.Actors.{ActorState, root}
+use Rattle.machine.specs.Calls.{a0}
+use Rattle.machine.specs.Cells.{Cells, kept_in, cells_after}
+use Rattle.machine.specs.Children.{child_name, without_child}
 use Rattle.run_laws.specs.CopiesGranted.{AreGranted, AreOwnCopiesGranted, grants_copy}
 use Rattle.run_laws.specs.Ends.{is_end_event}
-use Rattle.sthread_life.specs.Entering.{sheet_lent, may_lend}
-use Rattle.sthread_life.specs.Local.{has_ended, is_running, step, run_local, rest}
+use Rattle.machine.specs.Entering.{sheet_lent, may_lend}
+use Rattle.machine.specs.Local.{has_ended, is_running, step, run_local, rest}
 use Rattle.run_laws.specs.RecycledGates.{IsInside, IsEntered, IsKeptFor, IsRunOf, AreRunsAlone}
-use Rattle.sthread_life.specs.Take.{next_start, takes, actor_begun, child_of, run_by}
-use Rattle.run_laws.specs.Worlds.{WorldState, initial_state, actor_named, put_actor, with_begun, ready, resumed, with_actor}
+use Rattle.machine.specs.Take.{next_start, takes, actor_begun, child_of, run_by}
+use Rattle.machine.specs.Worlds.{WorldState, initial_state, actor_named, put_actor, with_begun, ready, resumed, with_actor}
 use Rattle.run_laws.proofs.Between.{event_for, joined_is, entered_is, takes_name}
 use Rattle.run_laws.proofs.CellChanging.{gate_changes}
 use Rattle.run_laws.proofs.EnteringGates.{run_is}
@@ -54,7 +54,7 @@ use Rattle.run_laws.proofs.KnownGates.{same_id, itself, named_still, Grows, Keep
 use Rattle.run_laws.proofs.Mediating.{reached}
 use Rattle.run_laws.proofs.Meeting.{IsRequest}
 use Rattle.run_laws.proofs.Named.{same_self, same_equal, found_name, named_begun, put_put}
-use Rattle.sthread_life.proofs.Resting.{rests, rest-name, rest-ended, rest-stays, stays, goes_on}
+use Rattle.machine.proofs.Resting.{rests, rest-name, rest-ended, rest-stays, stays, goes_on}
 use Rattle.run_laws.proofs.Settling.{AllReady, turn_happens, turned_there}
 use Rattle.run_laws.proofs.Trees.{IsPut, IsDoer, IsOther, child_apart, find_put, found_put, found_else, found_behind, found_or_last}
 use Rattle.run_laws.proofs.Turns.{Turned, ready_is, ready_name, ready_ended}

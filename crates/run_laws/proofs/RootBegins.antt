@@ -8,11 +8,11 @@ use Rattle.wedge_base.specs.declared.rights.Right.{Right}
 use Rattle.wedge_base.specs.declared.rights.Right.TheVariants as right
 use Rattle.wedge_events.specs.Slots.{declared_segment}
 use Rattle.cow_pages.specs.PrivateMemory.{PrivateMemory}
-use Rattle.sthread_life.specs.Actors.{root, root_memory}
-use Rattle.sthread_life.specs.CopyGrant.{is_copy_alone}
+use Rattle.machine.specs.Actors.{root, root_memory}
+use Rattle.machine.specs.CopyGrant.{is_copy_alone}
 use Rattle.grant_sheet.proofs.RootSheets.{root_declared}
-use Rattle.sthread_life.specs.Preparation.{with_declared}
-use Rattle.sthread_life.proofs.ByNumber.{found_there, found_beside}
+use Rattle.machine.specs.Preparation.{with_declared}
+use Rattle.machine.proofs.ByNumber.{found_there, found_beside}
 use Rattle.run_laws.specs.RootBegins.{copied_under, declared_copy, RootBegins}
 
 -- copies with one more, where the right is that to a copy alone

@@ -18,17 +18,17 @@ use Rattle.wedge_events.specs.declared.events.Event.{Event}
 use Rattle.wedge_events.specs.declared.events.Event.TheVariants as event
 use Rattle.wedge_events.specs.declared.events.Turn.{Turn}
 use Rattle.wedge_base.specs.declared.outcome.ActorLine.{ActorLine}
-use Rattle.sthread_life.specs.declared.phase.Phase.{Phase}
-use Rattle.sthread_life.specs.declared.phase.Phase.TheVariants as phase
-use Rattle.sthread_life.specs.Actors.{ActorState, root}
-use Rattle.sthread_life.specs.Local.{rest, is_running, has_ended, end_reached}
-use Rattle.sthread_life.specs.Children.{child_name}
-use Rattle.sthread_life.specs.Take.{current_want, wanted_at, takes, child_of, run_by, run_at, actor_begun, asks}
-use Rattle.sthread_life.specs.Between.{GivesBelow}
-use Rattle.run_laws.specs.Cells.{Cells, nothings, slot_in, stream_in, cells_after, event_of, live_at}
-use Rattle.run_laws.specs.Worlds.{WorldState, initial_state, actor_named, put_actor, with_begun, event_at, gate_event, apply_event, wanting, turn_with, turn_of, ended_with, resumes, ready_at, ready, resumed, at_rest, Runs, is_ended, is_complete, all_at_rest}
-use Rattle.run_laws.specs.Outcomes.{with_actor_line, lines_of, labels_of, streams_of, outcome_of}
-use Rattle.sthread_life.proofs.Resting.{rest-name, rest-ended, rest-labels, rest-stays, rest-uncalm, rest_rest, ended-stays}
+use Rattle.machine.specs.declared.phase.Phase.{Phase}
+use Rattle.machine.specs.declared.phase.Phase.TheVariants as phase
+use Rattle.machine.specs.Actors.{ActorState, root}
+use Rattle.machine.specs.Local.{rest, is_running, has_ended, end_reached}
+use Rattle.machine.specs.Children.{child_name}
+use Rattle.machine.specs.Take.{current_want, wanted_at, takes, child_of, run_by, run_at, actor_begun, asks}
+use Rattle.machine.specs.Between.{GivesBelow}
+use Rattle.machine.specs.Cells.{Cells, nothings, slot_in, stream_in, cells_after, event_of, live_at}
+use Rattle.machine.specs.Worlds.{WorldState, initial_state, actor_named, put_actor, with_begun, event_at, gate_event, apply_event, wanting, turn_with, turn_of, ended_with, resumes, ready_at, ready, resumed, at_rest, Runs, is_ended, is_complete, all_at_rest}
+use Rattle.machine.specs.Outcomes.{with_actor_line, lines_of, labels_of, streams_of, outcome_of}
+use Rattle.machine.proofs.Resting.{rest-name, rest-ended, rest-labels, rest-stays, rest-uncalm, rest_rest, ended-stays}
 use Rattle.run_laws.proofs.Turns.{back, RunEnded, Readies, Stays, Back, readies, ready_is, ready_name, ready_ended, ready_end, ready_else, waits_or, Turned, turn_from}
 use Rattle.run_laws.proofs.Between.{takes_name}
 use Rattle.run_laws.proofs.Named.{found_name, named_begun, named_put_other, put_put, same_equal, named_put}

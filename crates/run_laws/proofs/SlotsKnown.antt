@@ -13,15 +13,15 @@ use Rattle.callgate.specs.Lending.{tag_lent}
 use Rattle.callgate.specs.declared.gate.Gate.{Gate}
 use Rattle.grant_sheet.specs.Granting.{IsWithin}
 use Rattle.rv_hart.specs.Local.{reg}
-use Rattle.sthread_life.specs.Actors.{ActorState}
+use Rattle.machine.specs.Actors.{ActorState}
 use Rattle.run_laws.specs.Families.{IsChild, IsRun}
-use Rattle.sthread_life.specs.Entering.{sheet_lent}
-use Rattle.sthread_life.specs.Local.{is_running, step, run_local, rest}
+use Rattle.machine.specs.Entering.{sheet_lent}
+use Rattle.machine.specs.Local.{is_running, step, run_local, rest}
 use Rattle.run_laws.specs.Occupancy.{slot_known, GateHasIn, HasIn}
-use Rattle.run_laws.specs.Worlds.{initial_state}
+use Rattle.machine.specs.Worlds.{initial_state}
 use Rattle.run_laws.proofs.GateRuns.{held_is}
 use Rattle.run_laws.proofs.KnownGates.{Grows, Keeps, Adds, step_grows}
-use Rattle.sthread_life.proofs.Resting.{steps_step, stays, goes_on}
+use Rattle.machine.proofs.Resting.{steps_step, stays, goes_on}
 
 -- ---- sheets
 

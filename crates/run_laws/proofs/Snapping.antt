@@ -15,11 +15,11 @@ use Rattle.wedge_events.specs.declared.events.Event.{Event}
 use Rattle.wedge_events.specs.declared.events.SlotWant.TheVariants as slot_want
 use Rattle.wedge_events.specs.declared.events.Want.{Want}
 use Rattle.wedge_events.specs.declared.events.Want.TheVariants as want
-use Rattle.sthread_life.specs.declared.phase.Phase.{Phase}
-use Rattle.sthread_life.specs.Actors.{ActorState}
-use Rattle.run_laws.specs.Cells.{Cells, slot_in}
+use Rattle.machine.specs.declared.phase.Phase.{Phase}
+use Rattle.machine.specs.Actors.{ActorState}
+use Rattle.machine.specs.Cells.{Cells, slot_in}
 use Rattle.run_laws.specs.ChildCopies.{is_snapped, is_snap, SnapsAt}
-use Rattle.run_laws.specs.Worlds.{WorldState}
+use Rattle.machine.specs.Worlds.{WorldState}
 use Rattle.run_laws.proofs.Between.{event_for}
 use Rattle.run_laws.proofs.Happening.{Happens, Requested, Joined, Snaps, GateSnaps, Started, Opens, Releases, Numbers, OpensFile, LastJoined, Ended, EntersGate, LeavesGate, EntersRecycled, LeavesRecycled}
 use Rattle.run_laws.proofs.Meeting.{IsRequest}
@@ -52,7 +52,7 @@ free_copies_not offset live (Some g) = by_tests (at_least (right_in live) right.
     by_tests true true = refl
     by_tests true false = refl
 
-load_copies_not : (offset width : ℕ) (live : Option Live) (g : Option Segment) → is_snapped (slot_reply_of g (slot_ask.Load offset width live)) ≡ false
+load_copies_not : (offset width : ℕ) (live : Option Live) (g : Option Segment) → is_snapped (slot_reply_of g (slot_ask.Load width offset live)) ≡ false
 load_copies_not offset width live None = refl
 load_copies_not offset width live (Some g) = by_tests (nat_lt offset (length g.bytes)) (at_least (right_in live) right.Read)
   where
@@ -61,7 +61,7 @@ load_copies_not offset width live (Some g) = by_tests (nat_lt offset (length g.b
     by_tests true false = refl
     by_tests true true = refl
 
-store_copies_not : (offset width value : ℕ) (live : Option Live) (g : Option Segment) → is_snapped (slot_reply_of g (slot_ask.Store offset width value live)) ≡ false
+store_copies_not : (offset width value : ℕ) (live : Option Live) (g : Option Segment) → is_snapped (slot_reply_of g (slot_ask.Store width offset value live)) ≡ false
 store_copies_not offset width value live None = refl
 store_copies_not offset width value live (Some g) = by_tests (nat_lt offset (length g.bytes)) (at_least (right_in live) right.ReadWrite)
   where

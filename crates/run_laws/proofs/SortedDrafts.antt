@@ -5,19 +5,19 @@ use Rattle.wedge_base.specs.Images.{Image}
 use Rattle.wedge_base.specs.Names.{same, root_name}
 use Rattle.wedge_events.specs.declared.events.Event.{Event}
 use Rattle.wedge_events.specs.declared.events.Turn.{Turn}
-use Rattle.sthread_life.specs.Actors.{ActorState, root}
-use Rattle.sthread_life.specs.Children.{child_name}
-use Rattle.sthread_life.specs.Local.{rest, run_local}
-use Rattle.sthread_life.specs.Take.{next_start, takes, actor_begun, child_of, run_by}
+use Rattle.machine.specs.Actors.{ActorState, root}
+use Rattle.machine.specs.Children.{child_name}
+use Rattle.machine.specs.Local.{rest, run_local}
+use Rattle.machine.specs.Take.{next_start, takes, actor_begun, child_of, run_by}
 use Rattle.run_laws.specs.Laws.{DraftsAreSorted}
-use Rattle.run_laws.specs.Worlds.{WorldState, initial_state, actor_named, put_actor, with_begun, Runs, ready, resumed}
+use Rattle.machine.specs.Worlds.{WorldState, initial_state, actor_named, put_actor, with_begun, Runs, ready, resumed}
 use Rattle.run_laws.proofs.Between.{takes_name}
 use Rattle.run_laws.proofs.DraftsFit.{AreFew, get_few, run_few, rest_few, takes_few}
 use Rattle.run_laws.proofs.FamilyRuns.{Acts, ActsAlone, Starts, Enters, Joins, acts, one_begins}
 use Rattle.run_laws.proofs.Settling.{AllReady, turn_happens, turn_ready, opening_ready, turned_there}
 use Rattle.run_laws.proofs.Trees.{IsPut, find_put, IsDoer, IsOther, found_or_last}
 use Rattle.run_laws.proofs.Turns.{ready_is, ready_name, Turned, turn_from}
-use Rattle.sthread_life.proofs.Resting.{rest-name}
+use Rattle.machine.proofs.Resting.{rest-name}
 
 -- the drafts of each actor have at most 1,024 grants each, in order
 abbrev FewDrafts : List ActorState → Type 0

@@ -10,10 +10,10 @@ use Rattle.wedge_events.specs.declared.cells.StreamAsk.{StreamAsk}
 use Rattle.wedge_events.specs.declared.cells.StreamAsk.TheVariants as ask
 use Rattle.wedge_events.specs.declared.cells.StreamReply.{StreamReply}
 use Rattle.wedge_events.specs.declared.cells.StreamReply.TheVariants as reply
-use Rattle.sthread_life.specs.declared.phase.Phase.{Phase}
-use Rattle.sthread_life.specs.Actors.{ActorState, bits_of}
-use Rattle.sthread_life.specs.Calls.{a1, a2}
-use Rattle.sthread_life.specs.Accesses.{fits_write}
+use Rattle.machine.specs.declared.phase.Phase.{Phase}
+use Rattle.machine.specs.Actors.{ActorState, bits_of}
+use Rattle.machine.specs.Calls.{a1, a2}
+use Rattle.machine.specs.Accesses.{fits_write}
 use Rattle.run_laws.specs.Requests.{Request, Reads, Appends, Closes, in_stream}
 use Rattle.run_laws.specs.Refusals.{read_refusal_after, append_refusal_after, stream_close_refusal}
 use Rattle.run_laws.specs.Allowed.{is_checked_at_event}

@@ -14,11 +14,11 @@ use Rattle.wedge_events.specs.declared.cells.StreamAsk.TheVariants as stream_ask
 use Rattle.wedge_events.specs.declared.cells.StreamReply.{StreamReply}
 use Rattle.wedge_events.specs.declared.cells.StreamReply.TheVariants as reply
 use Rattle.wedge_base.specs.Images.{Image}
-use Rattle.sthread_life.specs.Actors.{ActorState, bits_of, refuses, spends, answers}
-use Rattle.sthread_life.specs.Calls.{a2}
-use Rattle.sthread_life.specs.Take.{takes, has_read}
-use Rattle.run_laws.specs.Cells.{stream_in}
-use Rattle.run_laws.specs.Worlds.{WorldState, actor_named, with_actor}
+use Rattle.machine.specs.Actors.{ActorState, bits_of, refuses, spends, answers}
+use Rattle.machine.specs.Calls.{a2}
+use Rattle.machine.specs.Take.{takes, has_read}
+use Rattle.machine.specs.Cells.{stream_in}
+use Rattle.machine.specs.Worlds.{WorldState, actor_named, with_actor}
 use Rattle.run_laws.specs.Requests.{Request, Reads, Appends, Closes, in_stream}
 use Rattle.run_laws.specs.Allowed.{is_source, may_close, bit_to_close, next_bytes}
 use Rattle.run_laws.specs.Moments.{IsChecked, IsAnswered}

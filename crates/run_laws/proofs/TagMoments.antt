@@ -24,19 +24,19 @@ use Rattle.wedge_events.specs.declared.cells.SlotAsk.TheVariants as slot_ask
 use Rattle.wedge_events.specs.declared.cells.StreamAsk.TheVariants as stream_ask
 use Rattle.wedge_events.specs.declared.cells.SlotReply.{SlotReply}
 use Rattle.wedge_events.specs.declared.cells.SlotReply.TheVariants as slot_reply
-use Rattle.sthread_life.specs.declared.phase.Phase.TheVariants as phase
-use Rattle.sthread_life.specs.Actors.{ActorState, right_of, answers, refuses}
+use Rattle.machine.specs.declared.phase.Phase.TheVariants as phase
+use Rattle.machine.specs.Actors.{ActorState, right_of, answers, refuses}
 use Rattle.run_laws.specs.Allowed.{may_use, answered_hart}
-use Rattle.sthread_life.specs.Calls.{a0}
-use Rattle.run_laws.specs.Cells.{slot_in, tag_in}
+use Rattle.machine.specs.Calls.{a0}
+use Rattle.machine.specs.Cells.{slot_in, tag_in}
 use Rattle.run_laws.specs.Families.{answered_twice}
 use Rattle.run_laws.specs.Moments.{NothingDenied, is_use, gap_in, IsPlaced, IsClosed, IsChecked, IsAnswered}
 use Rattle.run_laws.specs.Refusals.{full, no_such, bad, is_left, slots_refusal, close_refusal, gap_refusal, place_refusal, block_refusal, slot_refuses, is_refusal, refused}
 use Rattle.run_laws.specs.Requests.{Deletes, Allots, Frees}
 use Rattle.run_laws.specs.TagCalls.{MakesAt}
-use Rattle.sthread_life.specs.Take.{pair, takes}
-use Rattle.run_laws.specs.Worlds.{WorldState, actor_named, put_actor, with_actor}
-use Rattle.sthread_life.proofs.ByNumber.{found_gone, found_elsewhere}
+use Rattle.machine.specs.Take.{pair, takes}
+use Rattle.machine.specs.Worlds.{WorldState, actor_named, put_actor, with_actor}
+use Rattle.machine.proofs.ByNumber.{found_gone, found_elsewhere}
 use Rattle.run_laws.proofs.TagSlots.{at_slot}
 use Rattle.run_laws.proofs.Between.{event_for}
 use Rattle.run_laws.proofs.Bounding.{with_same}

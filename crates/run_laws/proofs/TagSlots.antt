@@ -7,7 +7,7 @@ use Rattle.wedge_base.specs.Rights.{at_least}
 use Rattle.wedge_base.specs.Sheets.{slot_on}
 use Rattle.wedge_base.specs.declared.rights.Grant.{Grant}
 use Rattle.wedge_base.specs.declared.rights.Right.TheVariants as right
-use Rattle.sthread_life.specs.Actors.{ActorState, slot_held}
+use Rattle.machine.specs.Actors.{ActorState, slot_held}
 use Rattle.run_laws.specs.Allowed.{may_use}
 
 the_slot : (o : Option ℕ) → is_some o ≡ true → o ≡ Some (unwrap_or o 0)

@@ -3,11 +3,11 @@ use Rattle.std.proofs.Common.{◌≡◌, ℕ, Bool, true, false, true≢false, L
 use Rattle.std.proofs.lemmas.Bool.{eq-eqb}
 use Rattle.std.specs.Prelude.{Some, None, ◌==◌, ◌&&◌, ◌⊎◌, if◌then◌else◌}
 use Rattle.wedge_base.specs.Names.{same, root_name}
-use Rattle.sthread_life.specs.Actors.{ActorState}
-use Rattle.sthread_life.specs.Children.{child_name}
+use Rattle.machine.specs.Actors.{ActorState}
+use Rattle.machine.specs.Children.{child_name}
 use Rattle.run_laws.specs.Fuel.{starter_of, number_in}
 use Rattle.run_laws.specs.Names.{IsNew, AreDistinct}
-use Rattle.run_laws.specs.Worlds.{actor_named, put_actor}
+use Rattle.machine.specs.Worlds.{actor_named, put_actor}
 use Rattle.run_laws.proofs.Named.{same_self, same_equal, named_put, named_put_other}
 
 -- ---- names

@@ -4,13 +4,13 @@ use Rattle.std.proofs.Common.{◌≡◌, ℕ, ◌+◌, List, refl, sym, ap, subs
 use Rattle.std.specs.Prelude.{Option, Some, None, option_map, ◌⊎◌}
 use Rattle.wedge_base.specs.declared.rights.End.{End}
 use Rattle.wedge_events.specs.declared.events.Event.{Event}
-use Rattle.sthread_life.specs.declared.phase.Phase.{Phase}
-use Rattle.sthread_life.specs.declared.phase.Phase.TheVariants as phase
-use Rattle.sthread_life.specs.Actors.{ActorState, answers_more}
-use Rattle.sthread_life.specs.Children.{child_name, without_child}
-use Rattle.sthread_life.specs.Local.{rest, end_reached, has_ended}
-use Rattle.sthread_life.specs.Take.{current_want, end_value, end_number, answered_end}
-use Rattle.run_laws.specs.Worlds.{WorldState, actor_named, ended_with, resumes, ready_at, ready, resumed, turn_with, turn_of}
+use Rattle.machine.specs.declared.phase.Phase.{Phase}
+use Rattle.machine.specs.declared.phase.Phase.TheVariants as phase
+use Rattle.machine.specs.Actors.{ActorState, answers_more}
+use Rattle.machine.specs.Children.{child_name, without_child}
+use Rattle.machine.specs.Local.{rest, end_reached, has_ended}
+use Rattle.machine.specs.Take.{current_want, end_value, end_number, answered_end}
+use Rattle.machine.specs.Worlds.{WorldState, actor_named, ended_with, resumes, ready_at, ready, resumed, turn_with, turn_of}
 use Rattle.run_laws.proofs.Between.{TurnParts, parts_wanting}
 use Rattle.run_laws.proofs.Named.{named_put, found_name}
 

@@ -10,10 +10,10 @@ use Rattle.wedge_events.specs.declared.cells.DirectoryReply.TheVariants as direc
 use Rattle.wedge_events.specs.declared.cells.LivesAsk.TheVariants as lives_ask
 use Rattle.wedge_events.specs.declared.cells.LivesReply.TheVariants as lives_reply
 use Rattle.wedge_events.specs.declared.cells.SlotReply.TheVariants as slot_reply
-use Rattle.sthread_life.specs.declared.phase.Phase.{Phase}
-use Rattle.sthread_life.specs.declared.phase.Phase.TheVariants as phase
-use Rattle.sthread_life.specs.Between.{IsBetween}
-use Rattle.sthread_life.specs.Children.{Children}
+use Rattle.machine.specs.declared.phase.Phase.{Phase}
+use Rattle.machine.specs.declared.phase.Phase.TheVariants as phase
+use Rattle.machine.specs.Between.{IsBetween}
+use Rattle.machine.specs.Children.{Children}
 use Rattle.run_laws.specs.FamilyTrees.{WaitsForOwn}
 use Rattle.run_laws.proofs.Between.{Leaves, IsPreparing, MayPrepare, MayNumber}
 use Rattle.run_laws.proofs.Families.{IsOfOne}

@@ -11,16 +11,16 @@ use Rattle.wedge_events.specs.declared.events.Want.TheVariants as want
 use Rattle.wedge_events.specs.declared.events.Event.{Event}
 use Rattle.wedge_events.specs.declared.events.LogEntry.{LogEntry}
 use Rattle.wedge_events.specs.declared.events.Turn.{Turn}
-use Rattle.sthread_life.specs.declared.phase.Phase.{Phase}
-use Rattle.sthread_life.specs.declared.phase.Phase.TheVariants as phase
-use Rattle.sthread_life.specs.Actors.{ActorState, root}
-use Rattle.sthread_life.specs.Local.{rest, is_running}
-use Rattle.sthread_life.specs.Take.{asks, takes, actor_begun, current_want, wanted_at, answered_end}
-use Rattle.sthread_life.specs.Children.{without_child}
-use Rattle.run_laws.specs.Cells.{Cells, live_at, event_of}
-use Rattle.run_laws.specs.Worlds.{WorldState, initial_state, actor_named, put_actor, ready, resumed, event_at, turn_of, Runs}
+use Rattle.machine.specs.declared.phase.Phase.{Phase}
+use Rattle.machine.specs.declared.phase.Phase.TheVariants as phase
+use Rattle.machine.specs.Actors.{ActorState, root}
+use Rattle.machine.specs.Local.{rest, is_running}
+use Rattle.machine.specs.Take.{asks, takes, actor_begun, current_want, wanted_at, answered_end}
+use Rattle.machine.specs.Children.{without_child}
+use Rattle.machine.specs.Cells.{Cells, live_at, event_of}
+use Rattle.machine.specs.Worlds.{WorldState, initial_state, actor_named, put_actor, ready, resumed, event_at, turn_of, Runs}
 use Rattle.run_laws.specs.Walks.{Asks, GoesOnBy, IsWalk, entries_in, RootsWalk}
-use Rattle.sthread_life.proofs.Resting.{rest-name, rest-stays}
+use Rattle.machine.proofs.Resting.{rest-name, rest-stays}
 use Rattle.run_laws.proofs.Between.{comes_of, takes_name}
 use Rattle.run_laws.proofs.Turns.{Readies, Stays, Back, readies, ready_name, waits_or, turn_from}
 use Rattle.run_laws.proofs.Waits.{IsAwake}

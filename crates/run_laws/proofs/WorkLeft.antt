@@ -25,25 +25,25 @@ use Rattle.wedge_events.specs.declared.cells.DirectoryReply.{DirectoryReply}
 use Rattle.wedge_events.specs.declared.cells.DirectoryReply.TheVariants as directory_reply
 use Rattle.wedge_events.specs.declared.cells.StreamAsk.{StreamAsk}
 use Rattle.wedge_events.specs.declared.cells.StreamReply.TheVariants as stream_reply
-use Rattle.sthread_life.specs.Opening.{FileOpening}
+use Rattle.machine.specs.Opening.{FileOpening}
 use Rattle.wedge_events.specs.declared.cells.LivesAsk.TheVariants as lives_ask
 use Rattle.wedge_events.specs.declared.cells.SlotReply.TheVariants as slot_reply
 use Rattle.wedge_events.specs.declared.cells.LivesReply.TheVariants as lives_reply
 use Rattle.wedge_base.specs.declared.rights.End.{End}
-use Rattle.sthread_life.specs.declared.phase.Phase.{Phase}
-use Rattle.sthread_life.specs.declared.phase.Phase.TheVariants as phase
-use Rattle.sthread_life.specs.declared.copy_grant.CopyGrant.{CopyGrant}
-use Rattle.sthread_life.specs.Actors.{ActorState, pristine, root}
-use Rattle.sthread_life.specs.Between.{IsBetween}
-use Rattle.sthread_life.specs.Children.{Children, child_name, is_number, fuel_given, is_child, with_child, without_child}
+use Rattle.machine.specs.declared.phase.Phase.{Phase}
+use Rattle.machine.specs.declared.phase.Phase.TheVariants as phase
+use Rattle.machine.specs.declared.copy_grant.CopyGrant.{CopyGrant}
+use Rattle.machine.specs.Actors.{ActorState, pristine, root}
+use Rattle.machine.specs.Between.{IsBetween}
+use Rattle.machine.specs.Children.{Children, child_name, is_number, fuel_given, is_child, with_child, without_child}
 use Rattle.run_laws.specs.FamilyTrees.{Family, WaitsForOwn}
-use Rattle.sthread_life.specs.Preparation.{Preparation, copied_from, prepare_copies, behind_first}
-use Rattle.run_laws.specs.Cells.{slot_in}
+use Rattle.machine.specs.Preparation.{Preparation, copied_from, prepare_copies, behind_first}
+use Rattle.machine.specs.Cells.{slot_in}
 use Rattle.run_laws.specs.Fuel.{unit_work, units_of, opening_work, phase_work, tasks_of, tasks_in, work_left, most_turns, units_of_turn}
 use Rattle.run_laws.specs.Laws.{RunsEnd}
-use Rattle.sthread_life.specs.Local.{is_running, rest}
-use Rattle.sthread_life.specs.Take.{next_start, answered_end, copies_asked, has_snapped, takes, actor_begun, copied_on, run_by}
-use Rattle.run_laws.specs.Worlds.{WorldState, initial_state, actor_named, put_actor, with_begun, turn_of, Runs, ready, resumed}
+use Rattle.machine.specs.Local.{is_running, rest}
+use Rattle.machine.specs.Take.{next_start, answered_end, copies_asked, has_snapped, takes, actor_begun, copied_on, run_by}
+use Rattle.machine.specs.Worlds.{WorldState, initial_state, actor_named, put_actor, with_begun, turn_of, Runs, ready, resumed}
 use Rattle.wedge_base.specs.Names.{same}
 use Rattle.run_laws.proofs.Between.{IsPreparing, MayPrepare, MayNumber, Leaves, numbered_is, opened_is, takes_between, takes_name, IsMaking, MayWait, entered_by}
 use Rattle.run_laws.proofs.DraftsFit.{AreFew, few_copies}
@@ -52,13 +52,13 @@ use Rattle.run_laws.proofs.Families.{IsOfOne, takes_same, first_child}
 use Rattle.run_laws.proofs.FamilyRuns.{kept_at_rest, rest_units, turn_keeps, turn_family, opening_family, one_begins, request_of_one, join_keeps_starts}
 use Rattle.run_laws.proofs.Happening.{Happens, snap_cases, Requested, Joined, Snaps, GateSnaps, Started, Opens, Releases, Numbers, OpensFile, LastJoined, Ended, EntersGate, LeavesGate, EntersRecycled, LeavesRecycled}
 use Rattle.run_laws.proofs.Named.{found_name}
-use Rattle.sthread_life.proofs.Resting.{IsCalm, HasPaid, rests, rest-stays, rest-name, running_is}
+use Rattle.machine.proofs.Resting.{IsCalm, HasPaid, rests, rest-stays, rest-name, running_is}
 use Rattle.run_laws.proofs.Settling.{AllReady, actor_few, turn_happens, turn_ready, opening_ready, turned_there}
-use Rattle.sthread_life.specs.Calls.{draft_at, makes_or_waits, a0}
+use Rattle.machine.specs.Calls.{draft_at, makes_or_waits, a0}
 use Rattle.run_laws.proofs.MakingGates.{prepared_left, was_making}
 use Rattle.run_laws.proofs.Turns.{back, Readies, Stays, Back, readies, turn_from}
 use Rattle.run_laws.proofs.Trees.{put_same}
-use Rattle.sthread_life.specs.Entrance.{Entrance}
+use Rattle.machine.specs.Entrance.{Entrance}
 
 -- ---- children by their count
 

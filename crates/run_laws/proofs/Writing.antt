@@ -29,17 +29,17 @@ use Rattle.wedge_events.specs.declared.cells.StreamAsk.{StreamAsk}
 use Rattle.wedge_events.specs.declared.cells.StreamAsk.TheVariants as stream_ask
 use Rattle.wedge_events.specs.declared.cells.StreamReply.TheVariants as reply
 use Rattle.wedge_base.specs.declared.rights.FdBits.{FdBits}
-use Rattle.sthread_life.specs.Actors.{ActorState, right_of, bits_of}
-use Rattle.sthread_life.specs.Local.{rest, is_running}
-use Rattle.sthread_life.specs.Calls.{a0}
-use Rattle.sthread_life.specs.Take.{pair}
-use Rattle.run_laws.specs.Cells.{Cells, held, slot_in, stream_in, cells_after}
-use Rattle.run_laws.specs.Worlds.{WorldState, initial_state, turn_of, ready, resumed, at_rest, Runs}
+use Rattle.machine.specs.Actors.{ActorState, right_of, bits_of}
+use Rattle.machine.specs.Local.{rest, is_running}
+use Rattle.machine.specs.Calls.{a0}
+use Rattle.machine.specs.Take.{pair}
+use Rattle.machine.specs.Cells.{Cells, held, slot_in, stream_in, cells_after}
+use Rattle.machine.specs.Worlds.{WorldState, initial_state, turn_of, ready, resumed, at_rest, Runs}
 use Rattle.run_laws.specs.Allowed.{may_use}
 use Rattle.run_laws.specs.Moments.{EachTurn}
 use Rattle.run_laws.specs.Written.{slot_bytes, BytesFollow, stores_in, TurnWritesOwn, flow_in, FlowsFollow, appends_to, TurnAppendsOwn}
 use Rattle.run_laws.specs.Laws.{RunsWriteTheirOwn}
-use Rattle.sthread_life.proofs.Resting.{rests, rest-stays}
+use Rattle.machine.proofs.Resting.{rests, rest-stays}
 use Rattle.run_laws.proofs.Between.{event_for}
 use Rattle.run_laws.proofs.Turns.{turn_from, ready_sheet, ready_made}
 use Rattle.run_laws.proofs.Happening.{Happens, Requested, Joined, Snaps, GateSnaps, Started, Opens, Releases, Numbers, OpensFile, LastJoined, Ended, EntersGate, LeavesGate, EntersRecycled, LeavesRecycled}
@@ -71,9 +71,9 @@ tag_shows : (g : Option Segment) (q : SlotAsk) (r : SlotReply) → bytes_of_tag 
 tag_shows g (slot_ask.Open tag pages) r = refl
 tag_shows g (slot_ask.Close tag) slot_reply.Closed = refl
 tag_shows g (slot_ask.Close tag) r = refl
-tag_shows g (slot_ask.Load offset width live) r = refl
-tag_shows g (slot_ask.Store offset width value live) slot_reply.Stored = stored_bytes offset width value g
-tag_shows g (slot_ask.Store offset width value live) r = refl
+tag_shows g (slot_ask.Load width offset live) r = refl
+tag_shows g (slot_ask.Store width offset value live) slot_reply.Stored = stored_bytes offset width value g
+tag_shows g (slot_ask.Store width offset value live) r = refl
 tag_shows g (slot_ask.Smalloc tag size) (slot_reply.Placed offset) = placed_bytes offset size g
 tag_shows g (slot_ask.Smalloc tag size) r = refl
 tag_shows g (slot_ask.Sfree offset live) slot_reply.Freed = freed_bytes offset g
@@ -118,8 +118,8 @@ IsNoOpening q = Unit {0}
 empty_stays : (q : SlotAsk) → IsNoOpening q → slot_after None q (slot_reply_of None q) ≡ None
 empty_stays (slot_ask.Open tag pages) k = absurd k
 empty_stays (slot_ask.Close tag) k = refl
-empty_stays (slot_ask.Load offset width live) k = refl
-empty_stays (slot_ask.Store offset width value live) k = refl
+empty_stays (slot_ask.Load width offset live) k = refl
+empty_stays (slot_ask.Store width offset value live) k = refl
 empty_stays (slot_ask.Smalloc tag size) k = refl
 empty_stays (slot_ask.Sfree offset live) k = refl
 empty_stays (slot_ask.Snap tag) k = refl
@@ -212,14 +212,14 @@ IsOwned c b slot = (g : Segment) × (slot_in c slot ≡ Some g) × (may_use b g.
 
 -- a store that took place was allowed
 stored_by : (s slot offset width value : ℕ) (live : Option Live) (tag : ℕ) (within held : Bool)
-    → stores_in slot (event.Slot s (slot_ask.Store offset width value live) (if not within then slot_reply.Unmapped else if held then slot_reply.Stored else slot_reply.Denied tag right.ReadWrite)) ≡ true
+    → stores_in slot (event.Slot s (slot_ask.Store width offset value live) (if not within then slot_reply.Unmapped else if held then slot_reply.Stored else slot_reply.Denied tag right.ReadWrite)) ≡ true
     → ((s == slot) ≡ true) × (held ≡ true)
 stored_by s slot offset width value live tag false held e = absurd (true≢false (sym e))
 stored_by s slot offset width value live tag true false e = absurd (true≢false (sym e))
 stored_by s slot offset width value live tag true true e = (e, refl)
 
 store_owned : (c : Cells) (b : ActorState) (s offset width value slot : ℕ) (o : Option Segment) → slot_in c s ≡ o
-    → stores_in slot (event.Slot s (slot_ask.Store offset width value (pair b (option_map (λ g. g.tag) o))) (slot_reply_of o (slot_ask.Store offset width value (pair b (option_map (λ g. g.tag) o))))) ≡ true → IsOwned c b slot
+    → stores_in slot (event.Slot s (slot_ask.Store width offset value (pair b (option_map (λ g. g.tag) o))) (slot_reply_of o (slot_ask.Store width offset value (pair b (option_map (λ g. g.tag) o))))) ≡ true → IsOwned c b slot
 store_owned c b s offset width value slot None there e = absurd (true≢false (sym e))
 store_owned c b s offset width value slot (Some g) there e =
     let live = Some (record { tag = g.tag; right = right_of b g.tag }) in

@@ -6,7 +6,7 @@ use Rattle.cow_pages.specs.Copies.{Copies, copy_at, with_copy, holds_copy, read_
 use Rattle.wedge_base.specs.Bytes.{overwrite}
 use Rattle.wedge_base.specs.declared.address.Place.{Place}
 use Rattle.run_laws.specs.Remembering.{copied_byte, copied_bytes, AreCopied}
-use Rattle.sthread_life.proofs.ByNumber.{found_there, found_beside}
+use Rattle.machine.proofs.ByNumber.{found_there, found_beside}
 use Rattle.run_laws.proofs.WritingRanges.{length-written, read-written, get-written}
 
 inside : (offset : ℕ) (new bytes : List ℕ) → holds_copy offset (length new) bytes ≡ true → offset + length new ≤ length bytes

@@ -32,14 +32,14 @@ use Rattle.wedge_events.specs.declared.cells.StreamReply.TheVariants as stream_r
 use Rattle.callgate.specs.declared.gate.Gate.{Gate}
 use Rattle.rv_hart.specs.declared.Hart.{Hart}
 use Rattle.rv_hart.specs.Local.{reg, put, extended}
-use Rattle.sthread_life.specs.Preparation.{Preparation}
+use Rattle.machine.specs.Preparation.{Preparation}
 use Rattle.run_laws.specs.MadeGates.{IsGateOf}
-use Rattle.sthread_life.specs.Opening.{FileOpening}
-use Rattle.sthread_life.specs.declared.phase.Phase.TheVariants as phase
-use Rattle.sthread_life.specs.Actors.{ActorState, right_of, bits_of}
+use Rattle.machine.specs.Opening.{FileOpening}
+use Rattle.machine.specs.declared.phase.Phase.TheVariants as phase
+use Rattle.machine.specs.Actors.{ActorState, right_of, bits_of}
 use Rattle.run_laws.specs.Requests.{Access, Request, Loads, Stores, Reads, Appends, Closes, Opens, Creates, Makes, Deletes, Allots, Frees, Enters}
 use Rattle.run_laws.specs.Holding.{gate_for, loan, loan_lacks}
-use Rattle.sthread_life.specs.Entrance.{Entrance}
+use Rattle.machine.specs.Entrance.{Entrance}
 
 -- whether a tag may be used as asked: a copy is never enough for the tag itself
 abbrev pub may_use : ActorState → ℕ → Right → Bool
@@ -182,10 +182,10 @@ IsAboutToEnter a entry lent b = (x : Entrance) × (gate_for a entry ≡ Some x.g
 
 abbrev pub IsDone : ActorState → Request → Option Event → Option ActorState → Type 0
 IsDone a (Loads x rd s) e now =
-    (e ≡ Some (event.Slot x.place.slot (slot_ask.Load x.place.offset x.width (living_for a x)) (slot_reply.Loaded (value_in x))))
+    (e ≡ Some (event.Slot x.place.slot (slot_ask.Load x.width x.place.offset (living_for a x)) (slot_reply.Loaded (value_in x))))
     × (now ≡ Some (record a { hart = record { pc = next_word a; regs = put a.hart.regs rd (extended x.width s (value_in x)) }; phase = phase.Running }))
 IsDone a (Stores x value) e now =
-    (e ≡ Some (event.Slot x.place.slot (slot_ask.Store x.place.offset x.width value (living_for a x)) slot_reply.Stored))
+    (e ≡ Some (event.Slot x.place.slot (slot_ask.Store x.width x.place.offset value (living_for a x)) slot_reply.Stored))
     × (now ≡ Some (record a { hart = record a.hart { pc = next_word a }; phase = phase.Running }))
 IsDone a (Reads fd s n) e now =
     (e ≡ Some (event.Fd fd (stream_ask.Read (bits_of a fd) n) (stream_reply.Given (next_bytes s n))))

@@ -26,13 +26,13 @@ use Rattle.rv_isa.specs.Table.{decode}
 use Rattle.rv_hart.specs.declared.Need.{Need}
 use Rattle.rv_hart.specs.declared.Need.TheVariants as need
 use Rattle.rv_hart.specs.Local.{local, reg}
-use Rattle.sthread_life.specs.declared.phase.Phase.{Phase}
-use Rattle.sthread_life.specs.declared.phase.Phase.TheVariants as phase
-use Rattle.sthread_life.specs.Actors.{ActorState, right_of, bits_of}
-use Rattle.sthread_life.specs.Children.{is_child}
-use Rattle.run_laws.specs.Cells.{tag_in}
+use Rattle.machine.specs.declared.phase.Phase.{Phase}
+use Rattle.machine.specs.declared.phase.Phase.TheVariants as phase
+use Rattle.machine.specs.Actors.{ActorState, right_of, bits_of}
+use Rattle.machine.specs.Children.{is_child}
+use Rattle.machine.specs.Cells.{tag_in}
 use Rattle.run_laws.specs.Requests.{reaches_window, buffer_bytes, is_room}
-use Rattle.run_laws.specs.Worlds.{WorldState, with_actor}
+use Rattle.machine.specs.Worlds.{WorldState, with_actor}
 
 -- ---- in the instruction, once its unit of fuel is taken: the event to which it comes. Of the calls
 -- that are not here, those that come to an event say so where they are done (`IsDone`).
@@ -103,8 +103,8 @@ abbrev pub living_in : WorldState → ActorState → ℕ → Option Live
 living_in w a slot = option_map (λ tag. record { tag = tag; right = right_of a tag }) (tag_in w.cells slot)
 
 abbrev pub AsksSlot : Option Live → ℕ → SlotWant → Event → Type 0
-AsksSlot live slot (slot_want.Load offset width) e = (r : SlotReply) × (e ≡ event.Slot slot (slot_ask.Load offset width live) r)
-AsksSlot live slot (slot_want.Store offset width value) e = (r : SlotReply) × (e ≡ event.Slot slot (slot_ask.Store offset width value live) r)
+AsksSlot live slot (slot_want.Load offset width) e = (r : SlotReply) × (e ≡ event.Slot slot (slot_ask.Load width offset live) r)
+AsksSlot live slot (slot_want.Store offset width value) e = (r : SlotReply) × (e ≡ event.Slot slot (slot_ask.Store width offset value live) r)
 AsksSlot live slot (slot_want.Smalloc tag size) e = (r : SlotReply) × (e ≡ event.Slot slot (slot_ask.Smalloc tag size) r)
 AsksSlot live slot (slot_want.Sfree offset) e = (r : SlotReply) × (e ≡ event.Slot slot (slot_ask.Sfree offset live) r)
 AsksSlot live slot (slot_want.Close tag) e = (r : SlotReply) × (e ≡ event.Slot slot (slot_ask.Close tag) r)
@@ -118,8 +118,14 @@ AsksFor w a (want.Lives q) e = (r : LivesReply) × (e ≡ event.Lives q r)
 AsksFor w a (want.Join k) e = (end_ : End) × (fuel : ℕ) × (e ≡ event.Join k end_ fuel)
 AsksFor w a q e = ⊥
 
+-- a file that is opened, while no number is claimed for its descriptor: one is asked for
+abbrev pub AsksNumber : Option ℕ → Event → Type 0
+AsksNumber None e = (r : DirectoryReply) × (e ≡ event.Fds directory_ask.Claim r)
+AsksNumber (Some fd) e = Unit {0}
+
 abbrev pub AsksAt : WorldState → ActorState → Phase → Event → Type 0
 AsksAt old a (phase.Within q) e = AsksFor old a q e
+AsksAt old a (phase.OpeningFile o) e = AsksNumber o.number e
 AsksAt old a p e = Unit {0}
 
 -- whoever comes to an event asks there what its instruction says

@@ -7,7 +7,7 @@ use Rattle.wedge_base.specs.Rights.{at_least, bits_within}
 use Rattle.wedge_base.specs.Sheets.{Sheet, Made, nothing_made, right_on, bits_on}
 use Rattle.wedge_base.specs.declared.rights.Right.{Right}
 use Rattle.callgate.specs.declared.gate.Gate.{Gate}
-use Rattle.sthread_life.specs.Actors.{ActorState, root, right_of, bits_of}
+use Rattle.machine.specs.Actors.{ActorState, root, right_of, bits_of}
 
 -- Whatever a sheet and what was made under it give on a declared tag or descriptor, the root of the
 -- image has; where the root is not user 0, the sheet has its user and its root directory; and its

@@ -20,7 +20,7 @@ use Rattle.wedge_events.specs.declared.cells.StreamAsk.{StreamAsk}
 use Rattle.wedge_events.specs.declared.cells.StreamAsk.TheVariants as stream_ask
 use Rattle.wedge_events.specs.declared.cells.StreamReply.{StreamReply}
 use Rattle.wedge_events.specs.declared.cells.StreamReply.TheVariants as stream_reply
-use Rattle.run_laws.specs.Cells.{Cells, slot_in, stream_in, kept_in}
+use Rattle.machine.specs.Cells.{Cells, slot_in, stream_in, kept_in}
 
 -- what is left after these turns, from what was before, by what each event leaves
 abbrev pub after_turns : {X : Type 0} → (X → Event → X) → X → List Turn → X

@@ -23,13 +23,13 @@ use Rattle.wedge_base.specs.declared.rights.Grant.{Grant}
 use Rattle.wedge_base.specs.declared.rights.Right.{Right}
 use Rattle.wedge_base.specs.declared.rights.Right.TheVariants as right
 use Rattle.rv_hart.specs.Local.{reg}
-use Rattle.sthread_life.specs.declared.copy_grant.CopyGrant.{CopyGrant}
-use Rattle.sthread_life.specs.declared.phase.Phase.{Phase}
-use Rattle.sthread_life.specs.declared.phase.Phase.TheVariants as phase
-use Rattle.sthread_life.specs.Actors.{ActorState, right_of}
-use Rattle.run_laws.specs.Cells.{slot_in}
-use Rattle.sthread_life.specs.Preparation.{Preparation, copied_from}
-use Rattle.run_laws.specs.Worlds.{WorldState, actor_named}
+use Rattle.machine.specs.declared.copy_grant.CopyGrant.{CopyGrant}
+use Rattle.machine.specs.declared.phase.Phase.{Phase}
+use Rattle.machine.specs.declared.phase.Phase.TheVariants as phase
+use Rattle.machine.specs.Actors.{ActorState, right_of}
+use Rattle.machine.specs.Cells.{slot_in}
+use Rattle.machine.specs.Preparation.{Preparation, copied_from}
+use Rattle.machine.specs.Worlds.{WorldState, actor_named}
 
 -- the grants of copies that a child is to have, by the draft at hand: one for each tag on which the
 -- draft gives the right to a copy alone, in the order of the tags' numbers

@@ -6,7 +6,7 @@ use Rattle.wedge_base.specs.Maps.{Map}
 use Rattle.wedge_base.specs.Sheets.{is_copy}
 use Rattle.wedge_base.specs.declared.rights.Grant.{Grant}
 use Rattle.callgate.specs.declared.gate.Gate.{Gate}
-use Rattle.sthread_life.specs.Actors.{ActorState}
+use Rattle.machine.specs.Actors.{ActorState}
 
 -- whether a sheet's grants have one of a copy at a slot
 abbrev pub grants_copy : Map Grant → ℕ → Bool

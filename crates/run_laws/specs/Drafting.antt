@@ -13,12 +13,12 @@ use Rattle.rv_isa.specs.Table.{decode}
 use Rattle.rv_hart.specs.declared.Need.{Need}
 use Rattle.rv_hart.specs.declared.Need.TheVariants as need
 use Rattle.rv_hart.specs.Local.{local, reg}
-use Rattle.sthread_life.specs.Actors.{ActorState}
-use Rattle.sthread_life.specs.declared.phase.Phase.TheVariants as phase
+use Rattle.machine.specs.Actors.{ActorState}
+use Rattle.machine.specs.declared.phase.Phase.TheVariants as phase
 use Rattle.run_laws.specs.Allowed.{answered_hart}
 use Rattle.run_laws.specs.Refusals.{new_refusal, right_refusal, bits_refusal, gate_refusal, user_refusal, root_refusal, draft_refusal}
 use Rattle.run_laws.specs.Requests.{path_at}
-use Rattle.run_laws.specs.Worlds.{WorldState, actor_named, with_actor}
+use Rattle.machine.specs.Worlds.{WorldState, actor_named, with_actor}
 
 -- the right and the bits of an argument from 1 to 3
 abbrev pub right_of_number : ℕ → Right

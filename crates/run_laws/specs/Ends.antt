@@ -20,12 +20,12 @@ use Rattle.rv_isa.specs.Table.{decode}
 use Rattle.rv_hart.specs.declared.Need.{Need}
 use Rattle.rv_hart.specs.declared.Need.TheVariants as need
 use Rattle.rv_hart.specs.Local.{local, reg}
-use Rattle.sthread_life.specs.declared.phase.Phase.{Phase}
-use Rattle.sthread_life.specs.declared.phase.Phase.TheVariants as phase
-use Rattle.sthread_life.specs.Actors.{ActorState}
+use Rattle.machine.specs.declared.phase.Phase.{Phase}
+use Rattle.machine.specs.declared.phase.Phase.TheVariants as phase
+use Rattle.machine.specs.Actors.{ActorState}
 use Rattle.rv_hart.specs.declared.Hart.{Hart}
-use Rattle.sthread_life.specs.Local.{is_running, has_ended}
-use Rattle.run_laws.specs.Worlds.{WorldState, actor_named, with_actor}
+use Rattle.machine.specs.Local.{is_running, has_ended}
+use Rattle.machine.specs.Worlds.{WorldState, actor_named, with_actor}
 use Rattle.run_laws.specs.Allowed.{next_word}
 
 -- the end of an actor, decided or reached

@@ -16,18 +16,18 @@ use Rattle.wedge_events.specs.declared.cells.StreamReply.TheVariants as stream_r
 use Rattle.grant_sheet.specs.Granting.{IsWithin}
 use Rattle.rv_hart.specs.declared.Hart.{Hart}
 use Rattle.rv_hart.specs.Local.{reg}
-use Rattle.sthread_life.specs.declared.opening.StreamLabel.{StreamLabel}
-use Rattle.sthread_life.specs.declared.phase.Phase.{Phase}
-use Rattle.sthread_life.specs.declared.phase.Phase.TheVariants as phase
-use Rattle.sthread_life.specs.Actors.{ActorState, but_gates}
+use Rattle.machine.specs.declared.opening.StreamLabel.{StreamLabel}
+use Rattle.machine.specs.declared.phase.Phase.{Phase}
+use Rattle.machine.specs.declared.phase.Phase.TheVariants as phase
+use Rattle.machine.specs.Actors.{ActorState, but_gates}
 use Rattle.run_laws.specs.Allowed.{answered_hart}
-use Rattle.sthread_life.specs.Children.{Children, is_child, with_child, without_child}
-use Rattle.sthread_life.specs.Preparation.{Preparation}
+use Rattle.machine.specs.Children.{Children, is_child, with_child, without_child}
+use Rattle.machine.specs.Preparation.{Preparation}
 use Rattle.run_laws.specs.Ends.{is_end_event}
 use Rattle.cow_pages.specs.PrivateMemory.{PrivateMemory}
-use Rattle.run_laws.specs.Cells.{Cells, kept_in}
-use Rattle.run_laws.specs.Worlds.{WorldState, actor_named, put_actor}
-use Rattle.sthread_life.specs.Entrance.{Entrance}
+use Rattle.machine.specs.Cells.{Cells, kept_in}
+use Rattle.machine.specs.Worlds.{WorldState, actor_named, put_actor}
+use Rattle.machine.specs.Entrance.{Entrance}
 use Rattle.run_laws.specs.Holding.{gate_for, loan, loan_lacks, is_loan, IsDrafted}
 use Rattle.run_laws.specs.Requests.{lent_of}
 use Rattle.callgate.specs.Lending.{IsRunSheet}

@@ -4,14 +4,14 @@
 -- joined.
 use Rattle.std.specs.Prelude.{◌≡◌, ℕ, ◌+◌, ◌≤◌, true, false, List, [], ◌∷◌, Option, Some, IsSomeAnd, ◌⊎◌}
 use Rattle.wedge_base.specs.Names.{root_name}
-use Rattle.sthread_life.specs.Actors.{ActorState}
-use Rattle.sthread_life.specs.Children.{fuel_given, all_given, child_name, Children, is_child}
+use Rattle.machine.specs.Actors.{ActorState}
+use Rattle.machine.specs.Children.{fuel_given, all_given, child_name, Children, is_child}
 use Rattle.run_laws.specs.Fuel.{is_unjoined}
-use Rattle.sthread_life.specs.Local.{has_ended}
+use Rattle.machine.specs.Local.{has_ended}
 use Rattle.run_laws.specs.Names.{AreDistinct}
-use Rattle.run_laws.specs.Worlds.{actor_named}
-use Rattle.sthread_life.specs.declared.phase.Phase.{Phase}
-use Rattle.sthread_life.specs.declared.phase.Phase.TheVariants as phase
+use Rattle.machine.specs.Worlds.{actor_named}
+use Rattle.machine.specs.declared.phase.Phase.{Phase}
+use Rattle.machine.specs.declared.phase.Phase.TheVariants as phase
 
 -- what an actor may still spend: its fuel, and what its children began with
 abbrev pub worth : ActorState → ℕ

@@ -1,8 +1,11 @@
 -- What the call that opens a file leaves, once it is allowed: read off the registers, the directory
 -- of descriptors and the stream, a second statement beside the step.
-use Rattle.std.specs.Prelude.{◌≡◌, ℕ, ◌-◌, true, [], ◌∷◌, ◌++◌, slice_set, Option, Some, None}
+use Rattle.std.specs.Prelude.{◌≡◌, ℕ, ◌-◌, true, false, List, [], ◌∷◌, ◌++◌, slice_set, Option, Some, None}
 use Rattle.wedge_events.specs.Directories.{Claim, claim}
+use Rattle.wedge_base.specs.Images.{Image}
 use Rattle.wedge_base.specs.Rights.{bits_within}
+use Rattle.wedge_base.specs.declared.image.FileEntry.{FileEntry}
+use Rattle.wedge_base.specs.declared.rights.FdBits.{FdBits}
 use Rattle.wedge_base.specs.Sheets.{made_fd}
 use Rattle.wedge_events.specs.declared.cells.DirectoryAsk.TheVariants as directory_ask
 use Rattle.wedge_events.specs.declared.cells.DirectoryReply.TheVariants as directory_reply
@@ -11,11 +14,14 @@ use Rattle.wedge_events.specs.declared.cells.StreamReply.TheVariants as stream_r
 use Rattle.wedge_events.specs.declared.events.Event.{Event}
 use Rattle.wedge_events.specs.declared.events.Event.TheVariants as event
 use Rattle.rv_hart.specs.Local.{reg}
-use Rattle.sthread_life.specs.declared.phase.Phase.TheVariants as phase
-use Rattle.sthread_life.specs.Actors.{ActorState, bits_of}
-use Rattle.run_laws.specs.Allowed.{answered_hart}
-use Rattle.sthread_life.specs.Opening.{FileOpening}
-use Rattle.run_laws.specs.Worlds.{WorldState, put_actor}
+use Rattle.machine.specs.declared.phase.Phase.{Phase}
+use Rattle.machine.specs.declared.phase.Phase.TheVariants as phase
+use Rattle.machine.specs.Actors.{ActorState, bits_of}
+use Rattle.run_laws.specs.Allowed.{answered_hart, lacks, is_refused, opened_as}
+use Rattle.machine.specs.Cells.{Cells}
+use Rattle.run_laws.specs.Requests.{Opens, request_at}
+use Rattle.machine.specs.Opening.{FileOpening}
+use Rattle.machine.specs.Worlds.{WorldState, put_actor}
 
 -- the least number never used is claimed for the descriptor, and the stream of the file is opened
 -- there next
@@ -44,6 +50,26 @@ OpensFile old a o fd e new =
       });
     })
     × (bits_within o.bits (bits_of (record a { made = made_fd a.made fd o.bits }) fd) ≡ true)
+
+-- Whoever is opening a file, before a number is claimed for it and after, does so by a call that its
+-- rights allow and that nothing else refuses: what it opens is the file of the call's path, with its
+-- kind and its bytes, and with the bits that the call asks for.
+pub record IsAllowedOpening (i : Image) (c : Cells) (a : ActorState) (o : FileOpening) : Type 0 where
+  pub path : List ℕ
+  pub file : FileEntry
+  pub bits : FdBits
+  pub asked : request_at i c a ≡ Some (Opens path file bits)
+  pub allowed : lacks a (Opens path file bits) ≡ None
+  pub passed : is_refused a (Opens path file bits) ≡ false
+  pub is : o ≡ record (opened_as path file bits) { number = o.number }
+
+abbrev pub OpeningAllowed : WorldState → ActorState → Phase → Type 0
+OpeningAllowed old a (phase.OpeningFile o) = IsAllowedOpening old.image old.cells a o
+OpeningAllowed old a p = Unit {0}
+
+abbrev pub OpensByRight : WorldState → ActorState → Option Event → Type 0
+OpensByRight old a None = Unit {0}
+OpensByRight old a (Some e) = OpeningAllowed old a a.phase
 
 abbrev pub OpensAt : WorldState → ActorState → FileOpening → Option ℕ → Event → WorldState → Type 0
 OpensAt old a o None e new = ClaimsNumber old a o e new

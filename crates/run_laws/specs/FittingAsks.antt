@@ -8,9 +8,9 @@ use Rattle.wedge_events.specs.declared.cells.GateAsk.TheVariants as gate_ask
 use Rattle.wedge_events.specs.declared.events.Event.{Event}
 use Rattle.wedge_events.specs.declared.events.Event.TheVariants as event
 use Rattle.wedge_events.specs.declared.events.Turn.{Turn}
-use Rattle.run_laws.specs.Cells.{Cells, slot_in, kept_in}
+use Rattle.machine.specs.Cells.{Cells, slot_in, kept_in}
 use Rattle.run_laws.specs.MemoryRanges.{HasImagesRanges}
-use Rattle.run_laws.specs.Worlds.{WorldState}
+use Rattle.machine.specs.Worlds.{WorldState}
 
 -- the memory that an entry of a recycled gate brings for a first run, and the one that a run leaves
 -- there, have the ranges of the image

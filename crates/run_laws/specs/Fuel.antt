@@ -6,13 +6,13 @@ use Rattle.wedge_base.specs.Names.{same, root_name}
 use Rattle.wedge_base.specs.Sheets.{most_grants}
 use Rattle.wedge_events.specs.declared.events.Event.{Event}
 use Rattle.wedge_events.specs.declared.events.Turn.{Turn}
-use Rattle.sthread_life.specs.declared.phase.Phase.{Phase}
-use Rattle.sthread_life.specs.declared.phase.Phase.TheVariants as phase
-use Rattle.sthread_life.specs.Actors.{ActorState}
-use Rattle.sthread_life.specs.Children.{is_child}
-use Rattle.sthread_life.specs.Local.{step, is_running, rest}
+use Rattle.machine.specs.declared.phase.Phase.{Phase}
+use Rattle.machine.specs.declared.phase.Phase.TheVariants as phase
+use Rattle.machine.specs.Actors.{ActorState}
+use Rattle.machine.specs.Children.{is_child}
+use Rattle.machine.specs.Local.{step, is_running, rest}
 use Rattle.run_laws.specs.Paying.{cost_at, cost_by}
-use Rattle.run_laws.specs.Worlds.{WorldState, actor_named, ready}
+use Rattle.machine.specs.Worlds.{WorldState, actor_named, ready}
 
 -- the name of the actor that started the actor of a name, and the number of that start
 abbrev pub starter_of : List ℕ → List ℕ

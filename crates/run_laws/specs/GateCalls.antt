@@ -12,18 +12,18 @@ use Rattle.wedge_base.specs.declared.rights.Denial.{Denial}
 use Rattle.wedge_events.specs.declared.events.Event.TheVariants as event
 use Rattle.callgate.specs.declared.gate.Gate.{Gate}
 use Rattle.rv_hart.specs.Local.{reg}
-use Rattle.sthread_life.specs.declared.copy_grant.CopyGrant.{CopyGrant}
-use Rattle.sthread_life.specs.declared.phase.Phase.{Phase}
-use Rattle.sthread_life.specs.declared.phase.Phase.TheVariants as phase
-use Rattle.sthread_life.specs.Actors.{ActorState}
+use Rattle.machine.specs.declared.copy_grant.CopyGrant.{CopyGrant}
+use Rattle.machine.specs.declared.phase.Phase.{Phase}
+use Rattle.machine.specs.declared.phase.Phase.TheVariants as phase
+use Rattle.machine.specs.Actors.{ActorState}
 use Rattle.run_laws.specs.Allowed.{lacks, with_gate_made}
-use Rattle.run_laws.specs.Cells.{slot_in}
+use Rattle.machine.specs.Cells.{slot_in}
 use Rattle.run_laws.specs.ChildCopies.{IsPrepared, copies_in, memory_of_image, pages_living, snap_reply}
-use Rattle.sthread_life.specs.Preparation.{Preparation, copied_from}
-use Rattle.sthread_life.specs.Resting.{NotMaking}
+use Rattle.machine.specs.Preparation.{Preparation, copied_from}
+use Rattle.machine.specs.Resting.{NotMaking}
 use Rattle.run_laws.specs.MadeGates.{IsGateOf}
 use Rattle.run_laws.specs.Requests.{Request, Makes, request_at}
-use Rattle.run_laws.specs.Worlds.{WorldState, actor_named}
+use Rattle.machine.specs.Worlds.{WorldState, actor_named}
 
 -- an actor's gates are as before: those that it knows, those that it made by their entries, and how
 -- many it made

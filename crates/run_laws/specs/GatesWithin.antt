@@ -5,9 +5,9 @@ use Rattle.callgate.specs.Gate.{gate_named}
 use Rattle.callgate.specs.declared.gate.Gate.{Gate}
 use Rattle.wedge_base.specs.Identities.{same_gate}
 use Rattle.wedge_base.specs.declared.grants.GateId.{GateId}
-use Rattle.sthread_life.specs.Actors.{ActorState}
+use Rattle.machine.specs.Actors.{ActorState}
 use Rattle.run_laws.specs.Holding.{gate_for}
-use Rattle.run_laws.specs.Worlds.{actor_named}
+use Rattle.machine.specs.Worlds.{actor_named}
 
 -- whether the second name is the first or that of an actor under it: one that it started, or that
 -- one of these started

@@ -9,7 +9,7 @@ use Rattle.wedge_base.specs.Sheets.{Sheet, Made, Draft, first_excess, sheet_of_d
 use Rattle.wedge_base.specs.declared.rights.Denial.{Denial}
 use Rattle.callgate.specs.Gate.{gate_named}
 use Rattle.callgate.specs.declared.gate.Gate.{Gate}
-use Rattle.sthread_life.specs.Actors.{ActorState}
+use Rattle.machine.specs.Actors.{ActorState}
 
 -- the gate at an entry, among those that the actor knows: the last that it made there, or else the
 -- one of its sheet

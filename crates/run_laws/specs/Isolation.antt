@@ -9,12 +9,12 @@ use Rattle.wedge_events.specs.declared.events.Event.{Event}
 use Rattle.wedge_events.specs.declared.events.SlotWant.TheVariants as slot_want
 use Rattle.wedge_events.specs.declared.events.Want.{Want}
 use Rattle.wedge_events.specs.declared.events.Want.TheVariants as want
-use Rattle.sthread_life.specs.declared.phase.Phase.TheVariants as phase
-use Rattle.sthread_life.specs.Actors.{ActorState, bits_of}
+use Rattle.machine.specs.declared.phase.Phase.TheVariants as phase
+use Rattle.machine.specs.Actors.{ActorState, bits_of}
 use Rattle.run_laws.specs.Allowed.{may_use}
-use Rattle.run_laws.specs.Cells.{Cells, slot_in, stream_in}
-use Rattle.sthread_life.specs.Local.{rest}
-use Rattle.run_laws.specs.Worlds.{WorldState, actor_named, turn_of, ready}
+use Rattle.machine.specs.Cells.{Cells, slot_in, stream_in}
+use Rattle.machine.specs.Local.{rest}
+use Rattle.machine.specs.Worlds.{WorldState, actor_named, turn_of, ready}
 
 -- a tag as it is seen by who may load from it: its number and its bytes
 pub record Sight : Type 0 where

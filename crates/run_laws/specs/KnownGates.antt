@@ -5,8 +5,8 @@ use Rattle.wedge_base.specs.Maps.{Map, at}
 use Rattle.wedge_base.specs.declared.grants.GateId.{GateId}
 use Rattle.callgate.specs.Gate.{gate_named}
 use Rattle.callgate.specs.declared.gate.Gate.{Gate}
-use Rattle.sthread_life.specs.Actors.{ActorState}
-use Rattle.run_laws.specs.Worlds.{actor_named}
+use Rattle.machine.specs.Actors.{ActorState}
+use Rattle.machine.specs.Worlds.{actor_named}
 
 -- each gate that a map has at an entry is among these
 abbrev pub AreAmong : List Gate → Map GateId → Type 0

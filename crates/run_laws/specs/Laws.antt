@@ -10,13 +10,13 @@ use Rattle.wedge_events.specs.Lives.{most_lives}
 use Rattle.wedge_events.specs.declared.events.Event.{Event}
 use Rattle.wedge_events.specs.declared.events.Turn.{Turn}
 use Rattle.wedge_events.specs.declared.events.Want.{Want}
-use Rattle.sthread_life.specs.Actors.{ActorState}
+use Rattle.machine.specs.Actors.{ActorState}
 use Rattle.wedge_base.specs.declared.grants.GateId.{GateId}
-use Rattle.run_laws.specs.Cells.{slot_in, stream_in, kept_in}
-use Rattle.sthread_life.specs.Local.{has_ended, run_local}
+use Rattle.machine.specs.Cells.{slot_in, stream_in, kept_in}
+use Rattle.machine.specs.Local.{has_ended, run_local}
 use Rattle.wedge_base.specs.Sheets.{Draft, grant_count, most_grants}
 use Rattle.grant_sheet.specs.Missing.{IsSortedDraft}
-use Rattle.run_laws.specs.Worlds.{WorldState, initial_state, actor_named, with_actor, ready, Runs, is_complete}
+use Rattle.machine.specs.Worlds.{WorldState, initial_state, actor_named, with_actor, ready, Runs, is_complete}
 use Rattle.run_laws.specs.Names.{AreDistinct}
 use Rattle.run_laws.specs.Fuel.{fuel_of, most_turns, TakesItsUnits}
 use Rattle.run_laws.specs.Bounds.{IsWithinRoot}
@@ -34,6 +34,7 @@ use Rattle.run_laws.specs.Paying.{Pays}
 use Rattle.run_laws.specs.Drafting.{EditsDrafts}
 use Rattle.run_laws.specs.Families.{KeepsFamily}
 use Rattle.run_laws.specs.Asking.{AsksByWord}
+use Rattle.run_laws.specs.FileCalls.{OpensByRight}
 use Rattle.run_laws.specs.TagCalls.{MakesTags}
 use Rattle.run_laws.specs.GateCalls.{MakesGates}
 use Rattle.run_laws.specs.ChildCopies.{MakesCopies, SnapsForCopies}
@@ -43,14 +44,16 @@ use Rattle.run_laws.specs.Isolation.{IsAccess, TakesSameTurns}
 use Rattle.run_laws.specs.RecycledGates.{AreRunsAlone}
 use Rattle.run_laws.specs.GatesWithin.{NoneHoldsItsOwn, AreHeldOlder}
 use Rattle.run_laws.specs.Remembering.{Remembers}
+use Rattle.run_laws.specs.TakingPlace.{EachTurnOn, CallsTakePlace}
 
 -- what holds of a moment: the image stays, its request is mediated, a call is refused by its row,
--- an actor ends by its cause, it goes on as it should, it pays what the moment costs, its drafts are
--- as its calls made them, its private bytes are those that it stored, it starts and joins its own
--- children alone, none of which has more rights than it has, it comes to the event that its word
--- says and asks there what it came for, it makes tags by its own claims alone, the copies with which
--- its children and the runs of its gates begin are made of its own copies and of the tags as they
--- are then, and tags are copied for nothing else; and it makes gates by its own calls alone
+-- an actor ends by its cause, it goes on as it should, it pays what the moment costs, its drafts
+-- are as its calls made them, its private bytes are those that it stored, it starts and joins its
+-- own children alone, none of which has more rights than it has, it comes to the event that its
+-- word says and asks there what it came for, it makes tags by its own claims alone, it opens the
+-- files alone that an allowed call asks for, the copies with which its children and the runs of its
+-- gates begin are made of its own copies and of the tags as they are then, and tags are copied for
+-- nothing else; and it makes gates by its own calls alone
 pub record IsLawful (old : WorldState) (a : ActorState) (e : Option Event) (new : WorldState) : Type 0 where
   pub image : new.image ≡ old.image
   pub mediated : IsMediated old a e new
@@ -63,6 +66,7 @@ pub record IsLawful (old : WorldState) (a : ActorState) (e : Option Event) (new 
   pub family : KeepsFamily old a e new
   pub asks : AsksByWord old a e new
   pub makes : MakesTags old a e new
+  pub opens : OpensByRight old a e
   pub copies : MakesCopies old a e new
   pub snaps : SnapsForCopies a e
   pub gates : MakesGates old a e new
@@ -202,3 +206,7 @@ AllHaveEnded = (i : Image) (turns : List Turn) (last : WorldState) → Runs (ini
 abbrev pub DraftsAreSorted : Type 0
 DraftsAreSorted = (i : Image) (turns : List Turn) (w : WorldState) → Runs (initial_state i) turns w → (name : List ℕ) (a : ActorState) → actor_named w.actors name ≡ Some a
     → (n k : ℕ) (d : Draft) → slice_get (run_local w.image n (ready w.actors a)).drafts k ≡ Some d → IsSortedDraft d × (grant_count d ≤ most_grants)
+
+-- in each run, each call that is allowed and not refused takes place from its turn on
+abbrev pub AllowedCallsTakePlace : Type 0
+AllowedCallsTakePlace = (i : Image) (turns : List Turn) (last : WorldState) → Runs (initial_state i) turns last → EachTurnOn CallsTakePlace (initial_state i) turns

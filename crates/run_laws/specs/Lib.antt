@@ -1,7 +1,3 @@
--- The cells of a world, the event that comes of an ask, and what it makes of its cell.
-pub mod Cells
--- The world, its turns and its runs.
-pub mod Worlds
 -- The requests that a sheet may forbid, and which of them an instruction makes.
 pub mod Requests
 -- The gate that a call makes, read off the draft and the registers.
@@ -46,14 +42,14 @@ pub mod Isolation
 pub mod Drafting
 -- The private bytes of an actor, in its ranges and in its copies of tags.
 pub mod Remembering
--- What a run ends with.
-pub mod Outcomes
 -- The bytes of tags and of streams by the history of a run, and who wrote them.
 pub mod Written
 -- Who loads from tags, and who reads streams.
 pub mod Readers
 -- What each cell holds by the history of a run, beside the bytes.
 pub mod CellHistories
+-- How a call takes place that is allowed and not refused: its events, and what its actor then is.
+pub mod TakingPlace
 -- An actor's entries as a walk of its own.
 pub mod Walks
 -- Names of the actors of a world.
@@ -79,3 +75,5 @@ pub mod Laws
 -- What it is to hold a gate, to lend a draft and to be given one, said beside the machine's own
 -- definitions.
 pub mod Holding
+-- Complete runs.
+pub mod CompleteRuns

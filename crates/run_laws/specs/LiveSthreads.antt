@@ -1,9 +1,9 @@
 -- The lives that the actors of a world hold.
 use Rattle.std.specs.Prelude.{ℕ, ◌+◌, Bool, true, false, ◌||◌, List, [], ◌∷◌, is_some, if◌then◌else◌}
-use Rattle.sthread_life.specs.Actors.{ActorState}
-use Rattle.sthread_life.specs.Local.{has_ended}
-use Rattle.sthread_life.specs.declared.phase.Phase.{Phase}
-use Rattle.sthread_life.specs.declared.phase.Phase.TheVariants as phase
+use Rattle.machine.specs.Actors.{ActorState}
+use Rattle.machine.specs.Local.{has_ended}
+use Rattle.machine.specs.declared.phase.Phase.{Phase}
+use Rattle.machine.specs.declared.phase.Phase.TheVariants as phase
 
 -- whether an actor prepares a child, for which a life is claimed
 abbrev pub is_starting : Phase → Bool

@@ -7,7 +7,7 @@ use Rattle.wedge_base.specs.declared.grants.GateKind.TheVariants as gate_kind
 use Rattle.callgate.specs.declared.gate.Gate.{Gate}
 use Rattle.grant_sheet.specs.Granting.{IsWithin}
 use Rattle.rv_hart.specs.Local.{reg}
-use Rattle.sthread_life.specs.Actors.{ActorState}
+use Rattle.machine.specs.Actors.{ActorState}
 use Rattle.run_laws.specs.Holding.{IsDrafted}
 
 abbrev pub kind_of_number : ℕ → GateKind

@@ -7,13 +7,13 @@ use Rattle.cow_pages.specs.PrivateMemory.{PrivateMemory}
 use Rattle.wedge_base.specs.Images.{Image}
 use Rattle.wedge_base.specs.declared.grants.GateId.{GateId}
 use Rattle.wedge_base.specs.declared.image.MemoryRange.{MemoryRange}
-use Rattle.sthread_life.specs.Actors.{ActorState}
-use Rattle.sthread_life.specs.Local.{has_ended}
-use Rattle.sthread_life.specs.Preparation.{Preparation}
-use Rattle.sthread_life.specs.declared.phase.Phase.TheVariants as phase
-use Rattle.run_laws.specs.Cells.{Cells, kept_in}
+use Rattle.machine.specs.Actors.{ActorState}
+use Rattle.machine.specs.Local.{has_ended}
+use Rattle.machine.specs.Preparation.{Preparation}
+use Rattle.machine.specs.declared.phase.Phase.TheVariants as phase
+use Rattle.machine.specs.Cells.{Cells, kept_in}
 use Rattle.run_laws.specs.ChildCopies.{memory_of_image}
-use Rattle.run_laws.specs.Worlds.{actor_named}
+use Rattle.machine.specs.Worlds.{actor_named}
 
 -- where a range lies: its base, and its length in bytes
 abbrev pub extent : MemoryRange → ℕ × ℕ

@@ -18,13 +18,13 @@ use Rattle.wedge_events.specs.declared.cells.SlotReply.{SlotReply}
 use Rattle.wedge_events.specs.declared.cells.SlotReply.TheVariants as slot_reply
 use Rattle.wedge_events.specs.declared.cells.StreamReply.{StreamReply}
 use Rattle.wedge_events.specs.declared.cells.StreamReply.TheVariants as stream_reply
-use Rattle.sthread_life.specs.declared.phase.Phase.{Phase}
-use Rattle.sthread_life.specs.declared.phase.Phase.TheVariants as phase
+use Rattle.machine.specs.declared.phase.Phase.{Phase}
+use Rattle.machine.specs.declared.phase.Phase.TheVariants as phase
 use Rattle.wedge_base.specs.Sheets.{slot_on}
-use Rattle.sthread_life.specs.Actors.{ActorState}
-use Rattle.run_laws.specs.Cells.{slot_in, tag_in}
-use Rattle.sthread_life.specs.Local.{is_running, run_local}
-use Rattle.run_laws.specs.Worlds.{WorldState, actor_named, turn_of, with_actor}
+use Rattle.machine.specs.Actors.{ActorState}
+use Rattle.machine.specs.Cells.{slot_in, tag_in}
+use Rattle.machine.specs.Local.{is_running, run_local}
+use Rattle.machine.specs.Worlds.{WorldState, actor_named, turn_of, with_actor}
 use Rattle.run_laws.specs.Requests.{Request, Deletes, Allots, request_at}
 use Rattle.run_laws.specs.Allowed.{lacks, is_refused, is_checked_at_event, IsDone, denied, answered_hart, window_address}
 use Rattle.run_laws.specs.Families.{after_join}

@@ -1,7 +1,7 @@
 -- Names of the actors of a world.
 use Rattle.std.specs.Prelude.{◌≡◌, ℕ, false, List, [], ◌∷◌}
 use Rattle.wedge_base.specs.Names.{same}
-use Rattle.sthread_life.specs.Actors.{ActorState}
+use Rattle.machine.specs.Actors.{ActorState}
 
 -- no actor has a name
 abbrev pub IsNew : List ℕ → List ActorState → Type 0

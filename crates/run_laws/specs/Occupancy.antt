@@ -11,11 +11,11 @@ use Rattle.wedge_events.specs.declared.cells.SlotAsk.TheVariants as slot_ask
 use Rattle.wedge_events.specs.declared.events.Event.{Event}
 use Rattle.wedge_events.specs.declared.events.Event.TheVariants as event
 use Rattle.wedge_events.specs.declared.events.Turn.{Turn}
-use Rattle.sthread_life.specs.declared.phase.Phase.{Phase}
-use Rattle.sthread_life.specs.declared.phase.Phase.TheVariants as phase
-use Rattle.sthread_life.specs.Actors.{ActorState}
-use Rattle.run_laws.specs.Cells.{Cells, tag_in}
-use Rattle.run_laws.specs.Worlds.{WorldState, actor_named}
+use Rattle.machine.specs.declared.phase.Phase.{Phase}
+use Rattle.machine.specs.declared.phase.Phase.TheVariants as phase
+use Rattle.machine.specs.Actors.{ActorState}
+use Rattle.machine.specs.Cells.{Cells, tag_in}
+use Rattle.machine.specs.Worlds.{WorldState, actor_named}
 use Rattle.callgate.specs.declared.gate.Gate.{Gate}
 
 -- the slot that a call holds, between its claim and the opening of its tag, or between the close of

@@ -19,12 +19,12 @@ use Rattle.rv_isa.specs.Table.{decode}
 use Rattle.rv_hart.specs.declared.Need.{Need}
 use Rattle.rv_hart.specs.declared.Need.TheVariants as need
 use Rattle.rv_hart.specs.Local.{local, reg}
-use Rattle.sthread_life.specs.Actors.{ActorState}
+use Rattle.machine.specs.Actors.{ActorState}
 use Rattle.run_laws.specs.Refusals.{root_refusal}
 use Rattle.run_laws.specs.Requests.{path_at}
-use Rattle.run_laws.specs.Worlds.{WorldState, actor_named}
-use Rattle.sthread_life.specs.declared.phase.Phase.{Phase}
-use Rattle.sthread_life.specs.declared.phase.Phase.TheVariants as phase
+use Rattle.machine.specs.Worlds.{WorldState, actor_named}
+use Rattle.machine.specs.declared.phase.Phase.{Phase}
+use Rattle.machine.specs.declared.phase.Phase.TheVariants as phase
 
 -- what a call costs in its instruction beside the unit: sc_root one for each byte of the path,
 -- where it is not refused

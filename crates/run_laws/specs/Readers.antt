@@ -9,9 +9,9 @@ use Rattle.wedge_events.specs.declared.cells.StreamReply.TheVariants as stream_r
 use Rattle.wedge_events.specs.declared.events.Event.{Event}
 use Rattle.wedge_events.specs.declared.events.Event.TheVariants as event
 use Rattle.wedge_events.specs.declared.events.Turn.{Turn}
-use Rattle.sthread_life.specs.Actors.{ActorState, bits_of}
-use Rattle.run_laws.specs.Cells.{slot_in}
-use Rattle.run_laws.specs.Worlds.{WorldState, actor_named}
+use Rattle.machine.specs.Actors.{ActorState, bits_of}
+use Rattle.machine.specs.Cells.{slot_in}
+use Rattle.machine.specs.Worlds.{WorldState, actor_named}
 use Rattle.run_laws.specs.Allowed.{may_use}
 
 -- the actor of a name may load from a tag
@@ -20,7 +20,7 @@ MayLoad actors name tag = (a : ActorState) × (actor_named actors name ≡ Some 
 
 -- whether an event is a load that took place in a slot
 abbrev pub loads_in : ℕ → Event → Bool
-loads_in slot (event.Slot s (slot_ask.Load offset width live) (slot_reply.Loaded value)) = s == slot
+loads_in slot (event.Slot s (slot_ask.Load width offset live) (slot_reply.Loaded value)) = s == slot
 loads_in slot e = false
 
 -- where a turn loads from a slot, a tag lives there, and the turn's actor may load from it

@@ -9,11 +9,11 @@ use Rattle.wedge_base.specs.declared.grants.GateKind.TheVariants as gate_kind
 use Rattle.callgate.specs.Gate.{gate_named}
 use Rattle.callgate.specs.Lending.{IsRunSheet}
 use Rattle.callgate.specs.declared.gate.Gate.{Gate}
-use Rattle.sthread_life.specs.Actors.{ActorState}
-use Rattle.run_laws.specs.Cells.{Cells, kept_in}
+use Rattle.machine.specs.Actors.{ActorState}
+use Rattle.machine.specs.Cells.{Cells, kept_in}
 use Rattle.run_laws.specs.CopiesGranted.{AreGranted, grants_copy}
-use Rattle.sthread_life.specs.Local.{has_ended}
-use Rattle.run_laws.specs.Worlds.{actor_named}
+use Rattle.machine.specs.Local.{has_ended}
+use Rattle.machine.specs.Worlds.{actor_named}
 
 -- an actor is in a recycled gate: it is a run of the gate, and has not ended
 pub record IsInside (id : GateId) (a : ActorState) : Type 0 where

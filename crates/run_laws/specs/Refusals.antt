@@ -27,12 +27,12 @@ use Rattle.rv_isa.specs.Table.{decode}
 use Rattle.rv_hart.specs.declared.Need.{Need}
 use Rattle.rv_hart.specs.declared.Need.TheVariants as need
 use Rattle.rv_hart.specs.Local.{local, reg}
-use Rattle.sthread_life.specs.declared.phase.Phase.{Phase}
-use Rattle.sthread_life.specs.declared.phase.Phase.TheVariants as phase
-use Rattle.sthread_life.specs.Actors.{ActorState, bits_of, slot_held}
-use Rattle.run_laws.specs.Cells.{Cells, slot_in, stream_in}
-use Rattle.sthread_life.specs.Children.{is_child}
-use Rattle.run_laws.specs.Worlds.{WorldState, with_actor}
+use Rattle.machine.specs.declared.phase.Phase.{Phase}
+use Rattle.machine.specs.declared.phase.Phase.TheVariants as phase
+use Rattle.machine.specs.Actors.{ActorState, bits_of, slot_held}
+use Rattle.machine.specs.Cells.{Cells, slot_in, stream_in}
+use Rattle.machine.specs.Children.{is_child}
+use Rattle.machine.specs.Worlds.{WorldState, with_actor}
 use Rattle.run_laws.specs.Requests.{buffer_bytes, path_at, is_room, bits_to_open, file_of, suits_gate, lent_of}
 use Rattle.run_laws.specs.Allowed.{may_use, may_be_opened, is_source, fits_kind, answered_hart}
 use Rattle.run_laws.specs.Holding.{gate_for, loan_lacks, is_loan}

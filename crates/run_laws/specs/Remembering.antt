@@ -25,8 +25,8 @@ use Rattle.rv_isa.specs.Table.{decode}
 use Rattle.rv_hart.specs.declared.Need.{Need}
 use Rattle.rv_hart.specs.declared.Need.TheVariants as need
 use Rattle.rv_hart.specs.Local.{local, reg, put, extended}
-use Rattle.sthread_life.specs.Actors.{ActorState}
-use Rattle.run_laws.specs.Worlds.{WorldState, actor_named}
+use Rattle.machine.specs.Actors.{ActorState}
+use Rattle.machine.specs.Worlds.{WorldState, actor_named}
 use Rattle.run_laws.specs.Allowed.{next_word}
 
 -- the byte of a range at an address, if it has one there; and of the k-th range

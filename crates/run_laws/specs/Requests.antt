@@ -20,8 +20,8 @@ use Rattle.rv_isa.specs.Table.{decode}
 use Rattle.rv_hart.specs.declared.Need.{Need}
 use Rattle.rv_hart.specs.declared.Need.TheVariants as need
 use Rattle.rv_hart.specs.Local.{local, reg}
-use Rattle.sthread_life.specs.Actors.{ActorState}
-use Rattle.run_laws.specs.Cells.{Cells, slot_in, stream_in}
+use Rattle.machine.specs.Actors.{ActorState}
+use Rattle.machine.specs.Cells.{Cells, slot_in, stream_in}
 use Rattle.run_laws.specs.Holding.{gate_for, is_loan}
 use Rattle.callgate.specs.declared.gate.Gate.{Gate}
 

@@ -7,10 +7,10 @@ use Rattle.wedge_base.specs.declared.image.TagEntry.{TagEntry}
 use Rattle.wedge_base.specs.declared.rights.Right.{Right}
 use Rattle.wedge_base.specs.declared.rights.Right.TheVariants as right
 use Rattle.grant_sheet.specs.RootSheets.{IsDeclaredSheet}
-use Rattle.sthread_life.specs.Actors.{ActorState}
+use Rattle.machine.specs.Actors.{ActorState}
 use Rattle.run_laws.specs.ChildCopies.{memory_of_image}
 use Rattle.run_laws.specs.Families.{IsFresh}
-use Rattle.run_laws.specs.Worlds.{initial_state}
+use Rattle.machine.specs.Worlds.{initial_state}
 
 -- the copy that the root has at a slot: of the tag that is declared with the right to a copy alone
 -- and has the slot's number, with its content and zeros up to its pages

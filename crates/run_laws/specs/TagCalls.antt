@@ -15,13 +15,13 @@ use Rattle.wedge_events.specs.declared.events.Event.TheVariants as event
 use Rattle.wedge_events.specs.declared.events.Want.TheVariants as want
 use Rattle.wedge_base.specs.declared.rights.Right.TheVariants as right
 use Rattle.rv_hart.specs.Local.{reg}
-use Rattle.sthread_life.specs.declared.phase.Phase.{Phase}
-use Rattle.sthread_life.specs.declared.phase.Phase.TheVariants as phase
-use Rattle.sthread_life.specs.Actors.{ActorState, right_of}
+use Rattle.machine.specs.declared.phase.Phase.{Phase}
+use Rattle.machine.specs.declared.phase.Phase.TheVariants as phase
+use Rattle.machine.specs.Actors.{ActorState, right_of}
 use Rattle.run_laws.specs.Allowed.{answered_hart, window_address}
 use Rattle.run_laws.specs.Families.{answered_twice}
 use Rattle.run_laws.specs.FileCalls.{OpensAt}
-use Rattle.run_laws.specs.Worlds.{WorldState, put_actor}
+use Rattle.machine.specs.Worlds.{WorldState, put_actor}
 
 -- the place released last, or else the least one never used, is claimed with the next number, and
 -- the tag is opened there next

@@ -9,13 +9,13 @@ use Rattle.wedge_events.specs.declared.events.Want.{Want}
 use Rattle.wedge_events.specs.declared.events.Event.{Event}
 use Rattle.wedge_events.specs.declared.events.LogEntry.{LogEntry}
 use Rattle.wedge_events.specs.declared.events.Turn.{Turn}
-use Rattle.sthread_life.specs.Actors.{ActorState, root}
-use Rattle.sthread_life.specs.Local.{rest}
-use Rattle.sthread_life.specs.Take.{current_want, asks, takes, has_joined}
-use Rattle.run_laws.specs.Worlds.{WorldState, initial_state, actor_named, Runs}
+use Rattle.machine.specs.Actors.{ActorState, root}
+use Rattle.machine.specs.Local.{rest}
+use Rattle.machine.specs.Take.{current_want, asks, takes, has_joined}
+use Rattle.machine.specs.Worlds.{WorldState, initial_state, actor_named, Runs}
 use Rattle.wedge_base.specs.declared.rights.End.{End}
-use Rattle.sthread_life.specs.declared.phase.Phase.{Phase}
-use Rattle.sthread_life.specs.declared.phase.Phase.TheVariants as phase
+use Rattle.machine.specs.declared.phase.Phase.{Phase}
+use Rattle.machine.specs.declared.phase.Phase.TheVariants as phase
 
 -- an actor at rest asks an event: it is that of its want, with some tag that may live there
 pub record Asks (a : ActorState) (e : Event) : Type 0 where

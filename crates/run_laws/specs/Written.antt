@@ -9,9 +9,9 @@ use Rattle.wedge_events.specs.declared.events.Event.TheVariants as event
 use Rattle.wedge_events.specs.declared.events.Turn.{Turn}
 use Rattle.wedge_events.specs.declared.cells.StreamAsk.TheVariants as stream_ask
 use Rattle.wedge_events.specs.declared.cells.StreamReply.TheVariants as stream_reply
-use Rattle.sthread_life.specs.Actors.{ActorState, bits_of}
-use Rattle.run_laws.specs.Cells.{Cells, slot_in, stream_in}
-use Rattle.run_laws.specs.Worlds.{WorldState, actor_named}
+use Rattle.machine.specs.Actors.{ActorState, bits_of}
+use Rattle.machine.specs.Cells.{Cells, slot_in, stream_in}
+use Rattle.machine.specs.Worlds.{WorldState, actor_named}
 use Rattle.wedge_base.specs.declared.rights.Right.TheVariants as right
 use Rattle.run_laws.specs.Allowed.{may_use}
 
@@ -29,7 +29,7 @@ MayStore actors name tag = (a : ActorState) × (actor_named actors name ≡ Some
 
 -- whether an event is a store that took place in a slot
 abbrev pub stores_in : ℕ → Event → Bool
-stores_in slot (event.Slot s (slot_ask.Store offset width value live) slot_reply.Stored) = s == slot
+stores_in slot (event.Slot s (slot_ask.Store width offset value live) slot_reply.Stored) = s == slot
 stores_in slot e = false
 
 -- where a turn stores into a slot, a tag lives there, and the turn's actor may store to it

@@ -1,7 +1,7 @@
 //! Laws of the definitions: each is the contract of a function that does nothing.
 
 ghost use Rattle.wedge_base.specs.Images.{Image};
-ghost use Rattle.run_laws.specs.Laws.{CellsOpen, AccessesAreIsolated, MomentsAreLawful, InstructionsAreLawful, NamesAreDistinct, RunsWriteTheirOwn, RunsReadTheirOwn, LivesAreCounted, FuelIsKept, RootBounds, SlotsAreOccupied, AsksFit, RangesAreKept, CopiesAreGranted, GatesAreKept, NoneRunsWithin, GatesHeldAreOlder, RunsAreAlone, RunsEnd, EndedHaveJoinedAll, AllHaveEnded, DraftsAreSorted};
+ghost use Rattle.run_laws.specs.Laws.{CellsOpen, AccessesAreIsolated, MomentsAreLawful, InstructionsAreLawful, NamesAreDistinct, RunsWriteTheirOwn, RunsReadTheirOwn, LivesAreCounted, FuelIsKept, RootBounds, SlotsAreOccupied, AsksFit, RangesAreKept, CopiesAreGranted, GatesAreKept, NoneRunsWithin, GatesHeldAreOlder, RunsAreAlone, RunsEnd, EndedHaveJoinedAll, AllHaveEnded, DraftsAreSorted, AllowedCallsTakePlace};
 ghost use Rattle.run_laws.specs.RootBegins.{RootBegins};
 ghost use Rattle.run_laws.specs.Walks.{RootsWalk};
 
@@ -126,10 +126,10 @@ pub fn gates_are_kept()
     ensures { GatesAreKept }
 {}
 
-/// Whatever two worlds hold besides, where an actor is the same in both, each tag that it may load from lives in the same slot with the
-/// same bytes or in neither, and each descriptor on which it has a bit has the same stream, a load or a store in the slot of such a tag, and a
-/// read or an append on such a descriptor, has the same event in both: the same reply. The actor then is the same in both, and the
-/// cells still look alike to it.
+/// If two worlds agree on an actor and on everything it may read, its next load, store, read or append has the same event and reply in
+/// both. They agree where each tag that it may load from lives in the same slot with the same bytes or in neither, and each
+/// descriptor on which it has a bit has the same stream; the access is in the slot of such a tag or on such a descriptor. The actor
+/// then is the same in both, and they still agree.
 pub fn accesses_are_isolated()
     ensures { AccessesAreIsolated }
 {}
@@ -160,4 +160,13 @@ pub fn complete_runs_end_all()
 /// (`excess_names_the_missing_grant` of grant_sheet).
 pub fn drafts_are_sorted()
     ensures { DraftsAreSorted }
+{}
+
+/// In every run, a start of a child, a making or an entry of a gate, an opening of a file, a deletion of a tag and a placing of a
+/// block that the rights of its actor allow and that nothing else refuses takes place: from that turn on the actor's turns are
+/// exactly the events of one row of the table, one after another, and it carries out no instruction between them. After the last, the
+/// deed is done and answered, or the row is one of those where nothing is left of what the call claims, and then the
+/// call answers its code. A run may end on the way, but then it is not complete.
+pub fn allowed_calls_take_place()
+    ensures { AllowedCallsTakePlace }
 {}

@@ -19,8 +19,6 @@ mod registers;
 mod services;
 mod statements;
 mod templates;
-#[cfg(test)]
-mod tests;
 
 pub use assembled::{Assembled, Equate};
 pub use assembly::assemble;

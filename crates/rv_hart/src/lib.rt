@@ -3,8 +3,6 @@
 #![tactic(auto)]
 
 mod alu;
-#[cfg(test)]
-mod tests;
 
 ghost use Rattle.std.specs.Prelude.{◌≡◌, ◌≢◌, ◌<◌, ◌*◌, ◌^◌, replicate, IsTrue, nat_lt, pos, ◌-ℤ◌, if◌then◌else◌};
 ghost use Rattle.rv_isa.specs.Table.{HasRegisters};

@@ -5,8 +5,6 @@
 mod decoding;
 mod encoding;
 mod immediates;
-#[cfg(test)]
-mod tests;
 mod text;
 
 ghost use Rattle.std.specs.Prelude.{◌≡◌, ◌↔◌, ℕ, true, Some};

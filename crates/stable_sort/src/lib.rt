@@ -3,8 +3,6 @@
 
 mod entries;
 mod order;
-#[cfg(test)]
-mod tests;
 
 pub use entries::byte_order;
 pub use order::{Sortable, sort};

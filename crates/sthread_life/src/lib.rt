@@ -1,32 +1,15 @@
-//! Actors: what each does alone, and its part of a shared event. The world and its runs are defined in `run_laws`.
+//! Actors: the local run of each up to its next shared event, and its part of that event. What these do is defined in
+//! `machine`.
 #![tactic(auto)]
 
-mod accesses;
-mod actor;
-mod calls;
-mod children;
-mod copy_grant;
-mod drafting;
 mod entering;
-mod entrance;
-mod file_open;
-mod lives;
-mod local;
-mod making;
-mod opening;
-mod phase;
-mod preparation;
-mod roots;
+mod events;
+mod resting;
 mod starting;
 mod streams;
-mod tags;
-mod take;
+mod wants;
 
-pub use actor::Actor;
-pub use copy_grant::CopyGrant;
-pub use entrance::Entrance;
-pub use lives::Lives;
-pub use local::Next;
-pub use opening::{FileOpening, StreamLabel};
-pub use phase::Phase;
-pub use preparation::Preparation;
+pub use entering::resume;
+pub use events::take;
+pub use machine::{Actor, Next};
+pub use resting::local;

@@ -1,6 +1,7 @@
 //! A directory of slots or of descriptors.
 
 ghost use Rattle.std.specs.Prelude.{◌≡◌, ◌+◌, ◌<◌, ◌≤◌, [], ◌∷◌, IfSome, IfNone, ◌↔◌, Err, None, true, false, IfOk, OnOk, OnErr};
+ghost use Rattle.std.specs.List.{AllByRecursion};
 ghost use Rattle.wedge_events.specs.Directories as directories;
 ghost use Rattle.wedge_events.specs.declared.cells.DirectoryReply.TheVariants as reply;
 
@@ -59,6 +60,15 @@ impl Directory {
             released: Vec::with_capacity(alloc, count)?,
             claimed: vec![in alloc; true; count]?,
         })
+    }
+
+    /// All that it can give are its slots. It does nothing.
+    #[inline(always)]
+    pub(crate) fn gives_places(&self)
+        ensures unused { self.now.unused ≤ self.now.places }
+        ensures released { AllByRecursion (λ p. p < self.now.places) self.now.released }
+    {
+        let _places = self.places;
     }
 
     /// Whether a slot is claimed now.

@@ -22,10 +22,10 @@ pub fn opened_tags_are_zeroed()
 pub fn copies_give_no_access()
     ensures load { (s : Option slots.Segment) (offset width value : ℕ) (live : Option Live)
         → slots.right_in live ≡ Some right.Cow
-        → slots.slot_reply s (ask.Load offset width live) ≢ reply.Loaded value }
+        → slots.slot_reply s (ask.Load width offset live) ≢ reply.Loaded value }
     ensures store { (s : Option slots.Segment) (offset width value : ℕ) (live : Option Live)
         → slots.right_in live ≡ Some right.Cow
-        → slots.slot_reply s (ask.Store offset width value live) ≢ reply.Stored }
+        → slots.slot_reply s (ask.Store width offset value live) ≢ reply.Stored }
     ensures sfree { (s : Option slots.Segment) (offset : ℕ) (live : Option Live)
         → slots.right_in live ≡ Some right.Cow
         → slots.slot_reply s (ask.Sfree offset live) ≢ reply.Freed }
@@ -35,11 +35,11 @@ pub fn copies_give_no_access()
 /// ReadWrite.
 pub fn accesses_want_rights()
     ensures load { (s : Option slots.Segment) (offset width value : ℕ) (live : Option Live)
-        → slots.slot_reply s (ask.Load offset width live) ≡ reply.Loaded value
+        → slots.slot_reply s (ask.Load width offset live) ≡ reply.Loaded value
         → (slots.right_in live ≡ Some right.Read)
         ⊎ (slots.right_in live ≡ Some right.ReadWrite) }
     ensures store { (s : Option slots.Segment) (offset width value : ℕ) (live : Option Live)
-        → slots.slot_reply s (ask.Store offset width value live) ≡ reply.Stored
+        → slots.slot_reply s (ask.Store width offset value live) ≡ reply.Stored
         → slots.right_in live ≡ Some right.ReadWrite }
     ensures sfree { (s : Option slots.Segment) (offset : ℕ) (live : Option Live)
         → slots.slot_reply s (ask.Sfree offset live) ≡ reply.Freed

@@ -5,8 +5,6 @@ mod laws;
 mod rights;
 mod segment;
 mod state;
-#[cfg(test)]
-mod tests;
 
 pub use laws::{
     accesses_want_rights, blocks_are_placed_first_fit, copies_give_no_access,

@@ -12,7 +12,7 @@ use smalloc_heap::{Block, Heap, SmallocFault};
 use std::alloc::Global;
 use std::marker::Model;
 use wedge_base::{Bytes, NoMemory, PAGE, Right, TagNo};
-use wedge_events::{Live, SlotAsk, SlotReply};
+use wedge_events::{Boxed, Live, SlotAsk, SlotReply};
 
 /// A live tag: its number, its bytes, and the heap in which its blocks are placed.
 #[derive(Debug, Drop)]
@@ -101,7 +101,7 @@ impl Segment {
     #[inline(always)]
     pub fn load(&self, offset: u32, width: u8, live: Option<Live>) -> SlotReply
         requires { slots.IsAligned offset width }
-        ensures { result ≡ slots.live_reply self.now (SlotAsk.Load offset width live) }
+        ensures { result ≡ slots.live_reply self.now (SlotAsk.Load width offset live) }
     {
         if offset as usize >= self.bytes.len() {
             return SlotReply::Unmapped;
@@ -126,9 +126,9 @@ impl Segment {
         live: Option<Live>,
     ) -> Result<SlotReply, NoMemory>
         requires { slots.IsAligned offset width }
-        ensures is { let q = SlotAsk.Store offset width value live
+        ensures is { let q = SlotAsk.Store width offset value live
             in IfOk result (λ r. r ≡ slots.live_reply self.old q) }
-        ensures after { let q = SlotAsk.Store offset width value live
+        ensures after { let q = SlotAsk.Store width offset value live
             in OnOk result (Some self.new ≡ slots.slot_next (Some self.old) q) }
         ensures err { OnErr result (self.new ≡ self.old) }
     {
@@ -191,6 +191,8 @@ impl Segment {
             return Ok(SlotReply::Gone);
         }
         let pages = self.bytes.list(alloc)?;
-        Ok(SlotReply::Snapped { pages })
+        Ok(SlotReply::Snapped {
+            pages: Boxed::new(alloc, pages)?,
+        })
     }
 }

@@ -228,7 +228,7 @@ impl SlotState {
     #[inline(always)]
     fn load(&self, offset: u32, width: u8, live: Option<Live>) -> SlotReply
         requires { slots.IsAligned offset width }
-        ensures { result ≡ slots.slot_reply self.now (SlotAsk.Load offset width live) }
+        ensures { result ≡ slots.slot_reply self.now (SlotAsk.Load width offset live) }
     {
         match &self.segment {
             None => SlotReply::Unmapped,
@@ -246,9 +246,9 @@ impl SlotState {
         live: Option<Live>,
     ) -> Result<SlotReply, NoMemory>
         requires { slots.IsAligned offset width }
-        ensures is { let q = SlotAsk.Store offset width value live
+        ensures is { let q = SlotAsk.Store width offset value live
             in IfOk result (λ r. r ≡ slots.slot_reply self.old q) }
-        ensures after { let q = SlotAsk.Store offset width value live
+        ensures after { let q = SlotAsk.Store width offset value live
             in OnOk result (self.new ≡ slots.slot_next self.old q) }
         ensures err { OnErr result (self.new ≡ self.old) }
     {

@@ -5,7 +5,7 @@ use host_io::{NoPace, RealErr, RealFiles, RealOut};
 use std::io::ErrorKind;
 use std::process::ExitCode;
 use std::{env, io};
-use wedge_cli::{out_of_memory, wedge};
+use wedge_cli::{exit_status, out_of_memory};
 
 /// Does what the words ask, with the files and the streams of the process.
 fn main(rt: HostRuntime) -> ExitCode {
@@ -18,7 +18,7 @@ fn main(rt: HostRuntime) -> ExitCode {
         Err(error) if error.kind() == ErrorKind::InvalidData => Vec::new(rt.alloc()),
         Err(_) => return ExitCode::from(out_of_memory(&mut err).status),
     };
-    let ended = wedge(
+    let status = exit_status(
         &rt,
         rt.alloc(),
         words.as_slice(),
@@ -27,7 +27,7 @@ fn main(rt: HostRuntime) -> ExitCode {
         &mut err,
         &NoPace,
     );
-    ExitCode::from(ended.status)
+    ExitCode::from(status)
 }
 
 /// The words of the command line after the program's name.

@@ -16,8 +16,6 @@ mod pages;
 mod paths;
 mod rights;
 mod service;
-#[cfg(test)]
-mod tests;
 mod texts;
 
 pub use address::{Place, address_of, slot_of};

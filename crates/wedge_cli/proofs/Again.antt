@@ -8,13 +8,13 @@ use Rattle.wedge_base.specs.declared.outcome.Outcome.{Outcome}
 use Rattle.image_form.specs.Rules.{Encodes}
 use Rattle.report_text.specs.Reports.{report_of}
 use Rattle.report_text.specs.Schedules.{actors_of, names_in}
-use Rattle.run_laws.specs.Worlds.{initial_state}
-use Rattle.wedge_core.specs.Replay.{replay_from, names_of}
-use Rattle.wedge_core.specs.Serial.{IsJournaledRun}
-use Rattle.wedge_core.proofs.Replays.{journals_replay}
-use Rattle.wedge_cli.specs.declared.loading.FileKind.TheVariants as kind
-use Rattle.wedge_cli.specs.Loading.{image_from_bytes, most_of}
-use Rattle.wedge_cli.specs.Replaying.{replay_text, report_of_replay, schedule_by, replay_report}
+use Rattle.machine.specs.Worlds.{initial_state}
+use Rattle.world_turns.specs.Replay.{replay_from, names_of}
+use Rattle.run_laws.specs.CompleteRuns.{IsJournaledRun}
+use Rattle.world_turns.proofs.Replays.{journals_replay}
+use Rattle.cli_inputs.specs.declared.loading.FileKind.TheVariants as kind
+use Rattle.cli_inputs.specs.Loading.{image_from_bytes, most_of}
+use Rattle.cli_inputs.specs.Replaying.{replay_text, report_of_replay, schedule_by, replay_report}
 use Rattle.wedge_cli.proofs.Replays.{text_within}
 
 -- the actors of entries are those of their turns

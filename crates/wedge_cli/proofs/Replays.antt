@@ -8,19 +8,19 @@ use Rattle.image_form.specs.declared.fault.Fault.{Fault}
 use Rattle.elf_in.specs.declared.fault.Fault.{Fault as ElfFault}
 use Rattle.image_form.specs.Reading.{reading}
 use Rattle.report_text.specs.Schedules.{names_in}
-use Rattle.run_laws.specs.Worlds.{WorldState, initial_state}
-use Rattle.wedge_core.specs.declared.error.Why.{Why}
-use Rattle.wedge_core.specs.Replay.{replay_from}
-use Rattle.wedge_cli.specs.declared.loading.FileKind.TheVariants as kind
-use Rattle.wedge_cli.specs.declared.refusal.Refusal.{Refusal}
-use Rattle.wedge_cli.specs.declared.refusal.Refusal.TheVariants as refusal
-use Rattle.wedge_cli.specs.declared.refusal.PartRefusal.{PartRefusal}
-use Rattle.wedge_cli.specs.declared.refusal.ScheduleRefusal.{ScheduleRefusal}
-use Rattle.wedge_cli.specs.declared.refusal.ScheduleRefusal.TheVariants as schedule
-use Rattle.wedge_cli.specs.Loading.{image_from_bytes, image_by, most_of, too_long, IsRefusalOf, IsUnread}
-use Rattle.wedge_cli.specs.Replaying.{replay_text, report_of_replay, schedule_by, replay_report, IsRefusalIn}
+use Rattle.machine.specs.Worlds.{WorldState, initial_state}
+use Rattle.world_turns.specs.declared.error.Why.{Why}
+use Rattle.world_turns.specs.Replay.{replay_from}
+use Rattle.cli_inputs.specs.declared.loading.FileKind.TheVariants as kind
+use Rattle.cli_inputs.specs.declared.refusal.Refusal.{Refusal}
+use Rattle.cli_inputs.specs.declared.refusal.Refusal.TheVariants as refusal
+use Rattle.cli_inputs.specs.declared.refusal.PartRefusal.{PartRefusal}
+use Rattle.cli_inputs.specs.declared.refusal.ScheduleRefusal.{ScheduleRefusal}
+use Rattle.cli_inputs.specs.declared.refusal.ScheduleRefusal.TheVariants as schedule
+use Rattle.cli_inputs.specs.Loading.{image_from_bytes, image_by, most_of, too_long, IsRefusalOf, IsUnread}
+use Rattle.cli_inputs.specs.Replaying.{replay_text, report_of_replay, schedule_by, replay_report, IsRefusalIn}
 use Rattle.wedge_cli.specs.Causes.{IsReplayAnswer, IsReplayRefused}
-use Rattle.wedge_cli.proofs.TooLong.{long_image}
+use Rattle.cli_inputs.proofs.TooLong.{long_image}
 
 -- ---- the text
 

@@ -5,15 +5,15 @@ use Rattle.host_io.specs.Exposed.{WhereExposed}
 use Rattle.wedge_base.specs.Images.{Image}
 use Rattle.wedge_events.specs.declared.events.Journal.{Journal}
 use Rattle.wedge_cli.specs.declared.status.Ended.{Ended}
-use Rattle.wedge_cli.specs.declared.words.RunFlag.TheVariants.{Plain, Schedule}
-use Rattle.wedge_cli.specs.declared.refusal.Refusal.{Refusal}
-use Rattle.wedge_cli.specs.declared.refusal.Refusal.TheVariants as refusal
+use Rattle.cli_inputs.specs.declared.words.RunFlag.TheVariants.{Plain, Schedule}
+use Rattle.cli_inputs.specs.declared.refusal.Refusal.{Refusal}
+use Rattle.cli_inputs.specs.declared.refusal.Refusal.TheVariants as refusal
 use Rattle.wedge_cli.specs.declared.writing.Text.{Text}
 use Rattle.wedge_cli.specs.Lines.{line, usage_line, refusal_text, status_of}
-use Rattle.wedge_cli.specs.Loading.{image_from_bytes, built_of, IsRefusedBy}
-use Rattle.wedge_cli.specs.Replaying.{replay_text}
-use Rattle.wedge_cli.specs.Linking.{link_text, IsLinkedImage}
-use Rattle.wedge_cli.specs.Words.{Asked, Run, Show, Build, Link, Replay, Derive, Analyze}
+use Rattle.cli_inputs.specs.Loading.{image_from_bytes, built_of, IsRefusedBy}
+use Rattle.cli_inputs.specs.Replaying.{replay_text}
+use Rattle.cli_inputs.specs.Linking.{link_text, IsLinkedImage}
+use Rattle.cli_inputs.specs.Words.{Asked, Run, Show, Build, Link, Replay, Derive, Analyze}
 use Rattle.image_form.specs.Rules.{Encodes}
 use Rattle.report_text.specs.Reports.{report_of}
 use Rattle.report_text.specs.Schedules.{actors_of, schedule_of}
@@ -22,8 +22,8 @@ use Rattle.trace_form.specs.Records.{records_of}
 use Rattle.cb_analyze.specs.Sheets.{sheets_of}
 use Rattle.cb_analyze.specs.Texts.{sheets_text}
 use Rattle.wedge_cli.specs.Ended.{AreTaken, IsReported, IsPairAnswer, IsTraceAnswer, IsWritten, IsSaid, IsRunDone, IsScheduleDone, IsLinkDone, IsCutShort, IsAnswerEnd}
-use Rattle.wedge_cli.specs.declared.words.Query.{Query}
-use Rattle.wedge_cli.specs.Traces.{derive_text, analyze_text, query_lines, answer_to, unless_fault, IsUnknownIn, IsTraceRefused, IsQueryRefused}
+use Rattle.cli_inputs.specs.declared.words.Query.{Query}
+use Rattle.cli_inputs.specs.Traces.{derive_text, analyze_text, query_lines, answer_to, unless_fault, IsUnknownIn, IsTraceRefused, IsQueryRefused}
 use Rattle.wedge_cli.specs.Causes.{IsReplayRefused, IsRefused, IsUnfit, IsRejected, IsTraceRejected, IsElfRejected, IsUnknown, IsUnreadable, SaysRefusal, IsRefusal, IsCommandDone, IsUsage, IsCommandAnswer}
 use Rattle.wedge_cli.proofs.Written.{Rise, written_status, said_status, took_out, took_err, took_both}
 use Rattle.wedge_cli.proofs.Again.{schedule_replays}

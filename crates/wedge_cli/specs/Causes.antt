@@ -2,22 +2,22 @@
 use Rattle.std.specs.Prelude.{◌≡◌, ℕ, ◌<◌, ◌⊎◌, List, length, Option, Some, None, Result, Err, IsErr, ◌≤◌}
 use Rattle.host_io.specs.Exposed.{WhereExposed}
 use Rattle.wedge_events.specs.declared.events.Journal.{Journal}
-use Rattle.wedge_cli.specs.declared.refusal.Refusal.{Refusal}
-use Rattle.wedge_cli.specs.declared.refusal.Refusal.TheVariants as refusal
+use Rattle.cli_inputs.specs.declared.refusal.Refusal.{Refusal}
+use Rattle.cli_inputs.specs.declared.refusal.Refusal.TheVariants as refusal
 use Rattle.wedge_cli.specs.declared.status.Ended.{Ended}
 use Rattle.wedge_cli.specs.declared.writing.Text.{Text}
 use Rattle.wedge_cli.specs.Outside.{Device, Outside}
 use Rattle.wedge_cli.specs.Lines.{line, usage_line, refusal_text, status_of}
-use Rattle.wedge_cli.specs.declared.loading.FileKind.TheVariants as kind
-use Rattle.wedge_cli.specs.declared.refusal.ScheduleRefusal.{ScheduleRefusal}
-use Rattle.wedge_cli.specs.Loading.{image_from_bytes, built_of, most_of, IsReadFault, IsRefusedBy}
+use Rattle.cli_inputs.specs.declared.loading.FileKind.TheVariants as kind
+use Rattle.cli_inputs.specs.declared.refusal.ScheduleRefusal.{ScheduleRefusal}
+use Rattle.cli_inputs.specs.Loading.{image_from_bytes, built_of, most_of, IsReadFault, IsRefusedBy}
 use Rattle.trace_form.specs.declared.fault.TraceFault.{TraceFault}
-use Rattle.wedge_cli.specs.Replaying.{replay_text}
+use Rattle.cli_inputs.specs.Replaying.{replay_text}
 use Rattle.elf_in.specs.declared.fault.Fault.{Fault as ElfFault}
 use Rattle.elf_in.specs.Reading.{elf_program as elf_reading}
-use Rattle.wedge_cli.specs.Linking.{link_text, IsUnjoined}
-use Rattle.wedge_cli.specs.Traces.{trace_fault, IsUnknownIn, IsTraceRefused, IsQueryRefused}
-use Rattle.wedge_cli.specs.Words.{Asked, Run, Show, Build, Link, Replay, Derive, Analyze}
+use Rattle.cli_inputs.specs.Linking.{link_text, IsUnjoined}
+use Rattle.cli_inputs.specs.Traces.{trace_fault, IsUnknownIn, IsTraceRefused, IsQueryRefused}
+use Rattle.cli_inputs.specs.Words.{Asked, Run, Show, Build, Link, Replay, Derive, Analyze}
 use Rattle.wedge_cli.specs.Ended.{IsCommandOutput, IsWritten, IsSaid}
 
 -- a read of one of the two files failed; where it is the second, the first is not too long

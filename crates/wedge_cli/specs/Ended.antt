@@ -6,26 +6,27 @@ use Rattle.part_toml.specs.Partition.{partition}
 use Rattle.wedge_events.specs.declared.events.Journal.{Journal}
 use Rattle.wedge_base.specs.declared.outcome.Outcome.{Outcome}
 use Rattle.host_io.specs.Exposed.{WhereExposed}
-use Rattle.wedge_core.specs.Serial.{IsJournaledRun, IsNumbered}
+use Rattle.world_turns.specs.Progress.{IsNumbered}
+use Rattle.run_laws.specs.CompleteRuns.{IsJournaledRun}
 use Rattle.report_text.specs.Reports.{report_of}
 use Rattle.report_text.specs.Schedules.{actors_of, schedule_of, names_in}
 use Rattle.wedge_events.specs.declared.events.LogEntry.{LogEntry}
-use Rattle.wedge_cli.specs.declared.loading.FileKind.TheVariants as kind
-use Rattle.wedge_cli.specs.declared.words.RunFlag.{RunFlag}
-use Rattle.wedge_cli.specs.declared.words.RunFlag.TheVariants.{Plain, Schedule}
+use Rattle.cli_inputs.specs.declared.loading.FileKind.TheVariants as kind
+use Rattle.cli_inputs.specs.declared.words.RunFlag.{RunFlag}
+use Rattle.cli_inputs.specs.declared.words.RunFlag.TheVariants.{Plain, Schedule}
 use Rattle.wedge_cli.specs.declared.status.Ended.{Ended}
-use Rattle.wedge_cli.specs.declared.refusal.Refusal.{Refusal}
+use Rattle.cli_inputs.specs.declared.refusal.Refusal.{Refusal}
 use Rattle.wedge_cli.specs.declared.writing.SinkName.TheVariants as sink
 use Rattle.wedge_cli.specs.declared.writing.SinkName.{SinkName}
 use Rattle.wedge_cli.specs.declared.writing.Text.{Text}
 use Rattle.wedge_cli.specs.Outside.{Device, Sinks, Takes, IsFailedWrite, Tried}
 use Rattle.wedge_cli.specs.Lines.{line, write_fault_line, refusal_text, status_of}
-use Rattle.wedge_cli.specs.Listing.{listing}
-use Rattle.wedge_cli.specs.Loading.{image_from_bytes, built_of, most_of}
-use Rattle.wedge_cli.specs.Replaying.{replay_text}
-use Rattle.wedge_cli.specs.Linking.{link_text, IsLinkedImage}
-use Rattle.wedge_cli.specs.Traces.{derive_text, analyze_text}
-use Rattle.wedge_cli.specs.Words.{Asked, Run, Show, Build, Link, Replay, Derive, Analyze}
+use Rattle.cli_inputs.specs.Listing.{listing}
+use Rattle.cli_inputs.specs.Loading.{image_from_bytes, built_of, most_of}
+use Rattle.cli_inputs.specs.Replaying.{replay_text}
+use Rattle.cli_inputs.specs.Linking.{link_text, IsLinkedImage}
+use Rattle.cli_inputs.specs.Traces.{derive_text, analyze_text}
+use Rattle.cli_inputs.specs.Words.{Asked, Run, Show, Build, Link, Replay, Derive, Analyze}
 
 -- ---- what a command makes of its files
 
@@ -224,3 +225,9 @@ pub record IsLinkDone (elf : List ℕ) (before after : Sinks) : Type 0 where
   pub image : IsLinkedImage elf bytes
   pub out : Takes bytes before.out after.out
   pub err : after.err ≡ before.err
+
+-- the program ended so with this status
+pub record HasEnd (status : ℕ) (So : Ended → Type 0) : Type 0 where
+  pub ended : Ended
+  pub status_is : ended.status ≡ status
+  pub is_so : So ended

@@ -1,25 +1,8 @@
--- What the arguments of the command line ask.
-pub mod Words
 -- What lies outside the program.
 pub mod Outside
 -- The lines of refusals.
 pub mod Lines
--- Refusals of images, of partitions and of ELF files.
-pub mod Refusals
--- From the bytes of a file to the image that is run, listed or written.
-pub mod Loading
--- The report of a replay, as a function of the bytes of an image's file and of a schedule's.
-pub mod Replaying
--- The bytes of the image that an ELF file and a partition are joined to, as a function of the
--- bytes of both.
-pub mod Linking
--- What is asked of a trace, as a function of the bytes of its file.
-pub mod Traces
 -- What the program ends with.
 pub mod Ended
 -- What the program answers to its arguments.
 pub mod Causes
--- The listing of an image's text.
-pub mod Listing
--- What a map of headings says of an address.
-pub mod Headings

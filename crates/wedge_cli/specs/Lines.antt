@@ -7,14 +7,14 @@ use Rattle.image_form.specs.Words as image
 use Rattle.rv_asm.specs.Words as asm
 use Rattle.trace_form.specs.declared.fault.TraceFault.{TraceFault}
 use Rattle.trace_form.specs.Fault as trace
-use Rattle.wedge_cli.specs.declared.refusal.PartRefusal.{PartRefusal}
-use Rattle.wedge_cli.specs.declared.refusal.PartRefusal.TheVariants as part
-use Rattle.wedge_core.specs.declared.error.Why.{Why}
-use Rattle.wedge_core.specs.declared.error.Why.TheVariants as why
-use Rattle.wedge_cli.specs.declared.refusal.ScheduleRefusal.{ScheduleRefusal}
-use Rattle.wedge_cli.specs.declared.refusal.ScheduleRefusal.TheVariants as schedule
-use Rattle.wedge_cli.specs.declared.refusal.Refusal.{Refusal}
-use Rattle.wedge_cli.specs.declared.refusal.Refusal.TheVariants as refusal
+use Rattle.cli_inputs.specs.declared.refusal.PartRefusal.{PartRefusal}
+use Rattle.cli_inputs.specs.declared.refusal.PartRefusal.TheVariants as part
+use Rattle.world_turns.specs.declared.error.Why.{Why}
+use Rattle.world_turns.specs.declared.error.Why.TheVariants as why
+use Rattle.cli_inputs.specs.declared.refusal.ScheduleRefusal.{ScheduleRefusal}
+use Rattle.cli_inputs.specs.declared.refusal.ScheduleRefusal.TheVariants as schedule
+use Rattle.cli_inputs.specs.declared.refusal.Refusal.{Refusal}
+use Rattle.cli_inputs.specs.declared.refusal.Refusal.TheVariants as refusal
 
 -- a line of the program's own
 abbrev pub line : List ℕ → List ℕ

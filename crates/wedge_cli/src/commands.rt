@@ -1,22 +1,20 @@
 //! What each command makes of its files.
 
 ghost use Rattle.std.specs.Prelude.{◌≡◌, ◌≤◌, ℕ, List, Some, None, IfOk, IfErr};
-ghost use Rattle.wedge_cli.specs.Words as asking;
-ghost use Rattle.wedge_cli.specs.Loading.{IsRefusedBy, image_from_bytes, built_of};
+ghost use Rattle.cli_inputs.specs.Words as asking;
+ghost use Rattle.cli_inputs.specs.Loading.{IsRefusedBy, image_from_bytes, built_of};
 ghost use Rattle.wedge_cli.specs.Causes.{IsLinkRefused, IsReplayRefused, IsRefused};
 ghost use Rattle.wedge_cli.specs.Ended.{on_out, on_both, IsReported, RunsImage, IsShown, IsBuilt, IsLinked, IsPairAnswer, IsTraceAnswer, IsCommandOutput};
-ghost use Rattle.wedge_cli.specs.Replaying as replays;
-ghost use Rattle.wedge_cli.specs.Traces.{derive_text, analyze_text, IsTraceRefused, IsQueryRefused};
+ghost use Rattle.cli_inputs.specs.Replaying as replays;
+ghost use Rattle.cli_inputs.specs.Traces.{derive_text, analyze_text, IsTraceRefused, IsQueryRefused};
 
-use crate::linking::{link_text, program_of, read_partition_file};
-use crate::loading::{FileKind, load_built, load_image, read_file};
-use crate::refusal::{PartRefusal, Refusal};
-use crate::replaying::replay_text;
-use crate::show::listing;
-use crate::traces::{load_trace, query_text, sheets_text};
-use crate::words::{Command, Query, RunFlag};
 use crate::writing::{Ready, SinkName, Text};
 use cb_analyze::QueryFault;
+use cli_inputs::{
+    Command, FileKind, PartRefusal, Query, Refusal, RunFlag, link_text, listing, load_built,
+    load_image, load_trace, program_of, query_text, read_file, read_partition_file, replay_text,
+    sheets_text,
+};
 use host_io::Files;
 use image_form::{Image, write_image};
 use report_text::{report, write_schedule};

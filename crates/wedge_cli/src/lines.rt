@@ -4,7 +4,7 @@ ghost use Rattle.std.specs.Prelude.{◌≡◌, ◌++◌, codes, IfOk, OnOk};
 ghost use Rattle.std.specs.Fmt.{decimal};
 ghost use Rattle.wedge_cli.specs.Lines as lines;
 
-use crate::refusal::{PartRefusal, Refusal, ScheduleRefusal};
+use cli_inputs::{PartRefusal, Refusal, ScheduleRefusal};
 use std::alloc::{AllocError, Global};
 use trace_form::TraceFault;
 use wedge_core::Why;

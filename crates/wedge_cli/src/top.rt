@@ -1,24 +1,23 @@
 //! The top call.
 
 ghost use Rattle.std.specs.Prelude.{◌≡◌, ◌≤◌, ◌<◌, ◌⊎◌, ℕ, List, codes, Some, None};
-ghost use Rattle.wedge_cli.specs.Words as asking;
-ghost use Rattle.wedge_cli.specs.Words.{Asked, command_of, texts};
+ghost use Rattle.cli_inputs.specs.Words as asking;
+ghost use Rattle.cli_inputs.specs.Words.{Asked, command_of, texts};
 ghost use Rattle.wedge_cli.specs.Outside.{outside, sinks, device};
 ghost use Rattle.wedge_cli.specs.Lines as lines;
-ghost use Rattle.wedge_cli.specs.Ended.{IsSaid, IsRunDone, IsScheduleDone, IsLinkDone, IsCutShort, IsAnswerEnd};
-ghost use Rattle.wedge_cli.specs.Linking.{link_text};
-ghost use Rattle.wedge_cli.specs.Replaying.{replay_text};
-ghost use Rattle.wedge_cli.specs.Traces.{derive_text, analyze_text};
+ghost use Rattle.wedge_cli.specs.Ended.{IsSaid, IsRunDone, IsScheduleDone, IsLinkDone, IsCutShort, IsAnswerEnd, HasEnd};
+ghost use Rattle.cli_inputs.specs.Linking.{link_text};
+ghost use Rattle.cli_inputs.specs.Replaying.{replay_text};
+ghost use Rattle.cli_inputs.specs.Traces.{derive_text, analyze_text};
 ghost use Rattle.wedge_cli.specs.Causes.{IsUnfit, IsRejected, IsElfRejected, IsUnknown, IsUnreadable, SaysRefusal, IsCommandAnswer};
 
 use crate::commands::prepare;
 use crate::lines::{no_memory_line, refusal_line, usage_line};
-use crate::refusal::Refusal;
 use crate::status::{
     ELF_REFUSED, Ended, NO_MEMORY, NO_SUCH_NAME, READ_FAULT, REFUSED, REJECTED, USAGE,
 };
-use crate::words::{Query, RunFlag, WordsFault, read_words};
 use crate::writing::{finish, say};
+use cli_inputs::{Query, Refusal, RunFlag, WordsFault, read_words};
 use host_io::{Files, Pace, Sink};
 use std::alloc::Global;
 use std::sync::Wait;
@@ -140,6 +139,84 @@ pub fn wedge<R: Threads + Wait + Sync, F: Files, O: Sink, E: Sink, P: Pace + Syn
         → (O.faults out.old < O.faults out.new) ⊎ (E.faults err.old < E.faults err.new) }
 {
     does(alloc, words, files, out, err)
+}
+
+/// Does what the arguments ask, as [`wedge`] does, and returns the exit status alone: for a caller that keeps no journal.
+pub fn exit_status<R: Threads + Wait + Sync, F: Files, O: Sink, E: Sink, P: Pace + Sync>(
+    rt: &R,
+    alloc: Global,
+    words: &[String],
+    files: &mut F,
+    out: &mut O,
+    err: &mut E,
+    pace: &P,
+) -> u8
+    ensures run { (image bytes : List ℕ)
+        → command_of (texts words.now) ≡ Some (asking.Run image RunFlag.Plain)
+        → F.content files.old image ≡ Some bytes → result ≡ 0
+        → HasEnd result (λ ended. IsRunDone bytes ended.journal
+        (sinks (O.written out.old) (O.faults out.old) (E.written err.old) (E.faults err.old))
+        (sinks (O.written out.new) (O.faults out.new) (E.written err.new) (E.faults err.new))) }
+    ensures schedule { (image bytes : List ℕ)
+        → command_of (texts words.now) ≡ Some (asking.Run image RunFlag.Schedule)
+        → F.content files.old image ≡ Some bytes → result ≡ 0
+        → HasEnd result (λ ended. IsScheduleDone bytes ended.journal
+        (sinks (O.written out.old) (O.faults out.old) (E.written err.old) (E.faults err.old))
+        (sinks (O.written out.new) (O.faults out.new) (E.written err.new) (E.faults err.new))) }
+    ensures link { (elf part bytes text : List ℕ)
+        → command_of (texts words.now) ≡ Some (asking.Link elf part)
+        → F.content files.old elf ≡ Some bytes → F.content files.old part ≡ Some text
+        → IsCutShort result ⊎ IsAnswerEnd (link_text bytes text) result
+        (sinks (O.written out.old) (O.faults out.old) (E.written err.old) (E.faults err.old))
+        (sinks (O.written out.new) (O.faults out.new) (E.written err.new) (E.faults err.new)) }
+    ensures link_done { (elf part bytes : List ℕ)
+        → command_of (texts words.now) ≡ Some (asking.Link elf part)
+        → F.content files.old elf ≡ Some bytes → result ≡ 0
+        → IsLinkDone bytes
+        (sinks (O.written out.old) (O.faults out.old) (E.written err.old) (E.faults err.old))
+        (sinks (O.written out.new) (O.faults out.new) (E.written err.new) (E.faults err.new)) }
+    ensures replay { (image schedule bytes names : List ℕ)
+        → command_of (texts words.now) ≡ Some (asking.Replay image schedule)
+        → F.content files.old image ≡ Some bytes → F.content files.old schedule ≡ Some names
+        → IsCutShort result ⊎ IsAnswerEnd (replay_text bytes names) result
+        (sinks (O.written out.old) (O.faults out.old) (E.written err.old) (E.faults err.old))
+        (sinks (O.written out.new) (O.faults out.new) (E.written err.new) (E.faults err.new)) }
+    ensures derive { (trace bytes : List ℕ)
+        → command_of (texts words.now) ≡ Some (asking.Derive trace)
+        → F.content files.old trace ≡ Some bytes
+        → IsCutShort result ⊎ IsAnswerEnd (derive_text bytes) result
+        (sinks (O.written out.old) (O.faults out.old) (E.written err.old) (E.faults err.old))
+        (sinks (O.written out.new) (O.faults out.new) (E.written err.new) (E.faults err.new)) }
+    ensures analyze { (trace name bytes : List ℕ) (query : Query)
+        → command_of (texts words.now) ≡ Some (asking.Analyze trace query name)
+        → F.content files.old trace ≡ Some bytes
+        → IsCutShort result ⊎ IsAnswerEnd (analyze_text query name bytes) result
+        (sinks (O.written out.old) (O.faults out.old) (E.written err.old) (E.faults err.old))
+        (sinks (O.written out.new) (O.faults out.new) (E.written err.new) (E.faults err.new)) }
+    ensures answer { HasEnd result (λ ended. IsCommandAnswer (command_of (texts words.now)) ended
+        (outside (F.content files.old) (F.faults files.old)
+        (sinks (O.written out.old) (O.faults out.old) (E.written err.old) (E.faults err.old)))
+        (outside (F.content files.new) (F.faults files.new)
+        (sinks (O.written out.new) (O.faults out.new) (E.written err.new) (E.faults err.new)))) }
+    ensures content { (other : List ℕ) → F.content files.new other
+        ≡ F.content files.old other }
+    ensures rises { (other : List ℕ) → F.faults files.old other ≤ F.faults files.new other }
+    ensures usage_only { result ≡ 2 → command_of (texts words.now) ≡ None }
+    ensures image_only { (a : Asked) → command_of (texts words.now) ≡ Some a → result ≡ 3
+        → IsUnfit a (F.content files.old) }
+    ensures rejected_only { (a : Asked) → command_of (texts words.now) ≡ Some a → result ≡ 8
+        → IsRejected a (F.content files.old) }
+    ensures elf_only { (a : Asked) → command_of (texts words.now) ≡ Some a → result ≡ 10
+        → IsElfRejected a (F.content files.old) }
+    ensures name_only { (a : Asked) → command_of (texts words.now) ≡ Some a → result ≡ 9
+        → IsUnknown a (F.content files.old) }
+    ensures read_only { (a : Asked) → command_of (texts words.now) ≡ Some a → result ≡ 4
+        → IsUnreadable a (F.faults files.old) (F.faults files.new) }
+    ensures write_only { result ≡ 5
+        → (O.faults out.old < O.faults out.new) ⊎ (E.faults err.old < E.faults err.new) }
+{
+    let ended = wedge(rt, alloc, words, files, out, err, pace);
+    ended.status
 }
 
 /// What the program ends with where there is no memory for its arguments: status 6, with the line of that

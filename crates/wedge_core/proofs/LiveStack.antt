@@ -12,38 +12,38 @@ use Rattle.wedge_base.specs.declared.rights.End.{End}
 use Rattle.wedge_events.specs.declared.cells.GateAsk.TheVariants as gate_ask
 use Rattle.wedge_events.specs.declared.events.Turn.{Turn}
 use Rattle.wedge_events.specs.declared.events.Want.TheVariants as want
-use Rattle.sthread_life.specs.declared.copy_grant.CopyGrant.{CopyGrant}
-use Rattle.sthread_life.specs.declared.phase.Phase.{Phase}
-use Rattle.sthread_life.specs.declared.phase.Phase.TheVariants as phase
-use Rattle.sthread_life.specs.Actors.{ActorState, root}
-use Rattle.sthread_life.specs.Calls.{a0}
-use Rattle.sthread_life.specs.Children.{Children, is_number, fuel_given, is_child, without_child, child_name}
-use Rattle.sthread_life.specs.Entrance.{Entrance}
+use Rattle.machine.specs.declared.copy_grant.CopyGrant.{CopyGrant}
+use Rattle.machine.specs.declared.phase.Phase.{Phase}
+use Rattle.machine.specs.declared.phase.Phase.TheVariants as phase
+use Rattle.machine.specs.Actors.{ActorState, root}
+use Rattle.machine.specs.Calls.{a0}
+use Rattle.machine.specs.Children.{Children, is_number, fuel_given, is_child, without_child, child_name}
+use Rattle.machine.specs.Entrance.{Entrance}
 use Rattle.run_laws.specs.FamilyTrees.{Holds, AllBehind, WaitsForOwn, Family}
 use Rattle.run_laws.specs.GatesWithin.{is_under}
 use Rattle.run_laws.specs.Holding.{gate_for}
-use Rattle.sthread_life.specs.Local.{has_ended}
-use Rattle.sthread_life.specs.Opening.{FileOpening}
+use Rattle.machine.specs.Local.{has_ended}
+use Rattle.machine.specs.Opening.{FileOpening}
 use Rattle.run_laws.specs.Names.{IsNew, AreDistinct}
-use Rattle.sthread_life.specs.Take.{next_start, making_want, starting_want, opening_want, entering_want, leaving_want, current_want, wanted_at, last_want, ending_want}
-use Rattle.run_laws.specs.Worlds.{WorldState, initial_state, actor_named, put_actor, ready, at_rest, Runs, is_ended}
+use Rattle.machine.specs.Take.{next_start, making_want, starting_want, opening_want, entering_want, leaving_want, current_want, wanted_at, last_want, ending_want}
+use Rattle.machine.specs.Worlds.{WorldState, initial_state, actor_named, put_actor, ready, at_rest, Runs, is_ended}
 use Rattle.run_laws.proofs.EnteringGates.{IsEnterable}
 use Rattle.run_laws.proofs.FamilyKept.{found_apart}
 use Rattle.run_laws.proofs.FamilyRuns.{run_family}
-use Rattle.sthread_life.proofs.FuelGiven.{number_is, number_self, given_elsewhere, given_gone}
+use Rattle.machine.proofs.FuelGiven.{number_is, number_self, given_elsewhere, given_gone}
 use Rattle.run_laws.proofs.GatesWithin.{under_itself, none_at_rest}
 use Rattle.run_laws.proofs.GrantedCopies.{runs_alone}
 use Rattle.run_laws.proofs.Meeting.{IsWanted, ReadsAs, LoadsAt}
 use Rattle.run_laws.proofs.Named.{same_self, same_equal}
-use Rattle.sthread_life.proofs.Resting.{rest-uncalm}
+use Rattle.machine.proofs.Resting.{rest-uncalm}
 use Rattle.run_laws.proofs.Settling.{AllReady, named_ready, run_ready}
 use Rattle.run_laws.proofs.Trees.{apart_too}
 use Rattle.run_laws.proofs.Turns.{Readies, Stays, Back, readies}
-use Rattle.wedge_core.specs.Progress.{Progress, Awaits, IsWaiting, IsBusy, initial_progress}
+use Rattle.world_turns.specs.Progress.{Progress, Awaits, IsWaiting, IsBusy, initial_progress}
 use Rattle.wedge_core.specs.Serial.{newest, live_names, AreUnder, AreNested, IsSerial}
 use Rattle.wedge_core.specs.declared.serially.LiveActor.{LiveActor}
-use Rattle.wedge_core.proofs.AtRest.{unjoined_at_rest}
-use Rattle.wedge_core.proofs.FamilyTurns.{is_given}
+use Rattle.world_turns.proofs.AtRest.{unjoined_at_rest}
+use Rattle.world_turns.proofs.FamilyTurns.{is_given}
 
 -- ---- who lives
 

@@ -10,35 +10,36 @@ use Rattle.wedge_events.specs.declared.cells.GateReply.TheVariants as gate_reply
 use Rattle.wedge_events.specs.declared.events.Event.{Event}
 use Rattle.wedge_events.specs.declared.events.Event.TheVariants as event
 use Rattle.wedge_events.specs.declared.events.Turn.{Turn}
-use Rattle.sthread_life.specs.declared.phase.Phase.{Phase}
-use Rattle.sthread_life.specs.declared.phase.Phase.TheVariants as phase
-use Rattle.sthread_life.specs.Actors.{ActorState, root}
-use Rattle.sthread_life.specs.Children.{child_name}
+use Rattle.machine.specs.declared.phase.Phase.{Phase}
+use Rattle.machine.specs.declared.phase.Phase.TheVariants as phase
+use Rattle.machine.specs.Actors.{ActorState, root}
+use Rattle.machine.specs.Children.{child_name}
 use Rattle.run_laws.specs.Fuel.{work_left}
-use Rattle.sthread_life.specs.Local.{rest, has_ended}
+use Rattle.machine.specs.Local.{rest, has_ended}
 use Rattle.run_laws.specs.Names.{IsNew, AreDistinct}
-use Rattle.sthread_life.specs.Take.{next_start, takes, actor_begun, child_of, has_entered, run_by, run_at}
+use Rattle.machine.specs.Take.{next_start, takes, actor_begun, child_of, has_entered, run_by, run_at}
 use Rattle.run_laws.specs.FamilyTrees.{Family}
-use Rattle.run_laws.specs.Worlds.{WorldState, Taken, initial_state, actor_named, put_actor, with_begun, ready, resumed, Runs, is_ended, is_complete}
+use Rattle.machine.specs.Worlds.{WorldState, Taken, initial_state, actor_named, put_actor, with_begun, ready, resumed, Runs, is_ended, is_complete}
 use Rattle.run_laws.proofs.Between.{takes_name}
 use Rattle.run_laws.proofs.FamilyRuns.{Acts, ActsAlone, Starts, Enters, Joins, acts, one_begins, run_family, turn_family, opening_family}
 use Rattle.run_laws.proofs.Named.{same_self, same_equal, found_name, put_put}
-use Rattle.sthread_life.proofs.Resting.{rest-name}
+use Rattle.machine.proofs.Resting.{rest-name}
 use Rattle.run_laws.proofs.Settling.{AllReady, run_ready, turn_ready, opening_ready, turn_happens}
 use Rattle.run_laws.proofs.Trees.{apart_too}
 use Rattle.run_laws.proofs.Turns.{ready_name, turn_from}
 use Rattle.run_laws.proofs.WorkLeft.{turn_works}
-use Rattle.wedge_core.specs.Progress.{Progress, IsFirstNamed, IsIndexOf, IsTurn, IsWaiting, IsBusy, TookTurnOf, HasEnded}
-use Rattle.wedge_core.specs.Serial.{newest, live_names, AreNested, InSerialOrder, RootGoesOn, RootIsFirst, AreIndexed, names_of_live, IsSerial, LivesAfter, LivingGoOn, SerialOrderGoesOn}
-use Rattle.wedge_core.specs.Indices.{index_in}
+use Rattle.world_turns.specs.Progress.{Progress, IsFirstNamed, IsIndexOf, IsTurn, IsWaiting, IsBusy, TookTurnOf, HasEnded}
+use Rattle.wedge_core.specs.Serial.{newest, live_names, AreNested, InSerialOrder, RootIsFirst, AreIndexed, names_of_live, IsSerial, LivesAfter, LivingGoOn, SerialOrderGoesOn}
+use Rattle.run_laws.specs.CompleteRuns.{RootGoesOn}
+use Rattle.world_turns.specs.Indices.{index_in}
 use Rattle.wedge_core.specs.declared.serially.LiveActor.{LiveActor}
-use Rattle.wedge_core.proofs.HavingTurns.{HasTurn, Awaiting, AtBusy, turning}
-use Rattle.wedge_core.proofs.Indexing.{index_found, index_push, index_put_back}
-use Rattle.wedge_core.proofs.Advancing.{length-push}
-use Rattle.wedge_core.proofs.Replays.{EachTurn-push}
-use Rattle.wedge_core.proofs.Runs.{Runs-push}
+use Rattle.world_turns.proofs.HavingTurns.{HasTurn, Awaiting, AtBusy, turning}
+use Rattle.world_turns.proofs.Indexing.{index_found, index_push, index_put_back}
+use Rattle.world_turns.proofs.Advancing.{length-push}
+use Rattle.world_turns.proofs.Replays.{EachTurn-push}
+use Rattle.world_turns.proofs.Runs.{Runs-push}
 use Rattle.wedge_core.proofs.LiveStack.{IsNewest, newest_of, live_where, ended_where, live_append, one_lives, none_newest, newest_is, named_in, put_in, nested_pop, nested_push, newest_waits_not, newest_busy_not}
-use Rattle.wedge_core.proofs.Turning.{set_get, set_length, not_ended}
+use Rattle.world_turns.proofs.Turning.{set_get, set_length, not_ended}
 
 -- ---- lists
 

@@ -1,10 +1,2 @@
--- Where the actor of a name is among actors, and an index that says so.
-pub mod Indices
--- What a world keeps.
-pub mod Progress
--- Complete runs.
+-- Runs in serial order: who takes the next turn, and what is kept of who lives.
 pub mod Serial
--- What the parts of a turn make of cells, actors and entries.
-pub mod Turning
--- Schedules.
-pub mod Replay

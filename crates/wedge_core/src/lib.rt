@@ -1,20 +1,12 @@
-//! The core: a world of actors and cells, its turns, and complete runs of it on one thread.
+//! The core: runs of a world on one thread, in serial order or by a schedule, and the outcome of each.
 #![tactic(auto)]
 
-mod cells;
 mod ending;
-mod error;
-mod gates;
 mod replaying;
-mod residents;
 mod serially;
-mod turns;
-mod world;
 
-pub use cells::Cells;
 pub use ending::outcome;
-pub use error::{NoTurn, ReplayFault, Why};
 pub use replaying::{complete_runs_replay, replay};
 pub use serially::{serial, serial_order_goes_on};
-pub use turns::{Taken, turn};
-pub use world::{World, open_world};
+pub use world_cells::Cells;
+pub use world_turns::{NoTurn, ReplayFault, Taken, Why, World, open_world, turn};

@@ -2,16 +2,14 @@
 
 ghost use Rattle.std.specs.Prelude.{◌≡◌, true, false, IfOk, IfErr, OnOk};
 ghost use Rattle.wedge_base.specs.Names.{root_name};
-ghost use Rattle.run_laws.specs.Worlds.{is_complete};
-ghost use Rattle.wedge_core.specs.Replay.{replay_of, names_of, IsFaultOf, Follows, IsScheduleRejected, CompleteRunsReplay, ReplaysAreComplete, JournalsReplay};
-ghost use Rattle.wedge_core.specs.Serial.{IsCompleteRun};
+ghost use Rattle.machine.specs.Worlds.{is_complete};
+ghost use Rattle.world_turns.specs.Replay.{replay_of, names_of, IsFaultOf, Follows, IsScheduleRejected, CompleteRunsReplay, ReplaysAreComplete, JournalsReplay};
+ghost use Rattle.run_laws.specs.CompleteRuns.{IsCompleteRun};
 
-use crate::error::{NoTurn, ReplayFault, Why};
-use crate::turns::turn;
-use crate::world::{World, open_world};
 use image_form::Image;
 use std::alloc::Global;
 use wedge_base::{ActorName, NoMemory};
+use world_turns::{NoTurn, ReplayFault, Why, World, open_world, turn};
 
 /// Replays a schedule over an image: the actors that it names take their turns in its order, and the last of
 /// these is the end of the root. The turns of the world that is returned are a complete run by these names, and

@@ -2,17 +2,18 @@
 
 ghost use Rattle.std.specs.Prelude.{◌≡◌, ◌<◌, ◌++◌, ◌∷◌, [], length, map, IfOk, OnOk, true, false};
 ghost use Rattle.run_laws.specs.Fuel.{work_left};
-ghost use Rattle.run_laws.specs.Worlds as worlds;
-ghost use Rattle.wedge_core.specs.Serial.{IsJournaledRun, IsNumbered, InSerialOrder, IsSerial, LivesAfter, LivingGoOn, SerialOrderGoesOn};
+ghost use Rattle.machine.specs.Worlds as worlds;
+ghost use Rattle.wedge_core.specs.Serial.{InSerialOrder, IsSerial, LivesAfter, LivingGoOn, SerialOrderGoesOn};
+ghost use Rattle.world_turns.specs.Progress.{IsNumbered};
+ghost use Rattle.run_laws.specs.CompleteRuns.{IsJournaledRun};
 ghost use Rattle.wedge_events.specs.Journals.{turns_of};
 
 use crate::ending::outcome;
-use crate::turns::{Went, advance};
-use crate::world::{World, open_world};
 use image_form::Image;
 use std::alloc::Global;
 use wedge_base::{ActorName, Items, NoMemory, Outcome};
 use wedge_events::Journal;
+use world_turns::{Went, World, advance, open_world};
 
 /// An actor that has not ended: its name, and its index among the actors.
 #[derive(Drop)]

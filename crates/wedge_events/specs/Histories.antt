@@ -20,7 +20,7 @@ use Rattle.wedge_events.specs.declared.cells.StreamReply.TheVariants as stream_r
 abbrev pub bytes_by : Option (List ℕ) → SlotAsk → SlotReply → Option (List ℕ)
 bytes_by bytes (ask.Open tag pages) r = Some (zeros (pages * page))
 bytes_by bytes (ask.Close tag) reply.Closed = None
-bytes_by bytes (ask.Store offset width value live) reply.Stored = option_map (λ b. overwrite b offset (bytes_of width value)) bytes
+bytes_by bytes (ask.Store width offset value live) reply.Stored = option_map (λ b. overwrite b offset (bytes_of width value)) bytes
 bytes_by bytes q r = bytes
 
 -- the same, of an event on any cell

@@ -41,8 +41,8 @@ place_reply (Some offset) = reply.Placed offset
 abbrev pub live_reply : Segment → SlotAsk → SlotReply
 live_reply g (ask.Open tag pages) = reply.Opened
 live_reply g (ask.Close tag) = if g.tag == tag then reply.Closed else reply.NoSuch
-live_reply g (ask.Load offset width live) = access_reply g offset live right.Read (reply.Loaded (number_of (slice_range g.bytes offset (offset + width))))
-live_reply g (ask.Store offset width value live) = access_reply g offset live right.ReadWrite reply.Stored
+live_reply g (ask.Load width offset live) = access_reply g offset live right.Read (reply.Loaded (number_of (slice_range g.bytes offset (offset + width))))
+live_reply g (ask.Store width offset value live) = access_reply g offset live right.ReadWrite reply.Stored
 live_reply g (ask.Smalloc tag size) = if g.tag == tag then place_reply (first_fit 0 (rounded size) (length g.bytes) g.blocks) else reply.NoSuch
 live_reply g (ask.Sfree offset live) =
     if not (at_least (right_in live) right.ReadWrite) then reply.Denied g.tag right.ReadWrite
@@ -53,8 +53,8 @@ live_reply g (ask.Snap tag) = if g.tag == tag then reply.Snapped (pages_of g.byt
 abbrev pub empty_reply : SlotAsk → SlotReply
 empty_reply (ask.Open tag pages) = reply.Opened
 empty_reply (ask.Close tag) = reply.NoSuch
-empty_reply (ask.Load offset width live) = reply.Unmapped
-empty_reply (ask.Store offset width value live) = reply.Unmapped
+empty_reply (ask.Load width offset live) = reply.Unmapped
+empty_reply (ask.Store width offset value live) = reply.Unmapped
 empty_reply (ask.Smalloc tag size) = reply.NoSuch
 empty_reply (ask.Sfree offset live) = reply.NoSuch
 empty_reply (ask.Snap tag) = reply.Gone
@@ -84,7 +84,7 @@ with_freed_block offset g = with_blocks (without_block offset g.blocks) g
 abbrev pub slot_after : Option Segment → SlotAsk → SlotReply → Option Segment
 slot_after s (ask.Open tag pages) r = Some (new_segment tag pages)
 slot_after s (ask.Close tag) reply.Closed = None
-slot_after s (ask.Store offset width value live) reply.Stored = option_map (write_segment offset width value) s
+slot_after s (ask.Store width offset value live) reply.Stored = option_map (write_segment offset width value) s
 slot_after s (ask.Smalloc tag size) (reply.Placed offset) = option_map (with_placed_block offset size) s
 slot_after s (ask.Sfree offset live) reply.Freed = option_map (with_freed_block offset) s
 slot_after s q r = s
@@ -119,8 +119,8 @@ IsAligned offset width = ((width ≡ 1) ⊎ (width ≡ 2) ⊎ (width ≡ 4)) × 
 abbrev pub SlotFits : Option Segment → SlotAsk → Type 0
 SlotFits s (ask.Open tag pages) = (1 ≤ pages) × (pages ≤ most_pages)
 SlotFits s (ask.Close tag) = Unit {0}
-SlotFits s (ask.Load offset width live) = IsAligned offset width × IsPair s live
-SlotFits s (ask.Store offset width value live) = IsAligned offset width × IsPair s live
+SlotFits s (ask.Load width offset live) = IsAligned offset width × IsPair s live
+SlotFits s (ask.Store width offset value live) = IsAligned offset width × IsPair s live
 SlotFits s (ask.Smalloc tag size) = 1 ≤ size
 SlotFits s (ask.Sfree offset live) = (offset < window) × IsPair s live
 SlotFits s (ask.Snap tag) = Unit {0}

@@ -28,8 +28,8 @@ cell_wanted (want.Leave end) = None
 abbrev pub slot_ask_with : SlotWant → Option Live → SlotAsk
 slot_ask_with (slot_want.Open tag pages) live = slot_ask.Open tag pages
 slot_ask_with (slot_want.Close tag) live = slot_ask.Close tag
-slot_ask_with (slot_want.Load offset width) live = slot_ask.Load offset width live
-slot_ask_with (slot_want.Store offset width value) live = slot_ask.Store offset width value live
+slot_ask_with (slot_want.Load offset width) live = slot_ask.Load width offset live
+slot_ask_with (slot_want.Store offset width value) live = slot_ask.Store width offset value live
 slot_ask_with (slot_want.Smalloc tag size) live = slot_ask.Smalloc tag size
 slot_ask_with (slot_want.Sfree offset) live = slot_ask.Sfree offset live
 slot_ask_with (slot_want.Snap tag) live = slot_ask.Snap tag

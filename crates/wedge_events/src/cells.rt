@@ -1,5 +1,6 @@
 //! What each kind of cell is asked, and what it replies.
 
+use crate::boxed::Boxed;
 use crate::saved_view::SavedView;
 use wedge_base::{ActorName, Bytes, End, FdBits, PageList, Right, StreamKind, TagNo};
 
@@ -12,7 +13,7 @@ pub struct Live {
 
 /// What a slot is asked. A load, a store and the freeing of a block carry the tag that lives there
 /// at that event, or none, with the asker's right on it; an offset is in bytes from the start of
-/// the window.
+/// the window. The width comes first, so that an ask takes 24 bytes.
 #[derive(Clone, Copy, Debug, PartialEq, Eq)]
 pub enum SlotAsk {
     /// To begin a tag of 1 to 16 pages there, with zero bytes and no blocks.
@@ -26,14 +27,14 @@ pub enum SlotAsk {
     },
     /// To load 1, 2 or 4 bytes.
     Load {
-        offset: u32,
         width: u8,
+        offset: u32,
         live: Option<Live>,
     },
     /// To store the low 1, 2 or 4 bytes of a value.
     Store {
-        offset: u32,
         width: u8,
+        offset: u32,
         value: u32,
         live: Option<Live>,
     },
@@ -64,7 +65,7 @@ pub enum SlotReply {
     Placed { offset: u32 },
     Freed,
     /// The pages of the tag.
-    Snapped { pages: PageList },
+    Snapped { pages: Boxed<PageList> },
     /// No tag lives there, or the offset is past its pages.
     Unmapped,
     /// The asker lacks this right on the tag that lives there.
@@ -84,20 +85,31 @@ pub enum SlotReply {
 #[derive(Clone, Debug, PartialEq, Drop)]
 pub enum StreamAsk {
     /// To begin, with these bytes.
-    Open { kind: StreamKind, bytes: Bytes },
+    Open {
+        kind: StreamKind,
+        bytes: Boxed<Bytes>,
+    },
     /// To give the next bytes, so many at most.
-    Read { bits: FdBits, count: u32 },
+    Read {
+        bits: FdBits,
+        count: u32,
+    },
     /// To add bytes at the end.
-    Append { bits: FdBits, bytes: Bytes },
+    Append {
+        bits: FdBits,
+        bytes: Boxed<Bytes>,
+    },
     /// To end.
-    Close { bits: FdBits },
+    Close {
+        bits: FdBits,
+    },
 }
 
 #[derive(Clone, Debug, PartialEq, Drop)]
 pub enum StreamReply {
     Opened,
     /// The next bytes; none at the end.
-    Given { bytes: Bytes },
+    Given { bytes: Boxed<Bytes> },
     Appended,
     Closed,
     /// The descriptor has no live stream.
@@ -144,7 +156,7 @@ pub enum LivesReply {
 }
 
 /// What the cell of a recycled gate is asked.
-#[derive(Debug, Drop)]
+#[derive(Debug, PartialEq, Drop)]
 pub enum GateAsk {
     /// A run of this name begins. The memory is that with which it begins where none is kept.
     Enter { run: ActorName, memory: SavedView },
@@ -152,7 +164,7 @@ pub enum GateAsk {
     Leave { end: End, memory: SavedView },
 }
 
-#[derive(Debug, Drop)]
+#[derive(Debug, PartialEq, Drop)]
 pub enum GateReply {
     /// The run begins with this memory.
     Entered { memory: SavedView },

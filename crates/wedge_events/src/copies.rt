@@ -2,6 +2,7 @@
 
 ghost use Rattle.std.specs.Prelude.{◌≡◌, IfOk};
 
+use crate::boxed::Boxed;
 use crate::cells::{GateAsk, GateReply, SlotReply, StreamAsk, StreamReply};
 use crate::events::{Event, Want};
 use std::alloc::Global;
@@ -142,7 +143,7 @@ impl Event {
             },
             Event::Gate { gate, ask, reply } => Event::Gate {
                 gate: gate.copy()?,
-                ask: ask.copy(alloc)?,
+                ask: Boxed::new(alloc, ask.copy(alloc)?)?,
                 reply: reply.copy(alloc)?,
             },
             Event::Start { child } => Event::Start {

@@ -4,6 +4,7 @@ ghost use Rattle.std.specs.Prelude.{◌≡◌, IfOk};
 ghost use Rattle.wedge_events.specs.Journals.{cell_of};
 ghost use Rattle.wedge_events.specs.Wants.{slot_ask_with};
 
+use crate::boxed::Boxed;
 use crate::cells::{
     DirectoryAsk, DirectoryReply, GateAsk, GateReply, Live, LivesAsk, LivesReply, SlotAsk,
     SlotReply, StreamAsk, StreamReply,
@@ -11,7 +12,7 @@ use crate::cells::{
 use wedge_base::{ActorName, End, FdNo, GateId, Items, NoMemory, Slot, Stamp, TagNo};
 
 /// A cell: a piece of shared state on which one event happens at a time.
-#[derive(Debug, Drop)]
+#[derive(Debug, PartialEq, Drop)]
 pub enum CellName {
     /// The directory that assigns slots and tag numbers.
     Slots,
@@ -130,7 +131,7 @@ pub enum Ask {
 }
 
 /// A shared event: an ask with the cell's reply, or one of the four events that are of no cell.
-#[derive(Debug, Drop)]
+#[derive(Debug, PartialEq, Drop)]
 pub enum Event {
     Slots {
         ask: DirectoryAsk,
@@ -156,7 +157,7 @@ pub enum Event {
     },
     Gate {
         gate: GateId,
-        ask: GateAsk,
+        ask: Boxed<GateAsk>,
         reply: GateReply,
     },
     /// An sthread of this name starts.
@@ -205,7 +206,7 @@ pub struct Turn {
 }
 
 /// An event of a run: when, by whom, and what. Its cell is that of the event.
-#[derive(Debug, Drop)]
+#[derive(Debug, PartialEq, Drop)]
 pub struct LogEntry {
     pub stamp: Stamp,
     pub actor: ActorName,

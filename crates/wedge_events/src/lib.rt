@@ -2,15 +2,16 @@
 //! them, and the journal of a run. The definitions in `specs/` say how each cell replies and goes on.
 #![tactic(auto)]
 
+mod boxed;
 mod cells;
 mod copies;
+mod equality;
 mod events;
 mod object;
 mod saved_view;
-#[cfg(test)]
-mod tests;
 mod wants;
 
+pub use boxed::Boxed;
 pub use cells::{
     DirectoryAsk, DirectoryReply, GateAsk, GateReply, Live, LivesAsk, LivesReply, SlotAsk,
     SlotReply, StreamAsk, StreamReply,

@@ -1,4 +1,4 @@
-use Rattle.sthread_life.proofs.GatesMade.{shared}
+use Rattle.machine.proofs.GatesMade.{shared}
 use Rattle.sthread_life.proofs.starting.copy_of_gates.Goals as goal
 
 pub returns : goal.returns

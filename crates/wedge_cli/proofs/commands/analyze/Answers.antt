@@ -1,5 +1,5 @@
 use Rattle.std.proofs.lemmas.Result.{err_from_is_err_and}
-use Rattle.wedge_cli.proofs.TraceFaults.{query_unread}
+use Rattle.cli_inputs.proofs.TraceFaults.{query_unread}
 use Rattle.wedge_cli.proofs.commands.analyze.Goals as goal
 
 pub returns-in_err-bytes-clause-refused : goal.returns-in_err-bytes-clause-refused

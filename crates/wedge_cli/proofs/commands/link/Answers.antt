@@ -1,7 +1,7 @@
 use Rattle.std.proofs.Common.{◌≡◌, ◌≤◌, ◌∙◌, length, arith}
 use Rattle.std.proofs.lemmas.Result.{err_from_is_err_and}
-use Rattle.wedge_cli.specs.declared.loading.FileKind.TheVariants as kind
-use Rattle.wedge_cli.specs.Loading.{most_of}
+use Rattle.cli_inputs.specs.declared.loading.FileKind.TheVariants as kind
+use Rattle.cli_inputs.specs.Loading.{most_of}
 use Rattle.wedge_cli.proofs.Links.{elf_unread, part_unread, elf_rejected, part_long, part_rejected, linked_text}
 use Rattle.wedge_cli.proofs.commands.link.Goals as goal
 

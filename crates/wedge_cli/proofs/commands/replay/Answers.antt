@@ -1,7 +1,7 @@
 use Rattle.std.proofs.Common.{◌≡◌, ◌≤◌, ◌∙◌, length, subst, arith}
 use Rattle.std.proofs.lemmas.Result.{err_from_is_err_and}
-use Rattle.wedge_cli.specs.declared.loading.FileKind.TheVariants as kind
-use Rattle.wedge_cli.specs.Loading.{most_of, IsUnread}
+use Rattle.cli_inputs.specs.declared.loading.FileKind.TheVariants as kind
+use Rattle.cli_inputs.specs.Loading.{most_of, IsUnread}
 use Rattle.wedge_cli.proofs.Replays.{first_unread, second_unread, both_read}
 use Rattle.wedge_cli.proofs.commands.replay.Goals as goal
 

@@ -1,6 +1,6 @@
 use Rattle.std.proofs.Common.{◌≡◌, false, ap, Err, rules}
-use Rattle.run_laws.specs.Worlds.{is_complete}
-use Rattle.wedge_core.proofs.Replays.{not_true, replayed_unknown, replayed_ended, replayed_waits, replayed_busy}
+use Rattle.machine.specs.Worlds.{is_complete}
+use Rattle.world_turns.proofs.Replays.{not_true, replayed_unknown, replayed_ended, replayed_waits, replayed_busy}
 use Rattle.wedge_core.proofs.replaying.follow.Goals as goal
 use Rattle.wedge_core.proofs.replaying.follow.Goals.{in-Ok, in-Err-NoMemory, in-Err-Unknown, in-Err-Ended, in-Err-Waits, in-Err-Busy}
 

@@ -1,7 +1,7 @@
 use Rattle.std.proofs.Common.{rules, ◌≡◌, sym, subst, drop, suc, true}
-use Rattle.run_laws.specs.Worlds.{initial_state, is_complete}
-use Rattle.wedge_core.specs.Replay.{replay_from, IsFaultOf}
-use Rattle.wedge_core.proofs.Replays.{replaying_next, replaying_rest, complete_of}
+use Rattle.machine.specs.Worlds.{initial_state, is_complete}
+use Rattle.world_turns.specs.Replay.{replay_from, IsFaultOf}
+use Rattle.world_turns.proofs.Replays.{replaying_next, replaying_rest, complete_of}
 use Rattle.wedge_core.proofs.replaying.replay.Goals as goal
 
 pub returns-in_err-follow-clause-rejected : goal.returns-in_err-follow-clause-rejected

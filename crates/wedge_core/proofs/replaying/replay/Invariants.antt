@@ -1,4 +1,4 @@
-use Rattle.wedge_core.proofs.Replays.{IsReplaying}
+use Rattle.world_turns.proofs.Replays.{IsReplaying}
 use Rattle.wedge_core.proofs.replaying.replay.Given as goal
 
 abbrev pub invariant-loop-i : goal.invariant-loop-i

@@ -1,7 +1,7 @@
 use Rattle.std.proofs.Common.{◌≡◌, ◌∙◌, ◌≤◌, true, false, true≢false, length, sym, refl, rules, arith}
 use Rattle.std.specs.Prelude.{Some, IsSome, slice_get}
-use Rattle.sthread_life.specs.Local.{has_ended}
-use Rattle.wedge_core.proofs.Indices.{get_at}
+use Rattle.machine.specs.Local.{has_ended}
+use Rattle.world_cells.proofs.GateIndices.{get_at}
 use Rattle.wedge_core.proofs.SerialSteps.{popped_one, ends_as}
 use Rattle.wedge_core.proofs.serially.note_lives.Goals as goal
 

@@ -1,11 +1,12 @@
 use Rattle.std.proofs.Common.{◌≡◌, ◌∙◌, ◌≤◌, ◌∷◌, [], ap, sym, subst, length, rules}
 use Rattle.wedge_events.specs.Journals.{turns_of}
 use Rattle.wedge_base.specs.Names.{root_name}
-use Rattle.run_laws.specs.Worlds.{initial_state}
-use Rattle.wedge_core.specs.Progress.{Progress}
-use Rattle.wedge_core.specs.Serial.{IsSerial, RootGoesOn, InSerialOrder}
+use Rattle.machine.specs.Worlds.{initial_state}
+use Rattle.world_turns.specs.Progress.{Progress}
+use Rattle.wedge_core.specs.Serial.{IsSerial, InSerialOrder}
+use Rattle.run_laws.specs.CompleteRuns.{RootGoesOn}
 use Rattle.wedge_core.proofs.LiveStack.{opening_serial}
-use Rattle.wedge_core.proofs.Numbering.{journaled_run}
+use Rattle.world_turns.proofs.Numbering.{journaled_run}
 use Rattle.wedge_core.proofs.SerialSteps.{whole_at_last}
 use Rattle.wedge_core.proofs.serially.serial.Goals as goal
 

@@ -1,6 +1,6 @@
 use Rattle.std.proofs.Common.{◌≡◌, ◌-◌, sym, subst, length, get_or, rules}
-use Rattle.sthread_life.proofs.Creating.{on_ok}
-use Rattle.wedge_core.specs.Progress.{IsIndexOf}
+use Rattle.machine.proofs.Creating.{on_ok}
+use Rattle.world_turns.specs.Progress.{IsIndexOf}
 use Rattle.wedge_core.specs.Serial.{IsSerial}
 use Rattle.wedge_core.proofs.SerialSteps.{Newest, newest_named, newest_indexed, newest_lives, newest_goes_on, newest_enters, serial_next, serial_less, index_still}
 use Rattle.wedge_core.proofs.serially.take_turn.Goals as goal

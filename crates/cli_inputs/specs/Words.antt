@@ -1,0 +1,106 @@
+-- What the arguments of the command line ask.
+use Rattle.std.specs.Prelude.{ℕ, ◌==◌, Bool, false, not, ◌&&◌, List, [], ◌∷◌, map, Option, Some, None, option_map, codes, String, if◌then◌else◌}
+use Rattle.std.specs.Str.{bytes_eq}
+use Rattle.std.specs.String.{string_bytes}
+use Rattle.cli_inputs.specs.declared.words.RunFlag.{RunFlag}
+use Rattle.cli_inputs.specs.declared.words.RunFlag.TheVariants.{Plain, Schedule}
+use Rattle.cli_inputs.specs.declared.words.Query.{Query}
+use Rattle.cli_inputs.specs.declared.words.Query.TheVariants.{Accessed, Users, Written}
+use Rattle.cli_inputs.specs.declared.words.Command.{Command}
+use Rattle.cli_inputs.specs.declared.words.Command.TheVariants as command
+
+-- a command, with the names of its files
+pub data Asked : Type 0 where
+  Run : List ℕ → RunFlag → Asked
+  Show : List ℕ → Asked
+  Build : List ℕ → Asked
+  Link : List ℕ → List ℕ → Asked
+  Replay : List ℕ → List ℕ → Asked
+  Derive : List ℕ → Asked
+  Analyze : List ℕ → Query → List ℕ → Asked
+
+-- the same as the program has it
+abbrev pub asked_by : Command → Asked
+asked_by (command.Run image flag) = Run image.now flag
+asked_by (command.Show image) = Show image.now
+asked_by (command.Build part) = Build part.now
+asked_by (command.Link elf part) = Link elf.now part.now
+asked_by (command.Replay image schedule) = Replay image.now schedule.now
+asked_by (command.Derive trace) = Derive trace.now
+asked_by (command.Analyze trace query name) = Analyze trace.now query name.now
+
+-- the texts of the arguments
+abbrev pub texts : {A : Type 0} → List (String A) → List (List ℕ)
+texts words = map string_bytes words
+
+-- whether an argument can name a file: it is not empty and does not begin with `-`
+abbrev pub is_plain_argument : List ℕ → Bool
+is_plain_argument [] = false
+is_plain_argument (c ∷ cs) = not (c == 45)
+
+-- the one argument, if it can name a file
+abbrev pub file_argument : List (List ℕ) → Option (List ℕ)
+file_argument (name ∷ []) = if is_plain_argument name then Some name else None
+file_argument arguments = None
+
+-- whether an argument is the flag
+abbrev pub is_schedule : List ℕ → Bool
+is_schedule argument = bytes_eq argument (codes "--schedule")
+
+abbrev pub run_with : RunFlag → List ℕ → Option Asked
+run_with flag image = if is_plain_argument image then Some (Run image flag) else None
+
+-- the arguments after each command; the flag of `run` may be before the image or after it
+abbrev pub run_of : List (List ℕ) → Option Asked
+run_of (image ∷ []) = run_with Plain image
+run_of (one ∷ other ∷ []) =
+    if is_schedule one then run_with Schedule other
+    else if is_schedule other then run_with Schedule one
+    else None
+run_of arguments = None
+
+abbrev pub show_of : List (List ℕ) → Option Asked
+show_of arguments = option_map Show (file_argument arguments)
+
+abbrev pub build_of : List (List ℕ) → Option Asked
+build_of arguments = option_map Build (file_argument arguments)
+
+abbrev pub link_of : List (List ℕ) → Option Asked
+link_of (elf ∷ part ∷ []) = if is_plain_argument elf && is_plain_argument part then Some (Link elf part) else None
+link_of arguments = None
+
+abbrev pub replay_command : List (List ℕ) → Option Asked
+replay_command (image ∷ schedule ∷ []) = if is_plain_argument image && is_plain_argument schedule then Some (Replay image schedule) else None
+replay_command arguments = None
+
+abbrev pub derive_of : List (List ℕ) → Option Asked
+derive_of arguments = option_map Derive (file_argument arguments)
+
+-- what is asked of a trace
+abbrev pub query_of : List ℕ → Option Query
+query_of argument =
+    if bytes_eq argument (codes "accessed") then Some Accessed
+    else if bytes_eq argument (codes "users") then Some Users
+    else if bytes_eq argument (codes "written") then Some Written
+    else None
+
+abbrev pub analyze_with : List ℕ → List ℕ → Option Query → Option Asked
+analyze_with trace name query =
+    if is_plain_argument trace && is_plain_argument name then option_map (λ q. Analyze trace q name) query else None
+
+abbrev pub analyze_of : List (List ℕ) → Option Asked
+analyze_of (trace ∷ query ∷ name ∷ []) = analyze_with trace name (query_of query)
+analyze_of arguments = None
+
+-- the command that all arguments ask
+abbrev pub command_of : List (List ℕ) → Option Asked
+command_of [] = None
+command_of (command ∷ arguments) =
+    if bytes_eq command (codes "run") then run_of arguments
+    else if bytes_eq command (codes "show") then show_of arguments
+    else if bytes_eq command (codes "build") then build_of arguments
+    else if bytes_eq command (codes "link") then link_of arguments
+    else if bytes_eq command (codes "replay") then replay_command arguments
+    else if bytes_eq command (codes "derive") then derive_of arguments
+    else if bytes_eq command (codes "analyze") then analyze_of arguments
+    else None

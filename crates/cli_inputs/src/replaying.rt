@@ -1,0 +1,60 @@
+//! The report of a replay.
+
+ghost use Rattle.std.specs.Prelude.{◌≡◌, ◌≤◌, length, IfOk, IfErr, Ok};
+ghost use Rattle.report_text.specs.Schedules.{names_in};
+ghost use Rattle.machine.specs.Worlds.{initial_state};
+ghost use Rattle.world_turns.specs.Replay.{replay_from};
+ghost use Rattle.cli_inputs.specs.Loading.{most_of};
+ghost use Rattle.cli_inputs.specs.Replaying as replays;
+ghost use Rattle.cli_inputs.specs.Replaying.{schedule_by, replay_report, IsRefusalIn};
+
+use crate::loading::{FileKind, image_of};
+use crate::refusal::{Refusal, refused_form, refused_replay};
+use image_form::Image;
+use report_text::{read_schedule, report};
+use std::alloc::Global;
+use wedge_base::ActorName;
+use wedge_core::{outcome, replay};
+
+/// The report of the replay of a schedule over an image, of the bytes of both, or what is wrong with the
+/// first of them that is wrong.
+#[tactic(auto, unfolding(crate::specs::Replaying::replay_text))]
+pub fn replay_text(alloc: Global, image: &[u8], schedule: &[u8]) -> Result<Vec<u8>, Refusal>
+    requires image { length image.now ≤ most_of FileKind.Image }
+    requires schedule { length schedule.now ≤ most_of FileKind.Schedule }
+    ensures text { IfOk result (λ v. replays.replay_text image.now schedule.now ≡ Ok v.items) }
+    ensures rejected { IfErr result (IsRefusalIn (replays.replay_text image.now schedule.now)) }
+{
+    let image = image_of(alloc, image)?;
+    let names = schedule_of(alloc, schedule)?;
+    report_of(alloc, &image, names.as_slice())
+}
+
+/// The names of a schedule.
+fn schedule_of(alloc: Global, bytes: &[u8]) -> Result<Vec<ActorName>, Refusal>
+    ensures names { IfOk result (λ v. schedule_by (names_in bytes.now) ≡ Ok v.items) }
+    ensures rejected { IfErr result (IsRefusalIn (schedule_by (names_in bytes.now))) }
+{
+    match read_schedule(alloc, bytes) {
+        Ok(names) => Ok(names),
+        Err(fault) => Err(refused_form(fault)),
+    }
+}
+
+/// The report of the state to which the turns of these actors lead.
+fn report_of(alloc: Global, image: &Image, names: &[ActorName]) -> Result<Vec<u8>, Refusal>
+    ensures text { IfOk result
+        (λ v. replay_report (replay_from (initial_state image.now) 1 names.now)
+        ≡ Ok v.items) }
+    ensures rejected { IfErr result
+        (IsRefusalIn (replay_report (replay_from (initial_state image.now) 1 names.now))) }
+{
+    match replay(alloc, image, names) {
+        Ok(world) => {
+            let outcome = outcome(alloc, &world)?;
+            let text = report(alloc, &outcome)?;
+            Ok(text)
+        }
+        Err(fault) => Err(refused_replay(fault)),
+    }
+}

@@ -1,0 +1,2 @@
+-- What a cell keeps after one more entry.
+mod Histories

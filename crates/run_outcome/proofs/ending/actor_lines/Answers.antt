@@ -1,0 +1,11 @@
+use Rattle.std.proofs.Common.{◌≡◌, rules}
+use Rattle.std.proofs.lemmas.List.Sorted.{answers_always}
+use Rattle.run_outcome.proofs.Lines.{from_last, line_before, line_order, lines_sorted}
+use Rattle.run_outcome.proofs.ending.actor_lines.Goals as goal
+
+pub returns : goal.returns
+returns c =
+    let pushed : c.loop-left.lines.items ≡ from_last c.args.image.now c.args.actors.now = search rules in
+    let compares = answers_always _ _ _ (λ f a r q k. search rules) in
+    lines_sorted c.args.image.now c.args.actors.now c.loop-left.lines.items _ pushed
+    (c.in_ok-sort_by.ensures.sorted line_before line_order compares) (c.in_ok-sort_by.ensures.stable line_before line_order compares)

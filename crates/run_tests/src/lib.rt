@@ -1,0 +1,14 @@
+//! Tests of the program that compute what they run or what they want: every order of turns, each prefix of a file, and as many actors
+//! as there may be. Rows that are written out stand in `run_cases`.
+#![tactic(auto)]
+
+#[cfg(test)]
+mod harness;
+#[cfg(test)]
+mod journals;
+#[cfg(test)]
+mod many;
+#[cfg(test)]
+mod orders;
+#[cfg(test)]
+mod prefixes;

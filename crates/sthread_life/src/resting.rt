@@ -1,0 +1,118 @@
+//! Local events: an actor alone, up to its next shared event.
+
+ghost use Rattle.std.specs.Prelude.{◌≡◌, ◌<◌, OnOk, OnErr, IfOk, true, false};
+ghost use Rattle.machine.specs.declared.phase.Phase.TheVariants as phase;
+ghost use Rattle.machine.specs.Local as local;
+ghost use Rattle.machine.specs.Actors.{whole};
+ghost use Rattle.cow_pages.specs.PrivateMemory.{no_memory};
+ghost use Rattle.machine.specs.Local.{end_reached, run_awaited};
+ghost use Rattle.machine.specs.Take.{current_want};
+ghost use Rattle.machine.specs.Resting.{want_in, end_in, run_in, NextFits};
+
+use crate::entering::entering_want;
+use crate::starting::{ending_want, starting_want};
+use crate::wants::{making_want, opening_want, releasing_want};
+use actor_step::step;
+use cow_pages::PrivateView;
+use machine::{Actor, Next, Phase};
+use ready_text::Program;
+use wedge_base::NoMemory;
+
+/// Makes the actor's local events up to its next shared event, and returns which it wants, its
+/// end, or the run of a gate for which it waits. An actor that runs out of memory has stopped:
+/// from then on `local` and `take` answer `NoMemory`.
+#[inline(always)]
+pub fn local(
+    actor: &mut Actor,
+    program: &Program<'_>,
+    memory: &mut PrivateView,
+) -> Result<Next, NoMemory>
+    ensures rests { OnOk result (whole actor.new memory.new
+        ≡ local.rest program.now (whole actor.old memory.old)) }
+    ensures next { IfOk result (λ n. want_in n ≡ current_want (whole actor.new memory.new)) }
+    ensures ended { IfOk result (λ n. end_in n ≡ end_reached actor.new.phase) }
+    ensures waits { IfOk result (λ n. run_in n ≡ run_awaited actor.new.phase) }
+    ensures name { OnOk result (actor.new.name ≡ actor.old.name) }
+    ensures live { OnOk result (local.has_ended actor.new.phase
+        ≡ local.has_ended actor.old.phase) }
+    ensures fits { IfOk result (NextFits (whole actor.new no_memory)) }
+    ensures going { OnOk result ((actor.old.stopped ≡ false) × (actor.new.stopped ≡ false)) }
+    ensures stops { OnErr result (actor.new.stopped ≡ true) }
+    ensures stays { local.has_ended actor.old.phase ≡ true
+        → OnOk result (whole actor.new memory.new ≡ whole actor.old memory.old) }
+{
+    if actor.stopped {
+        return Err(NoMemory);
+    }
+    let next = come_to_rest(actor, program, memory);
+    actor.stopped = next.is_err();
+    next
+}
+
+/// Runs to the next shared event.
+#[inline(always)]
+fn come_to_rest(
+    actor: &mut Actor,
+    program: &Program<'_>,
+    memory: &mut PrivateView,
+) -> Result<Next, NoMemory>
+    ensures rests { OnOk result (whole actor.new memory.new
+        ≡ local.rest program.now (whole actor.old memory.old)) }
+    ensures next { IfOk result (λ n. want_in n ≡ current_want (whole actor.new memory.new)) }
+    ensures ended { IfOk result (λ n. end_in n ≡ end_reached actor.new.phase) }
+    ensures waits { IfOk result (λ n. run_in n ≡ run_awaited actor.new.phase) }
+    ensures name { OnOk result (actor.new.name ≡ actor.old.name) }
+    ensures live { OnOk result (local.has_ended actor.new.phase
+        ≡ local.has_ended actor.old.phase) }
+    ensures fits { IfOk result (NextFits (whole actor.new no_memory)) }
+    ensures stays { local.has_ended actor.old.phase ≡ true
+        → OnOk result (whole actor.new memory.new ≡ whole actor.old memory.old) }
+{
+    run(actor, program, memory)?;
+    next(actor, memory)
+}
+
+/// Runs instructions until it no longer runs: each takes a unit of fuel.
+#[inline(never)]
+fn run(actor: &mut Actor, program: &Program<'_>, memory: &mut PrivateView) -> Result<(), NoMemory>
+    ensures rests { OnOk result (whole actor.new memory.new
+        ≡ local.rest program.now (whole actor.old memory.old)) }
+    ensures stops { OnOk result (local.is_running actor.new.phase ≡ false) }
+{
+    while is_running(actor) {
+        step(actor, program, memory)?;
+    }
+    Ok(())
+}
+
+/// Returns the actor's next want, its end, or the run it waits for.
+#[inline(always)]
+fn next(actor: &Actor, memory: &PrivateView) -> Result<Next, NoMemory>
+    requires { local.is_running actor.now.phase ≡ false }
+    ensures wants { IfOk result (λ n. want_in n ≡ current_want (whole actor.now memory.now)) }
+    ensures ended { IfOk result (λ n. end_in n ≡ end_reached actor.now.phase) }
+    ensures waits { IfOk result (λ n. run_in n ≡ run_awaited actor.now.phase) }
+    ensures fits { IfOk result (NextFits (whole actor.now no_memory)) }
+{
+    match &actor.phase {
+        Phase::Within(want) => Ok(Next::Shared(want.copy(actor.alloc)?)),
+        Phase::Starting(preparation) => Ok(Next::Shared(starting_want(actor, preparation)?)),
+        Phase::MakingGate(preparation) => Ok(Next::Shared(making_want(preparation))),
+        Phase::Opening { slot, tag } => Ok(Next::Shared(opening_want(actor, *slot, *tag))),
+        Phase::Releasing { slot } => Ok(Next::Shared(releasing_want(*slot))),
+        Phase::OpeningFile(opening) => Ok(Next::Shared(opening.want()?)),
+        Phase::Entering(entrance) => Ok(Next::Shared(entering_want(actor, entrance.gate())?)),
+        Phase::Waiting { run } => Ok(Next::Waiting { run: *run }),
+        Phase::Ending(end) => Ok(Next::Shared(ending_want(actor, memory, *end)?)),
+        Phase::Ended(end) => Ok(Next::Ended(*end)),
+        Phase::Running => unreachable!(),
+    }
+}
+
+/// Whether it runs.
+#[inline(always)]
+fn is_running(actor: &Actor) -> bool
+    ensures { result ≡ local.is_running actor.now.phase }
+{
+    matches!(actor.phase, Phase::Running)
+}

@@ -1,0 +1,69 @@
+//! What a run on threads leaves: the logs of its actors, and the histories of its cells.
+
+use journal_cell::Entry;
+use machine::StreamLabel;
+use wedge_base::{ActorName, DenialAt, End, FdNo, GateId, Items, Slot, Stamp};
+use wedge_events::{
+    DirectoryAsk, DirectoryReply, GateAsk, GateReply, LivesAsk, LivesReply, LogEntry, SlotAsk,
+    SlotReply, StreamAsk, StreamReply,
+};
+
+/// The log of an actor: how it ended, and its entries, the oldest first.
+#[derive(Debug, Drop)]
+pub struct ActorLog {
+    pub name: ActorName,
+    /// The address of the procedure at which it began, in bytes.
+    pub compartment: u32,
+    pub end: End,
+    /// The address, in bytes, of the instruction or fetch that ended it.
+    pub pc: u32,
+    /// The units of fuel that were left.
+    pub fuel: u32,
+    /// Its denials, in order.
+    pub denials: Items<DenialAt>,
+    /// The paths of the files that it opened.
+    pub labels: Items<StreamLabel>,
+    pub entries: Items<LogEntry>,
+}
+
+/// The history of a cell, as the cell kept it: its entries, the oldest first.
+#[derive(Debug, Drop)]
+pub enum CellHistory {
+    Slots {
+        entries: Items<Entry<DirectoryAsk, DirectoryReply>>,
+    },
+    Slot {
+        slot: Slot,
+        entries: Items<Entry<SlotAsk, SlotReply>>,
+    },
+    Fds {
+        entries: Items<Entry<DirectoryAsk, DirectoryReply>>,
+    },
+    Fd {
+        fd: FdNo,
+        entries: Items<Entry<StreamAsk, StreamReply>>,
+    },
+    Lives {
+        entries: Items<Entry<LivesAsk, LivesReply>>,
+    },
+    Gate {
+        gate: GateId,
+        entries: Items<Entry<GateAsk, GateReply>>,
+    },
+}
+
+/// The logs of all actors, that of the root first, and the histories of the cells.
+#[derive(Debug, Drop)]
+pub struct Gathered {
+    pub logs: Items<ActorLog>,
+    pub cells: Items<CellHistory>,
+}
+
+/// What an actor learns of one that it created: how it ended, the units of fuel that were left, and the
+/// stamp of its last entry.
+#[derive(Clone, Copy, Debug)]
+pub struct ActorEnd {
+    pub how: End,
+    pub fuel: u32,
+    pub last: Stamp,
+}

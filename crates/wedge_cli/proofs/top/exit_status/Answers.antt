@@ -1,0 +1,11 @@
+use Rattle.std.proofs.Common.{refl}
+use Rattle.wedge_cli.proofs.top.exit_status.Goals as goal
+
+pub returns-clause-run : goal.returns-clause-run
+returns-clause-run g c = λ image bytes asked exposed is. record { ended = c.wedge-ended.result; status_is = refl; is_so = c.wedge-ended.ensures.run image bytes asked exposed is }
+
+pub returns-clause-schedule : goal.returns-clause-schedule
+returns-clause-schedule g c = λ image bytes asked exposed is. record { ended = c.wedge-ended.result; status_is = refl; is_so = c.wedge-ended.ensures.schedule image bytes asked exposed is }
+
+pub returns-clause-answer : goal.returns-clause-answer
+returns-clause-answer g c = record { ended = c.wedge-ended.result; status_is = refl; is_so = c.wedge-ended.ensures.answer }

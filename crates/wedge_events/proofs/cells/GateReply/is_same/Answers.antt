@@ -1,0 +1,6 @@
+use Rattle.std.proofs.Common.{◌≡◌, Decides, subst, sym}
+use Rattle.wedge_events.proofs.SameEvents.{gate_reply}
+use Rattle.wedge_events.proofs.cells.GateReply.is_same.Goals as goal
+
+pub returns : goal.returns
+returns c = subst (λ b. Decides b (c.args.self.now ≡ c.args.other.now)) (sym c.eq.ensures) (gate_reply.decides c.args.self.now c.args.other.now)

@@ -1,0 +1,6 @@
+use Rattle.std.proofs.Common.{◌≡◌, Decides, subst, sym}
+use Rattle.wedge_events.proofs.SameEvents.{cell_name}
+use Rattle.wedge_events.proofs.events.CellName.is_same.Goals as goal
+
+pub returns : goal.returns
+returns c = subst (λ b. Decides b (c.args.self.now ≡ c.args.other.now)) (sym c.eq.ensures) (cell_name.decides c.args.self.now c.args.other.now)
