@@ -206,4 +206,4 @@ printf '.proc main\nagain:\naddi a0, a0, 1\nxor a1, a1, a0\nsub a2, a1, a0\nj ag
     printf '.proc main\nli t0, seg_box\nagain:\n'
     awk 'BEGIN { for (k = 0; k < 16; k++) print "lw a0, 0(t0)\nsw a0, 4(t0)" }'
     printf 'j again\n'
-} | count 'a shared access' shared 33000 66000 32000 560
+} | count 'a shared access' shared 33000 66000 32000 480

@@ -139,6 +139,13 @@ static void end(uint32_t value, enum wedge_end how)
     siglongjmp(actors[depth].over, 1);
 }
 
+/* EBREAK, where a call is refused that is made under WEDGE_MUST. */
+void wedge_break(void)
+{
+    end(0, WEDGE_END_BREAK);
+    abort();
+}
+
 /* A load or store that the pages do not allow. One outside the windows comes again, and ends this process. */
 static void fault(int number, siginfo_t *about, void *context)
 {

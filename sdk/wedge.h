@@ -53,16 +53,27 @@ enum wedge_end {
 /* ---- numbers of tags and descriptors
  *
  * A declared tag has as its number its index among the tags of the partition IN THE ORDER OF THEIR NAMES (by bytes:
- * capitals before small letters), from 0; a declared descriptor has its index among the descriptors. So a program
- * names them by an enum in that order:
+ * capitals before small letters), from 0; a declared descriptor has its index among the descriptors. A tag that is
+ * added to the partition so changes the numbers of others. sdk/names writes the numbers of a partition as a header:
  *
- *     enum { TAG_KEY, TAG_REQUESTS };
- *     WEDGE_BEFORE("key", "requests");
+ *     sdk/names program.toml > program_names.h
+ *     #include "program_names.h"               TAG_KEY, SEG_KEY, FD_LOG
  *
- * WEDGE_BEFORE stops the compiler where the first name does not come before the second. It does not see the
- * partition: a tag that is added there needs its line here. */
-#define WEDGE_BEFORE(first, second) \
-    _Static_assert(__builtin_strcmp(first, second) < 0, first " does not come before " second)
+ * and sdk/link, in place of wedge link, links no ELF file that was made over other names. */
+
+#ifdef __riscv
+
+/* The number or the address of a name that the linker fills in, from the script that sdk/names --ld writes: so code
+ * that was compiled once can be linked for more than one partition, and for none that lacks the name. Not together
+ * with the header, whose constants have the same names. */
+#define WEDGE_LINKED(name)                                                                         \
+    __extension__({                                                                                \
+        uint32_t wedge_linked;                                                                     \
+        __asm__("lui %0, %%hi(" #name ")\n\taddi %0, %0, %%lo(" #name ")" : "=r"(wedge_linked));   \
+        wedge_linked;                                                                              \
+    })
+
+#endif
 
 /* ---- windows: where the bytes of tags are seen */
 
@@ -161,6 +172,40 @@ static inline struct wedge_reply wedge_call(uint32_t number, uintptr_t w0, uintp
     struct wedge_answer answer = wedge_ask(number, w0, w1, w2, w3);
     return (struct wedge_reply){answer.a0, answer.a1};
 }
+
+/* ---- calls that are not to be refused
+ *
+ * Only a denial has a line in the report. A call that is refused for another reason (no such, bad, full, fuel short, too
+ * deep) answers its code, and a program that does not look at it goes on with the value 0, which is the number of a
+ * child, a draft or a tag as well. So each call either has its code looked at, or is made under WEDGE_MUST: where it
+ * is refused, for whatever reason, its actor ends by EBREAK there, and the report says `break` with the pc. The answer
+ * is that of the call:
+ *
+ *     uint32_t draft = WEDGE_MUST(wedge_draft()).value;
+ *     WEDGE_MUST(wedge_grant_tag(draft, TAG_KEY, WEDGE_READ));
+ */
+#define WEDGE_MUST(call)                          \
+    __extension__({                               \
+        __typeof__(call) wedge_answered = (call); \
+        if (wedge_answered.code != WEDGE_OK)      \
+            wedge_break();                        \
+        wedge_answered;                           \
+    })
+
+#ifdef __riscv
+
+/* Ends the actor, by EBREAK. */
+__attribute__((noreturn)) static inline void wedge_break(void)
+{
+    __asm__ volatile("ebreak");
+    __builtin_unreachable();
+}
+
+#else
+
+__attribute__((noreturn)) void wedge_break(void);
+
+#endif
 
 /* ---- actors */
 
