@@ -1,0 +1,5 @@
+//! Tests of the crates of threads.
+#![tactic(auto)]
+
+#[cfg(test)]
+mod journal_cell_tests;
