@@ -21,7 +21,7 @@ use Rattle.machine.specs.Cells.{Cells, live_at, event_of}
 use Rattle.machine.specs.Worlds.{WorldState, initial_state, actor_named, put_actor, ready, resumed, event_at, turn_of, Runs}
 use Rattle.run_laws.specs.Walks.{Asks, GoesOnBy, IsWalk, entries_in}
 use Rattle.run_laws.proofs.Bounding.{run_image}
-use Rattle.thread_laws.specs.ActorWalks.{WalksFrom, EveryActorWalks}
+use Rattle.thread_laws.specs.ActorWalks.{EveryActorWalks}
 use Rattle.machine.proofs.Resting.{rest-name, rest-stays}
 use Rattle.run_laws.proofs.Between.{comes_of, takes_name}
 use Rattle.run_laws.proofs.Turns.{Readies, Stays, Back, readies, ready_name, waits_or, turn_from}

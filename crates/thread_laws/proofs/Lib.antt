@@ -26,3 +26,7 @@ pub mod Replaying
 pub mod Auditing
 -- Every actor's entries in a run are a walk of it.
 pub mod ActorWalks
+-- An actor waits only for a run that it created at its last stamp; and clocks never fall.
+pub mod AwaitedRuns
+-- Gates that an actor knows stay known, and whoever is about to enter a gate knows it.
+pub mod KnownGates

@@ -1,6 +1,6 @@
 -- What an actor has done so far, with the actors that it has created, as the thread that runs it comes
 -- to know it: it grows by one step at its end.
-use Rattle.std.specs.Prelude.{◌≡◌, ℕ, ◌+◌, ◌<◌, ◌≤◌, ◌⊎◌, ◌++◌, List, [], ◌∷◌, slice_get, slice_set, true, Option, Some, None}
+use Rattle.std.specs.Prelude.{◌≡◌, ℕ, ◌+◌, ◌≤◌, ◌⊎◌, ◌++◌, List, [], ◌∷◌, slice_get, slice_set, true, Option, Some, None}
 use Rattle.wedge_base.specs.Images.{Image}
 use Rattle.journal_cell.specs.Histories.{greater}
 use Rattle.wedge_events.specs.Journals.{cell_of}

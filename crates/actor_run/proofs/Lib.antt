@@ -1,0 +1,2 @@
+-- What an actor's phase says of it.
+pub mod Phases

@@ -1,0 +1,7 @@
+//! An actor with the log of what it does: what a thread runs. Nothing here locks or waits.
+#![tactic(auto)]
+
+mod finished;
+mod run;
+
+pub use run::ActorRun;
