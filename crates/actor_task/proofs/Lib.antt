@@ -1,0 +1,10 @@
+-- The progress of an actor on its thread.
+pub mod Progressing
+-- Entries of events that create, join and leave.
+pub mod EntriesFit
+-- Those that an actor created.
+pub mod CreatedLists
+-- The cells of the recycled gates that an actor knows.
+pub mod GateCellsKnown
+-- An actor at rest, and what it is at.
+pub mod AtRest

@@ -1,0 +1,136 @@
+//! An actor that another created: its thread, and what it returned.
+
+ghost use Rattle.std.specs.Prelude.{◌≡◌, IfOk, OnErr, Some, None};
+ghost use Rattle.thread_laws.specs.ActorProgresses.{created_actor};
+ghost use Rattle.actor_task.specs.Returning.{IsReturned, HasWaited, IsReturnedOf};
+
+use journal_cell::RunOf;
+use machine::Resident;
+use std::marker::{Model, PhantomData};
+use std::mem;
+use std::snapshot::Snapshot;
+use std::thread::{Promise, PromisedHandle, Threads};
+use thread_laws::{ActorEnd, ActorLog, CellHistory};
+use wedge_base::{NoMemory, Stamp};
+
+/// What the run of an actor returns once the actor has ended: its log and how it ended, the logs of all that it
+/// created and that these created, and the histories of the recycled gates that they made.
+#[derive(Debug, Drop)]
+pub struct Returned {
+    pub log: ActorLog,
+    pub end: ActorEnd,
+    pub others: Vec<ActorLog>,
+    pub gates: Vec<CellHistory>,
+}
+
+/// The promise of a thread: what it returns is of the actor that it was given.
+#[derive(Drop)]
+pub struct ReturnsFamily<I: RunOf> {
+    pub began: Snapshot<Resident>,
+    /// The stamp of the event that created the actor.
+    pub stamp: Stamp,
+    pub run: PhantomData<I>,
+}
+
+impl<I: RunOf> Promise<Result<Returned, NoMemory>> for ReturnsFamily<I> {
+    ghost use Rattle.std.specs.Prelude.{IfOk};
+    ghost use Rattle.actor_task.specs.Returning.{IsReturned};
+
+    ghost kept_by = { λ p r. IfOk r (IsReturned I.image p.began.value p.stamp) };
+}
+
+/// Where a created actor is.
+#[derive(Drop)]
+enum State<I: RunOf> {
+    /// On its thread.
+    Running(PromisedHandle<Result<Returned, NoMemory>, ReturnsFamily<I>>),
+    /// It has ended.
+    Ended(Returned),
+    /// It, or an actor that it created, ran out of memory.
+    OutOfMemory,
+}
+
+/// A child that an actor started, or the run of a gate that it entered. Contracts see how that began, at which
+/// stamp, and how it ended, once the actor has waited for it.
+#[derive(Drop)]
+pub struct Created<I: RunOf> {
+    began: Snapshot<Resident>,
+    stamp: Stamp,
+    state: State<I>,
+}
+
+impl<I: RunOf> Model for Created<I> {
+    ghost use Rattle.thread_laws.specs.ActorProgresses.{CreatedActor};
+    ghost use Rattle.actor_task.specs.States.{learned_in, IsStateOf};
+
+    ghost Value = { CreatedActor };
+
+    ghost view = { λ c. record {
+      began = c.began.value;
+      stamp = c.stamp;
+      learned = learned_in c.state;
+    } };
+
+    ghost invariant = { λ c. IsStateOf I.image c.began.value c.stamp c.state };
+}
+
+impl<I: RunOf> Created<I> {
+    /// Returns one that runs on a thread.
+    pub fn running(
+        began: Snapshot<Resident>,
+        stamp: Stamp,
+        handle: PromisedHandle<Result<Returned, NoMemory>, ReturnsFamily<I>>,
+    ) -> Created<I>
+        requires began { handle.promise.began.value ≡ began.value }
+        requires stamp { handle.promise.stamp ≡ stamp }
+        ensures { result ≡ created_actor began.value stamp None }
+    {
+        Created {
+            began,
+            stamp,
+            state: State::Running(handle),
+        }
+    }
+
+    /// Returns one that has ended.
+    pub fn ended(began: Snapshot<Resident>, stamp: Stamp, returned: Returned) -> Created<I>
+        requires { IsReturned I.image began.value stamp returned }
+        ensures { result ≡ created_actor began.value stamp (Some returned.end) }
+    {
+        Created {
+            began,
+            stamp,
+            state: State::Ended(returned),
+        }
+    }
+
+    /// Waits for its end, and returns how it ended. Fails where it, or an actor that it created, ran out of
+    /// memory.
+    pub fn wait<R: Threads>(&mut self, rt: &R) -> Result<ActorEnd, NoMemory>
+        ensures waited { IfOk result (HasWaited self.old self.new) }
+        ensures err { OnErr result (self.new ≡ self.old) }
+    {
+        if let State::Ended(returned) = &self.state {
+            return Ok(returned.end);
+        }
+        let State::Running(handle) = mem::replace(&mut self.state, State::OutOfMemory) else {
+            return Err(NoMemory);
+        };
+        let returned = handle.join(rt)?;
+        let end = returned.end;
+        self.state = State::Ended(returned);
+        Ok(end)
+    }
+
+    /// Consumes it, waits for its end, and returns what it returned. Fails as `wait` does.
+    pub fn into_returned<R: Threads>(self, rt: &R) -> Result<Returned, NoMemory>
+        ensures { IfOk result (IsReturnedOf I.image self) }
+    {
+        let Created { state, .. } = self;
+        match state {
+            State::Running(handle) => handle.join(rt),
+            State::Ended(returned) => Ok(returned),
+            State::OutOfMemory => Err(NoMemory),
+        }
+    }
+}

@@ -1,0 +1,96 @@
+//! What the thread of an actor has in hand.
+
+ghost use Rattle.std.specs.Prelude.{◌≡◌, IfOk, OnOk, []};
+ghost use Rattle.thread_laws.specs.ActorProgresses.{at_creation, after_rest};
+ghost use Rattle.actor_task.specs.Steps.{IsAtRest};
+ghost use Rattle.actor_task.specs.Tasks.{WantsToEnter, going_on};
+
+use crate::created::Created;
+use crate::creating::NewActor;
+use actor_run::ActorRun;
+use journal_cell::RunOf;
+use machine::Next;
+use ready_text::Program;
+use recycled_gate::Kept;
+use run_cells::{GateCells, LockedCell};
+use std::alloc::Global;
+use std::marker::Model;
+use std::sync::{Arc, Mutex};
+use wedge_base::{ActorName, GateId, NoMemory};
+
+/// An actor that a thread runs, those that it created, in the order of their numbers, and the cells of the
+/// recycled gates that it knows. Contracts see its progress, and that of those that it created as far as it
+/// has learned it.
+#[derive(Drop)]
+pub struct ActorTask<I: RunOf> {
+    pub alloc: Global,
+    pub run: ActorRun<I>,
+    pub created: Vec<Created<I>>,
+    pub gates: GateCells<I>,
+}
+
+impl<I: RunOf> Model for ActorTask<I> {
+    ghost use Rattle.std.specs.Prelude.{◌≡◌, false};
+    ghost use Rattle.actor_task.specs.Tasks.{TaskState, KeepsTask};
+
+    ghost Value = { TaskState };
+
+    ghost view = { λ k. record {
+      progress = k.run.progress;
+      created = k.created.items;
+      stopped = k.run.stopped;
+    } };
+
+    ghost invariant = { λ k. k.run.stopped ≡ false
+        → KeepsTask I.image k.run.progress k.created.items k.gates };
+}
+
+impl<I: RunOf> ActorTask<I> {
+    /// Returns an actor as it is created.
+    pub fn new(alloc: Global, new: NewActor<I>) -> ActorTask<I>
+        ensures progress { result.progress ≡ at_creation new.resident new.stamp }
+        ensures created { result.created ≡ [] }
+    {
+        let NewActor {
+            resident,
+            stamp,
+            gates,
+        } = new;
+        ActorTask {
+            alloc,
+            run: ActorRun::new(alloc, resident, stamp),
+            created: Vec::new(alloc),
+            gates,
+        }
+    }
+
+    /// Returns a reference to its name.
+    pub fn name(&self) -> &ActorName
+        ensures { result.now ≡ self.now.progress.state.name }
+    {
+        self.run.name()
+    }
+
+    /// Makes the actor's local events up to its next shared event.
+    #[inline(always)]
+    pub fn local(&mut self, program: &Program<'_>) -> Result<Next, NoMemory>
+        requires { program.now ≡ I.image }
+        ensures rests { OnOk result (self.new
+            ≡ going_on (after_rest I.image self.old.progress) self.old.created) }
+        ensures at_rest { IfOk result (IsAtRest self.new) }
+    {
+        self.run.local(program)
+    }
+
+    /// Returns the cell of the recycled gate that the actor is about to enter.
+    pub fn gate_cell(&mut self, gate: &GateId) -> Result<Arc<Mutex<LockedCell<Kept, I>>>, NoMemory>
+        requires { WantsToEnter self.old gate.now }
+        ensures { OnOk result (self.new ≡ self.old) }
+    {
+        self.gates.create_for(self.run.gates())?;
+        match self.gates.find(gate)? {
+            Some(cell) => Ok(cell),
+            None => unreachable!(),
+        }
+    }
+}

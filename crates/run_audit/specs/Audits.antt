@@ -1,0 +1,15 @@
+-- What an audit returns.
+use Rattle.std.specs.Prelude.{◌≡◌, List}
+use Rattle.wedge_base.specs.Images.{Image}
+use Rattle.thread_laws.specs.Joining.{journal_of, Agrees, outcome_gathered}
+use Rattle.thread_laws.specs.declared.gathered.ActorLog.{ActorLog}
+use Rattle.thread_laws.specs.declared.gathered.CellHistory.{CellHistory}
+use Rattle.run_audit.specs.declared.auditing.Audited.{Audited}
+
+-- logs and histories agree for every cell, the journal is all that was logged, in order, and the
+-- outcome is the one that is read off both
+pub record IsAudit (i : Image) (logs : List ActorLog) (cells : List CellHistory) (a : Audited)
+    : Type 0 where
+  pub agrees : Agrees logs cells
+  pub journal : a.journal.entries ≡ journal_of logs
+  pub outcome : a.outcome ≡ outcome_gathered i logs cells

@@ -1,0 +1,34 @@
+//! What an audit finds.
+
+use wedge_base::NoMemory;
+use wedge_events::{CellName, LogEntry};
+
+/// Says where a history and the journal differ: the cell, the index among the entries of that cell,
+/// and the entry there in each of both lists, or none where that list has ended.
+#[derive(Debug, Drop)]
+pub struct Difference {
+    pub cell: CellName,
+    pub index: usize,
+    pub kept: Option<LogEntry>,
+    pub logged: Option<LogEntry>,
+}
+
+/// Says why there is no audit.
+#[derive(Debug, Drop)]
+pub enum AuditFault {
+    /// Out of memory.
+    NoMemory,
+    /// The first difference, in the order of cells.
+    Disagree(Difference),
+}
+
+impl From<NoMemory> for AuditFault {
+    ghost use Rattle.std.specs.Prelude.{◌≡◌};
+    ghost use Rattle.run_audit.specs.declared.fault.AuditFault.TheVariants.{NoMemory};
+
+    ghost from_gives = { λ _ e. e ≡ NoMemory };
+
+    fn from(_e: NoMemory) -> AuditFault {
+        AuditFault::NoMemory
+    }
+}

@@ -1,0 +1,39 @@
+//! The outcome, read off logs and histories.
+
+ghost use Rattle.std.specs.Prelude.{◌≡◌, IfOk};
+ghost use Rattle.thread_laws.specs.Joining.{journal_of, outcome_gathered};
+
+use crate::actor_lines::lines_in;
+use crate::labels::labels_in;
+use crate::logs::logs_in_order;
+use crate::stream_lines::stream_lines;
+use image_form::Image;
+use std::alloc::Global;
+use thread_laws::Gathered;
+use wedge_base::{Items, NoMemory, Outcome};
+use wedge_events::LogEntry;
+
+/// Returns the outcome: the lines of the actors, in the order of their names, and those of the
+/// append streams, each as its history leaves it.
+pub(crate) fn outcome_gathered(
+    alloc: Global,
+    image: &Image,
+    journal: &[LogEntry],
+    gathered: &Gathered,
+) -> Result<Outcome, NoMemory>
+    requires { journal.now ≡ journal_of gathered.now.logs }
+    ensures { IfOk result (λ o. o
+        ≡ outcome_gathered image.now gathered.now.logs gathered.now.cells) }
+{
+    let logs = logs_in_order(alloc, gathered.logs.as_slice(), journal)?;
+    let labels = labels_in(alloc, logs.as_slice())?;
+    Ok(Outcome {
+        actors: Items::new(lines_in(alloc, image, logs.as_slice())?),
+        streams: Items::new(stream_lines(
+            alloc,
+            image,
+            labels.as_slice(),
+            gathered.cells.as_slice(),
+        )?),
+    })
+}
