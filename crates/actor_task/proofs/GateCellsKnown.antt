@@ -23,9 +23,10 @@ use Rattle.machine.specs.declared.phase.Phase.{Phase}
 use Rattle.machine.specs.declared.phase.Phase.TheVariants as phase
 use Rattle.run_laws.proofs.KnownGates.{itself}
 use Rattle.thread_laws.proofs.KnownGates.{IsMore, entered_known}
+use Rattle.actor_task.specs.declared.step.GateEntry.{GateEntry}
 use Rattle.thread_laws.specs.ActorProgresses.{ActorProgress, CreatedActor}
 use Rattle.run_cells.specs.RecycledGates.{GateCellsState, HasCells, recycled, with_recycled, has_cell}
-use Rattle.actor_task.specs.Tasks.{IsTask, TaskState, WantsToEnter}
+use Rattle.actor_task.specs.Tasks.{IsTask, TaskState, WantsEntry}
 
 -- ---- more gates
 
@@ -97,12 +98,12 @@ at_gate b (phase.Entering x) run gate memory at wants =
     (x, refl, entering_is x x.gate.kind (child_name b.name (next_start b)) run gate memory refl enters)
 at_gate b p run gate memory at wants = absurd at
 
-pub entered_has_cell : (i : Image) (k : TaskState) (r : ActorProgress) (created : List CreatedActor) (gate : GateId) (ids : List GateId) → WantsToEnter k gate → r ≡ k.progress → IsTask i r created → ids ≡ recycled r.state.gates → has_cell ids gate ≡ true
-entered_has_cell i k r created gate ids w is h all =
-    let at = at_gate k.progress.state k.progress.state.phase w.run gate w.memory w.wants.fits.0 w.wants.wants in
+pub entered_has_cell : (i : Image) (k : TaskState) (r : ActorProgress) (created : List CreatedActor) (e : GateEntry) (ids : List GateId) → WantsEntry k e → r ≡ k.progress → IsTask i r created → ids ≡ recycled r.state.gates → has_cell ids e.gate ≡ true
+entered_has_cell i k r created e ids w is h all =
+    let at = at_gate k.progress.state k.progress.state.phase e.run e.gate e.memory w.fits.0 w.wants in
     let phase_is : r.state.phase ≡ phase.Entering at.0 = ap (λ (y : ActorProgress). y.state.phase) is ∙ at.1 in
     let known = entered_known i r created h.new_.runs_ h.progress at.0 phase_is in
-    ap (λ xs. has_cell xs gate) all ∙ (ap (has_cell (recycled r.state.gates)) (sym at.2.id_) ∙ named_has r.state.gates known.id at.0.gate known.named at.2.kind_)
+    ap (λ xs. has_cell xs e.gate) all ∙ (ap (has_cell (recycled r.state.gates)) (sym at.2.id_) ∙ named_has r.state.gates known.id at.0.gate known.named at.2.kind_)
 
 -- ---- an actor that is created knows what its creator knows
 

@@ -9,7 +9,7 @@ use Rattle.machine.specs.Take.{current_want}
 use Rattle.machine.specs.declared.next.Next.{Next}
 use Rattle.machine.specs.declared.next.Next.TheVariants as next
 use Rattle.run_cells.specs.Entries.{IsOfCell}
-use Rattle.actor_task.specs.Tasks.{TaskState, Wants, Waits}
+use Rattle.actor_task.specs.Tasks.{TaskState, Wants, WantsEntry, Waits}
 use Rattle.actor_task.specs.declared.step.Step.{Step}
 use Rattle.actor_task.specs.declared.step.Step.TheVariants as step
 use Rattle.actor_task.specs.declared.step.Last.{Last}
@@ -44,8 +44,7 @@ IsStep k (step.Waits number) = Waits k number
 IsStep k (step.Start child) = Wants k (want.Start child)
 IsStep k (step.Join number) = Wants k (want.Join number)
 IsStep k (step.Enter run) = Wants k (want.Enter run)
-IsStep k (step.EnterRecycled gate run memory) =
-    Wants k (want.Gate gate (gate_ask.Enter run memory))
+IsStep k (step.EnterRecycled e) = WantsEntry k e
 IsStep k (step.AtEnd l) = IsLast k l
 
 -- an event in which another actor has part

@@ -8,7 +8,6 @@ use Rattle.wedge_events.specs.declared.events.LogEntry.{LogEntry}
 use Rattle.wedge_events.specs.declared.events.Want.{Want}
 use Rattle.wedge_events.specs.declared.events.Want.TheVariants as want
 use Rattle.wedge_events.specs.declared.cells.GateAsk.TheVariants as gate_ask
-use Rattle.cow_pages.specs.PrivateMemory.{PrivateMemory}
 use Rattle.journal_cell.specs.Histories.{greater}
 use Rattle.machine.specs.declared.phase.Phase.TheVariants as phase
 use Rattle.machine.specs.Actors.{ActorState}
@@ -17,6 +16,7 @@ use Rattle.machine.specs.Children.{is_child}
 use Rattle.machine.specs.Local.{run_awaited}
 use Rattle.machine.specs.Take.{actor_begun, current_want}
 use Rattle.thread_laws.specs.ActorProgresses.{ActorProgress, after_entry, CreatedActor, IsProgress, Families}
+use Rattle.actor_task.specs.declared.step.GateEntry.{GateEntry}
 use Rattle.thread_laws.specs.declared.gathered.ActorEnd.{ActorEnd}
 use Rattle.thread_laws.specs.declared.gathered.ActorLog.{ActorLog}
 use Rattle.run_cells.specs.Entries.{IsCreatingEntry}
@@ -54,11 +54,9 @@ pub record Wants (k : TaskState) (q : Want) : Type 0 where
   pub wants : current_want k.progress.state ≡ Some q
   pub fits : WantFits k.progress.state q
 
--- and that wants to enter this recycled gate
-pub record WantsToEnter (k : TaskState) (gate : GateId) : Type 0 where
-  pub run : List ℕ
-  pub memory : PrivateMemory
-  pub wants : Wants k (want.Gate gate (gate_ask.Enter run memory))
+-- and that wants to enter a recycled gate
+abbrev pub WantsEntry : TaskState → GateEntry → Type 0
+WantsEntry k e = Wants k (want.Gate e.gate (gate_ask.Enter e.run e.memory))
 
 -- an actor at rest that waits for the run of a gate, its start of this number
 pub record Waits (k : TaskState) (number : ℕ) : Type 0 where

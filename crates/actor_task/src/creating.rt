@@ -1,16 +1,16 @@
 //! Starts, and entries of gates.
 
 ghost use Rattle.std.specs.Prelude.{◌≡◌, ◌<◌, ◌+◌, ◌++◌, ◌∷◌, [], IfOk, OnOk, Some, None, true, false, length};
-ghost use Rattle.wedge_events.specs.declared.cells.GateAsk.TheVariants as gate_ask;
 ghost use Rattle.wedge_events.specs.declared.events.Want.{Want as AWant};
 ghost use Rattle.run_cells.specs.Entries.{IsCreatingEntry};
 ghost use Rattle.thread_laws.specs.ActorProgresses.{created_actor};
 ghost use Rattle.actor_task.specs.Returning.{IsReturned};
 ghost use Rattle.machine.specs.Take.{actor_begun};
 ghost use Rattle.run_cells.specs.RecycledGates.{HasCells};
-ghost use Rattle.actor_task.specs.Tasks.{IsNew, IsPairOf, IsUnlocked, Wants, going_on, cellless_entry_of};
+ghost use Rattle.actor_task.specs.Tasks.{IsNew, IsPairOf, IsUnlocked, Wants, WantsEntry, going_on, cellless_entry_of};
 
 use crate::created::{Created, Returned};
+use crate::step::GateEntry;
 use crate::task::ActorTask;
 use actor_run::ActorRun;
 use journal_cell::RunOf;
@@ -21,8 +21,8 @@ use run_cells::{GateCells, LockedCell, enter_gate};
 use std::alloc::Global;
 use std::marker::Model;
 use std::snapshot::Snapshot;
-use wedge_base::{ActorName, GateId, NoMemory, Stamp};
-use wedge_events::{Event, LogEntry, SavedView};
+use wedge_base::{ActorName, NoMemory, Stamp};
+use wedge_events::{Event, LogEntry};
 
 /// An actor as it is created: with the stamp of the event that creates it, and the cells of the recycled gates
 /// that it knows.
@@ -158,18 +158,17 @@ impl<I: RunOf> ActorTask<I> {
         self,
         program: &Program<'_>,
         locked: &mut LockedCell<Kept, I>,
-        gate: GateId,
-        run: ActorName,
-        memory: SavedView,
+        entry: GateEntry,
     ) -> Result<(Creating<I>, NewActor<I>), NoMemory>
         requires image { program.now ≡ I.image }
-        requires wants { Wants self (AWant.Gate gate (gate_ask.Enter run memory)) }
+        requires wants { WantsEntry self entry }
         ensures pair { IfOk result (λ p. IsPairOf self p.0 p.1.resident p.1.stamp) }
         ensures entered { OnOk result (locked.new.state.entered ≡ true) }
     {
         if locked.state().entered() {
             return Err(NoMemory);
         }
+        let GateEntry { gate, run, memory } = entry;
         let entry = enter_gate(self.alloc, locked, &self.run, gate, run, memory)?;
         self.create(program, entry)
     }

@@ -11,5 +11,5 @@ mod task;
 
 pub use created::{Created, Returned, ReturnsFamily};
 pub use creating::{Creating, NewActor};
-pub use step::{Last, Step};
+pub use step::{GateEntry, Last, Step};
 pub use task::ActorTask;

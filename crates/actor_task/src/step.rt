@@ -26,29 +26,25 @@ pub enum Step {
     /// It did an event of a cell.
     Went,
     /// It waits for the run of a gate, its start of this number.
-    Waits {
-        number: u32,
-    },
+    Waits { number: u32 },
     /// It starts a child of this name.
-    Start {
-        child: ActorName,
-    },
+    Start { child: ActorName },
     /// It joins its child of this number.
-    Join {
-        number: u32,
-    },
+    Join { number: u32 },
     /// It enters a fresh gate, in a run of this name.
-    Enter {
-        run: ActorName,
-    },
-    /// It enters a recycled gate, in a run of this name; the memory is that with which the first run begins.
-    EnterRecycled {
-        gate: GateId,
-        run: ActorName,
-        memory: SavedView,
-    },
+    Enter { run: ActorName },
+    /// It enters a recycled gate.
+    EnterRecycled(GateEntry),
     /// It has come to its end.
     AtEnd(Last),
+}
+
+/// The entry of a recycled gate, in a run of this name; the memory is that with which the first run begins.
+#[derive(Debug, Drop)]
+pub struct GateEntry {
+    pub gate: GateId,
+    pub run: ActorName,
+    pub memory: SavedView,
 }
 
 /// What is left to do of an actor at its end.
@@ -170,7 +166,7 @@ fn step_of_want(want: Want) -> Step
         Want::Enter { run } => Step::Enter { run },
         Want::Leave { end } => Step::AtEnd(Last::Leave { end }),
         Want::Gate { gate, ask } => match ask {
-            GateAsk::Enter { run, memory } => Step::EnterRecycled { gate, run, memory },
+            GateAsk::Enter { run, memory } => Step::EnterRecycled(GateEntry { gate, run, memory }),
             GateAsk::Leave { end, memory } => {
                 Step::AtEnd(Last::LeaveRecycled { gate, end, memory })
             }

@@ -3,10 +3,11 @@
 ghost use Rattle.std.specs.Prelude.{◌≡◌, IfOk, OnOk, []};
 ghost use Rattle.thread_laws.specs.ActorProgresses.{at_creation, after_rest};
 ghost use Rattle.actor_task.specs.Steps.{IsAtRest};
-ghost use Rattle.actor_task.specs.Tasks.{WantsToEnter, going_on};
+ghost use Rattle.actor_task.specs.Tasks.{WantsEntry, going_on};
 
 use crate::created::Created;
 use crate::creating::NewActor;
+use crate::step::GateEntry;
 use actor_run::ActorRun;
 use journal_cell::RunOf;
 use machine::Next;
@@ -16,7 +17,7 @@ use run_cells::{GateCells, LockedCell};
 use std::alloc::Global;
 use std::marker::Model;
 use std::sync::{Arc, Mutex};
-use wedge_base::{ActorName, GateId, NoMemory};
+use wedge_base::{ActorName, NoMemory};
 
 /// An actor that a thread runs, those that it created, in the order of their numbers, and the cells of the
 /// recycled gates that it knows. Contracts see its progress, and that of those that it created as far as it
@@ -83,12 +84,15 @@ impl<I: RunOf> ActorTask<I> {
     }
 
     /// Returns the cell of the recycled gate that the actor is about to enter.
-    pub fn gate_cell(&mut self, gate: &GateId) -> Result<Arc<Mutex<LockedCell<Kept, I>>>, NoMemory>
-        requires { WantsToEnter self.old gate.now }
+    pub fn gate_cell(
+        &mut self,
+        entry: &GateEntry,
+    ) -> Result<Arc<Mutex<LockedCell<Kept, I>>>, NoMemory>
+        requires { WantsEntry self.old entry.now }
         ensures { OnOk result (self.new ≡ self.old) }
     {
         self.gates.create_for(self.run.gates())?;
-        match self.gates.find(gate)? {
+        match self.gates.find(&entry.gate)? {
             Some(cell) => Ok(cell),
             None => unreachable!(),
         }
