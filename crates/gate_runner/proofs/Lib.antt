@@ -1,0 +1,2 @@
+-- The root as a run begins.
+pub mod Roots

@@ -1,0 +1,319 @@
+//! The threads of a run.
+
+ghost use Rattle.std.specs.Prelude.{◌≡◌, IfOk, true};
+ghost use Rattle.wedge_events.specs.declared.events.Want.{Want as AWant};
+ghost use Rattle.gate_runner.specs.Gathering.{IsGathered};
+ghost use Rattle.actor_task.specs.Returning.{IsReturned};
+ghost use Rattle.gate_runner.specs.Endings.{IsAtEnd};
+ghost use Rattle.actor_task.specs.Steps.{IsStep, IsJointStep};
+ghost use Rattle.actor_task.specs.Tasks.{IsSame, IsUnlocked, Wants, WantsEntry};
+
+use crate::gather::gathered;
+use actor_task::{
+    ActorTask, Created, Creating, GateEntry, Last, NewActor, Returned, ReturnsFamily, Step,
+};
+use host_io::Pace;
+use image_form::Image;
+use journal_cell::RunOf;
+use machine::{Actor, Resident};
+use ready_text::Program;
+use recycled_gate::Kept;
+use run_cells::{GateCells, LockedCell, RunCells};
+use std::alloc::Global;
+use std::marker::{Brand, PhantomData};
+use std::snapshot::Snapshot;
+use std::sync::{Arc, Mutex, Wait};
+use std::thread;
+use std::thread::{Scope, Threads};
+use thread_laws::Gathered;
+use wedge_base::{ActorName, NoMemory, Stamp};
+
+/// What all threads of a run share.
+#[derive(Drop)]
+pub(crate) struct Shared<'e, I: RunOf, R, P> {
+    pub rt: &'e R,
+    pub alloc: Global,
+    pub program: &'e Program<'e>,
+    pub cells: &'e RunCells<I>,
+    pub pace: &'e P,
+    pub ghost of_image: { program.now ≡ I.image },
+}
+
+/// An actor that has come to its end, and what is left to do of it.
+#[derive(Drop)]
+pub(crate) struct AtEnd<I: RunOf> {
+    pub task: ActorTask<I>,
+    pub last: Last,
+}
+
+/// Runs an actor until it has ended or is to leave its gate, in a scope for the threads of its children.
+#[cycle(run)]
+fn run_to_end<'e, I: RunOf + Send + Sync, R: Threads + Wait + Sync, P: Pace + Sync>(
+    all: &'e Shared<'e, I, R, P>,
+    new: NewActor<I>,
+) -> Result<AtEnd<I>, NoMemory>
+    ensures { IfOk result (IsAtEnd new.resident new.stamp) }
+{
+    thread::scope(
+        thread::scope_env(),
+        all.rt,
+        move |scope| -> Result<AtEnd<I>, NoMemory>
+            ensures { IfOk result (IsAtEnd new.resident new.stamp) }
+        { act(scope, all, new) },
+    )
+}
+
+/// Does all that an actor does until it has ended or is to leave its gate.
+#[cycle(run)]
+fn act<'s, 'e, I: RunOf + Send + Sync, R: Threads + Wait + Sync, P: Pace + Sync>(
+    scope: &'s Scope<'s, &'e ()>,
+    all: &'e Shared<'e, I, R, P>,
+    new: NewActor<I>,
+) -> Result<AtEnd<I>, NoMemory>
+    ensures { IfOk result (IsAtEnd new.resident new.stamp) }
+{
+    let mut task = ActorTask::new(all.alloc, new);
+    for _ in all.rt.forever() {
+        match task.step(all.rt, all.program, all.cells, all.pace)? {
+            Step::Went => {}
+            Step::AtEnd(last) => return Ok(AtEnd { task, last }),
+            step => task = do_joint(scope, all, task, step)?,
+        }
+    }
+    unreachable!()
+}
+
+/// An event of an actor in which another has part.
+#[cycle(run)]
+fn do_joint<'s, 'e, I: RunOf + Send + Sync, R: Threads + Wait + Sync, P: Pace + Sync>(
+    scope: &'s Scope<'s, &'e ()>,
+    all: &'e Shared<'e, I, R, P>,
+    task: ActorTask<I>,
+    step: Step,
+) -> Result<ActorTask<I>, NoMemory>
+    requires step { IsStep task step }
+    requires joint { IsJointStep step }
+    ensures { IfOk result (λ k. IsSame task.progress k.progress) }
+{
+    match step {
+        Step::Waits { number } => task.resume(all.rt, number),
+        Step::Join { number } => join(all, task, number),
+        Step::Start { child } => start(scope, all, task, child),
+        Step::Enter { run } => enter_fresh(all, task, run),
+        Step::EnterRecycled(entry) => enter_recycled(all, task, entry),
+        Step::Went | Step::AtEnd(_) => unreachable!(),
+    }
+}
+
+/// The join of a child.
+fn join<'e, I: RunOf, R: Threads, P: Pace>(
+    all: &'e Shared<'e, I, R, P>,
+    task: ActorTask<I>,
+    number: u32,
+) -> Result<ActorTask<I>, NoMemory>
+    requires { Wants task (AWant.Join number) }
+    ensures { IfOk result (λ k. IsSame task.progress k.progress) }
+{
+    let mut task = task;
+    all.pace.before(task.name());
+    task.join(all.rt, all.program, number)?;
+    Ok(task)
+}
+
+/// The start of a child.
+#[cycle(run)]
+fn start<'s, 'e, I: RunOf + Send + Sync, R: Threads + Wait + Sync, P: Pace + Sync>(
+    scope: &'s Scope<'s, &'e ()>,
+    all: &'e Shared<'e, I, R, P>,
+    task: ActorTask<I>,
+    child: ActorName,
+) -> Result<ActorTask<I>, NoMemory>
+    requires { Wants task (AWant.Start child) }
+    ensures { IfOk result (λ k. IsSame task.progress k.progress) }
+{
+    all.pace.before(task.name());
+    let (creating, new) = task.start(all.program, child)?;
+    launch(scope, all, creating, new)
+}
+
+/// Runs a child on a thread of its own; where none can be made, here.
+#[cycle(run)]
+fn launch<'s, 'e, I: RunOf + Send + Sync, R: Threads + Wait + Sync, P: Pace + Sync>(
+    scope: &'s Scope<'s, &'e ()>,
+    all: &'e Shared<'e, I, R, P>,
+    creating: Creating<I>,
+    new: NewActor<I>,
+) -> Result<ActorTask<I>, NoMemory>
+    requires born { creating.born ≡ new.resident }
+    requires stamp { creating.stamp ≡ new.stamp }
+    requires unlocked { IsUnlocked new.resident }
+    ensures { IfOk result (λ k. IsSame creating.progress k.progress) }
+{
+    let stamp = new.stamp;
+    let began = Snapshot::of(&new.resident);
+    let promise: ReturnsFamily<I> = ReturnsFamily {
+        began: Snapshot::of(&new.resident),
+        stamp,
+        run: PhantomData,
+    };
+    let job = move || -> Result<Returned, NoMemory>
+        requires { IsUnlocked new.resident }
+        ensures { IfOk result (IsReturned I.image new.resident new.stamp) }
+    { run_whole(all, new) };
+    match scope.spawn_with(promise, job) {
+        Ok(handle) => creating.adopt(Created::running(began, stamp, handle)),
+        Err(refused) => creating.adopt_ended((refused.value)()?),
+    }
+}
+
+/// Runs an actor to its end that is the run of no recycled gate.
+#[cycle(run)]
+fn run_whole<'e, I: RunOf + Send + Sync, R: Threads + Wait + Sync, P: Pace + Sync>(
+    all: &'e Shared<'e, I, R, P>,
+    new: NewActor<I>,
+) -> Result<Returned, NoMemory>
+    requires { IsUnlocked new.resident }
+    ensures { IfOk result (IsReturned I.image new.resident new.stamp) }
+{
+    let AtEnd { task, last } = run_to_end(all, new)?;
+    task.finish_unlocked(all.rt, all.program, all.pace, last)
+}
+
+/// The entry of a fresh gate, and its run on this thread.
+#[cycle(run)]
+fn enter_fresh<'e, I: RunOf + Send + Sync, R: Threads + Wait + Sync, P: Pace + Sync>(
+    all: &'e Shared<'e, I, R, P>,
+    task: ActorTask<I>,
+    run: ActorName,
+) -> Result<ActorTask<I>, NoMemory>
+    requires { Wants task (AWant.Enter run) }
+    ensures { IfOk result (λ k. IsSame task.progress k.progress) }
+{
+    all.pace.before(task.name());
+    let (creating, new) = task.enter_fresh(all.program, run)?;
+    let returned = run_whole(all, new)?;
+    creating.adopt_ended(returned)
+}
+
+/// The entry of a recycled gate, and its run on this thread.
+#[cycle(run)]
+fn enter_recycled<'e, I: RunOf + Send + Sync, R: Threads + Wait + Sync, P: Pace + Sync>(
+    all: &'e Shared<'e, I, R, P>,
+    task: ActorTask<I>,
+    entry: GateEntry,
+) -> Result<ActorTask<I>, NoMemory>
+    requires { WantsEntry task entry }
+    ensures { IfOk result (λ k. IsSame task.progress k.progress) }
+{
+    let (task, cell) = with_cell(all, task, &entry)?;
+    run_locked(all, task, cell, entry)
+}
+
+/// The same, where this is the gate's cell. Its lock is held from the entry to the leave.
+#[cycle(run)]
+fn run_locked<'e, I: RunOf + Send + Sync, R: Threads + Wait + Sync, P: Pace + Sync>(
+    all: &'e Shared<'e, I, R, P>,
+    task: ActorTask<I>,
+    cell: Arc<Mutex<LockedCell<Kept, I>>>,
+    entry: GateEntry,
+) -> Result<ActorTask<I>, NoMemory>
+    requires { WantsEntry task entry }
+    ensures { IfOk result (λ k. IsSame task.progress k.progress) }
+{
+    let mut guard = cell.lock(all.rt);
+    run_inside(all, task, &mut *guard, entry)
+}
+
+/// The same, while the lock is held.
+#[cycle(run)]
+fn run_inside<'e, I: RunOf + Send + Sync, R: Threads + Wait + Sync, P: Pace + Sync>(
+    all: &'e Shared<'e, I, R, P>,
+    task: ActorTask<I>,
+    locked: &mut LockedCell<Kept, I>,
+    entry: GateEntry,
+) -> Result<ActorTask<I>, NoMemory>
+    requires { WantsEntry task entry }
+    ensures { IfOk result (λ k. IsSame task.progress k.progress) }
+{
+    let (creating, new) = task.enter_recycled(all.program, locked, entry)?;
+    let at_end = run_to_end(all, new)?;
+    leave_inside(all, locked, creating, at_end)
+}
+
+/// Returns the cell of the recycled gate that an actor is about to enter.
+fn with_cell<'e, I: RunOf, R, P: Pace>(
+    all: &'e Shared<'e, I, R, P>,
+    task: ActorTask<I>,
+    entry: &GateEntry,
+) -> Result<(ActorTask<I>, Arc<Mutex<LockedCell<Kept, I>>>), NoMemory>
+    requires { WantsEntry task entry.now }
+    ensures { IfOk result (λ p. p.0 ≡ task) }
+{
+    all.pace.before(task.name());
+    let mut task = task;
+    let cell = task.gate_cell(entry)?;
+    Ok((task, cell))
+}
+
+/// The leave of a recycled gate whose lock is held, and what it leaves for the caller.
+fn leave_inside<'e, I: RunOf, R: Threads, P: Pace>(
+    all: &'e Shared<'e, I, R, P>,
+    locked: &mut LockedCell<Kept, I>,
+    creating: Creating<I>,
+    at_end: AtEnd<I>,
+) -> Result<ActorTask<I>, NoMemory>
+    requires entered { locked.old.state.entered ≡ true }
+    requires at_end { IsAtEnd creating.born creating.stamp at_end }
+    ensures { IfOk result (λ k. IsSame creating.progress k.progress) }
+{
+    let AtEnd { task, last } = at_end;
+    let returned = task.finish_locked(all.rt, all.program, all.pace, last, locked)?;
+    creating.adopt_ended(returned)
+}
+
+/// Returns the logs and the histories of a run of an image on threads.
+fn run_of<'x, I: RunOf + Send + Sync, R: Threads + Wait + Sync, P: Pace + Sync>(
+    rt: &'x R,
+    alloc: Global,
+    image: &'x Image,
+    pace: &'x P,
+) -> Result<Gathered, NoMemory>
+    requires { image.now ≡ I.image }
+    ensures { IfOk result (IsGathered image.now) }
+{
+    let program = Program::new(alloc, image)?;
+    let cells: RunCells<I> = RunCells::new(alloc, image)?;
+    let all = Shared {
+        rt,
+        alloc,
+        program: &program,
+        cells: &cells,
+        pace,
+    };
+    let (actor, memory) = Actor::root(alloc, &program)?;
+    let root = NewActor {
+        resident: Resident { actor, memory },
+        stamp: Stamp(0),
+        gates: GateCells::none(alloc),
+    };
+    let returned = run_whole(&all, root)?;
+    gathered(alloc, returned, cells)
+}
+
+/// Runs an image on threads: the root and each child on a thread of its own, each run of a gate on the thread of its
+/// caller. Where no thread can be made, the creator runs the child to its end before it goes on. Returns the logs of
+/// all actors, that of the root first, each followed by those of all that it created, and the histories of all
+/// cells in which something happened.
+///
+/// `pace` is called before each shared event. Fails only where out of memory or of stamps, after all threads have
+/// ended.
+pub fn run_image<R: Threads + Wait + Sync, P: Pace + Sync>(
+    rt: &R,
+    alloc: Global,
+    image: &Image,
+    pace: &P,
+) -> Result<Gathered, NoMemory>
+    ensures { IfOk result (IsGathered image.now) }
+{
+    run_of::<Brand, R, P>(rt, alloc, image, pace)
+}
