@@ -51,11 +51,9 @@ fn gate(alloc: Global, number: u32, kind: GateKind) -> Result<Arc<Gate>, Fail> {
     Ok(Arc::new(alloc, gate)?)
 }
 
-/// Returns an ask to enter a gate, with an empty memory.
-fn entering(alloc: Global) -> Result<GateAsk, NoMemory> {
-    let memory = SavedView::of(alloc, &PrivateView::new(alloc, &[])?)?;
-    let run = ActorName::root(alloc)?;
-    Ok(GateAsk::Enter { run, memory })
+/// Returns an empty memory, as a gate's cell keeps one.
+fn empty_memory(alloc: Global) -> Result<SavedView, NoMemory> {
+    SavedView::of(alloc, &PrivateView::new(alloc, &[])?)
 }
 
 /// Returns the gates of a maker: a fresh one, and a recycled one.
@@ -81,13 +79,14 @@ fn enter<R: Wait>(
         name: &name,
         clock: Stamp(6),
     };
-    let ask = entering(alloc)?;
+    let run = ActorName::root(alloc)?;
+    let memory = empty_memory(alloc)?;
     let mut guard = cell.lock(rt);
     let locked = &mut *guard;
     if locked.state().entered() {
         return Err("entered".into());
     }
-    locked.enter(&mut pass, ask)?;
+    locked.enter(&mut pass, GateAsk::Enter { run, memory })?;
     Ok(())
 }
 
