@@ -1,4 +1,4 @@
-//! The pace of a run on threads. There are no threads yet, so nothing calls it.
+//! The pace of a run on threads: what a running actor calls before each shared event.
 
 use wedge_base::ActorName;
 

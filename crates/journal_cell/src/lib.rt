@@ -8,4 +8,4 @@ mod run;
 
 pub use entry::{Entry, Pass};
 pub use journaled::{JournalParts, Journaled};
-pub use run::{Cell, RunOf};
+pub use run::RunOf;

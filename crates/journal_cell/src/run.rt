@@ -1,21 +1,24 @@
-//! The run to which a cell belongs, and the cell that threads share.
+//! The run to which a cell belongs.
 
 ghost use Rattle.wedge_base.specs.Images.{Image};
+ghost use Rattle.atomic_table.specs.Seated.{TableId};
 
-use crate::journaled::Journaled;
 use std::marker::Brand;
-use std::sync::Mutex;
-use wedge_events::{CellName, Object};
 
-/// Stands for the image of a run, so that the type of a locked value can speak of that image. It has
-/// no call; who starts a run picks the image.
+/// Stands for a run, so that the type of a locked value can speak of its image, and of the table that
+/// orders the entries of its declared tags, where there is one. It has no call; who starts a run picks
+/// both.
 pub trait RunOf {
     ghost image: { Image };
+
+    ghost table: { TableId };
 }
 
 impl RunOf for Brand {
     ghost use Rattle.std.specs.Prelude.{[]};
     ghost use Rattle.wedge_base.specs.Images.{Image};
+    ghost use Rattle.atomic_table.specs.Seated.{TableId};
+    ghost use Rattle.journal_cell.specs.Runs.{no_table};
 
     ghost image = { record {
       fuel = 0;
@@ -30,11 +33,6 @@ impl RunOf for Brand {
       user = 0;
       root = [];
     } };
-}
 
-/// A cell that threads share: its name, and the object with its history, under a lock.
-#[derive(Drop)]
-pub struct Cell<O: Object, I: RunOf> {
-    pub name: CellName,
-    pub inside: Mutex<Journaled<O, I>>,
+    ghost table = { no_table };
 }

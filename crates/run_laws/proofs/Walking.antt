@@ -138,10 +138,10 @@ other_turn w doer a e new named apart t =
     }
 
 -- the entries of an actor from here on are a walk of it, which leads to what it is in the end
-record Walks (i : Image) (a : ActorState) (clock : ℕ) (es : List LogEntry) (new : WorldState) : Type 0 where
-  last : ActorState
-  walk : IsWalk i a clock es last
-  leads : actor_named new.actors a.name ≡ Some last
+pub record Walks (i : Image) (a : ActorState) (clock : ℕ) (es : List LogEntry) (new : WorldState) : Type 0 where
+  pub last : ActorState
+  pub walk : IsWalk i a clock es last
+  pub leads : actor_named new.actors a.name ≡ Some last
 
 with_entry : (i : Image) (a : ActorState) (clock : ℕ) (e : LogEntry) (es : List LogEntry) (new : WorldState) (t : Bool) → same e.actor a.name ≡ t
     → (same e.actor a.name ≡ true → Walks i a clock (e ∷ es) new) → (same e.actor a.name ≡ false → Walks i a clock es new)
@@ -149,7 +149,7 @@ with_entry : (i : Image) (a : ActorState) (clock : ℕ) (e : LogEntry) (es : Lis
 with_entry i a clock e es new true is own other = own is
 with_entry i a clock e es new false is own other = other is
 
-actor_walks : (old : WorldState) (turns : List Turn) (new : WorldState) (a : ActorState) (clock stamp : ℕ) → clock < stamp → actor_named old.actors a.name ≡ Some a → Runs old turns new
+pub actor_walks : (old : WorldState) (turns : List Turn) (new : WorldState) (a : ActorState) (clock stamp : ℕ) → clock < stamp → actor_named old.actors a.name ≡ Some a → Runs old turns new
     → Walks old.image a clock (entries_in a.name stamp turns) new
 actor_walks old [] new a clock stamp above named run = record { last = a; walk = refl; leads = ap (λ (w : WorldState). actor_named w.actors a.name) run ∙ named }
 actor_walks old (t ∷ ts) new a clock stamp above named run =

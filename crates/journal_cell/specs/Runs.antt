@@ -1,0 +1,15 @@
+-- The table of a run that has none.
+use Rattle.std.specs.Prelude.{[]}
+use Rattle.atomic_table.specs.Seated.{TableId}
+
+-- no table: it has no words and no slots
+abbrev pub no_table : TableId
+no_table = record {
+  words = 0;
+  slots = 0;
+  views_name = 0;
+  atom = 0;
+  block = 0;
+  offset = 0;
+  slot_names = [];
+}
