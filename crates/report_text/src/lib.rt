@@ -10,7 +10,7 @@ mod words;
 mod writing;
 
 pub use fault::ScheduleFault;
-pub use numbers::write_address;
+pub use numbers::{write_address, write_decimal, write_name};
 pub use reading::read_schedule;
 pub use text::report;
 pub use words::{bits_word, right_word};
