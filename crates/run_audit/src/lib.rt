@@ -11,8 +11,6 @@ mod keys;
 mod labels;
 mod laws;
 mod logs;
-mod merging;
-mod moving;
 mod outcome;
 mod sorts;
 mod stream_lines;
