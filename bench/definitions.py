@@ -235,8 +235,35 @@ RUN = [
                 "Compare with [`split.report`](../crates/run_cases/data/examples/split.report).",
             ),
             ("run_laws/CompleteRuns", "`IsCompleteRun`, with `IsSoundState` above it and `IsJournaledRun` below."),
-            ("world_turns/Progress", "Of this file the clause uses `IsNumbered`."),
             ("wedge_cli/Ended", "Of this file the clause uses `IsRunDone`, ten lines."),
+        ],
+    ),
+    (
+        "A run on threads",
+        "What it leaves: the logs of its actors, the histories of its cells, and one journal of both.",
+        [
+            (
+                "journal_cell/Histories",
+                "Read `IsHistory` and `entry_at`: the stamp is one above the greater of two clocks.",
+            ),
+            (
+                "thread_laws/Executions",
+                "See that `at_next_event` is the machine's own `rest` and `has_joined`, and that `IsNext` asks "
+                "for the machine's own `Asks`.",
+            ),
+            (
+                "thread_laws/Histories",
+                "`IsReply` is the cell's own reply and condition, by `event_of` and `AskFits`.",
+            ),
+            ("thread_laws/Merging", "See that `AreExecutions` leaves no actor out, and adds none."),
+            ("thread_laws/Forests", "`IsForestOf` goes over the creations one by one."),
+            ("thread_laws/Sorting", "Two comparisons, and std's order on lists."),
+            ("thread_laws/Replaying", "One line for each of the six kinds of cell."),
+            ("thread_laws/Joining", "The theorem is `GatheredIsRun`, and `IsRun` is what it promises."),
+            (
+                "audited_run/AuditedRuns",
+                "The clause uses `IsThreaded`; `IsDiffering` and `IsInSerialOrder` are for the status 7.",
+            ),
         ],
     ),
 ]
@@ -393,35 +420,20 @@ OTHERS = [
             ("trace_form/TraceRecord", ""),
             ("cb_analyze/Entries", ""),
             ("cb_analyze/Fitting", ""),
+            ("audited_run/Texts", "Where a run differs, as the line of the status 7 says it."),
+            ("world_turns/Progress", "The status 7 uses `IsNumbered`."),
         ],
     ),
     (
-        "A run on threads",
-        "What it has to leave, so that it is a run. No command runs on threads yet.",
+        "The threads",
+        "What each of them keeps, and what is compared.",
         [
-            (
-                "journal_cell/Histories",
-                "Read `IsHistory` and `entry_at`: the stamp is one above the greater of two clocks.",
-            ),
-            (
-                "thread_laws/Executions",
-                "See that `at_next_event` is the machine's own `rest` and `has_joined`, and that `IsNext` asks "
-                "for the machine's own `Asks`.",
-            ),
-            (
-                "thread_laws/Histories",
-                "`IsReply` is the cell's own reply and condition, by `event_of` and `AskFits`.",
-            ),
-            ("thread_laws/Merging", "See that `AreExecutions` leaves no actor out, and adds none."),
-            ("thread_laws/Forests", "`IsForestOf` goes over the creations one by one."),
-            ("thread_laws/Sorting", "Two comparisons, and std's order on lists."),
-            ("thread_laws/Replaying", "One line for each of the six kinds of cell."),
-            ("thread_laws/Joining", "The theorem is `GatheredIsRun`, and `IsRun` is what it promises."),
             ("thread_laws/Laws", "What holds of the last world."),
             (
                 "thread_laws/ActorProgresses",
                 "One line for each call of a thread; compare the stamps with [DECISIONS.md](DECISIONS.md#threads).",
             ),
+            ("journal_cell/Runs", ""),
             ("thread_laws/Auditing", "Two folds over lists."),
             ("thread_laws/ActorWalks", "The walk is `IsWalk` of run_laws."),
             ("gate_runner/Gathering", "What `run_image` returns: `AreWalked` and `AreKept`, nothing else."),

@@ -36,7 +36,7 @@ printf '.proc main\nagain:\naddi a0, a0, 1\nj again\n' | partition 16777216 > "$
 "$wedge" build "$work/local.toml" > "$work/local.wedge" || exit 1
 measure 'local instructions' 16777216 "$wedge" run "$work/local.wedge"
 
-# Loads and stores of a tag, one of two instructions each a shared access.
+# Loads and stores of a tag, two of three instructions each a shared access.
 printf '.proc main\nli t0, seg_box\nagain:\nlw a0, 0(t0)\nsw a0, 4(t0)\nj again\n' | partition 300002 > "$work/shared.toml"
 "$wedge" build "$work/shared.toml" > "$work/shared.wedge" || exit 1
 measure 'shared accesses' 200000 "$wedge" run "$work/shared.wedge"
@@ -171,20 +171,22 @@ fi
 
 # Host instructions for each instruction of a loop: what a run with more fuel counts more than one with less, over
 # the instructions that it makes more. What is counted, the name of the loop, less and more fuel, how many
-# instructions that is, and the bound. The loop is read from the standard input.
+# instructions that is, the bound, and the function whose instructions alone are counted, with those of what it calls; of
+# all, if none is named. The loop is read from the standard input.
 count() {
     cat > "$work/loop"
     for fuel in "$3" "$4"; do
         partition "$fuel" < "$work/loop" > "$work/$2$fuel.toml"
         "$wedge" build "$work/$2$fuel.toml" > "$work/$2$fuel.wedge" || exit 1
-        valgrind --tool=callgrind --callgrind-out-file=/dev/null "$program" run "$work/$2$fuel.wedge" \
-            2> "$work/$2$fuel.count" > /dev/null || exit 1
+        valgrind --tool=callgrind --callgrind-out-file="$work/callgrind" "$program" run "$work/$2$fuel.wedge" \
+            > /dev/null 2>&1 || exit 1
+        callgrind_annotate --inclusive=yes "$work/callgrind" > "$work/$2$fuel.count" || exit 1
     done
-    awk -v what="$1" -v made="$5" -v bound="$6" '
-        /Collected/ { counts[++n] = $NF }
+    awk -v what="$1" -v made="$5" -v bound="$6" -v of="${7:-PROGRAM TOTALS}" '
+        index($0, of) && !seen[FILENAME]++ { gsub(",", "", $1); counts[++n] = $1 }
         END {
             each = (counts[2] - counts[1]) / made
-            printf "%-28s %6.1f host instructions, at most %d\n", what, each, bound
+            printf "%-38s %6.1f host instructions, at most %d\n", what, each, bound
             exit n != 2 || each <= 0 || each > bound
         }' "$work/$2$3.count" "$work/$2$4.count" || exit 1
 }
@@ -201,9 +203,12 @@ printf '.proc main\nagain:\naddi a0, a0, 1\nxor a1, a1, a0\nsub a2, a1, a0\nj ag
     printf 'sw a4, -8(sp)\nandi a5, a4, 255\nsub a6, a4, a5\naddi a0, a0, 3\nj again\n'
 } | count 'the same, two in ten private' private 100000 200000 100000 55 || exit 1
 
-# Loads and stores of a tag, 32 of 33 instructions: each is counted with its part of the jump.
-{
+# Loads and stores of a tag, 32 of 33 instructions: each is counted with its part of the jump. First with the audit and
+# the report of the run, and then what its threads alone do.
+accesses() {
     printf '.proc main\nli t0, seg_box\nagain:\n'
     awk 'BEGIN { for (k = 0; k < 16; k++) print "lw a0, 0(t0)\nsw a0, 4(t0)" }'
     printf 'j again\n'
-} | count 'a shared access' shared 33000 66000 32000 480
+}
+accesses | count 'a shared access' shared 33000 66000 32000 1300 || exit 1
+accesses | count 'a shared access, before the audit' shared 33000 66000 32000 750 gate_runner::runner::run_whole

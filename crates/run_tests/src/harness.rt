@@ -1,6 +1,6 @@
 //! What the tests share: a call of the program over files that lie in memory.
 
-use host_io::{MemFile, MemFiles, MemSink, NoPace};
+use host_io::{MemFile, MemFiles, MemSink, NoPace, Pace};
 use std::alloc::{AllocError, Global};
 use std::sync::Wait;
 use std::test::Fail;
@@ -54,12 +54,24 @@ pub(crate) fn call<R: Threads + Wait + Sync>(
     s: &[u8],
     room: usize,
 ) -> Result<Left, Fail> {
+    let files = files(alloc, a, s)?;
+    call_at(rt, alloc, words, files, room, &NoPace)
+}
+
+/// Calls the program with these arguments over files, at a pace, with room for so many bytes on each stream.
+pub(crate) fn call_at<R: Threads + Wait + Sync, P: Pace + Sync>(
+    rt: &R,
+    alloc: Global,
+    words: &[&str],
+    mut files: MemFiles,
+    room: usize,
+    pace: &P,
+) -> Result<Left, Fail> {
     let words = strings(alloc, words)?;
-    let mut files = files(alloc, a, s)?;
     let mut out = MemSink::new(alloc, room, Vec::new(alloc))?;
     let mut err = MemSink::new(alloc, room, Vec::new(alloc))?;
     let words = words.as_slice();
-    let status = exit_status(rt, alloc, words, &mut files, &mut out, &mut err, &NoPace);
+    let status = exit_status(rt, alloc, words, &mut files, &mut out, &mut err, pace);
     let out = Vec::from_slice(alloc, out.bytes())?;
     let err = Vec::from_slice(alloc, err.bytes())?;
     Ok(Left { status, out, err })

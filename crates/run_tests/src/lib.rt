@@ -1,5 +1,5 @@
-//! Tests of the program that compute what they run or what they want: every order of turns, each prefix of a file, and as many actors
-//! as there may be. Rows that are written out stand in `run_cases`.
+//! Tests of the program that compute what they run or what they want: every order of turns, each prefix of a file, as many actors as
+//! there may be, and runs that no single thread makes. Rows that are written out stand in `run_cases`.
 #![tactic(auto)]
 
 #[cfg(test)]
@@ -12,3 +12,5 @@ mod many;
 mod orders;
 #[cfg(test)]
 mod prefixes;
+#[cfg(test)]
+mod threads;

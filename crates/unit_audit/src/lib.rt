@@ -1,4 +1,4 @@
-//! Tests of run_audit: what an audit answers of logs and histories that agree, and of those that do
+//! Tests of run_audit and audited_run: what an audit answers of logs and histories that agree, and of those that do
 //! not.
 #![tactic(auto)]
 
@@ -6,3 +6,5 @@
 mod gathering;
 #[cfg(test)]
 mod run_audit_tests;
+#[cfg(test)]
+mod text_tests;

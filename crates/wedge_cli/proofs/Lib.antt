@@ -8,3 +8,5 @@ pub mod Replays
 pub mod Again
 -- The answer of a link, from what was read and done.
 pub mod Links
+-- What `run` ended with.
+pub mod RunEnds

@@ -1,37 +1,27 @@
 -- The answer of a link, from what was read and done.
 use Rattle.std.proofs.Common.{◌≡◌, ◌⊎◌, inl, inr, ℕ, ◌<◌, ◌≤◌, Bool, true, false, cond, List, length, refl, sym, ap, subst, ◌∙◌, arith}
-use Rattle.std.specs.Prelude.{Option, Some, None, Result, Ok, Err, nat_le, nat_lt}
-use Rattle.std.specs.Str.{IsUtf8, is_utf8}
-use Rattle.std.proofs.lemmas.Str.{is_utf8-from_IsUtf8}
-use Rattle.std.proofs.lemmas.Bool.{lt-leb, le-ltb, lt-ltb}
+use Rattle.std.specs.Prelude.{Option, Some, Result, Ok, Err, nat_lt}
+use Rattle.std.specs.Str.{is_utf8}
 use Rattle.host_io.specs.Exposed.{WhereExposed}
 use Rattle.wedge_base.specs.Images.{Image}
 use Rattle.elf_in.specs.declared.fault.Fault.{Fault as ElfFault}
-use Rattle.elf_in.specs.declared.fault.ElfError.{ElfError}
-use Rattle.elf_in.specs.declared.fault.ElfError.TheVariants as elf_error
-use Rattle.elf_in.specs.Checks.{identity_check}
 use Rattle.elf_in.specs.Program.{Program}
 use Rattle.elf_in.specs.Reading.{elf_program}
-use Rattle.elf_in.specs.Steps.{IsElfError}
-use Rattle.part_toml.specs.declared.fault.PartFault.{PartFault}
-use Rattle.part_toml.specs.declared.fault.PartFault.TheVariants as fault
 use Rattle.part_toml.specs.Faults.{Refusal as Meant}
 use Rattle.part_toml.specs.Faults as meant
 use Rattle.part_toml.specs.Joining.{partition_with}
-use Rattle.part_toml.specs.Partition.{Reports, refusal_in}
 use Rattle.cli_inputs.specs.declared.loading.FileKind.TheVariants as kind
 use Rattle.cli_inputs.specs.declared.refusal.Refusal.{Refusal}
 use Rattle.cli_inputs.specs.declared.refusal.Refusal.TheVariants as refusal
 use Rattle.cli_inputs.specs.declared.refusal.PartRefusal.TheVariants as part
 use Rattle.wedge_cli.specs.Lines.{status_of}
-use Rattle.cli_inputs.specs.Refusals.{as_unjoined, elf_refusal_of, joining_refusal_of}
+use Rattle.cli_inputs.specs.Refusals.{as_unjoined}
 use Rattle.cli_inputs.specs.Loading.{most_of, most_partition, long_elf, IsUnread, IsPartitionUnread}
 use Rattle.cli_inputs.specs.Replaying.{IsRefusalIn}
 use Rattle.cli_inputs.specs.Linking.{program_by, by_joining, joined_of, encoding_by, link_with, link_text, IsUnjoined}
 use Rattle.wedge_cli.specs.Causes.{IsLinkAnswer, IsLinkRefused, IsElfRejected, IsUnreadable}
 use Rattle.wedge_cli.specs.Ended.{IsCutShort}
 use Rattle.cli_inputs.specs.Words.{Link}
-use Rattle.cli_inputs.proofs.Partitions.{not_utf8}
 use Rattle.cli_inputs.proofs.Joined.{long_file, joined_long}
 
 -- what is wrong is of the partition, or of the image

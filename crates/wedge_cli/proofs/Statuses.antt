@@ -1,36 +1,32 @@
 -- Which cause each status has.
 use Rattle.std.proofs.Common.{◌≡◌, ◌⊎◌, inl, inr, ℕ, ◌<◌, List, refl, sym, ap, subst, ◌∙◌, arith}
-use Rattle.std.specs.Prelude.{Option, Some, None, Result, Ok, Err, IsErr}
+use Rattle.std.specs.Prelude.{Option, Some, None, Result, Ok, Err, IsErr, IsSome}
 use Rattle.host_io.specs.Exposed.{WhereExposed}
 use Rattle.wedge_base.specs.Images.{Image}
-use Rattle.wedge_events.specs.declared.events.Journal.{Journal}
 use Rattle.wedge_cli.specs.declared.status.Ended.{Ended}
-use Rattle.cli_inputs.specs.declared.words.RunFlag.TheVariants.{Plain, Schedule}
 use Rattle.cli_inputs.specs.declared.refusal.Refusal.{Refusal}
 use Rattle.cli_inputs.specs.declared.refusal.Refusal.TheVariants as refusal
+use Rattle.audited_run.specs.declared.run.Differs.{Differs}
+use Rattle.wedge_cli.specs.declared.writing.KeptRun.{KeptRun}
 use Rattle.wedge_cli.specs.declared.writing.Text.{Text}
 use Rattle.wedge_cli.specs.Lines.{line, usage_line, refusal_text, status_of}
 use Rattle.cli_inputs.specs.Loading.{image_from_bytes, built_of, IsRefusedBy}
 use Rattle.cli_inputs.specs.Replaying.{replay_text}
 use Rattle.cli_inputs.specs.Linking.{link_text, IsLinkedImage}
 use Rattle.cli_inputs.specs.Words.{Asked, Run, Show, Build, Link, Replay, Derive, Analyze}
-use Rattle.image_form.specs.Rules.{Encodes}
-use Rattle.report_text.specs.Reports.{report_of}
-use Rattle.report_text.specs.Schedules.{actors_of, schedule_of}
 use Rattle.wedge_cli.specs.Outside.{Device, Sinks, Outside, Rises, Takes}
 use Rattle.trace_form.specs.Records.{records_of}
 use Rattle.cb_analyze.specs.Sheets.{sheets_of}
 use Rattle.cb_analyze.specs.Texts.{sheets_text}
-use Rattle.wedge_cli.specs.Ended.{AreTaken, IsReported, IsPairAnswer, IsTraceAnswer, IsWritten, IsSaid, IsRunDone, IsScheduleDone, IsLinkDone, IsCutShort, IsAnswerEnd}
+use Rattle.wedge_cli.specs.Ended.{AreTaken, IsPairAnswer, IsTraceAnswer, IsWritten, IsSaid, IsLinkDone, IsCutShort, IsAnswerEnd, done_status, no_run}
 use Rattle.cli_inputs.specs.declared.words.Query.{Query}
 use Rattle.cli_inputs.specs.Traces.{derive_text, analyze_text, query_lines, answer_to, unless_fault, IsUnknownIn, IsTraceRefused, IsQueryRefused}
 use Rattle.wedge_cli.specs.Causes.{IsReplayRefused, IsRefused, IsUnfit, IsRejected, IsTraceRejected, IsElfRejected, IsUnknown, IsUnreadable, SaysRefusal, IsRefusal, IsCommandDone, IsUsage, IsCommandAnswer}
-use Rattle.wedge_cli.proofs.Written.{Rise, written_status, said_status, took_out, took_err, took_both}
-use Rattle.wedge_cli.proofs.Again.{schedule_replays}
+use Rattle.wedge_cli.proofs.Written.{Rise, written_status, said_status, said_nothing, took_out, took_err}
 use Rattle.wedge_cli.proofs.Links.{unfit_link, unread_link, rejected_elf, no_other_link, link_refusal}
 
 -- what was done with a command: it was refused, or its texts were written
-abbrev IsEither : Asked → Ended → Outside → Outside → Type 0
+abbrev pub IsEither : Asked → Ended → Outside → Outside → Type 0
 IsEither a ended before after = IsRefusal a ended before after ⊎ IsCommandDone a ended before after
 
 -- the status of a refusal, of out of memory for its line, or of a fault
@@ -43,28 +39,42 @@ refusal_status why ended e f (inl said) =
 refusal_status why ended e f (inr said) =
     elim (said_status 6 (line (refusal_text refusal.NoMemory)) ended e f said) [ inl is ↦ inr (inl is) | inr fault ↦ inr (inr fault) ]
 
--- what is done has status 0, or 5 where a count of faults rose
-done_status : (a : Asked) (ended : Ended) (before after : Outside) → IsCommandDone a ended before after → (ended.status ≡ 0) ⊎ ((ended.status ≡ 5) × Rise before.sinks after.sinks)
-done_status a ended before after d = written_status 0 d.kept d.texts ended before.sinks after.sinks d.written
+-- what is done has status 0 or 7
+done_or_again : (d : Option Differs) → (done_status d ≡ 0) ⊎ (done_status d ≡ 7)
+done_or_again None = inl refl
+done_or_again (Some d) = inr refl
 
--- a status other than 0, 5 and 6 is that of a refusal, which has its cause
-by_refusal : {P : Type 0} {n : ℕ} (a : Asked) (ended : Ended) (before after : Outside) → (0 ≡ n → ⊥) → (5 ≡ n → ⊥) → (6 ≡ n → ⊥) → IsEither a ended before after → ended.status ≡ n
+-- or 5 where a count of faults rose
+pub status_of_done : (a : Asked) (ended : Ended) (before after : Outside) → IsCommandDone a ended before after
+    → (ended.status ≡ 0) ⊎ (ended.status ≡ 7) ⊎ ((ended.status ≡ 5) × Rise before.sinks after.sinks)
+status_of_done a ended before after d =
+    elim (written_status (done_status d.kept.differs) d.kept d.texts ended before.sinks after.sinks d.written) [
+      | inl is ↦ elim (done_or_again d.kept.differs) [ inl zero ↦ inl (is ∙ zero) | inr seven ↦ inr (inl (is ∙ seven)) ]
+      | inr fault ↦ inr (inr fault)
+    ]
+
+-- a status other than 0, 5, 6 and 7 is that of a refusal, which has its cause
+by_refusal : {P : Type 0} {n : ℕ} (a : Asked) (ended : Ended) (before after : Outside) → (0 ≡ n → ⊥) → (5 ≡ n → ⊥) → (6 ≡ n → ⊥) → (7 ≡ n → ⊥) → IsEither a ended before after → ended.status ≡ n
     → ((r : Refusal) → IsRefused a before.files before.reads after.reads r → status_of r ≡ n → P) → P
-by_refusal a ended before after zero five six (inl r) is each =
+by_refusal a ended before after zero five six seven (inl r) is each =
     elim (refusal_status r.why ended before.sinks.err after.sinks.err r.err) [
       | inl status ↦ each r.why r.cause (sym status ∙ is)
       | inr (inl status) ↦ absurd (six (sym status ∙ is))
       | inr (inr fault) ↦ absurd (five (sym fault.0 ∙ is))
     ]
-by_refusal a ended before after zero five six (inr d) is each =
-    elim (done_status a ended before after d) [ inl status ↦ absurd (zero (sym status ∙ is)) | inr fault ↦ absurd (five (sym fault.0 ∙ is)) ]
+by_refusal a ended before after zero five six seven (inr d) is each =
+    elim (status_of_done a ended before after d) [
+      | inl status ↦ absurd (zero (sym status ∙ is))
+      | inr (inl status) ↦ absurd (seven (sym status ∙ is))
+      | inr (inr fault) ↦ absurd (five (sym fault.0 ∙ is))
+    ]
 
 -- whether a status is another one
 abbrev Not : ℕ → ℕ → Type 0
 Not status n = status ≡ n → ⊥
 
--- no refusal has the status 0, 2 or 5
-other_than : (r : Refusal) (n : ℕ) → (n ≡ 0) ⊎ (n ≡ 2) ⊎ (n ≡ 5) → Not (status_of r) n
+-- no refusal has the status 0, 2, 5 or 7
+other_than : (r : Refusal) (n : ℕ) → (n ≡ 0) ⊎ (n ≡ 2) ⊎ (n ≡ 5) ⊎ (n ≡ 7) → Not (status_of r) n
 other_than refusal.NoMemory n h e = absurd (omega arith)
 other_than (refusal.Read file) n h e = absurd (omega arith)
 other_than (refusal.Image fault) n h e = absurd (omega arith)
@@ -135,7 +145,7 @@ unfit (Analyze trace query name) files before after r h e = unfit_query query na
 
 pub image_only : (a : Asked) (ended : Ended) (before after : Outside) → IsEither a ended before after → ended.status ≡ 3 → IsUnfit a before.files
 image_only a ended before after either is =
-    by_refusal a ended before after (λ e. omega (arith, e)) (λ e. omega (arith, e)) (λ e. omega (arith, e)) either is (unfit a before.files before.reads after.reads)
+    by_refusal a ended before after (λ e. omega (arith, e)) (λ e. omega (arith, e)) (λ e. omega (arith, e)) (λ e. omega (arith, e)) either is (unfit a before.files before.reads after.reads)
 
 -- ---- 4
 
@@ -195,7 +205,7 @@ unread (Analyze trace query name) files before after r h e = unread_query query 
 
 pub read_only : (a : Asked) (ended : Ended) (before after : Outside) → IsEither a ended before after → ended.status ≡ 4 → IsUnreadable a before.reads after.reads
 read_only a ended before after either is =
-    by_refusal a ended before after (λ e. omega (arith, e)) (λ e. omega (arith, e)) (λ e. omega (arith, e)) either is (unread a before.files before.reads after.reads)
+    by_refusal a ended before after (λ e. omega (arith, e)) (λ e. omega (arith, e)) (λ e. omega (arith, e)) (λ e. omega (arith, e)) either is (unread a before.files before.reads after.reads)
 
 -- ---- 8
 
@@ -254,7 +264,7 @@ rejected (Analyze trace query name) files before after r h e = rejected_query qu
 
 pub rejected_only : (a : Asked) (ended : Ended) (before after : Outside) → IsEither a ended before after → ended.status ≡ 8 → IsRejected a before.files
 rejected_only a ended before after either is =
-    by_refusal a ended before after (λ e. omega (arith, e)) (λ e. omega (arith, e)) (λ e. omega (arith, e)) either is (rejected a before.files before.reads after.reads)
+    by_refusal a ended before after (λ e. omega (arith, e)) (λ e. omega (arith, e)) (λ e. omega (arith, e)) (λ e. omega (arith, e)) either is (rejected a before.files before.reads after.reads)
 
 -- ---- 9
 
@@ -314,7 +324,7 @@ unknown (Analyze trace query name) files before after r h e = unknown_query quer
 
 pub name_only : (a : Asked) (ended : Ended) (before after : Outside) → IsEither a ended before after → ended.status ≡ 9 → IsUnknown a before.files
 name_only a ended before after either is =
-    by_refusal a ended before after (λ e. omega (arith, e)) (λ e. omega (arith, e)) (λ e. omega (arith, e)) either is (unknown a before.files before.reads after.reads)
+    by_refusal a ended before after (λ e. omega (arith, e)) (λ e. omega (arith, e)) (λ e. omega (arith, e)) (λ e. omega (arith, e)) either is (unknown a before.files before.reads after.reads)
 
 -- ---- 10
 
@@ -374,7 +384,7 @@ elf_rejected (Analyze trace query name) files before after r h e = not_elf_query
 
 pub elf_only : (a : Asked) (ended : Ended) (before after : Outside) → IsEither a ended before after → ended.status ≡ 10 → IsElfRejected a before.files
 elf_only a ended before after either is =
-    by_refusal a ended before after (λ e. omega (arith, e)) (λ e. omega (arith, e)) (λ e. omega (arith, e)) either is (elf_rejected a before.files before.reads after.reads)
+    by_refusal a ended before after (λ e. omega (arith, e)) (λ e. omega (arith, e)) (λ e. omega (arith, e)) (λ e. omega (arith, e)) either is (elf_rejected a before.files before.reads after.reads)
 
 -- ---- 2
 
@@ -386,7 +396,11 @@ not_2 a ended before after (inl r) is =
       | inr (inr fault) ↦ absurd (omega (arith, fault.0, is))
     ]
 not_2 a ended before after (inr d) is =
-    elim (done_status a ended before after d) [ inl status ↦ absurd (omega (arith, status, is)) | inr fault ↦ absurd (omega (arith, fault.0, is)) ]
+    elim (status_of_done a ended before after d) [
+      | inl status ↦ absurd (omega (arith, status, is))
+      | inr (inl status) ↦ absurd (omega (arith, status, is))
+      | inr (inr fault) ↦ absurd (omega (arith, fault.0, is))
+    ]
 
 none_unless : (asked : Option Asked) → ((a : Asked) → asked ≡ Some a → ⊥) → asked ≡ None
 none_unless None h = refl
@@ -404,12 +418,16 @@ usage_answer asked ended before after none said = record { usage = λ same. said
 rises_by : (a : Asked) (ended : Ended) (before after : Outside) → IsEither a ended before after → ended.status ≡ 5 → Rise before.sinks after.sinks
 rises_by a ended before after (inl r) is =
     elim (refusal_status r.why ended before.sinks.err after.sinks.err r.err) [
-      | inl status ↦ absurd (other_than r.why 5 (inr (inr refl)) (sym status ∙ is))
+      | inl status ↦ absurd (other_than r.why 5 (inr (inr (inl refl))) (sym status ∙ is))
       | inr (inl status) ↦ absurd (omega (arith, status, is))
       | inr (inr fault) ↦ inr fault.1
     ]
 rises_by a ended before after (inr d) is =
-    elim (done_status a ended before after d) [ inl status ↦ absurd (omega (arith, status, is)) | inr fault ↦ fault.1 ]
+    elim (status_of_done a ended before after d) [
+      | inl status ↦ absurd (omega (arith, status, is))
+      | inr (inl status) ↦ absurd (omega (arith, status, is))
+      | inr (inr fault) ↦ fault.1
+    ]
 
 pub write_only : (asked : Option Asked) (ended : Ended) (before after : Outside) → IsCommandAnswer asked ended before after → ended.status ≡ 5 → Rise before.sinks after.sinks
 write_only None ended before after w is =
@@ -419,79 +437,75 @@ write_only None ended before after w is =
     ]
 write_only (Some a) ended before after w is = rises_by a ended before after (w.command a refl) is
 
--- ---- a run with the status 0
+-- ---- 7
 
-reported : (i : Image) (kept : Option Journal) (texts : List Text) (bytes : List ℕ) (s u : Sinks)
-    → Encodes i bytes → IsReported i Plain kept texts → AreTaken texts s u → IsRunDone bytes kept s u
-reported i None texts bytes s u encoded r taken = absurd r
-reported i (Some journal) texts bytes s u encoded r taken =
-    let took : Takes (report_of r.outcome) s.out u.out × (u.err ≡ s.err) = took_out (report_of r.outcome) s u (subst (λ ts. AreTaken ts s u) r.are taken) in
-    record {
-      image = i;
-      encoded = encoded;
-      journal = journal;
-      kept_is = refl;
-      outcome = r.outcome;
-      run = r.run;
-      stamps = r.stamps;
-      out = took.0;
-      err = took.1;
-    }
+said_not_7 : (status : ℕ) (text : List ℕ) (ended : Ended) (e f : Device) → IsSaid status text ended e f → Not status 7 → Not ended.status 7
+said_not_7 status text ended e f said other is =
+    elim (said_status status text ended e f said) [ inl same ↦ other (sym same ∙ is) | inr fault ↦ absurd (omega (arith, fault.0, is)) ]
 
-done_0 : (image bytes : List ℕ) (ended : Ended) (before after : Outside) → IsCommandDone (Run image Plain) ended before after
-    → before.files image ≡ Some bytes → ended.status ≡ 0 → IsRunDone bytes ended.journal before.sinks after.sinks
-done_0 image bytes ended before after d exposed is =
+pub refused_not_7 : (a : Asked) (ended : Ended) (before after : Outside) → IsRefusal a ended before after → Not ended.status 7
+refused_not_7 a ended before after r is =
+    elim r.err [
+      | inl said ↦ said_not_7 (status_of r.why) (line (refusal_text r.why)) ended before.sinks.err after.sinks.err said (other_than r.why 7 (inr (inr (inr refl)))) is
+      | inr said ↦ said_not_7 6 (line (refusal_text refusal.NoMemory)) ended before.sinks.err after.sinks.err said (λ e. omega (arith, e)) is
+    ]
+
+is_some_by : (d : Option Differs) → done_status d ≡ 7 → IsSome d
+is_some_by None is = absurd (omega (arith, is))
+is_some_by (Some d) is = refl
+
+seven_by : (d : Option Differs) → IsSome d → done_status d ≡ 7
+seven_by None is = absurd cc
+seven_by (Some d) is = refl
+
+none_differs : (d : Option Differs) → d ≡ None → IsSome d → ⊥
+none_differs None e is = absurd cc
+none_differs (Some d) e is = absurd cc
+
+done_differs : (a : Asked) (ended : Ended) (before after : Outside) → IsCommandDone a ended before after → ended.status ≡ 7 → IsSome ended.differs
+done_differs a ended before after d is =
     elim d.written.cases [
-      | inl done ↦ subst (λ kept. IsRunDone bytes kept before.sinks after.sinks) (sym d.written.journal)
-          (reported d.made.image d.kept d.texts bytes before.sinks after.sinks (d.made.encoded bytes exposed) d.made.reported done.0)
+      | inl done ↦ subst (λ x. IsSome x) (sym done.2) (is_some_by d.kept.differs (sym done.1 ∙ is))
       | inr fault ↦ absurd (omega (arith, fault.1, is))
     ]
 
+pub differs_only : (asked : Option Asked) (ended : Ended) (before after : Outside) → IsCommandAnswer asked ended before after → ended.status ≡ 7 → IsSome ended.differs
+differs_only None ended before after w is = absurd (said_not_7 2 usage_line ended before.sinks.err after.sinks.err (w.usage refl).err (λ e. omega (arith, e)) is)
+differs_only (Some a) ended before after w is =
+    elim (w.command a refl) [
+      | inl r ↦ absurd (refused_not_7 a ended before after r is)
+      | inr d ↦ done_differs a ended before after d is
+    ]
+
+refused_nothing : (a : Asked) (ended : Ended) (before after : Outside) → IsRefusal a ended before after → ended.differs ≡ None
+refused_nothing a ended before after r =
+    elim r.err [
+      | inl said ↦ said_nothing (status_of r.why) (line (refusal_text r.why)) ended before.sinks.err after.sinks.err said
+      | inr said ↦ said_nothing 6 (line (refusal_text refusal.NoMemory)) ended before.sinks.err after.sinks.err said
+    ]
+
+differs_done : (a : Asked) (ended : Ended) (before after : Outside) → IsCommandDone a ended before after → IsSome ended.differs → ended.status ≡ 7
+differs_done a ended before after d some =
+    elim d.written.cases [
+      | inl done ↦ done.1 ∙ seven_by d.kept.differs (subst (λ x. IsSome x) done.2 some)
+      | inr fault ↦ absurd (none_differs ended.differs fault.2 some)
+    ]
+
+pub differs_7 : (asked : Option Asked) (ended : Ended) (before after : Outside) → IsCommandAnswer asked ended before after → IsSome ended.differs → ended.status ≡ 7
+differs_7 None ended before after w some = absurd (none_differs ended.differs (said_nothing 2 usage_line ended before.sinks.err after.sinks.err (w.usage refl).err) some)
+differs_7 (Some a) ended before after w some =
+    elim (w.command a refl) [
+      | inl r ↦ absurd (none_differs ended.differs (refused_nothing a ended before after r) some)
+      | inr d ↦ differs_done a ended before after d some
+    ]
+
 -- a command that is refused has another status
-refused_not_0 : (a : Asked) (ended : Ended) (before after : Outside) → IsRefusal a ended before after → ended.status ≡ 0 → ⊥
+pub refused_not_0 : (a : Asked) (ended : Ended) (before after : Outside) → IsRefusal a ended before after → ended.status ≡ 0 → ⊥
 refused_not_0 a ended before after r is =
     elim (refusal_status r.why ended before.sinks.err after.sinks.err r.err) [
       | inl status ↦ other_than r.why 0 (inl refl) (sym status ∙ is)
       | inr (inl status) ↦ absurd (omega (arith, status, is))
       | inr (inr fault) ↦ absurd (omega (arith, fault.0, is))
-    ]
-
-pub run_done : (image bytes : List ℕ) (ended : Ended) (before after : Outside) → IsEither (Run image Plain) ended before after
-    → before.files image ≡ Some bytes → ended.status ≡ 0 → IsRunDone bytes ended.journal before.sinks after.sinks
-run_done image bytes ended before after (inl r) exposed is = absurd (refused_not_0 (Run image Plain) ended before after r is)
-run_done image bytes ended before after (inr d) exposed is = done_0 image bytes ended before after d exposed is
-
--- ---- a run with its schedule and the status 0
-
-scheduled : (i : Image) (kept : Option Journal) (texts : List Text) (bytes : List ℕ) (s u : Sinks)
-    → Encodes i bytes → image_from_bytes bytes ≡ Ok i → IsReported i Schedule kept texts → AreTaken texts s u → IsScheduleDone bytes kept s u
-scheduled i None texts bytes s u encoded accepted r taken = absurd r
-scheduled i (Some journal) texts bytes s u encoded accepted r taken =
-    let schedule = schedule_of (actors_of journal.entries) in
-    let took = took_both schedule (report_of r.outcome) s u (subst (λ ts. AreTaken ts s u) r.are taken) in
-    record {
-      image = i;
-      encoded = encoded;
-      journal = journal;
-      kept_is = refl;
-      outcome = r.outcome;
-      run = r.run;
-      stamps = r.stamps;
-      schedule = schedule;
-      schedule_is = refl;
-      out = took.0;
-      err = took.1;
-      replays = λ short. schedule_replays i bytes schedule journal.entries r.outcome encoded accepted r.run r.again short;
-    }
-
-pub schedule_done : (image bytes : List ℕ) (ended : Ended) (before after : Outside) → IsEither (Run image Schedule) ended before after
-    → before.files image ≡ Some bytes → ended.status ≡ 0 → IsScheduleDone bytes ended.journal before.sinks after.sinks
-schedule_done image bytes ended before after (inl r) exposed is = absurd (refused_not_0 (Run image Schedule) ended before after r is)
-schedule_done image bytes ended before after (inr d) exposed is =
-    elim d.written.cases [
-      | inl done ↦ subst (λ kept. IsScheduleDone bytes kept before.sinks after.sinks) (sym d.written.journal)
-          (scheduled d.made.image d.kept d.texts bytes before.sinks after.sinks (d.made.encoded bytes exposed) (d.made.accepted bytes exposed) d.made.reported done.0)
-      | inr fault ↦ absurd (omega (arith, fault.1, is))
     ]
 
 -- ---- a replay
@@ -520,15 +534,18 @@ said_line status text ended e f said =
 
 -- ---- commands that write an answer
 
--- a command that is refused ended as its answer says, if the answer is that refusal unless it was cut short
-answer_refused : (meant : Result (List ℕ) Refusal) (a : Asked) (ended : Ended) (before after : Outside) (r : IsRefusal a ended before after)
-    → IsCutShort (status_of r.why) ⊎ (meant ≡ Err r.why) → IsCutShort ended.status ⊎ IsAnswerEnd meant ended.status before.sinks after.sinks
-answer_refused meant a ended before after r because =
+-- a command that is refused has the status and the line of that, unless it was cut short
+abbrev pub IsRefusalEnd : Refusal → ℕ → Sinks → Sinks → Type 0
+IsRefusalEnd why status before after = (status ≡ status_of why) × Takes (line (refusal_text why)) before.err after.err × (after.out ≡ before.out)
+
+pub refused_end : (P : Type 0) (a : Asked) (ended : Ended) (before after : Outside) (r : IsRefusal a ended before after)
+    → IsCutShort (status_of r.why) ⊎ (IsRefusalEnd r.why ended.status before.sinks after.sinks → P) → IsCutShort ended.status ⊎ P
+refused_end P a ended before after r because =
     elim r.err [
       | inl said ↦ elim (said_line (status_of r.why) (line (refusal_text r.why)) ended before.sinks.err after.sinks.err said) [
         | inl done ↦ elim because [
           | inl short ↦ inl (subst IsCutShort (sym done.0) short)
-          | inr answer ↦ inr (subst (λ m. IsAnswerEnd m ended.status before.sinks after.sinks) (sym answer) (done.0, done.1, r.out))
+          | inr answer ↦ inr (answer (done.0, done.1, r.out))
         ]
         | inr fault ↦ inl (inr (inl fault))
       ]
@@ -538,22 +555,33 @@ answer_refused meant a ended before after r because =
       ]
     ]
 
+-- and ended as its answer says, if the answer is that refusal
+answer_refused : (meant : Result (List ℕ) Refusal) (a : Asked) (ended : Ended) (before after : Outside) (r : IsRefusal a ended before after)
+    → IsCutShort (status_of r.why) ⊎ (meant ≡ Err r.why) → IsCutShort ended.status ⊎ IsAnswerEnd meant ended.status before.sinks after.sinks
+answer_refused meant a ended before after r because =
+    refused_end (IsAnswerEnd meant ended.status before.sinks after.sinks) a ended before after r
+    (elim because [ inl short ↦ inl short | inr answer ↦ inr (λ end. subst (λ m. IsAnswerEnd m ended.status before.sinks after.sinks) (sym answer) end) ])
+
+-- where nothing was run, nothing differs
+ran_nothing : (kept : KeptRun) → kept ≡ no_run → done_status kept.differs ≡ 0
+ran_nothing kept is = ap (λ (k : KeptRun). done_status k.differs) is
+
 -- and one that is done, if its text is the answer
-answer_done : (meaning : List ℕ → Result (List ℕ) Refusal) (content : Option (List ℕ)) (bytes : List ℕ) (kept : Option Journal) (texts : List Text) (ended : Ended) (s u : Sinks)
-    → IsTraceAnswer meaning content kept texts → content ≡ Some bytes → IsWritten 0 kept texts ended s u
+answer_done : (meaning : List ℕ → Result (List ℕ) Refusal) (content : Option (List ℕ)) (bytes : List ℕ) (kept : KeptRun) (texts : List Text) (ended : Ended) (s u : Sinks)
+    → IsTraceAnswer meaning content kept texts → content ≡ Some bytes → IsWritten (done_status kept.differs) kept texts ended s u
     → IsCutShort ended.status ⊎ IsAnswerEnd (meaning bytes) ended.status s u
 answer_done meaning content bytes kept texts ended s u made exposed written =
     let same : meaning bytes ≡ Ok made.text = ap meaning (sym (made.bytes_are bytes exposed)) ∙ made.meant in
     elim written.cases [
       | inl done ↦
           let took : Takes made.text s.out u.out × (u.err ≡ s.err) = took_out made.text s u (subst (λ ts. AreTaken ts s u) made.are done.0) in
-          inr (subst (λ m. IsAnswerEnd m ended.status s u) (sym same) (done.1, took.0, took.1))
+          inr (subst (λ m. IsAnswerEnd m ended.status s u) (sym same) (done.1 ∙ ran_nothing kept made.kept_is, took.0, took.1))
       | inr fault ↦ inl (inr (inl fault.1))
     ]
 
 -- the same of an answer of two files
-pair_done : (meaning : List ℕ → List ℕ → Result (List ℕ) Refusal) (one other : Option (List ℕ)) (first second : List ℕ) (kept : Option Journal) (texts : List Text) (ended : Ended) (s u : Sinks)
-    → IsPairAnswer meaning one other kept texts → one ≡ Some first → other ≡ Some second → IsWritten 0 kept texts ended s u
+pair_done : (meaning : List ℕ → List ℕ → Result (List ℕ) Refusal) (one other : Option (List ℕ)) (first second : List ℕ) (kept : KeptRun) (texts : List Text) (ended : Ended) (s u : Sinks)
+    → IsPairAnswer meaning one other kept texts → one ≡ Some first → other ≡ Some second → IsWritten (done_status kept.differs) kept texts ended s u
     → IsCutShort ended.status ⊎ IsAnswerEnd (meaning first second) ended.status s u
 pair_done meaning one other first second kept texts ended s u made one_is other_is written =
     let same : meaning first second ≡ Ok made.text =
@@ -561,7 +589,7 @@ pair_done meaning one other first second kept texts ended s u made one_is other_
     elim written.cases [
       | inl done ↦
           let took : Takes made.text s.out u.out × (u.err ≡ s.err) = took_out made.text s u (subst (λ ts. AreTaken ts s u) made.are done.0) in
-          inr (subst (λ m. IsAnswerEnd m ended.status s u) (sym same) (done.1, took.0, took.1))
+          inr (subst (λ m. IsAnswerEnd m ended.status s u) (sym same) (done.1 ∙ ran_nothing kept made.kept_is, took.0, took.1))
       | inr fault ↦ inl (inr (inl fault.1))
     ]
 

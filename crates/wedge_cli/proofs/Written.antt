@@ -1,14 +1,14 @@
 -- Texts that are written.
 use Rattle.std.proofs.Common.{◌≡◌, ◌⊎◌, inl, inr, ℕ, ◌≤◌, List, [], ◌∷◌, refl, sym, ap, subst, ◌∙◌, arith}
-use Rattle.std.specs.Prelude.{Option, None}
-use Rattle.wedge_events.specs.declared.events.Journal.{Journal}
+use Rattle.std.specs.Prelude.{None}
 use Rattle.wedge_cli.specs.declared.status.Ended.{Ended}
 use Rattle.wedge_cli.specs.declared.writing.SinkName.{SinkName}
 use Rattle.wedge_cli.specs.declared.writing.SinkName.TheVariants as sink
+use Rattle.wedge_cli.specs.declared.writing.KeptRun.{KeptRun}
 use Rattle.wedge_cli.specs.declared.writing.Text.{Text}
 use Rattle.wedge_cli.specs.Lines.{write_fault_line}
 use Rattle.wedge_cli.specs.Outside.{Device, Sinks, Rises, Takes, IsFailedWrite, Tried}
-use Rattle.wedge_cli.specs.Ended.{on_out, on_err, on_both, TakesOn, FailsOn, AreTaken, OneFails, TellsFault, IsWritten, IsSaid}
+use Rattle.wedge_cli.specs.Ended.{on_out, on_err, on_both, no_run, TakesOn, FailsOn, AreTaken, OneFails, TellsFault, IsWritten, IsSaid}
 
 -- a fault of one of the sinks
 abbrev pub Rise : Sinks → Sinks → Type 0
@@ -41,7 +41,7 @@ told_rises : (s m u : Sinks) → Rise s m → TellsFault m u → Rise s u
 told_rises s m u (inl r) h = let same = same_faults u.out m.out h.1 in inl (omega arith)
 told_rises s m u (inr r) h = let more = tried_rises _ m.err u.err h.0 in inr (omega arith)
 
-pub written_status : (status : ℕ) (kept : Option Journal) (ts : List Text) (ended : Ended) (s u : Sinks) → IsWritten status kept ts ended s u
+pub written_status : (status : ℕ) (kept : KeptRun) (ts : List Text) (ended : Ended) (s u : Sinks) → IsWritten status kept ts ended s u
     → (ended.status ≡ status) ⊎ ((ended.status ≡ 5) × Rise s u)
 written_status status kept ts ended s u w =
     elim w.cases [
@@ -55,10 +55,14 @@ one_more d e f (inr r) = r
 
 pub said_status : (status : ℕ) (text : List ℕ) (ended : Ended) (e f : Device) → IsSaid status text ended e f → (ended.status ≡ status) ⊎ ((ended.status ≡ 5) × Rises e f)
 said_status status text ended e f said =
-    elim (written_status status None (on_err text) ended (record { out = e; err = e }) (record { out = e; err = f }) (said e)) [
+    elim (written_status status no_run (on_err text) ended (record { out = e; err = e }) (record { out = e; err = f }) (said e)) [
       | inl is ↦ inl is
       | inr fault ↦ inr (fault.0, one_more e e f fault.1)
     ]
+
+-- what is said does not say that anything differs
+pub said_nothing : (status : ℕ) (text : List ℕ) (ended : Ended) (e f : Device) → IsSaid status text ended e f → ended.differs ≡ None
+said_nothing status text ended e f said = elim (said e).cases [ inl done ↦ done.2 | inr fault ↦ fault.2 ]
 
 -- one text on the output that was taken
 pub took_out : (bytes : List ℕ) (s u : Sinks) → AreTaken (on_out bytes) s u → Takes bytes s.out u.out × (u.err ≡ s.err)
@@ -79,11 +83,11 @@ took_both a b s u h =
     )
 
 -- a line on the error stream that failed
-pub said_fault : (status : ℕ) (text : List ℕ) (ended : Ended) (e m f : Device) → ended.journal ≡ None → ended.status ≡ 5
+pub said_fault : (status : ℕ) (text : List ℕ) (ended : Ended) (e m f : Device) → ended.journal ≡ None → ended.status ≡ 5 → ended.differs ≡ None
     → IsFailedWrite text e m → Tried write_fault_line m f → IsSaid status text ended e f
-said_fault status text ended e m f none is fails tried = λ out. record {
+said_fault status text ended e m f none is nothing fails tried = λ out. record {
   journal = none;
-  cases = inr (record { between = record { out = out; err = m }; one = inl (fails, refl); other = (tried, refl) }, is);
+  cases = inr (record { between = record { out = out; err = m }; one = inl (fails, refl); other = (tried, refl) }, is, nothing);
 }
 
 -- one that was said of a sink, said of an equal text and an equal status

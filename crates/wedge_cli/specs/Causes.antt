@@ -1,10 +1,10 @@
 -- What the program answers to its arguments.
 use Rattle.std.specs.Prelude.{◌≡◌, ℕ, ◌<◌, ◌⊎◌, List, length, Option, Some, None, Result, Err, IsErr, ◌≤◌}
 use Rattle.host_io.specs.Exposed.{WhereExposed}
-use Rattle.wedge_events.specs.declared.events.Journal.{Journal}
 use Rattle.cli_inputs.specs.declared.refusal.Refusal.{Refusal}
 use Rattle.cli_inputs.specs.declared.refusal.Refusal.TheVariants as refusal
 use Rattle.wedge_cli.specs.declared.status.Ended.{Ended}
+use Rattle.wedge_cli.specs.declared.writing.KeptRun.{KeptRun}
 use Rattle.wedge_cli.specs.declared.writing.Text.{Text}
 use Rattle.wedge_cli.specs.Outside.{Device, Outside}
 use Rattle.wedge_cli.specs.Lines.{line, usage_line, refusal_text, status_of}
@@ -18,7 +18,7 @@ use Rattle.elf_in.specs.Reading.{elf_program as elf_reading}
 use Rattle.cli_inputs.specs.Linking.{link_text, IsUnjoined}
 use Rattle.cli_inputs.specs.Traces.{trace_fault, IsUnknownIn, IsTraceRefused, IsQueryRefused}
 use Rattle.cli_inputs.specs.Words.{Asked, Run, Show, Build, Link, Replay, Derive, Analyze}
-use Rattle.wedge_cli.specs.Ended.{IsCommandOutput, IsWritten, IsSaid}
+use Rattle.wedge_cli.specs.Ended.{IsCommandOutput, IsWritten, IsSaid, done_status}
 
 -- a read of one of the two files failed; where it is the second, the first is not too long
 abbrev pub IsReplayFault : List ℕ → List ℕ → (List ℕ → Option (List ℕ)) → (List ℕ → ℕ) → (List ℕ → ℕ) → List ℕ → Type 0
@@ -145,10 +145,10 @@ pub record IsRefusal (a : Asked) (ended : Ended) (before after : Outside) : Type
 
 -- a command is done: its texts are written
 pub record IsCommandDone (a : Asked) (ended : Ended) (before after : Outside) : Type 0 where
-  pub kept : Option Journal
+  pub kept : KeptRun
   pub texts : List Text
   pub made : IsCommandOutput a before.files kept texts
-  pub written : IsWritten 0 kept texts ended before.sinks after.sinks
+  pub written : IsWritten (done_status kept.differs) kept texts ended before.sinks after.sinks
 
 -- the arguments are no command: out is left alone, and err takes the line of that
 pub record IsUsage (ended : Ended) (before after : Outside) : Type 0 where

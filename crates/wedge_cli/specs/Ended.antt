@@ -1,13 +1,15 @@
 -- What the program ends with.
-use Rattle.std.specs.Prelude.{◌≡◌, ◌≤◌, ℕ, ◌⊎◌, List, [], ◌∷◌, length, Option, Some, None, Result, Ok, Err}
+use Rattle.std.specs.Prelude.{◌≡◌, ◌≤◌, ◌++◌, ℕ, ◌⊎◌, List, [], ◌∷◌, length, Option, Some, None, Result, Ok, Err}
 use Rattle.wedge_base.specs.Images.{Image}
 use Rattle.image_form.specs.Rules.{Encodes}
 use Rattle.part_toml.specs.Partition.{partition}
 use Rattle.wedge_events.specs.declared.events.Journal.{Journal}
 use Rattle.wedge_base.specs.declared.outcome.Outcome.{Outcome}
 use Rattle.host_io.specs.Exposed.{WhereExposed}
-use Rattle.world_turns.specs.Progress.{IsNumbered}
 use Rattle.run_laws.specs.CompleteRuns.{IsJournaledRun}
+use Rattle.audited_run.specs.AuditedRuns.{IsThreaded, IsDiffering, IsInSerialOrder, IsMadeSo}
+use Rattle.audited_run.specs.Texts.{difference_text}
+use Rattle.audited_run.specs.declared.run.Differs.{Differs}
 use Rattle.report_text.specs.Reports.{report_of}
 use Rattle.report_text.specs.Schedules.{actors_of, schedule_of, names_in}
 use Rattle.wedge_events.specs.declared.events.LogEntry.{LogEntry}
@@ -16,6 +18,7 @@ use Rattle.cli_inputs.specs.declared.words.RunFlag.{RunFlag}
 use Rattle.cli_inputs.specs.declared.words.RunFlag.TheVariants.{Plain, Schedule}
 use Rattle.wedge_cli.specs.declared.status.Ended.{Ended}
 use Rattle.cli_inputs.specs.declared.refusal.Refusal.{Refusal}
+use Rattle.wedge_cli.specs.declared.writing.KeptRun.{KeptRun}
 use Rattle.wedge_cli.specs.declared.writing.SinkName.TheVariants as sink
 use Rattle.wedge_cli.specs.declared.writing.SinkName.{SinkName}
 use Rattle.wedge_cli.specs.declared.writing.Text.{Text}
@@ -41,6 +44,10 @@ on_err bytes = record { sink = sink.Err; bytes = bytes } ∷ []
 abbrev pub on_both : List ℕ → List ℕ → List Text
 on_both out err = record { sink = sink.Out; bytes = out } ∷ record { sink = sink.Err; bytes = err } ∷ []
 
+-- nothing was run
+abbrev pub no_run : KeptRun
+no_run = record { journal = None; differs = None }
+
 -- the texts of a run with this journal and this outcome
 abbrev pub run_texts : RunFlag → Journal → Outcome → List Text
 run_texts Plain journal outcome = on_out (report_of outcome)
@@ -51,72 +58,80 @@ abbrev pub IsScheduleReadAgain : RunFlag → List LogEntry → Type 0
 IsScheduleReadAgain Plain entries = Unit {0}
 IsScheduleReadAgain Schedule entries = names_in (schedule_of (actors_of entries)) ≡ Ok (actors_of entries)
 
--- The journal is that of a complete run of the image, each moment of it lawful, and the texts are
--- of that run.
-pub record IsReportOf (i : Image) (flag : RunFlag) (journal : Journal) (texts : List Text) : Type 0 where
+-- where a run's logs and histories differ, a line says so behind its texts
+abbrev pub differs_texts : Option Differs → List Text
+differs_texts None = []
+differs_texts (Some d) = on_err (line (difference_text d.disagree))
+
+-- The journal is that of a complete run of the image, made on threads, or, where what these left differs,
+-- once more on one; and the texts are of that run.
+pub record IsReportOf (i : Image) (flag : RunFlag) (journal : Journal) (differs : Option Differs) (texts : List Text) : Type 0 where
   pub outcome : Outcome
   pub run : IsJournaledRun i journal.entries outcome
-  pub stamps : IsNumbered journal.entries
-  pub are : texts ≡ run_texts flag journal outcome
+  pub made : IsMadeSo i differs journal.entries outcome
+  pub are : texts ≡ run_texts flag journal outcome ++ differs_texts differs
   pub again : IsScheduleReadAgain flag journal.entries
 
 -- and it is kept
-abbrev pub IsReported : Image → RunFlag → Option Journal → List Text → Type 0
-IsReported i flag None texts = ⊥
-IsReported i flag (Some journal) texts = IsReportOf i flag journal texts
+abbrev pub IsReportOfKept : Image → RunFlag → Option Journal → Option Differs → List Text → Type 0
+IsReportOfKept i flag None differs texts = ⊥
+IsReportOfKept i flag (Some journal) differs texts = IsReportOf i flag journal differs texts
+
+abbrev pub IsReported : Image → RunFlag → KeptRun → List Text → Type 0
+IsReported i flag kept texts = IsReportOfKept i flag kept.journal kept.differs texts
 
 -- a file is run or listed as an image, or built as a partition
-pub record RunsImage (flag : RunFlag) (content : Option (List ℕ)) (kept : Option Journal) (texts : List Text) : Type 0 where
+pub record RunsImage (flag : RunFlag) (content : Option (List ℕ)) (kept : KeptRun) (texts : List Text) : Type 0 where
   pub image : Image
   pub encoded : WhereExposed content (λ bytes. Encodes image bytes)
   pub accepted : WhereExposed content (λ bytes. image_from_bytes bytes ≡ Ok image)
   pub reported : IsReported image flag kept texts
 
-pub record IsShown (content : Option (List ℕ)) (kept : Option Journal) (texts : List Text) : Type 0 where
+pub record IsShown (content : Option (List ℕ)) (kept : KeptRun) (texts : List Text) : Type 0 where
   pub image : Image
   pub encoded : WhereExposed content (λ bytes. Encodes image bytes)
   pub accepted : WhereExposed content (λ bytes. image_from_bytes bytes ≡ Ok image)
-  pub kept_is : kept ≡ None
+  pub kept_is : kept ≡ no_run
   pub are : texts ≡ on_out (listing image)
 
-pub record IsBuilt (content : Option (List ℕ)) (kept : Option Journal) (texts : List Text) : Type 0 where
+pub record IsBuilt (content : Option (List ℕ)) (kept : KeptRun) (texts : List Text) : Type 0 where
   pub image : Image
   pub meant : WhereExposed content (λ bytes. partition bytes ≡ Ok image)
   pub accepted : WhereExposed content (λ bytes. built_of bytes ≡ Ok image)
-  pub kept_is : kept ≡ None
+  pub kept_is : kept ≡ no_run
   pub bytes : List ℕ
   pub encoded : Encodes image bytes
   pub are : texts ≡ on_out bytes
 
 -- two files are answered: what was read of each is its bytes, where they are exposed, and the text
 -- is what is meant by both
-pub record IsPairAnswer (meaning : List ℕ → List ℕ → Result (List ℕ) Refusal) (one other : Option (List ℕ)) (kept : Option Journal) (texts : List Text) : Type 0 where
+pub record IsPairAnswer (meaning : List ℕ → List ℕ → Result (List ℕ) Refusal) (one other : Option (List ℕ)) (kept : KeptRun) (texts : List Text) : Type 0 where
   pub first : List ℕ
   pub second : List ℕ
   pub first_is : WhereExposed one (λ exposed. first ≡ exposed)
   pub second_is : WhereExposed other (λ exposed. second ≡ exposed)
-  pub kept_is : kept ≡ None
+  pub kept_is : kept ≡ no_run
   pub text : List ℕ
   pub meant : meaning first second ≡ Ok text
   pub are : texts ≡ on_out text
 
 -- an ELF file is linked with a partition
-pub record IsLinked (elf part : Option (List ℕ)) (kept : Option Journal) (texts : List Text) : Type 0 where
+pub record IsLinked (elf part : Option (List ℕ)) (kept : KeptRun) (texts : List Text) : Type 0 where
   pub answer : IsPairAnswer link_text elf part kept texts
   pub image : IsLinkedImage answer.first answer.text
 
 -- a trace's file is answered: what was read of it is its bytes, where they are exposed, and the
 -- text is what is meant by them
-pub record IsTraceAnswer (meaning : List ℕ → Result (List ℕ) Refusal) (trace : Option (List ℕ)) (kept : Option Journal) (texts : List Text) : Type 0 where
+pub record IsTraceAnswer (meaning : List ℕ → Result (List ℕ) Refusal) (trace : Option (List ℕ)) (kept : KeptRun) (texts : List Text) : Type 0 where
   pub bytes : List ℕ
   pub bytes_are : WhereExposed trace (λ exposed. bytes ≡ exposed)
-  pub kept_is : kept ≡ None
+  pub kept_is : kept ≡ no_run
   pub text : List ℕ
   pub meant : meaning bytes ≡ Ok text
   pub are : texts ≡ on_out text
 
 -- the journal that a command keeps, and the texts that it writes
-abbrev pub IsCommandOutput : Asked → (List ℕ → Option (List ℕ)) → Option Journal → List Text → Type 0
+abbrev pub IsCommandOutput : Asked → (List ℕ → Option (List ℕ)) → KeptRun → List Text → Type 0
 IsCommandOutput (Run image flag) files kept texts = RunsImage flag (files image) kept texts
 IsCommandOutput (Show image) files kept texts = IsShown (files image) kept texts
 IsCommandOutput (Build part) files kept texts = IsBuilt (files part) kept texts
@@ -163,22 +178,27 @@ OneFails (t ∷ ts) before after = FailsText t before after ⊎ Then (TakesText 
 abbrev pub TellsFault : Sinks → Sinks → Type 0
 TellsFault before after = Tried write_fault_line before.err after.err × (after.out ≡ before.out)
 
--- Texts are written, and the program ends with this status and this journal; where one fails, err
--- is given the line of that, and the status is 5.
-pub record IsWritten (status : ℕ) (kept : Option Journal) (texts : List Text) (ended : Ended) (before after : Sinks) : Type 0 where
-  pub journal : ended.journal ≡ kept
-  pub cases : (AreTaken texts before after × (ended.status ≡ status))
-      ⊎ (Then (OneFails texts before) (λ between. TellsFault between after) × (ended.status ≡ 5))
+-- the status of what was done: 7 where the logs and histories of a run differ
+abbrev pub done_status : Option Differs → ℕ
+done_status None = 0
+done_status (Some d) = 7
+
+-- Texts are written, and the program ends with this status, the journal, and what differs; where one
+-- fails, err is given the line of that, the status is 5, and it is not said what differs.
+pub record IsWritten (status : ℕ) (kept : KeptRun) (texts : List Text) (ended : Ended) (before after : Sinks) : Type 0 where
+  pub journal : ended.journal ≡ kept.journal
+  pub cases : (AreTaken texts before after × (ended.status ≡ status) × (ended.differs ≡ kept.differs))
+      ⊎ (Then (OneFails texts before) (λ between. TellsFault between after) × (ended.status ≡ 5) × (ended.differs ≡ None))
 
 -- a line is written on err, whatever the output
 abbrev pub IsSaid : ℕ → List ℕ → Ended → Device → Device → Type 0
 IsSaid status text ended before after =
-    (out : Device) → IsWritten status None (on_err text) ended (record { out = out; err = before }) (record { out = out; err = after })
+    (out : Device) → IsWritten status no_run (on_err text) ended (record { out = out; err = before }) (record { out = out; err = after })
 
 -- ---- a run, and an answer
 
 -- `run IMAGE` was done: the file's bytes encode an image, the journal is that of a complete run of
--- it, out has grown by the report of its outcome, and err is as it was
+-- it on threads, out has grown by the report of its outcome, and err is as it was
 pub record IsRunDone (bytes : List ℕ) (kept : Option Journal) (before after : Sinks) : Type 0 where
   pub image : Image
   pub encoded : Encodes image bytes
@@ -186,13 +206,16 @@ pub record IsRunDone (bytes : List ℕ) (kept : Option Journal) (before after : 
   pub kept_is : kept ≡ Some journal
   pub outcome : Outcome
   pub run : IsJournaledRun image journal.entries outcome
-  pub stamps : IsNumbered journal.entries
+  pub threads : IsThreaded image journal.entries outcome
   pub out : Takes (report_of outcome) before.out after.out
   pub err : after.err ≡ before.err
 
+-- a schedule, if it is no longer than the file of one may be, replayed over the image gives this report
+abbrev pub Replays : List ℕ → List ℕ → List ℕ → Type 0
+Replays bytes schedule text = length schedule ≤ most_of kind.Schedule → replay_text bytes schedule ≡ Ok text
+
 -- `run IMAGE --schedule` was done: besides, out has grown by the schedule of the run, and err by
--- the report; and that schedule, if it is no longer than the file of one may be, replayed over the
--- same image gives the same report
+-- the report; and that schedule replayed over the same image gives the same report
 pub record IsScheduleDone (bytes : List ℕ) (kept : Option Journal) (before after : Sinks) : Type 0 where
   pub image : Image
   pub encoded : Encodes image bytes
@@ -200,12 +223,36 @@ pub record IsScheduleDone (bytes : List ℕ) (kept : Option Journal) (before aft
   pub kept_is : kept ≡ Some journal
   pub outcome : Outcome
   pub run : IsJournaledRun image journal.entries outcome
-  pub stamps : IsNumbered journal.entries
+  pub threads : IsThreaded image journal.entries outcome
   pub schedule : List ℕ
   pub schedule_is : schedule ≡ schedule_of (actors_of journal.entries)
   pub out : Takes schedule before.out after.out
   pub err : Takes (report_of outcome) before.err after.err
-  pub replays : length schedule ≤ most_of kind.Schedule → replay_text bytes schedule ≡ Ok (report_of outcome)
+  pub replays : Replays bytes schedule (report_of outcome)
+
+-- `run` ended with the status 7: what the threads left differs, and says so; the journal is that of a
+-- complete run of the image on one thread, of which the texts were written, and then the line of what
+-- differs; and the schedule of that run, where it was written, replayed gives its report
+pub record IsMadeAgain (bytes : List ℕ) (flag : RunFlag) (ended : Ended) (before after : Sinks) : Type 0 where
+  pub image : Image
+  pub encoded : Encodes image bytes
+  pub differs : Differs
+  pub differs_is : ended.differs ≡ Some differs
+  pub threads : IsDiffering image differs
+  pub journal : Journal
+  pub journal_is : ended.journal ≡ Some journal
+  pub outcome : Outcome
+  pub run : IsJournaledRun image journal.entries outcome
+  pub serial : IsInSerialOrder image journal.entries
+  pub written : AreTaken (run_texts flag journal outcome ++ on_err (line (difference_text differs.disagree))) before after
+  pub replays : flag ≡ Schedule → Replays bytes (schedule_of (actors_of journal.entries)) (report_of outcome)
+
+-- `run` ended as the bytes of its file say: where they encode an image, the run was done, or made again;
+-- else err has grown by the line of the refusal
+abbrev pub IsRunEnd : Result Image Refusal → ℕ → Sinks → Sinks → Type 0
+IsRunEnd (Ok i) status before after = (status ≡ 0) ⊎ (status ≡ 7)
+IsRunEnd (Err why) status before after =
+    (status ≡ status_of why) × Takes (line (refusal_text why)) before.err after.err × (after.out ≡ before.out)
 
 -- a read or a write failed, or memory ran out
 abbrev pub IsCutShort : ℕ → Type 0

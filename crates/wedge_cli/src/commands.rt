@@ -1,36 +1,41 @@
 //! What each command makes of its files.
 
-ghost use Rattle.std.specs.Prelude.{◌≡◌, ◌≤◌, ℕ, List, Some, None, IfOk, IfErr};
+ghost use Rattle.std.specs.Prelude.{◌≡◌, ◌≤◌, ◌++◌, ℕ, List, Some, None, IfOk, IfErr, OnOk};
 ghost use Rattle.cli_inputs.specs.Words as asking;
 ghost use Rattle.cli_inputs.specs.Loading.{IsRefusedBy, image_from_bytes, built_of};
 ghost use Rattle.wedge_cli.specs.Causes.{IsLinkRefused, IsReplayRefused, IsRefused};
-ghost use Rattle.wedge_cli.specs.Ended.{on_out, on_both, IsReported, RunsImage, IsShown, IsBuilt, IsLinked, IsPairAnswer, IsTraceAnswer, IsCommandOutput};
+ghost use Rattle.wedge_cli.specs.Ended.{on_out, run_texts, differs_texts, no_run, IsReported, IsScheduleReadAgain, RunsImage, IsShown, IsBuilt, IsLinked, IsPairAnswer, IsTraceAnswer, IsCommandOutput};
 ghost use Rattle.cli_inputs.specs.Replaying as replays;
 ghost use Rattle.cli_inputs.specs.Traces.{derive_text, analyze_text, IsTraceRefused, IsQueryRefused};
 
-use crate::writing::{Ready, SinkName, Text};
+use crate::lines::difference_line;
+use crate::writing::{KeptRun, Ready, SinkName, Text};
+use audited_run::{AuditedRun, Differs, run_audited};
 use cb_analyze::QueryFault;
 use cli_inputs::{
     Command, FileKind, PartRefusal, Query, Refusal, RunFlag, link_text, listing, load_built,
     load_image, load_trace, program_of, query_text, read_file, read_partition_file, replay_text,
     sheets_text,
 };
-use host_io::Files;
+use host_io::{Files, Pace};
 use image_form::{Image, write_image};
 use report_text::{report, write_schedule};
 use std::alloc::Global;
-use wedge_base::{Bytes, NoMemory};
-use wedge_core::serial;
+use std::sync::Wait;
+use std::thread::Threads;
+use wedge_base::{Bytes, NoMemory, Outcome};
 use wedge_events::Journal;
 
 /// The texts of a command: all of them are made before the first is written.
-pub(crate) fn prepare<F: Files>(
+pub(crate) fn prepare<R: Threads + Wait + Sync, F: Files, P: Pace + Sync>(
+    rt: &R,
     alloc: Global,
     command: Command<'_>,
     files: &mut F,
+    pace: &P,
 ) -> Result<Ready, Refusal>
     ensures made { IfOk result (λ r. IsCommandOutput (asking.asked_by command.entry)
-        (F.content files.old) r.journal r.texts.items) }
+        (F.content files.old) r.kept r.texts.items) }
     ensures refused { IfErr result (IsRefused (asking.asked_by command.entry) (F.content files.old)
         (F.faults files.old) (F.faults files.new)) }
     ensures content { (other : List ℕ) → F.content files.new other
@@ -38,7 +43,7 @@ pub(crate) fn prepare<F: Files>(
     ensures rises { (other : List ℕ) → F.faults files.old other ≤ F.faults files.new other }
 {
     match command {
-        Command::Run { image, flag } => run(alloc, files, image, flag),
+        Command::Run { image, flag } => run(rt, alloc, files, image, flag, pace),
         Command::Show { image } => show(alloc, files, image),
         Command::Build { part } => build(alloc, files, part),
         Command::Link { elf, part } => link(alloc, files, elf, part),
@@ -48,10 +53,17 @@ pub(crate) fn prepare<F: Files>(
     }
 }
 
-/// Runs an image.
-fn run<F: Files>(alloc: Global, files: &mut F, name: &str, flag: RunFlag) -> Result<Ready, Refusal>
+/// Runs an image on threads.
+fn run<R: Threads + Wait + Sync, F: Files, P: Pace + Sync>(
+    rt: &R,
+    alloc: Global,
+    files: &mut F,
+    name: &str,
+    flag: RunFlag,
+    pace: &P,
+) -> Result<Ready, Refusal>
     ensures made { IfOk result
-        (λ r. RunsImage flag (F.content files.old name.now) r.journal r.texts.items) }
+        (λ r. RunsImage flag (F.content files.old name.now) r.kept r.texts.items) }
     ensures refused { IfErr result
         (IsRefusedBy image_from_bytes name.now (F.content files.old name.now)
         (F.faults files.old name.now) (F.faults files.new name.now)) }
@@ -60,29 +72,81 @@ fn run<F: Files>(alloc: Global, files: &mut F, name: &str, flag: RunFlag) -> Res
     ensures rises { (other : List ℕ) → F.faults files.old other ≤ F.faults files.new other }
 {
     let image = load_image(alloc, files, name)?;
-    let ready = run_image(alloc, &image, flag)?;
+    let ready = run_image(rt, alloc, &image, flag, pace)?;
     Ok(ready)
 }
 
 /// The texts of a run of an image, with its journal.
-fn run_image(alloc: Global, image: &Image, flag: RunFlag) -> Result<Ready, NoMemory>
-    ensures { IfOk result (λ r. IsReported image.now flag r.journal r.texts.items) }
+fn run_image<R: Threads + Wait + Sync, P: Pace + Sync>(
+    rt: &R,
+    alloc: Global,
+    image: &Image,
+    flag: RunFlag,
+    pace: &P,
+) -> Result<Ready, NoMemory>
+    ensures { IfOk result
+        (λ r. IsReported image.now flag r.kept r.texts.items) }
 {
-    let (journal, outcome) = serial(alloc, image)?;
-    let text = report(alloc, &outcome)?;
+    let AuditedRun {
+        journal,
+        outcome,
+        differs,
+    } = run_audited(rt, alloc, image, pace)?;
+    let mut texts = texts_of(alloc, &journal, &outcome, flag)?;
+    add_difference(alloc, &mut texts, &differs)?;
+    let kept = KeptRun {
+        journal: Some(journal),
+        differs,
+    };
+    Ok(Ready { kept, texts })
+}
+
+/// The texts of a run with this journal and this outcome.
+fn texts_of(
+    alloc: Global,
+    journal: &Journal,
+    outcome: &Outcome,
+    flag: RunFlag,
+) -> Result<Vec<Text>, NoMemory>
+    ensures texts { IfOk result (λ t. t.items ≡ run_texts flag journal.now outcome.now) }
+    ensures again { IfOk result (λ t. IsScheduleReadAgain flag journal.now.entries) }
+{
+    let report = report(alloc, outcome)?;
     match flag {
-        RunFlag::Plain => on_out(alloc, Some(journal), text),
+        RunFlag::Plain => {
+            let texts = vec![in alloc; text_on(SinkName::Out, report)]?;
+            Ok(texts)
+        }
         RunFlag::Schedule => {
-            let schedule = write_schedule(alloc, &journal)?;
-            on_both(alloc, journal, schedule, text)
+            let schedule = write_schedule(alloc, journal)?;
+            let texts = vec![in alloc;
+                text_on(SinkName::Out, schedule),
+                text_on(SinkName::Err, report),
+            ]?;
+            Ok(texts)
         }
     }
+}
+
+/// Adds the line of what differs, if anything does.
+fn add_difference(
+    alloc: Global,
+    texts: &mut Vec<Text>,
+    differs: &Option<Differs>,
+) -> Result<(), NoMemory>
+    ensures { OnOk result (texts.new.items ≡ texts.old.items ++ differs_texts differs.now) }
+{
+    if let Some(differs) = differs {
+        let line = difference_line(alloc, &differs.disagree)?;
+        texts.push(text_on(SinkName::Err, line))?;
+    }
+    Ok(())
 }
 
 /// Lists the text of an image.
 fn show<F: Files>(alloc: Global, files: &mut F, name: &str) -> Result<Ready, Refusal>
     ensures made { IfOk result
-        (λ r. IsShown (F.content files.old name.now) r.journal r.texts.items) }
+        (λ r. IsShown (F.content files.old name.now) r.kept r.texts.items) }
     ensures refused { IfErr result
         (IsRefusedBy image_from_bytes name.now (F.content files.old name.now)
         (F.faults files.old name.now) (F.faults files.new name.now)) }
@@ -92,14 +156,14 @@ fn show<F: Files>(alloc: Global, files: &mut F, name: &str) -> Result<Ready, Ref
 {
     let image = load_image(alloc, files, name)?;
     let text = listing(alloc, &image)?;
-    let ready = on_out(alloc, None, text)?;
+    let ready = on_out(alloc, text)?;
     Ok(ready)
 }
 
 /// Makes the bytes of the image of a partition.
 fn build<F: Files>(alloc: Global, files: &mut F, name: &str) -> Result<Ready, Refusal>
     ensures made { IfOk result
-        (λ r. IsBuilt (F.content files.old name.now) r.journal r.texts.items) }
+        (λ r. IsBuilt (F.content files.old name.now) r.kept r.texts.items) }
     ensures refused { IfErr result (IsRefusedBy built_of name.now (F.content files.old name.now)
         (F.faults files.old name.now) (F.faults files.new name.now)) }
     ensures content { (other : List ℕ) → F.content files.new other
@@ -108,14 +172,14 @@ fn build<F: Files>(alloc: Global, files: &mut F, name: &str) -> Result<Ready, Re
 {
     let image = load_built(alloc, files, name)?;
     let bytes = write_image(alloc, &image)?;
-    let ready = on_out(alloc, None, bytes)?;
+    let ready = on_out(alloc, bytes)?;
     Ok(ready)
 }
 
 /// Makes the bytes of the image that an ELF file and a partition are joined to. Both files are read first, in this order.
 fn link<F: Files>(alloc: Global, files: &mut F, elf: &str, part: &str) -> Result<Ready, Refusal>
     ensures made { IfOk result (λ r. IsLinked (F.content files.old elf.now)
-        (F.content files.old part.now) r.journal r.texts.items) }
+        (F.content files.old part.now) r.kept r.texts.items) }
     ensures refused { IfErr result (IsLinkRefused elf.now part.now (F.content files.old)
         (F.faults files.old) (F.faults files.new)) }
     ensures content { (other : List ℕ) → F.content files.new other
@@ -129,7 +193,7 @@ fn link<F: Files>(alloc: Global, files: &mut F, elf: &str, part: &str) -> Result
         return Err(Refusal::Partition(PartRefusal::Limit));
     };
     let text = link_text(alloc, &program, bytes.as_slice())?;
-    let ready = on_out(alloc, None, text)?;
+    let ready = on_out(alloc, text)?;
     Ok(ready)
 }
 
@@ -142,7 +206,7 @@ fn replay<F: Files>(
 ) -> Result<Ready, Refusal>
     ensures made { IfOk result
         (λ r. IsPairAnswer replays.replay_text (F.content files.old image.now)
-        (F.content files.old schedule.now) r.journal r.texts.items) }
+        (F.content files.old schedule.now) r.kept r.texts.items) }
     ensures refused { IfErr result (IsReplayRefused image.now schedule.now (F.content files.old)
         (F.faults files.old) (F.faults files.new)) }
     ensures content { (other : List ℕ) → F.content files.new other
@@ -152,14 +216,14 @@ fn replay<F: Files>(
     let bytes = read_file(alloc, files, FileKind::Image, image)?;
     let names = read_file(alloc, files, FileKind::Schedule, schedule)?;
     let text = replay_text(alloc, bytes.as_slice(), names.as_slice())?;
-    let ready = on_out(alloc, None, text)?;
+    let ready = on_out(alloc, text)?;
     Ok(ready)
 }
 
 /// Derives the sheets that a trace needs.
 fn derive<F: Files>(alloc: Global, files: &mut F, trace: &str) -> Result<Ready, Refusal>
     ensures made { IfOk result (λ r. IsTraceAnswer derive_text (F.content files.old trace.now)
-        r.journal r.texts.items) }
+        r.kept r.texts.items) }
     ensures refused { IfErr result (IsTraceRefused trace.now (F.content files.old trace.now)
         (F.faults files.old trace.now) (F.faults files.new trace.now)) }
     ensures content { (other : List ℕ) → F.content files.new other
@@ -168,7 +232,7 @@ fn derive<F: Files>(alloc: Global, files: &mut F, trace: &str) -> Result<Ready, 
 {
     let bytes = load_trace(alloc, files, trace)?;
     let text = sheets_text(alloc, bytes.as_slice())?;
-    let ready = on_out(alloc, None, text)?;
+    let ready = on_out(alloc, text)?;
     Ok(ready)
 }
 
@@ -181,7 +245,7 @@ fn analyze<F: Files>(
     name: &str,
 ) -> Result<Ready, Refusal>
     ensures made { IfOk result (λ r. IsTraceAnswer (analyze_text query name.now)
-        (F.content files.old trace.now) r.journal r.texts.items) }
+        (F.content files.old trace.now) r.kept r.texts.items) }
     ensures refused { IfErr result (IsQueryRefused query name.now trace.now
         (F.content files.old trace.now) (F.faults files.old trace.now)
         (F.faults files.new trace.now)) }
@@ -192,7 +256,7 @@ fn analyze<F: Files>(
     let bytes = load_trace(alloc, files, trace)?;
     match query_text(alloc, bytes.as_slice(), query, name.as_bytes()) {
         Ok(text) => {
-            let ready = on_out(alloc, None, text)?;
+            let ready = on_out(alloc, text)?;
             Ok(ready)
         }
         Err(QueryFault::NoMemory) => Err(Refusal::NoMemory),
@@ -203,25 +267,17 @@ fn analyze<F: Files>(
     }
 }
 
-/// A text on the output, and one on the error stream.
-fn on_both(alloc: Global, journal: Journal, out: Vec<u8>, err: Vec<u8>) -> Result<Ready, NoMemory>
-    ensures journal { IfOk result (λ r. r.journal ≡ Some journal) }
-    ensures texts { IfOk result (λ r. r.texts.items ≡ on_both out.items err.items) }
-{
-    let texts = vec![in alloc; text_on(SinkName::Out, out), text_on(SinkName::Err, err)]?;
-    Ok(Ready {
-        journal: Some(journal),
-        texts,
-    })
-}
-
-/// One text, on the output.
-fn on_out(alloc: Global, journal: Option<Journal>, bytes: Vec<u8>) -> Result<Ready, NoMemory>
-    ensures journal { IfOk result (λ r. r.journal ≡ journal) }
+/// One text, on the output, of a command that runs nothing.
+fn on_out(alloc: Global, bytes: Vec<u8>) -> Result<Ready, NoMemory>
+    ensures kept { IfOk result (λ r. r.kept ≡ no_run) }
     ensures texts { IfOk result (λ r. r.texts.items ≡ on_out bytes.items) }
 {
     let texts = vec![in alloc; text_on(SinkName::Out, bytes)]?;
-    Ok(Ready { journal, texts })
+    let kept = KeptRun {
+        journal: None,
+        differs: None,
+    };
+    Ok(Ready { kept, texts })
 }
 
 /// A text for a sink.

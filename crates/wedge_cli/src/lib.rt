@@ -12,4 +12,4 @@ pub use cli_inputs::{
 };
 pub use status::Ended;
 pub use top::{exit_status, out_of_memory, wedge};
-pub use writing::{SinkName, Text};
+pub use writing::{KeptRun, SinkName, Text};

@@ -3,10 +3,14 @@
 ghost use Rattle.std.specs.Prelude.{◌≡◌, ◌++◌, codes, IfOk, OnOk};
 ghost use Rattle.std.specs.Fmt.{decimal};
 ghost use Rattle.wedge_cli.specs.Lines as lines;
+ghost use Rattle.audited_run.specs.Texts.{difference_text};
 
+use audited_run::write_difference;
 use cli_inputs::{PartRefusal, Refusal, ScheduleRefusal};
+use run_audit::Difference;
 use std::alloc::{AllocError, Global};
 use trace_form::TraceFault;
+use wedge_base::NoMemory;
 use wedge_core::Why;
 
 /// The line of arguments that are no command.
@@ -28,6 +32,16 @@ pub(crate) fn no_memory_line() -> &'static [u8]
     ensures { result.now ≡ lines.line (codes "out of memory") }
 {
     b"wedge: out of memory\n"
+}
+
+/// The line of a run whose logs and histories differ.
+pub(crate) fn difference_line(alloc: Global, difference: &Difference) -> Result<Vec<u8>, NoMemory>
+    ensures { IfOk result (λ v. v.items ≡ lines.line (difference_text difference.now)) }
+{
+    let mut line = Vec::from_slice(alloc, b"wedge: ")?;
+    write_difference(&mut line, difference)?;
+    line.push(b'\n')?;
+    Ok(line)
 }
 
 /// The line of a refusal.

@@ -1,5 +1,6 @@
 //! What the program ends with.
 
+use audited_run::Differs;
 use wedge_events::Journal;
 
 /// The status of what was done.
@@ -14,7 +15,8 @@ pub(crate) const READ_FAULT: u8 = 4;
 pub(crate) const WRITE_FAULT: u8 = 5;
 /// The status of a call that ran out of memory.
 pub(crate) const NO_MEMORY: u8 = 6;
-
+/// The status of a run of which logs and histories differ.
+pub(crate) const DISAGREED: u8 = 7;
 /// The status of a schedule or a trace that is refused.
 pub(crate) const REJECTED: u8 = 8;
 /// The status of a query of a trace that has no such name.
@@ -30,4 +32,6 @@ pub struct Ended {
     pub status: u8,
     /// The journal of the run, where there was one and its texts were written, or their writing failed.
     pub journal: Option<Journal>,
+    /// What differed between the logs and the histories of a run on threads, with the status 7 alone.
+    pub differs: Option<Differs>,
 }

@@ -1,11 +1,12 @@
 //! The top call.
 
-ghost use Rattle.std.specs.Prelude.{◌≡◌, ◌≤◌, ◌<◌, ◌⊎◌, ℕ, List, codes, Some, None};
+ghost use Rattle.std.specs.Prelude.{◌≡◌, ◌≤◌, ◌<◌, ◌⊎◌, ℕ, List, codes, Some, None, IsSome};
 ghost use Rattle.cli_inputs.specs.Words as asking;
 ghost use Rattle.cli_inputs.specs.Words.{Asked, command_of, texts};
 ghost use Rattle.wedge_cli.specs.Outside.{outside, sinks, device};
 ghost use Rattle.wedge_cli.specs.Lines as lines;
-ghost use Rattle.wedge_cli.specs.Ended.{IsSaid, IsRunDone, IsScheduleDone, IsLinkDone, IsCutShort, IsAnswerEnd, HasEnd};
+ghost use Rattle.wedge_cli.specs.Ended.{IsSaid, IsRunDone, IsScheduleDone, IsMadeAgain, IsRunEnd, IsLinkDone, IsCutShort, IsAnswerEnd, HasEnd};
+ghost use Rattle.cli_inputs.specs.Loading.{image_from_bytes};
 ghost use Rattle.cli_inputs.specs.Linking.{link_text};
 ghost use Rattle.cli_inputs.specs.Replaying.{replay_text};
 ghost use Rattle.cli_inputs.specs.Traces.{derive_text, analyze_text};
@@ -23,13 +24,17 @@ use std::alloc::Global;
 use std::sync::Wait;
 use std::thread::Threads;
 
-/// Does what the arguments ask: `run IMAGE` runs an image and writes its report on `out`, `show IMAGE`
+/// Does what the arguments ask: `run IMAGE` runs an image on threads and writes its report on `out`, `show IMAGE`
 /// writes the listing of its text, `build PART` makes an image of a partition and writes its bytes, and `link ELF PART`
 /// does so with the program of an ELF file in place of the partition's text.
 /// `run IMAGE --schedule` writes the schedule of the run on `out` and its report on `err`;
 /// `replay IMAGE SCHEDULE` takes the turns of a schedule and writes the report of the run that they make.
 /// `derive TRACE` writes the sheets that a trace needs, and `analyze TRACE accessed PROC`,
 /// `analyze TRACE users ITEM` and `analyze TRACE written PROC` write the lines that answer a query of it.
+///
+/// A run on threads is that of the interleaving which its journal has. Where the logs of its actors and the histories
+/// of its cells differ, the image is run again on one thread, and that run's texts are written, with a line of what
+/// differs on `err` and the status 7. `pace` is called before each shared event of a run.
 ///
 /// The status is 0 where that was written; 2 where the arguments are no command; 3 where a file's bytes
 /// encode no image, or no partition; 4 where a read failed; 5 where a write failed; 6 where memory ran
@@ -38,16 +43,16 @@ use std::thread::Threads;
 /// `out` alone and writes one line on `err`. A write that
 /// fails leaves a prefix of its text, and is reported once on `err`.
 pub fn wedge<R: Threads + Wait + Sync, F: Files, O: Sink, E: Sink, P: Pace + Sync>(
-    _rt: &R,
+    rt: &R,
     alloc: Global,
     words: &[String],
     files: &mut F,
     out: &mut O,
     err: &mut E,
-    _pace: &P,
+    pace: &P,
 ) -> Ended
     // Of `run IMAGE` and the status 0: the file encodes an image, the journal is that of a complete
-    // run of it, and its report alone was written.
+    // run of it on threads, and its report alone was written.
     ensures run { (image bytes : List ℕ)
         → command_of (texts words.now) ≡ Some (asking.Run image RunFlag.Plain)
         → F.content files.old image ≡ Some bytes → result.status ≡ 0
@@ -61,6 +66,23 @@ pub fn wedge<R: Threads + Wait + Sync, F: Files, O: Sink, E: Sink, P: Pace + Syn
         → command_of (texts words.now) ≡ Some (asking.Run image RunFlag.Schedule)
         → F.content files.old image ≡ Some bytes → result.status ≡ 0
         → IsScheduleDone bytes result.journal
+        (sinks (O.written out.old) (O.faults out.old) (E.written err.old) (E.faults err.old))
+        (sinks (O.written out.new) (O.faults out.new) (E.written err.new) (E.faults err.new)) }
+
+    // Of both and the status 7: what the threads left differs; and the journal, what was written and the schedule are
+    // those of a complete run on one thread.
+    ensures again { (image bytes : List ℕ) (flag : RunFlag)
+        → command_of (texts words.now) ≡ Some (asking.Run image flag)
+        → F.content files.old image ≡ Some bytes → result.status ≡ 7
+        → IsMadeAgain bytes flag result
+        (sinks (O.written out.old) (O.faults out.old) (E.written err.old) (E.faults err.old))
+        (sinks (O.written out.new) (O.faults out.new) (E.written err.new) (E.faults err.new)) }
+
+    // Of both, where no read or write failed and memory did not run out: an image is run, and other bytes are refused.
+    ensures run_ends { (image bytes : List ℕ) (flag : RunFlag)
+        → command_of (texts words.now) ≡ Some (asking.Run image flag)
+        → F.content files.old image ≡ Some bytes
+        → IsCutShort result.status ⊎ IsRunEnd (image_from_bytes bytes) result.status
         (sinks (O.written out.old) (O.faults out.old) (E.written err.old) (E.faults err.old))
         (sinks (O.written out.new) (O.faults out.new) (E.written err.new) (E.faults err.new)) }
 
@@ -137,8 +159,10 @@ pub fn wedge<R: Threads + Wait + Sync, F: Files, O: Sink, E: Sink, P: Pace + Syn
         → IsUnreadable a (F.faults files.old) (F.faults files.new) }
     ensures write_only { result.status ≡ 5
         → (O.faults out.old < O.faults out.new) ⊎ (E.faults err.old < E.faults err.new) }
+    ensures differs_only { result.status ≡ 7 → IsSome result.differs }
+    ensures differs { IsSome result.differs → result.status ≡ 7 }
 {
-    does(alloc, words, files, out, err)
+    does(rt, alloc, words, files, out, err, pace)
 }
 
 /// Does what the arguments ask, as [`wedge`] does, and returns the exit status alone: for a caller that keeps no journal.
@@ -163,6 +187,18 @@ pub fn exit_status<R: Threads + Wait + Sync, F: Files, O: Sink, E: Sink, P: Pace
         → HasEnd result (λ ended. IsScheduleDone bytes ended.journal
         (sinks (O.written out.old) (O.faults out.old) (E.written err.old) (E.faults err.old))
         (sinks (O.written out.new) (O.faults out.new) (E.written err.new) (E.faults err.new))) }
+    ensures again { (image bytes : List ℕ) (flag : RunFlag)
+        → command_of (texts words.now) ≡ Some (asking.Run image flag)
+        → F.content files.old image ≡ Some bytes → result ≡ 7
+        → HasEnd result (λ ended. IsMadeAgain bytes flag ended
+        (sinks (O.written out.old) (O.faults out.old) (E.written err.old) (E.faults err.old))
+        (sinks (O.written out.new) (O.faults out.new) (E.written err.new) (E.faults err.new))) }
+    ensures run_ends { (image bytes : List ℕ) (flag : RunFlag)
+        → command_of (texts words.now) ≡ Some (asking.Run image flag)
+        → F.content files.old image ≡ Some bytes
+        → IsCutShort result ⊎ IsRunEnd (image_from_bytes bytes) result
+        (sinks (O.written out.old) (O.faults out.old) (E.written err.old) (E.faults err.old))
+        (sinks (O.written out.new) (O.faults out.new) (E.written err.new) (E.faults err.new)) }
     ensures link { (elf part bytes text : List ℕ)
         → command_of (texts words.now) ≡ Some (asking.Link elf part)
         → F.content files.old elf ≡ Some bytes → F.content files.old part ≡ Some text
@@ -230,12 +266,14 @@ pub fn out_of_memory<E: Sink>(err: &mut E) -> Ended
 }
 
 /// Does what the arguments ask.
-fn does<F: Files, O: Sink, E: Sink>(
+fn does<R: Threads + Wait + Sync, F: Files, O: Sink, E: Sink, P: Pace + Sync>(
+    rt: &R,
     alloc: Global,
     words: &[String],
     files: &mut F,
     out: &mut O,
     err: &mut E,
+    pace: &P,
 ) -> Ended
     ensures answer { IsCommandAnswer (command_of (texts words.now)) result
         (outside (F.content files.old) (F.faults files.old)
@@ -248,7 +286,7 @@ fn does<F: Files, O: Sink, E: Sink>(
 {
     match read_words(words) {
         Err(WordsFault::Usage) => say(err, USAGE, usage_line()),
-        Ok(command) => match prepare(alloc, command, files) {
+        Ok(command) => match prepare(rt, alloc, command, files, pace) {
             Ok(ready) => finish(out, err, ready),
             Err(refusal) => refuse(alloc, err, &refusal),
         },

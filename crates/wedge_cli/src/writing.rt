@@ -3,10 +3,11 @@
 ghost use Rattle.std.specs.Prelude.{◌≡◌, None, IfOk, MatchResult};
 ghost use Rattle.wedge_cli.specs.Outside.{device, sinks, Tried};
 ghost use Rattle.wedge_cli.specs.Lines as lines;
-ghost use Rattle.wedge_cli.specs.Ended.{TakesText, FailsText, AreTaken, OneFails, IsSaid, IsWritten};
+ghost use Rattle.wedge_cli.specs.Ended.{TakesText, FailsText, AreTaken, OneFails, IsSaid, IsWritten, done_status};
 
 use crate::lines::write_fault_line;
-use crate::status::{DONE, Ended, WRITE_FAULT};
+use crate::status::{DISAGREED, DONE, Ended, WRITE_FAULT};
+use audited_run::Differs;
 use host_io::{Sink, WriteFault, write_whole};
 use wedge_base::Bytes;
 use wedge_events::Journal;
@@ -27,10 +28,18 @@ pub struct Text {
     pub bytes: Bytes,
 }
 
-/// The texts that a command writes, and the journal of its run.
+/// What is kept of the run of a command: its journal, and what differed in it, if anything did. A command that runs
+/// nothing keeps none of both.
+#[derive(Debug, Drop)]
+pub struct KeptRun {
+    pub journal: Option<Journal>,
+    pub differs: Option<Differs>,
+}
+
+/// The texts that a command writes, and what is kept of its run.
 #[derive(Debug, Drop)]
 pub(crate) struct Ready {
-    pub journal: Option<Journal>,
+    pub kept: KeptRun,
     pub texts: Vec<Text>,
 }
 
@@ -66,23 +75,36 @@ fn write_texts<O: Sink, E: Sink>(out: &mut O, err: &mut E, texts: &[Text]) -> Re
     Ok(())
 }
 
-/// Writes what a command made, and ends with the status 0; with 5 where a write failed.
+/// Returns the status of what was done.
+fn status_with(differs: &Option<Differs>) -> u8
+    ensures { result ≡ done_status differs.now }
+{
+    match differs {
+        None => DONE,
+        Some(_) => DISAGREED,
+    }
+}
+
+/// Writes what a command made, and ends with the status 0, or 7 where its run differs; with 5 where a write failed.
 pub(crate) fn finish<O: Sink, E: Sink>(out: &mut O, err: &mut E, ready: Ready) -> Ended
-    ensures { IsWritten 0 ready.journal ready.texts.items result
+    ensures { IsWritten (done_status ready.kept.differs) ready.kept ready.texts.items result
         (sinks (O.written out.old) (O.faults out.old) (E.written err.old) (E.faults err.old))
         (sinks (O.written out.new) (O.faults out.new) (E.written err.new) (E.faults err.new)) }
 {
-    let Ready { journal, texts } = ready;
+    let Ready { kept, texts } = ready;
+    let KeptRun { journal, differs } = kept;
     match write_texts(out, err, texts.as_slice()) {
         Ok(()) => Ended {
-            status: DONE,
+            status: status_with(&differs),
             journal,
+            differs,
         },
         Err(_) => {
             tell_write_fault(err);
             Ended {
                 status: WRITE_FAULT,
                 journal,
+                differs: None,
             }
         }
     }
@@ -98,12 +120,14 @@ pub(crate) fn say<E: Sink>(err: &mut E, status: u8, line: &[u8]) -> Ended
         Ok(()) => Ended {
             status,
             journal: None,
+            differs: None,
         },
         Err(_) => {
             tell_write_fault(err);
             Ended {
                 status: WRITE_FAULT,
                 journal: None,
+                differs: None,
             }
         }
     }

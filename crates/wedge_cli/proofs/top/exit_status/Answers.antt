@@ -9,3 +9,6 @@ returns-clause-schedule g c = λ image bytes asked exposed is. record { ended = 
 
 pub returns-clause-answer : goal.returns-clause-answer
 returns-clause-answer g c = record { ended = c.wedge-ended.result; status_is = refl; is_so = c.wedge-ended.ensures.answer }
+
+pub returns-clause-again : goal.returns-clause-again
+returns-clause-again g c = λ image bytes flag asked exposed is. record { ended = c.wedge-ended.result; status_is = refl; is_so = c.wedge-ended.ensures.again image bytes flag asked exposed is }

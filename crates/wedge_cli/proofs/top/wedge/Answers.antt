@@ -1,4 +1,5 @@
-use Rattle.wedge_cli.proofs.Statuses.{run_done, schedule_done, replay_done, link_answered, link_done, derive_done, analyze_done, rejected_only, name_only, elf_only, usage_only, image_only, read_only, write_only}
+use Rattle.wedge_cli.proofs.RunEnds.{run_done, schedule_done, run_again, run_ended}
+use Rattle.wedge_cli.proofs.Statuses.{replay_done, link_answered, link_done, derive_done, analyze_done, rejected_only, name_only, elf_only, usage_only, image_only, read_only, write_only, differs_only, differs_7}
 use Rattle.wedge_cli.proofs.top.wedge.Goals as goal
 
 pub returns-clause-run : goal.returns-clause-run
@@ -42,3 +43,15 @@ returns-clause-link_done g c = λ elf part bytes asked elf_is is. link_done elf 
 
 pub returns-clause-elf_only : goal.returns-clause-elf_only
 returns-clause-elf_only g c = λ a asked is. elf_only a _ _ _ (c.does.ensures.answer.command a asked) is
+
+pub returns-clause-again : goal.returns-clause-again
+returns-clause-again g c = λ image bytes flag asked exposed is. run_again image bytes flag _ _ _ (c.does.ensures.answer.command _ asked) exposed is
+
+pub returns-clause-run_ends : goal.returns-clause-run_ends
+returns-clause-run_ends g c = λ image bytes flag asked exposed. run_ended image bytes flag _ _ _ (c.does.ensures.answer.command _ asked) exposed
+
+pub returns-clause-differs_only : goal.returns-clause-differs_only
+returns-clause-differs_only g c = differs_only _ _ _ _ c.does.ensures.answer
+
+pub returns-clause-differs : goal.returns-clause-differs
+returns-clause-differs g c = differs_7 _ _ _ _ c.does.ensures.answer

@@ -6,4 +6,4 @@ use Rattle.wedge_cli.proofs.writing.say.Goals as goal
 pub returns-in-Err : goal.returns-in-Err
 returns-in-Err g c =
     let middle = device (g.E.Sink.written c.write_whole.new.sink) (g.E.Sink.faults c.write_whole.new.sink) in
-    said_fault c.args.status c.args.line.now _ _ middle _ refl refl (record { rises = c.in-Err.ensures.counts; part = c.in-Err.ensures.part }) c.tell_write_fault.ensures
+    said_fault c.args.status c.args.line.now _ _ middle _ refl refl refl (record { rises = c.in-Err.ensures.counts; part = c.in-Err.ensures.part }) c.tell_write_fault.ensures

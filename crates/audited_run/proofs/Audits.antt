@@ -1,0 +1,44 @@
+-- What an audit says of a run on threads.
+use Rattle.std.specs.Prelude.{None}
+use Rattle.wedge_base.specs.Images.{Image}
+use Rattle.thread_laws.specs.Joining.{AreWalked, IsRun, journal_of}
+use Rattle.thread_laws.specs.Replaying.{Legal}
+use Rattle.thread_laws.specs.declared.gathered.Gathered.{Gathered}
+use Rattle.thread_laws.proofs.Replaying.{kept_are_legal}
+use Rattle.gate_runner.specs.Gathering.{IsGathered}
+use Rattle.run_audit.specs.Audits.{IsAudit}
+use Rattle.run_audit.specs.Differences.{IsFirstDifference}
+use Rattle.run_audit.specs.declared.auditing.Audited.{Audited}
+use Rattle.run_audit.specs.declared.fault.Difference.{Difference}
+use Rattle.audited_run.specs.AuditedRuns.{IsAuditedRun, IsDiffering}
+use Rattle.audited_run.proofs.Journaled.{runs_are_journaled}
+
+-- where all agree, it is a complete run
+pub agreed : (i : Image) (g : Gathered) (a : Audited) → IsGathered i g
+    → IsAudit i g.logs g.cells a
+    → (AreWalked i g.logs → Legal i g.cells → IsRun i a.journal.entries a.outcome)
+    → IsAuditedRun i (record { journal = a.journal; outcome = a.outcome; differs = None })
+agreed i g a left is run =
+    let whole = run left.walked (kept_are_legal i g.cells left.kept) in
+    record {
+      run = runs_are_journaled i a.journal.entries a.outcome whole;
+      made = record {
+        gathered = g;
+        walked = left.walked;
+        kept = left.kept;
+        agrees = is.agrees;
+        entries_are = is.journal;
+        rising = whole.rising;
+        outcome_is = is.outcome;
+      };
+    }
+
+-- where something differs, it is so of a run that is whole and legal
+pub differing : (i : Image) (g : Gathered) (d : Difference) → IsGathered i g
+    → IsFirstDifference (journal_of g.logs) g.cells d
+    → IsDiffering i (record { gathered = g; disagree = d })
+differing i g d left first = record {
+  walked = left.walked;
+  legal = kept_are_legal i g.cells left.kept;
+  first = first;
+}

@@ -1,0 +1,57 @@
+-- A run of an image: on threads, or, where what these left differs, made again on one.
+use Rattle.std.specs.Prelude.{◌≡◌, List, Option, Some, None}
+use Rattle.wedge_base.specs.Images.{Image}
+use Rattle.wedge_base.specs.declared.outcome.Outcome.{Outcome}
+use Rattle.wedge_events.specs.Journals.{turns_of}
+use Rattle.wedge_events.specs.declared.events.LogEntry.{LogEntry}
+use Rattle.machine.specs.Worlds.{initial_state}
+use Rattle.run_laws.specs.CompleteRuns.{IsJournaledRun}
+use Rattle.world_turns.specs.Progress.{IsNumbered}
+use Rattle.wedge_core.specs.Serial.{InSerialOrder}
+use Rattle.thread_laws.specs.Joining.{AreWalked, Agrees, journal_of, outcome_gathered}
+use Rattle.thread_laws.specs.Merging.{IsRising}
+use Rattle.thread_laws.specs.Replaying.{AreKept, Legal}
+use Rattle.thread_laws.specs.declared.gathered.Gathered.{Gathered}
+use Rattle.run_audit.specs.Differences.{IsFirstDifference}
+use Rattle.audited_run.specs.declared.run.AuditedRun.{AuditedRun}
+use Rattle.audited_run.specs.declared.run.Differs.{Differs}
+
+-- Entries and outcome are what threads left: logs of whole executions, one for each actor and no other, and the
+-- histories that locked cells kept. The entries are all that was logged, in the order of stamps and names; of each
+-- cell they are its history; and the outcome is read off both.
+pub record IsThreaded (i : Image) (entries : List LogEntry) (outcome : Outcome) : Type 0 where
+  pub gathered : Gathered
+  pub walked : AreWalked i gathered.logs
+  pub kept : AreKept i gathered.cells
+  pub agrees : Agrees gathered.logs gathered.cells
+  pub entries_are : entries ≡ journal_of gathered.logs
+  pub rising : IsRising entries
+  pub outcome_is : outcome ≡ outcome_gathered i gathered.logs gathered.cells
+
+-- The history of a cell that threads left differs from the entries of that cell that they logged: the logs are those
+-- of whole executions and the histories legal, the cell is the first of which this holds, and the entries are the
+-- first of its that differ.
+pub record IsDiffering (i : Image) (d : Differs) : Type 0 where
+  pub walked : AreWalked i d.gathered.logs
+  pub legal : Legal i d.gathered.cells
+  pub first : IsFirstDifference (journal_of d.gathered.logs) d.gathered.cells d.disagree
+
+-- Each turn was that of the actor that was started last and had not ended; the stamp of an entry is its index, from 1.
+pub record IsInSerialOrder (i : Image) (entries : List LogEntry) : Type 0 where
+  pub order : InSerialOrder (initial_state i) (turns_of entries)
+  pub stamps : IsNumbered entries
+
+-- how the entries of a run came about, by what differed
+abbrev pub IsMadeSo : Image → Option Differs → List LogEntry → Outcome → Type 0
+IsMadeSo i None entries outcome = IsThreaded i entries outcome
+IsMadeSo i (Some d) entries outcome = IsDiffering i d × IsInSerialOrder i entries
+
+-- a complete run of the image, with its journal and its outcome
+pub record IsAuditedRun (i : Image) (r : AuditedRun) : Type 0 where
+  pub run : IsJournaledRun i r.journal.entries r.outcome
+  pub made : IsMadeSo i r.differs r.journal.entries r.outcome
+
+-- something differs exactly where logs and histories do not agree, and then it is these that differ
+abbrev pub IsAudited : Gathered → Option Differs → Type 0
+IsAudited g None = Agrees g.logs g.cells
+IsAudited g (Some d) = (d.gathered ≡ g) × (Agrees g.logs g.cells → ⊥)

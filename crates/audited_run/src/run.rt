@@ -1,0 +1,93 @@
+//! A run on threads, its audit, and the run that is made again.
+
+ghost use Rattle.std.specs.Prelude.{◌≡◌, IfOk, Some, None};
+ghost use Rattle.gate_runner.specs.Gathering.{IsGathered};
+ghost use Rattle.audited_run.specs.AuditedRuns.{IsAudited, IsAuditedRun, IsDiffering};
+
+use gate_runner::run_image;
+use host_io::Pace;
+use image_form::Image;
+use run_audit::{AuditFault, AuditRefusal, Audited, Difference, audit};
+use std::alloc::Global;
+use std::sync::Wait;
+use std::thread::Threads;
+use thread_laws::Gathered;
+use wedge_base::{NoMemory, Outcome};
+use wedge_core::serial;
+use wedge_events::Journal;
+
+/// What a run on threads left, where the histories that its cells kept differ from the logs of its actors, and the
+/// first difference.
+#[derive(Debug, Drop)]
+pub struct Differs {
+    pub gathered: Gathered,
+    pub disagree: Difference,
+}
+
+/// The journal and the outcome of a run. Where the threads' logs and histories differ, they are those of a run on one
+/// thread, and `differs` says what differed.
+#[derive(Debug, Drop)]
+pub struct AuditedRun {
+    pub journal: Journal,
+    pub outcome: Outcome,
+    pub differs: Option<Differs>,
+}
+
+/// Runs an image on threads, and compares the logs of its actors with the histories of its cells. Where all agree, the
+/// journal is all that was logged, in the order of stamps and names; it is that of a complete run, with this outcome.
+/// Where they differ, the image is run again on one thread, each turn that of the actor that was started last and has
+/// not ended, and `differs` has what differed.
+///
+/// Fails only where out of memory or of stamps, after all threads have ended.
+pub fn run_audited<R: Threads + Wait + Sync, P: Pace + Sync>(
+    rt: &R,
+    alloc: Global,
+    image: &Image,
+    pace: &P,
+) -> Result<AuditedRun, NoMemory>
+    ensures { IfOk result (IsAuditedRun image.now) }
+{
+    let gathered = run_image(rt, alloc, image, pace)?;
+    audited(alloc, image, gathered)
+}
+
+/// Audits what a run of an image on threads left. Where it disagrees with itself, the image is run on one thread.
+pub fn audited(alloc: Global, image: &Image, gathered: Gathered) -> Result<AuditedRun, NoMemory>
+    requires { IsGathered image.now gathered }
+    ensures run { IfOk result (IsAuditedRun image.now) }
+    ensures of { IfOk result (λ r. IsAudited gathered r.differs) }
+{
+    match audit(alloc, image, gathered) {
+        Ok(audited) => Ok(without_difference(audited)),
+        Err(AuditRefusal { fault, gathered }) => match fault {
+            AuditFault::NoMemory => Err(NoMemory),
+            AuditFault::Disagree(disagree) => again(alloc, image, Differs { gathered, disagree }),
+        },
+    }
+}
+
+/// Returns a run of which logs and histories agree.
+fn without_difference(audited: Audited) -> AuditedRun
+    ensures { result ≡ record { journal = audited.journal; outcome = audited.outcome; differs = None } }
+{
+    let Audited { journal, outcome } = audited;
+    AuditedRun {
+        journal,
+        outcome,
+        differs: None,
+    }
+}
+
+/// Runs an image on one thread, since what its threads left differs.
+fn again(alloc: Global, image: &Image, differs: Differs) -> Result<AuditedRun, NoMemory>
+    requires { IsDiffering image.now differs }
+    ensures run { IfOk result (IsAuditedRun image.now) }
+    ensures differs { IfOk result (λ r. r.differs ≡ Some differs) }
+{
+    let (journal, outcome) = serial(alloc, image)?;
+    Ok(AuditedRun {
+        journal,
+        outcome,
+        differs: Some(differs),
+    })
+}
