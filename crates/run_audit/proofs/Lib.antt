@@ -16,8 +16,6 @@ pub mod Whole
 pub mod Histories
 -- What the first difference of two lists says of histories and the journal.
 pub mod Comparing
--- The entries of logs, one log after another.
-pub mod Logged
 -- All first differences are of one cell.
 pub mod OneDifference
 -- The logs of actors by name.
@@ -28,3 +26,7 @@ pub mod LogLines
 pub mod StreamsOver
 -- An audit of whole executions and legal histories is a run.
 pub mod Runs
+-- Two lists in order, merged.
+pub mod Merges
+-- Entries with their indices, sorted, merged, and taken by their indices.
+pub mod IndexedEntries

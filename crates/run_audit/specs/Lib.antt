@@ -14,3 +14,9 @@ pub mod LogOrder
 pub mod StreamsLeft
 -- What an audit returns.
 pub mod Audits
+-- Entries with their indices among all.
+pub mod IndexedEntries
+-- The merge of two lists.
+pub mod Merges
+-- What it takes to move the entries of logs into a journal.
+pub mod Rooms

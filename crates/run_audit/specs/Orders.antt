@@ -7,7 +7,6 @@ use Rattle.std.specs.Prelude.{Some}
 use Rattle.wedge_events.specs.Journals.{cell_of}
 use Rattle.wedge_events.specs.declared.events.LogEntry.{LogEntry}
 use Rattle.thread_laws.specs.Replaying.{cell_in}
-use Rattle.thread_laws.specs.Sorting.{comes_before}
 use Rattle.thread_laws.specs.declared.gathered.CellHistory.{CellHistory}
 use Rattle.run_audit.specs.CellOrder.{cell_kind, cell_maker, cell_number, cell_order, by_cell}
 use Rattle.run_audit.specs.KeptEntries.{history_first}
@@ -21,9 +20,3 @@ entries_ordered = ranks_by cells_total (λ (e : LogEntry). cell_of e.event)
 
 pub histories_ordered : IsStrictWeakOrder history_first
 histories_ordered = ranks_by cells_total (λ (h : CellHistory). Some (cell_in h))
-
-pub stamps_ordered : IsStrictWeakOrder comes_before
-stamps_ordered = ranks_by
-    (then_total (on_total (λ (e : LogEntry). e.stamp) nat_cmp_total)
-    (on_total (λ (e : LogEntry). e.actor) nat_list_cmp_total))
-    (λ (e : LogEntry). e)

@@ -1,26 +1,28 @@
 //! The audit.
 
-ghost use Rattle.std.specs.Prelude.{◌≡◌, ◌++◌, IfOk, OnOk};
+ghost use Rattle.std.specs.Prelude.{◌≡◌, IfOk};
 ghost use Rattle.std.specs.Result.{MatchResult};
-ghost use Rattle.thread_laws.specs.Joining.{AreWalked, IsRun, all_logged};
+ghost use Rattle.thread_laws.specs.Joining.{AreWalked, IsRun};
 ghost use Rattle.thread_laws.specs.Joining as joining;
 ghost use Rattle.thread_laws.specs.Replaying.{Legal};
-ghost use Rattle.thread_laws.specs.Sorting as sorting;
-ghost use Rattle.run_audit.specs.Audits.{IsAudit};
+ghost use Rattle.run_audit.specs.Audits.{IsAudit, IsCompared};
 ghost use Rattle.run_audit.specs.Differences.{IsComparison, IsFault};
+ghost use Rattle.run_audit.specs.IndexedEntries.{indexed_journal};
+ghost use Rattle.run_audit.specs.Rooms.{IsRoomFor};
 
-use crate::comparison::{copy_entry, first_difference};
+use crate::comparison::first_difference;
 use crate::fault::{AuditFault, Difference};
+use crate::merging::entries_in_order;
+use crate::moving::{Room, journal_moved, room_for};
 use crate::outcome::outcome_gathered;
-use crate::sorts::{histories_by_cell, kept_of_histories, logged_by_cell};
+use crate::sorts::{
+    JournalEntry, histories_by_cell, journal_references, kept_of_histories, logged_by_cell,
+};
 use image_form::Image;
-use stable_sort::{Sortable, sort};
 use std::alloc::Global;
-use std::cmp::Ordering;
-use std::marker::Model;
 use thread_laws::{ActorLog, CellHistory, Gathered};
-use wedge_base::{Items, NoMemory, Outcome};
-use wedge_events::{Journal, LogEntry};
+use wedge_base::{NoMemory, Outcome};
+use wedge_events::Journal;
 
 /// The journal and the outcome of a run on threads.
 #[derive(Debug, Drop)]
@@ -36,95 +38,34 @@ pub struct AuditRefusal {
     pub gathered: Gathered,
 }
 
-/// An entry that is sorted by its stamp. Contracts see it as the entry.
+/// What an audit finds before it moves anything.
 #[derive(Drop)]
-struct ByStamp {
-    entry: LogEntry,
+pub(crate) struct Compared {
+    outcome: Outcome,
+    room: Room,
 }
 
-impl Model for ByStamp {
-    ghost use Rattle.wedge_events.specs.declared.events.LogEntry.{LogEntry as Plain};
-
-    ghost Value = { Plain };
-
-    ghost view = { λ p. p.entry };
-}
-
-/// Compares two entries by their stamps, and then by the names of their actors.
-fn entry_order(a: &LogEntry, b: &LogEntry) -> Ordering
-    ensures { result ≡ sorting.entry_order a.now b.now }
+/// Returns references to all logged entries in the order of their stamps, those of one stamp by the
+/// names of their actors, and the memory that it takes to move the entries into that order.
+#[tactic(auto, using(crate::proofs::IndexedEntries::journal_entries))]
+fn journal_order<'a>(
+    alloc: Global,
+    logs: &'a [ActorLog],
+) -> Result<(Vec<JournalEntry<'a>>, Room), NoMemory>
+    ensures journal { IfOk result (λ p. p.0.items ≡ joining.journal_of logs.now) }
+    ensures room { IfOk result (λ p. IsRoomFor (indexed_journal logs.now) p.1) }
 {
-    match a.stamp.0.cmp(&b.stamp.0) {
-        Ordering::Equal => a.actor.parts().cmp(b.actor.parts()),
-        order => order,
-    }
-}
-
-impl Sortable for ByStamp {
-    ghost use Rattle.thread_laws.specs.Sorting.{comes_before};
-    ghost use Rattle.run_audit.specs.Orders.{stamps_ordered};
-
-    ghost comes_before = { comes_before };
-
-    fn compare(&self, other: &ByStamp) -> Ordering {
-        entry_order(&self.entry, &other.entry)
-    }
-
-    ghost is_order = { stamps_ordered };
-}
-
-/// Adds copies of entries after others.
-fn add_log(alloc: Global, all: &mut Vec<ByStamp>, entries: &[LogEntry]) -> Result<(), NoMemory>
-    ensures { OnOk result (all.new.items ≡ all.old.items ++ entries.now) }
-{
-    for entry in entries {
-        all.push(ByStamp {
-            entry: copy_entry(alloc, entry)?,
-        })?;
-    }
-    Ok(())
-}
-
-/// Copies the entries of all logs, log by log.
-#[tactic(auto, using(crate::proofs::Logged::logged_more, crate::proofs::Logged::logged_end))]
-fn copy_logs(alloc: Global, logs: &[ActorLog]) -> Result<Vec<ByStamp>, NoMemory>
-    ensures { IfOk result (λ all. all.items ≡ all_logged logs.now) }
-{
-    let mut all = Vec::new(alloc);
-    for log in logs {
-        add_log(alloc, &mut all, log.entries.as_slice())?;
-    }
-    Ok(all)
-}
-
-/// Takes the entries out.
-fn into_entries(alloc: Global, all: Vec<ByStamp>) -> Result<Vec<LogEntry>, NoMemory>
-    ensures { IfOk result (λ entries. entries.items ≡ all.items) }
-{
-    let mut entries = Vec::with_capacity(alloc, all.len())?;
-    for item in all {
-        entries.push(item.entry)?;
-    }
-    Ok(entries)
-}
-
-/// Returns all logged entries in the order of their stamps, those of one stamp by the names of
-/// their actors.
-fn journal_of(alloc: Global, logs: &[ActorLog]) -> Result<Journal, NoMemory>
-    ensures { IfOk result (λ j. j.entries ≡ joining.journal_of logs.now) }
-{
-    let mut all = copy_logs(alloc, logs)?;
-    sort(&mut all)?;
-    Ok(Journal {
-        entries: Items::new(into_entries(alloc, all)?),
-    })
+    let sorted = entries_in_order(alloc, logs)?;
+    let journal = journal_references(alloc, sorted.as_slice())?;
+    let room = room_for(alloc, sorted.as_slice())?;
+    Ok((journal, room))
 }
 
 /// Returns the first difference between histories and a journal, or none where all cells agree.
 #[tactic(auto, using(crate::proofs::Comparing::kept_ordered, crate::proofs::Comparing::sorted_ordered))]
 fn compare_cells(
     alloc: Global,
-    journal: &[LogEntry],
+    journal: &[JournalEntry<'_>],
     cells: &[CellHistory],
 ) -> Result<Option<Difference>, NoMemory>
     ensures { IfOk result (λ r. IsComparison cells.now journal.now r) }
@@ -135,19 +76,24 @@ fn compare_cells(
     first_difference(alloc, kept.as_slice(), logged.as_slice())
 }
 
-/// Returns the journal and the outcome of logs with which the histories of all cells agree.
-fn audit_gathered(alloc: Global, image: &Image, gathered: &Gathered) -> Result<Audited, AuditFault>
+/// Returns the outcome of logs with which the histories of all cells agree, and what it takes to
+/// make the journal of their entries.
+fn compare_gathered(
+    alloc: Global,
+    image: &Image,
+    gathered: &Gathered,
+) -> Result<Compared, AuditFault>
     ensures { MatchResult result
-        (λ a. IsAudit image.now gathered.now.logs gathered.now.cells a)
+        (λ c. IsCompared image.now gathered.now.logs gathered.now.cells c)
         (λ f. IsFault gathered.now.logs gathered.now.cells f) }
 {
-    let journal = journal_of(alloc, gathered.logs.as_slice())?;
-    let entries = journal.entries.as_slice();
+    let (journal, room) = journal_order(alloc, gathered.logs.as_slice())?;
+    let entries = journal.as_slice();
     if let Some(difference) = compare_cells(alloc, entries, gathered.cells.as_slice())? {
         return Err(AuditFault::Disagree(difference));
     }
     let outcome = outcome_gathered(alloc, image, entries, gathered)?;
-    Ok(Audited { journal, outcome })
+    Ok(Compared { outcome, room })
 }
 
 /// Returns the journal and the outcome of what a run on threads left: the journal is all logged
@@ -165,8 +111,15 @@ pub fn audit(alloc: Global, image: &Image, gathered: Gathered) -> Result<Audited
     ensures run { AreWalked image.now gathered.logs → Legal image.now gathered.cells
         → IfOk result (λ a. IsRun image.now a.journal.entries a.outcome) }
 {
-    match audit_gathered(alloc, image, &gathered) {
-        Ok(audited) => Ok(audited),
+    match compare_gathered(alloc, image, &gathered) {
+        Ok(compared) => {
+            let Compared { outcome, room } = compared;
+            let Gathered { logs, .. } = gathered;
+            Ok(Audited {
+                journal: journal_moved(logs, room),
+                outcome,
+            })
+        }
         Err(fault) => Err(AuditRefusal { fault, gathered }),
     }
 }

@@ -163,7 +163,7 @@ fn both_there(
 }
 
 /// Returns an equal entry.
-pub(crate) fn copy_entry(alloc: Global, entry: &LogEntry) -> Result<LogEntry, NoMemory>
+fn copy_entry(alloc: Global, entry: &LogEntry) -> Result<LogEntry, NoMemory>
     ensures { IfOk result (λ e. e ≡ entry.now) }
 {
     Ok(LogEntry {

@@ -11,6 +11,8 @@ mod keys;
 mod labels;
 mod laws;
 mod logs;
+mod merging;
+mod moving;
 mod outcome;
 mod sorts;
 mod stream_lines;

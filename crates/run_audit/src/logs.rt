@@ -10,14 +10,14 @@ ghost use Rattle.thread_laws.specs.Joining as joining;
 ghost use Rattle.thread_laws.specs.Joining.{with_log, logs_named};
 ghost use Rattle.run_audit.specs.LogOrder.{log_before, IsCountBefore, name_asked};
 
-use crate::sorts::sort_stably;
+use crate::sorts::{JournalEntry, sort_stably};
 use stable_sort::Sortable;
 use std::alloc::Global;
 use std::cmp::Ordering;
 use std::marker::Model;
 use thread_laws::ActorLog;
 use wedge_base::{ActorName, NoMemory};
-use wedge_events::{Event, GateAsk, LogEntry};
+use wedge_events::{Event, GateAsk};
 
 /// A log by reference. Contracts see it as the log.
 #[derive(Drop)]
@@ -158,7 +158,7 @@ fn add_begun<'a>(
 pub(crate) fn logs_in_order<'a>(
     alloc: Global,
     logs: &'a [ActorLog],
-    journal: &[LogEntry],
+    journal: &[JournalEntry<'_>],
 ) -> Result<Vec<LogReference<'a>>, NoMemory>
     ensures { IfOk result (λ v. v.items
         ≡ joining.logs_named logs.now (root_name ∷ names_begun journal.now)) }
@@ -166,8 +166,8 @@ pub(crate) fn logs_in_order<'a>(
     let sorted = logs_by_name(alloc, logs)?;
     let root = ActorName::root(alloc)?;
     let mut ordered = add_named(sorted.as_slice(), &root, Vec::new(alloc))?;
-    for entry in journal {
-        ordered = add_begun(sorted.as_slice(), &entry.event, ordered)?;
+    for item in journal {
+        ordered = add_begun(sorted.as_slice(), &item.entry.event, ordered)?;
     }
     Ok(ordered)
 }

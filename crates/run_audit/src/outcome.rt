@@ -6,19 +6,19 @@ ghost use Rattle.thread_laws.specs.Joining.{journal_of, outcome_gathered};
 use crate::actor_lines::lines_in;
 use crate::labels::labels_in;
 use crate::logs::logs_in_order;
+use crate::sorts::JournalEntry;
 use crate::stream_lines::stream_lines;
 use image_form::Image;
 use std::alloc::Global;
 use thread_laws::Gathered;
 use wedge_base::{Items, NoMemory, Outcome};
-use wedge_events::LogEntry;
 
 /// Returns the outcome: the lines of the actors, in the order of their names, and those of the
 /// append streams, each as its history leaves it.
 pub(crate) fn outcome_gathered(
     alloc: Global,
     image: &Image,
-    journal: &[LogEntry],
+    journal: &[JournalEntry<'_>],
     gathered: &Gathered,
 ) -> Result<Outcome, NoMemory>
     requires { journal.now ≡ journal_of gathered.now.logs }

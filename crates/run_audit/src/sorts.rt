@@ -1,13 +1,15 @@
 //! Lists of entries and of histories in the order of cells.
 
-ghost use Rattle.std.specs.Prelude.{◌≡◌, ◌++◌, map, OnOk, IfOk};
+ghost use Rattle.std.specs.Prelude.{◌≡◌, ◌++◌, length, map, OnOk, IfOk};
 ghost use Rattle.std.specs.List.Sorted.{IsSortedBy, IsStableBy};
 ghost use Rattle.std.specs.Option.{option_copied};
 ghost use Rattle.run_audit.specs.CellOrder.{by_cell};
+ghost use Rattle.run_audit.specs.IndexedEntries.{entries_of};
 ghost use Rattle.run_audit.specs.KeptEntries.{entries_kept, history_first, kept_as, new_after};
 
 use crate::kept::{KeptEntry, add_history};
-use crate::keys::{event_key, history_key, key_order};
+use crate::keys::{CellKey, event_key, history_key, key_order};
+use crate::merging::ByStamp;
 use stable_sort::Sortable;
 use std::alloc::Global;
 use std::cmp::Ordering;
@@ -16,18 +18,38 @@ use thread_laws::CellHistory;
 use wedge_base::NoMemory;
 use wedge_events::LogEntry;
 
-/// An entry that is sorted by its cell. Contracts see it as the entry.
+/// An entry of the journal by reference. Contracts see it as the entry.
 #[derive(Drop)]
-pub(crate) struct ByCell<'a> {
+pub(crate) struct JournalEntry<'a> {
     pub entry: &'a LogEntry,
 }
 
-impl<'a> Model for ByCell<'a> {
+impl<'a> Model for JournalEntry<'a> {
     ghost use Rattle.wedge_events.specs.declared.events.LogEntry.{LogEntry as Plain};
 
     ghost Value = { Plain };
 
     ghost view = { λ p. p.entry.now };
+}
+
+/// An entry that is sorted by its cell. The key of the cell is beside it, so that a comparison reads
+/// no entry. Contracts see it as the entry.
+#[derive(Drop)]
+pub(crate) struct ByCell<'a> {
+    key: CellKey<'a>,
+    pub entry: &'a LogEntry,
+}
+
+impl<'a> Model for ByCell<'a> {
+    ghost use Rattle.wedge_events.specs.Journals.{cell_of};
+    ghost use Rattle.wedge_events.specs.declared.events.LogEntry.{LogEntry as Plain};
+    ghost use Rattle.run_audit.specs.CellOrder.{IsKeyOf};
+
+    ghost Value = { Plain };
+
+    ghost view = { λ p. p.entry.now };
+
+    ghost invariant = { λ p. IsKeyOf p.key (cell_of p.entry.now.event) };
 }
 
 /// A history that is sorted by its cell. Contracts see it as the history.
@@ -51,10 +73,7 @@ impl<'a> Sortable for ByCell<'a> {
     ghost comes_before = { by_cell };
 
     fn compare(&self, other: &Self) -> Ordering {
-        key_order(
-            &event_key(&self.entry.event),
-            &event_key(&other.entry.event),
-        )
+        key_order(&self.key, &other.key)
     }
 
     ghost is_order = { entries_ordered };
@@ -77,18 +96,39 @@ impl<'a> Sortable for HistoryByCell<'a> {
 pub(crate) fn sort_stably<T: Sortable + Drop>(items: &mut Vec<T>) -> Result<(), NoMemory>
     ensures sorted { OnOk result (IsSortedBy T.comes_before items.new.items) }
     ensures stable { OnOk result (IsStableBy T.comes_before items.old.items items.new.items) }
+    ensures len { length items.new.items ≡ length items.old.items }
 {
     items.sort_by(|a, b| a.compare(b))?;
     Ok(())
 }
 
 /// Returns references to entries, in their order.
-fn entry_references<'a>(alloc: Global, entries: &'a [LogEntry]) -> Result<Vec<ByCell<'a>>, NoMemory>
+pub(crate) fn journal_references<'a>(
+    alloc: Global,
+    sorted: &[ByStamp<'a>],
+) -> Result<Vec<JournalEntry<'a>>, NoMemory>
+    ensures { IfOk result (λ v. v.items ≡ entries_of sorted.now) }
+{
+    let mut all = Vec::with_capacity(alloc, sorted.len())?;
+    for item in sorted {
+        all.push(JournalEntry { entry: item.entry })?;
+    }
+    Ok(all)
+}
+
+/// Returns references to entries, in their order.
+fn entry_references<'a>(
+    alloc: Global,
+    entries: &[JournalEntry<'a>],
+) -> Result<Vec<ByCell<'a>>, NoMemory>
     ensures { IfOk result (λ v. v.items ≡ entries.now) }
 {
-    let mut all = Vec::new(alloc);
-    for entry in entries {
-        all.push(ByCell { entry })?;
+    let mut all = Vec::with_capacity(alloc, entries.len())?;
+    for item in entries {
+        all.push(ByCell {
+            key: event_key(&item.entry.event),
+            entry: item.entry,
+        })?;
     }
     Ok(all)
 }
@@ -110,7 +150,7 @@ fn history_references<'a>(
 /// Returns entries in the order of their cells: those of each cell stay in their order.
 pub(crate) fn logged_by_cell<'a>(
     alloc: Global,
-    entries: &'a [LogEntry],
+    entries: &[JournalEntry<'a>],
 ) -> Result<Vec<ByCell<'a>>, NoMemory>
     ensures sorted { IfOk result (λ v. IsSortedBy by_cell v.items) }
     ensures stable { IfOk result (λ v. IsStableBy by_cell entries.now v.items) }

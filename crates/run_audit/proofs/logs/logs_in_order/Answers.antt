@@ -6,5 +6,5 @@ use Rattle.run_audit.proofs.logs.logs_in_order.Goals as goal
 
 pub returns : goal.returns
 returns c =
-    let more = c.loop-entry-test.false in
-    named_end c.loop-entry.ordered.items c.args.logs.now c.in_ok-sorted.sorted.items c.args.journal.now c.loop-entry.entry-index (root_name ∷ names_begun c.args.journal.now) (omega (arith, more)) c.in_ok-sorted.ensures.stable c.loop-entry.invariant
+    let more = c.loop-item-test.false in
+    named_end c.loop-item.ordered.items c.args.logs.now c.in_ok-sorted.sorted.items c.args.journal.now c.loop-item.item-index (root_name ∷ names_begun c.args.journal.now) (omega (arith, more)) c.in_ok-sorted.ensures.stable c.loop-item.invariant

@@ -1,0 +1,224 @@
+-- Entries with their indices, sorted, merged, and taken by their indices.
+use Rattle.std.proofs.Common.{◌≡◌, ◌≢◌, ◌⊎◌, inl, inr, ℕ, zero, suc, ◌+◌, ◌-◌, ◌<◌, ◌≤◌, Bool, true, false, List, [], ◌∷◌, ◌++◌, length, take, drop, map, get_or, Option, Some, None, refl, ap, sym, subst, ◌∙◌, append-nil, append_assoc, arith}
+use Rattle.std.specs.Prelude.{if◌then◌else◌, slice_index_or, slice_set}
+use Rattle.std.proofs.lemmas.List.{length-append, get_or-set_other}
+use Rattle.std.proofs.Math.Seq.{get_or-append_seam}
+use Rattle.std.specs.List.Sorted.{IsSortedBy, IsStableBy}
+use Rattle.stable_sort.specs.Sorting.{insert_sorted, sorted_onto, sorted}
+use Rattle.stable_sort.proofs.Sorted.{is_sorted}
+use Rattle.wedge_events.specs.declared.events.LogEntry.{LogEntry}
+use Rattle.thread_laws.specs.Joining.{all_logged, journal_of}
+use Rattle.thread_laws.specs.Sorting.{comes_before}
+use Rattle.thread_laws.specs.declared.gathered.ActorLog.{ActorLog}
+use Rattle.run_audit.specs.IndexedEntries.{IndexedEntry, indexed, entries_of, indices_of, indexed_before, indexed_ordered, AreInOrder, indexed_journal, with_taken, taken_by}
+use Rattle.run_audit.specs.Merges.{merged}
+use Rattle.run_audit.proofs.Merges.{merged_sorted, merged_stable, length_merged, merged_nothing}
+
+pub length_indexed : (n : ℕ) (es : List LogEntry) → length (indexed n es) ≡ length es
+length_indexed n [] = refl
+length_indexed n (e ∷ es) = ap suc (length_indexed (n + 1) es)
+
+entries_indexed : (n : ℕ) (es : List LogEntry) → entries_of (indexed n es) ≡ es
+entries_indexed n [] = refl
+entries_indexed n (e ∷ es) = ap (λ xs. e ∷ xs) (entries_indexed (n + 1) es)
+
+indexed_append : (n : ℕ) (es fs : List LogEntry) → indexed n (es ++ fs) ≡ indexed n es ++ indexed (n + length es) fs
+indexed_append n [] fs = let same : n ≡ n + 0 = omega arith in ap (λ m. indexed m fs) same
+indexed_append n (e ∷ es) fs =
+    let same : (n + 1) + length es ≡ n + suc (length es) = omega arith in
+    let first : IndexedEntry = record { entry = e; index = n } in
+    ap (λ xs. first ∷ xs) (indexed_append (n + 1) es fs ∙ ap (λ m. indexed (n + 1) es ++ indexed m fs) same)
+
+logged_parts : (gs : List ActorLog) (m : ℕ) → all_logged (take m gs) ++ all_logged (drop m gs) ≡ all_logged gs
+logged_parts gs zero = refl
+logged_parts [] (suc m) = refl
+logged_parts (g ∷ gs) (suc m) = append_assoc g.entries (all_logged (take m gs)) (all_logged (drop m gs)) ∙ ap (λ es. g.entries ++ es) (logged_parts gs m)
+
+-- ---- the order of logs
+
+pub order_log : (n : ℕ) (es slice : List LogEntry) (all new : List IndexedEntry) → slice ≡ es → all ≡ indexed n slice → IsSortedBy indexed_before new → IsStableBy indexed_before all new → length new ≡ length all → AreInOrder n es new
+order_log n es slice all new a b up stable len =
+    let whole : all ≡ indexed n es = b ∙ ap (indexed n) a in
+    record {
+      sorted_ = up;
+      stable = subst (λ zs. IsStableBy indexed_before zs new) whole stable;
+      len = len ∙ (ap length whole ∙ length_indexed n es);
+    }
+
+pub order_none : (n : ℕ) (gs : List ActorLog) (xs : List IndexedEntry) → length gs < 1 → xs ≡ [] → AreInOrder n (all_logged gs) xs
+order_none n [] xs less e = subst (AreInOrder n []) (sym e) (record { sorted_ = λ k d from below. absurd (omega (arith, below)); stable = λ t. refl; len = refl })
+order_none n (g ∷ gs) xs less e = absurd (omega (arith, less))
+
+pub order_one : (n : ℕ) (gs : List ActorLog) (g : ActorLog) (xs : List IndexedEntry) → length gs < 2 → 1 ≤ length gs → g ≡ get_or gs 0 g → AreInOrder n g.entries xs → AreInOrder n (all_logged gs) xs
+order_one n [] g xs less more is h = absurd (omega (arith, more))
+order_one n (f ∷ []) g xs less more is h = subst (λ es. AreInOrder n es xs) (ap (λ (x : ActorLog). x.entries) is ∙ sym (append-nil f.entries)) h
+order_one n (f ∷ (k ∷ gs)) g xs less more is h = absurd (omega (arith, less))
+
+order_merged : (n : ℕ) (es fs : List LogEntry) (xs ys : List IndexedEntry) → AreInOrder n es xs → AreInOrder (n + length xs) fs ys → AreInOrder n (es ++ fs) (merged indexed_before xs ys)
+order_merged n es fs xs ys h k =
+    let parts : indexed n es ++ indexed (n + length xs) fs ≡ indexed n (es ++ fs) = ap (λ m. indexed n es ++ indexed (n + m) fs) h.len ∙ sym (indexed_append n es fs) in
+    record {
+      sorted_ = merged_sorted indexed_before indexed_ordered xs ys h.sorted_ k.sorted_;
+      stable = subst (λ zs. IsStableBy indexed_before zs (merged indexed_before xs ys)) parts (merged_stable indexed_before indexed_ordered (indexed n es) (indexed (n + length xs) fs) xs ys h.sorted_ k.sorted_ h.stable k.stable);
+      len = length_merged indexed_before indexed_ordered xs ys ∙ ((λ i. h.len i + k.len i) ∙ sym (length-append es fs));
+    }
+
+pub order_both : (n m : ℕ) (gs half others : List ActorLog) (c : ℕ) (xs ys us vs ws zs : List IndexedEntry) → half ≡ take c gs → others ≡ drop c gs → AreInOrder n (all_logged half) xs → us ≡ xs → m ≡ n + length us → AreInOrder m (all_logged others) ys → vs ≡ xs → ws ≡ ys → zs ≡ merged indexed_before vs ws → AreInOrder n (all_logged gs) zs
+order_both n m gs half others c xs ys us vs ws zs a b h left next k first second out =
+    let both : all_logged half ++ all_logged others ≡ all_logged gs = (λ i. all_logged (a i) ++ all_logged (b i)) ∙ logged_parts gs c in
+    let from : m ≡ n + length xs = next ∙ ap (λ ts. n + length ts) left in
+    let is : zs ≡ merged indexed_before xs ys = out ∙ (λ i. merged indexed_before (first i) (second i)) in
+    subst (AreInOrder n (all_logged gs)) (sym is) (subst (λ es. AreInOrder n es (merged indexed_before xs ys)) both (order_merged n (all_logged half) (all_logged others) xs ys h (subst (λ p. AreInOrder p (all_logged others) ys) from k)))
+
+pub order_journal : (logs : List ActorLog) (xs : List IndexedEntry) → AreInOrder 0 (all_logged logs) xs → xs ≡ indexed_journal logs
+order_journal logs xs h = is_sorted indexed_before indexed_ordered (indexed 0 (all_logged logs)) xs h.sorted_ h.stable
+
+-- ---- the end of a merge
+
+dropped_none : (n : ℕ) (xs : List IndexedEntry) → length xs ≤ n → drop n xs ≡ []
+dropped_none zero [] h = refl
+dropped_none (suc n) [] h = refl
+dropped_none zero (x ∷ xs) h = absurd (omega (arith, h))
+dropped_none (suc n) (x ∷ xs) h = dropped_none n xs (omega (arith, h))
+
+ended : (us vs : List IndexedEntry) → (us ≡ []) ⊎ (vs ≡ []) → us ++ vs ≡ merged indexed_before us vs
+ended us vs (inl e) = ap (λ zs. zs ++ vs) e ∙ ap (λ zs. merged indexed_before zs vs) (sym e)
+ended us vs (inr e) = ap (λ zs. us ++ zs) e ∙ (append-nil us ∙ (sym (merged_nothing indexed_before indexed_ordered us) ∙ ap (λ zs. merged indexed_before us zs) (sym e)))
+
+taken_whole : (n : ℕ) (xs : List IndexedEntry) → length xs ≤ n → take n xs ≡ xs
+taken_whole zero [] h = refl
+taken_whole (suc n) [] h = refl
+taken_whole zero (x ∷ xs) h = absurd (omega (arith, h))
+taken_whole (suc n) (x ∷ xs) h = ap (λ ys. x ∷ ys) (taken_whole n xs (omega (arith, h)))
+
+tail_whole : (i n : ℕ) (xs : List IndexedEntry) → n ≡ length xs - i → take n (drop i xs) ≡ drop i xs
+tail_whole zero n xs e = taken_whole n xs (omega (arith, e))
+tail_whole (suc i) n [] e = taken_whole n [] (omega arith)
+tail_whole (suc i) n (x ∷ xs) e = tail_whole i n xs (omega (arith, e))
+
+pub merge_ended : (i j : ℕ) (xs ys all next out : List IndexedEntry) → (length xs ≤ i) ⊎ (length ys ≤ j) → next ≡ all ++ take (length xs - i) (drop i xs) → out ≡ next ++ take (length ys - j) (drop j ys) → all ++ merged indexed_before (drop i xs) (drop j ys) ≡ merged indexed_before xs ys → out ≡ merged indexed_before xs ys
+merge_ended i j xs ys all next out end a b whole =
+    let left : next ≡ all ++ drop i xs = a ∙ ap (λ zs. all ++ zs) (tail_whole i (length xs - i) xs refl) in
+    let right : out ≡ next ++ drop j ys = b ∙ ap (λ zs. next ++ zs) (tail_whole j (length ys - j) ys refl) in
+    right ∙ (ap (λ zs. zs ++ drop j ys) left ∙ (append_assoc all (drop i xs) (drop j ys) ∙ (ap (λ zs. all ++ zs) (ended (drop i xs) (drop j ys) (none end)) ∙ whole)))
+  where
+    none : (length xs ≤ i) ⊎ (length ys ≤ j) → (drop i xs ≡ []) ⊎ (drop j ys ≡ [])
+    none (inl h) = inl (dropped_none i xs h)
+    none (inr h) = inr (dropped_none j ys h)
+
+-- ---- what is sorted with its indices is the journal
+
+entries_insert : (x : IndexedEntry) (ys : List IndexedEntry) → entries_of (insert_sorted indexed_before x ys) ≡ insert_sorted comes_before x.entry (entries_of ys)
+entries_insert x [] = refl
+entries_insert x (y ∷ ys) = by_first (comes_before x.entry y.entry) (entries_insert x ys)
+  where
+    by_first : (b : Bool) → entries_of (insert_sorted indexed_before x ys) ≡ insert_sorted comes_before x.entry (entries_of ys) → entries_of (if b then x ∷ y ∷ ys else y ∷ insert_sorted indexed_before x ys) ≡ (if b then x.entry ∷ y.entry ∷ entries_of ys else y.entry ∷ insert_sorted comes_before x.entry (entries_of ys))
+    by_first true r = refl
+    by_first false r = ap (λ es. y.entry ∷ es) r
+
+entries_onto : (done xs : List IndexedEntry) → entries_of (sorted_onto indexed_before done xs) ≡ sorted_onto comes_before (entries_of done) (entries_of xs)
+entries_onto done [] = refl
+entries_onto done (x ∷ xs) = entries_onto (insert_sorted indexed_before x done) xs ∙ ap (λ ds. sorted_onto comes_before ds (entries_of xs)) (entries_insert x done)
+
+pub journal_entries : (logs : List ActorLog) → entries_of (indexed_journal logs) ≡ journal_of logs
+journal_entries logs = entries_onto [] (indexed 0 (all_logged logs)) ∙ ap (sorted comes_before) (entries_indexed 0 (all_logged logs))
+
+length_insert : (x : IndexedEntry) (ys : List IndexedEntry) → length (insert_sorted indexed_before x ys) ≡ suc (length ys)
+length_insert x [] = refl
+length_insert x (y ∷ ys) = by_first (indexed_before x y) (length_insert x ys)
+  where
+    by_first : (b : Bool) → length (insert_sorted indexed_before x ys) ≡ suc (length ys) → length (if b then x ∷ y ∷ ys else y ∷ insert_sorted indexed_before x ys) ≡ suc (suc (length ys))
+    by_first true r = refl
+    by_first false r = ap suc r
+
+length_onto : (done xs : List IndexedEntry) → length (sorted_onto indexed_before done xs) ≡ length done + length xs
+length_onto done [] = omega arith
+length_onto done (x ∷ xs) = let more = length_insert x done in length_onto (insert_sorted indexed_before x done) xs ∙ omega (arith, more)
+
+pub journal_length : (logs : List ActorLog) → length (indexed_journal logs) ≡ length (all_logged logs)
+journal_length logs =
+    let sorted_length = length_onto [] (indexed 0 (all_logged logs)) in
+    let whole = length_indexed 0 (all_logged logs) in
+    omega (arith, sorted_length, whole)
+
+-- ---- entries that are in their slots, each with an index of its own
+
+abbrev IsNoneOf : ℕ → List IndexedEntry → Type 0
+IsNoneOf i [] = Unit {0}
+IsNoneOf i (x ∷ xs) = (i ≢ x.index) × IsNoneOf i xs
+
+abbrev AreLeft : List (Option LogEntry) → List IndexedEntry → Type 0
+AreLeft slots [] = Unit {0}
+AreLeft slots (x ∷ xs) = (slice_index_or slots x.index None ≡ Some x.entry) × (IsNoneOf x.index xs × AreLeft slots xs)
+
+left_after : (i : ℕ) (slots : List (Option LogEntry)) (xs : List IndexedEntry) → IsNoneOf i xs → AreLeft slots xs → AreLeft (slice_set slots i None) xs
+left_after i slots [] n h = tt
+left_after i slots (x ∷ xs) n h = (get_or-set_other slots i x.index None None (λ e. n.0 (sym e)) ∙ h.0, (h.1.0, left_after i slots xs n.1 h.1.1))
+
+taken_left : (xs : List IndexedEntry) (slots : List (Option LogEntry)) → AreLeft slots xs → taken_by (indices_of xs) slots ≡ entries_of xs
+taken_left [] slots h = refl
+taken_left (x ∷ xs) slots h =
+    ap (λ o. with_taken o (taken_by (indices_of xs) (slice_set slots x.index None))) h.0
+    ∙ ap (λ es. x.entry ∷ es) (taken_left xs (slice_set slots x.index None) (left_after x.index slots xs h.1.0 h.1.1))
+
+none_insert : (i : ℕ) (x : IndexedEntry) (ys xs : List IndexedEntry) → IsNoneOf i (x ∷ (ys ++ xs)) → IsNoneOf i (insert_sorted indexed_before x ys ++ xs)
+none_insert i x [] xs h = h
+none_insert i x (y ∷ ys) xs h = by_first (indexed_before x y) (none_insert i x ys xs (h.0, h.1.1))
+  where
+    by_first : (b : Bool) → IsNoneOf i (insert_sorted indexed_before x ys ++ xs) → IsNoneOf i ((if b then x ∷ y ∷ ys else y ∷ insert_sorted indexed_before x ys) ++ xs)
+    by_first true r = h
+    by_first false r = (h.1.0, r)
+
+left_insert : (slots : List (Option LogEntry)) (x : IndexedEntry) (ys xs : List IndexedEntry) → AreLeft slots (x ∷ (ys ++ xs)) → AreLeft slots (insert_sorted indexed_before x ys ++ xs)
+left_insert slots x [] xs h = h
+left_insert slots x (y ∷ ys) xs h = by_first (indexed_before x y) (left_insert slots x ys xs (h.0, (h.1.0.1, h.1.1.1.1)))
+  where
+    by_first : (b : Bool) → AreLeft slots (insert_sorted indexed_before x ys ++ xs) → AreLeft slots ((if b then x ∷ y ∷ ys else y ∷ insert_sorted indexed_before x ys) ++ xs)
+    by_first true r = h
+    by_first false r = (h.1.1.0, (none_insert y.index x ys xs ((λ e. h.1.0.0 (sym e)), h.1.1.1.0), r))
+
+none_front : (i : ℕ) (ys : List IndexedEntry) (x : IndexedEntry) (xs : List IndexedEntry) → IsNoneOf i (ys ++ x ∷ xs) → IsNoneOf i (x ∷ (ys ++ xs))
+none_front i [] x xs h = h
+none_front i (y ∷ ys) x xs h = let f = none_front i ys x xs h.1 in (f.0, (h.0, f.1))
+
+left_front : (slots : List (Option LogEntry)) (ys : List IndexedEntry) (x : IndexedEntry) (xs : List IndexedEntry) → AreLeft slots (ys ++ x ∷ xs) → AreLeft slots (x ∷ (ys ++ xs))
+left_front slots [] x xs h = h
+left_front slots (y ∷ ys) x xs h =
+    let f = left_front slots ys x xs h.1.1 in
+    let g = none_front y.index ys x xs h.1.0 in
+    (f.0, (((λ e. g.0 (sym e)), f.1.0), (h.0, (g.1, f.1.1))))
+
+left_onto : (slots : List (Option LogEntry)) (done xs : List IndexedEntry) → AreLeft slots (done ++ xs) → AreLeft slots (sorted_onto indexed_before done xs)
+left_onto slots done [] h = subst (AreLeft slots) (append-nil done) h
+left_onto slots done (x ∷ xs) h = left_onto slots (insert_sorted indexed_before x done) xs (left_insert slots x done xs (left_front slots done x xs h))
+
+none_later : (i n : ℕ) (es : List LogEntry) → i < n → IsNoneOf i (indexed n es)
+none_later i n [] less = tt
+none_later i n (e ∷ es) less = ((λ same. omega (arith, less, same)), none_later i (n + 1) es (omega (arith, less)))
+
+left_indexed : (pre : List (Option LogEntry)) (es : List LogEntry) → AreLeft (pre ++ map Some es) (indexed (length pre) es)
+left_indexed pre [] = tt
+left_indexed pre (e ∷ es) = (
+  get_or-append_seam pre (Some e) (map Some es) None,
+  (
+    none_later (length pre) (length pre + 1) es (omega arith),
+    subst (λ slots. AreLeft slots (indexed (length pre + 1) es)) (append_assoc pre (Some e ∷ []) (map Some es))
+        (subst (λ n. AreLeft ((pre ++ Some e ∷ []) ++ map Some es) (indexed n es)) (length-append pre (Some e ∷ [])) (left_indexed (pre ++ Some e ∷ []) es)),
+  ),
+)
+
+pub taken_journal : (logs : List ActorLog) → taken_by (indices_of (indexed_journal logs)) (map Some (all_logged logs)) ≡ journal_of logs
+taken_journal logs =
+    taken_left (indexed_journal logs) (map Some (all_logged logs)) (left_onto (map Some (all_logged logs)) [] (indexed 0 (all_logged logs)) (left_indexed [] (all_logged logs)))
+    ∙ journal_entries logs
+
+pub journal_fits : (logs vec : List ActorLog) (slots : List (Option LogEntry)) (len cap : ℕ) → vec ≡ logs → slots ≡ [] → len ≡ length slots → length (indexed_journal logs) ≤ cap → len + length (all_logged vec) ≤ cap
+journal_fits logs vec slots len cap same none is fit =
+    let empty : len ≡ 0 = is ∙ ap length none in
+    let all : length (all_logged vec) ≡ length (indexed_journal logs) = ap (λ gs. length (all_logged gs)) same ∙ sym (journal_length logs) in
+    omega (arith, empty, all, fit)
+
+pub journal_taken : (logs vec : List ActorLog) (order slice : List ℕ) (slots filled : List (Option LogEntry)) (entries out : List LogEntry) → vec ≡ logs → order ≡ indices_of (indexed_journal logs) → slice ≡ order → slots ≡ [] → filled ≡ slots ++ map Some (all_logged vec) → entries ≡ [] → out ≡ entries ++ taken_by slice filled → out ≡ journal_of logs
+journal_taken logs vec order slice slots filled entries out same indices of_order no_slots fills none is =
+    let all : filled ≡ map Some (all_logged logs) = fills ∙ (ap (λ s. s ++ map Some (all_logged vec)) no_slots ∙ ap (λ gs. map Some (all_logged gs)) same) in
+    is ∙ (ap (λ es. es ++ taken_by slice filled) none ∙ ((λ i. taken_by ((of_order ∙ indices) i) (all i)) ∙ taken_journal logs))

@@ -1,0 +1,178 @@
+//! References to the entries of all logs, merged in the order of their stamps.
+
+ghost use Rattle.std.specs.Prelude.{◌≡◌, ◌+◌, ◌++◌, length, IfOk};
+ghost use Rattle.thread_laws.specs.Joining.{all_logged};
+ghost use Rattle.run_audit.specs.IndexedEntries.{indexed, indexed_before, indexed_journal};
+ghost use Rattle.run_audit.specs.IndexedEntries.{AreInOrder};
+ghost use Rattle.run_audit.specs.Merges.{merged};
+
+use crate::sorts::sort_stably;
+use stable_sort::Sortable;
+use std::alloc::Global;
+use std::cmp::Ordering;
+use std::marker::Model;
+use thread_laws::ActorLog;
+use wedge_base::{NoMemory, Stamp};
+use wedge_events::LogEntry;
+
+/// An entry by reference, with its index among the entries of all logs, log by log. Its stamp is
+/// beside it, so that most comparisons read no entry. Contracts see it as the entry with its index.
+#[derive(Drop)]
+pub(crate) struct ByStamp<'a> {
+    stamp: Stamp,
+    pub entry: &'a LogEntry,
+    pub index: usize,
+}
+
+impl<'a> Model for ByStamp<'a> {
+    ghost use Rattle.std.specs.Prelude.{◌≡◌};
+    ghost use Rattle.run_audit.specs.IndexedEntries.{IndexedEntry};
+
+    ghost Value = { IndexedEntry };
+
+    ghost view = { λ p. record { entry = p.entry.now; index = p.index } };
+
+    ghost invariant = { λ p. p.stamp ≡ p.entry.now.stamp };
+}
+
+impl<'a> Sortable for ByStamp<'a> {
+    ghost use Rattle.run_audit.specs.IndexedEntries.{indexed_before, indexed_ordered};
+
+    ghost comes_before = { indexed_before };
+
+    fn compare(&self, other: &Self) -> Ordering {
+        match self.stamp.0.cmp(&other.stamp.0) {
+            Ordering::Equal => self.entry.actor.parts().cmp(other.entry.actor.parts()),
+            order => order,
+        }
+    }
+
+    ghost is_order = { indexed_ordered };
+}
+
+impl<'a> ByStamp<'a> {
+    /// Returns the same reference.
+    fn again(&self) -> ByStamp<'a>
+        ensures { result ≡ self.now }
+    {
+        ByStamp {
+            stamp: self.stamp,
+            entry: self.entry,
+            index: self.index,
+        }
+    }
+}
+
+/// Returns references to entries, in their order, with indices from a number on.
+fn references_from<'a>(
+    alloc: Global,
+    entries: &'a [LogEntry],
+    first: usize,
+) -> Result<Vec<ByStamp<'a>>, NoMemory>
+    ensures { IfOk result (λ v. v.items ≡ indexed first entries.now) }
+{
+    let mut all = Vec::with_capacity(alloc, entries.len())?;
+    for entry in entries {
+        let index = first.checked_add(all.len()).ok_or(NoMemory)?;
+        all.push(ByStamp {
+            stamp: entry.stamp,
+            entry,
+            index,
+        })?;
+    }
+    Ok(all)
+}
+
+/// Returns references to the entries of a log in the order of their stamps. The sort is one pass
+/// where they are in it.
+fn log_in_order<'a>(
+    alloc: Global,
+    log: &'a ActorLog,
+    first: usize,
+) -> Result<Vec<ByStamp<'a>>, NoMemory>
+    ensures { IfOk result (λ v. AreInOrder first log.now.entries v.items) }
+{
+    let mut all = references_from(alloc, log.entries.as_slice(), first)?;
+    sort_stably(&mut all)?;
+    Ok(all)
+}
+
+/// Adds references after others, in their order.
+fn add_all<'a>(
+    mut all: Vec<ByStamp<'a>>,
+    items: &[ByStamp<'a>],
+) -> Result<Vec<ByStamp<'a>>, NoMemory>
+    ensures { IfOk result (λ v. v.items ≡ all.entry.items ++ items.now) }
+{
+    for item in items {
+        all.push(item.again())?;
+    }
+    Ok(all)
+}
+
+/// Merges two lists: where the stamp and the actor of two entries are the same, that of the first
+/// list comes first.
+fn merge<'a>(
+    alloc: Global,
+    first: &[ByStamp<'a>],
+    second: &[ByStamp<'a>],
+) -> Result<Vec<ByStamp<'a>>, NoMemory>
+    ensures { IfOk result (λ v. v.items ≡ merged indexed_before first.now second.now) }
+{
+    let mut all = Vec::with_capacity(alloc, first.len().saturating_add(second.len()))?;
+    let mut i = 0;
+    let mut j = 0;
+    while i < first.len() && j < second.len() {
+        if second[j].compare(&first[i]).is_lt() {
+            all.push(second[j].again())?;
+            j += 1;
+        } else {
+            all.push(first[i].again())?;
+            i += 1;
+        }
+    }
+    all = add_all(all, &first[i..])?;
+    add_all(all, &second[j..])
+}
+
+/// Returns the index after those of entries that begin at one.
+fn index_after(first: usize, entries: &[ByStamp<'_>]) -> Result<usize, NoMemory>
+    ensures { IfOk result (λ n. n ≡ first + length entries.now) }
+{
+    first.checked_add(entries.len()).ok_or(NoMemory)
+}
+
+/// Returns references to the entries of logs in the order of their stamps, with indices from a
+/// number on: those of each half of the logs, merged.
+///
+/// std's stable sort of all references would give the same list, but it merges only those runs that
+/// are at least as long as the square root of their number, and sorts shorter logs from nothing.
+fn logs_merged<'a>(
+    alloc: Global,
+    logs: &'a [ActorLog],
+    first: usize,
+) -> Result<Vec<ByStamp<'a>>, NoMemory>
+    ensures { IfOk result (λ v. AreInOrder first (all_logged logs.now) v.items) }
+{
+    match logs {
+        [] => Ok(Vec::new(alloc)),
+        [log] => log_in_order(alloc, log, first),
+        _ => {
+            let (half, others) = logs.split_at(logs.len() / 2);
+            let left = logs_merged(alloc, half, first)?;
+            let next = index_after(first, left.as_slice())?;
+            let right = logs_merged(alloc, others, next)?;
+            merge(alloc, left.as_slice(), right.as_slice())
+        }
+    }
+}
+
+/// Returns references to all logged entries in the order of the journal.
+pub(crate) fn entries_in_order<'a>(
+    alloc: Global,
+    logs: &'a [ActorLog],
+) -> Result<Vec<ByStamp<'a>>, NoMemory>
+    ensures { IfOk result (λ v. v.items ≡ indexed_journal logs.now) }
+{
+    logs_merged(alloc, logs, 0)
+}
