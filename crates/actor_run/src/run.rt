@@ -139,10 +139,13 @@ impl<I: RunOf> ActorRun<I> {
         ensures going { OnOk result (self.old.stopped ≡ false) }
         ensures err { OnErr result ((self.new ≡ self.old) ⊎ (self.new.stopped ≡ true)) }
     {
-        match self.take(program, entry)? {
-            None => Ok(()),
-            Some(_) => unreachable!(),
-        }
+        let log = &mut self.entries;
+        log.reserve(1)?;
+        sthread_life::take_alone(&mut self.actor, program, &mut self.memory, &entry.event)?;
+        let stamp = entry.stamp;
+        log.push_reserved(entry);
+        self.clock = stamp;
+        Ok(())
     }
 
     /// Makes the actor's part of an event that creates another, and adds the event's entry to the log. Returns the

@@ -253,10 +253,7 @@ fn has_few_parts(resident: &Resident)
 
 /// Returns the entry of an event of no cell, one above the actor's clock. Fails where out of memory, and where no
 /// stamp is left.
-pub(crate) fn cellless_entry<I: RunOf>(
-    run: &ActorRun<I>,
-    event: Event,
-) -> Result<LogEntry, NoMemory>
+pub fn cellless_entry<I: RunOf>(run: &ActorRun<I>, event: Event) -> Result<LogEntry, NoMemory>
     ensures { IfOk result (λ e. e ≡ cellless_entry_of run.now.progress event) }
 {
     let clock = run.clock();

@@ -3,6 +3,7 @@
 ghost use Rattle.std.specs.Prelude.{◌≡◌, IfOk, OnOk, Some, true, false};
 ghost use Rattle.machine.specs.Between.{WantFits};
 ghost use Rattle.machine.specs.Take.{current_want};
+ghost use Rattle.wedge_events.specs.declared.events.SlotWant.{SlotWant as ASlotWant};
 ghost use Rattle.wedge_events.specs.declared.events.Want.{Want as AWant};
 ghost use Rattle.run_cells.specs.Entries.{IsOfCell, IsPlainEntry};
 ghost use Rattle.thread_laws.specs.ActorProgresses.{after_rest, after_entry};
@@ -17,8 +18,8 @@ use machine::Next;
 use ready_text::Program;
 use run_cells::{RunCells, is_of_cell};
 use std::sync::Wait;
-use wedge_base::{ActorName, End, GateId, NoMemory};
-use wedge_events::{GateAsk, LogEntry, SavedView, Want};
+use wedge_base::{ActorName, End, GateId, NoMemory, Slot};
+use wedge_events::{GateAsk, LogEntry, SavedView, SlotWant, Want};
 
 /// What an actor came to.
 #[derive(Debug, Drop)]
@@ -106,9 +107,124 @@ impl<I: RunOf> ActorTask<I> {
         Ok(step_of_want(want))
     }
 
-    /// One event of the actor on a cell.
+    /// One event of the actor on a cell. Loads and stores have functions of their own, since they are the most.
     #[inline(always)]
     fn do_alone<R: Wait, P: Pace>(
+        &mut self,
+        rt: &R,
+        program: &Program<'_>,
+        cells: &RunCells<I>,
+        pace: &P,
+        want: Want,
+    ) -> Result<(), NoMemory>
+        requires image { program.now ≡ I.image }
+        requires rest { IsAtRest self.old (next.Shared want) }
+        requires of_cell { IsOfCell want }
+        ensures { OnOk result (IsSame self.old.progress self.new.progress) }
+    {
+        match want {
+            Want::Slot { slot, want } => self.do_slot(rt, program, cells, pace, slot, want),
+            _ => self.do_other(rt, program, cells, pace, want),
+        }
+    }
+
+    /// One event of the actor on a slot.
+    #[inline(always)]
+    fn do_slot<R: Wait, P: Pace>(
+        &mut self,
+        rt: &R,
+        program: &Program<'_>,
+        cells: &RunCells<I>,
+        pace: &P,
+        slot: Slot,
+        want: SlotWant,
+    ) -> Result<(), NoMemory>
+        requires image { program.now ≡ I.image }
+        requires rest { IsAtRest self.old (next.Shared (AWant.Slot slot want)) }
+        ensures { OnOk result (IsSame self.old.progress self.new.progress) }
+    {
+        match want {
+            SlotWant::Load { offset, width } => {
+                self.load(rt, program, cells, pace, slot, offset, width)
+            }
+            SlotWant::Store {
+                offset,
+                width,
+                value,
+            } => self.store(rt, program, cells, pace, slot, offset, width, value),
+            _ => self.do_other(rt, program, cells, pace, Want::Slot { slot, want }),
+        }
+    }
+
+    /// A load. Out of line, and with the kind of what is wanted known: so the compiler leaves out of the most frequent events
+    /// what only others need.
+    #[inline(never)]
+    fn load<R: Wait, P: Pace>(
+        &mut self,
+        rt: &R,
+        program: &Program<'_>,
+        cells: &RunCells<I>,
+        pace: &P,
+        slot: Slot,
+        offset: u32,
+        width: u8,
+    ) -> Result<(), NoMemory>
+        requires image { program.now ≡ I.image }
+        requires rest { IsAtRest self.old
+            (next.Shared (AWant.Slot slot (ASlotWant.Load offset width))) }
+        ensures { OnOk result (IsSame self.old.progress self.new.progress) }
+    {
+        let want = SlotWant::Load { offset, width };
+        self.do_event(rt, program, cells, pace, Want::Slot { slot, want })
+    }
+
+    /// A store, out of line for the same reason.
+    #[inline(never)]
+    fn store<R: Wait, P: Pace>(
+        &mut self,
+        rt: &R,
+        program: &Program<'_>,
+        cells: &RunCells<I>,
+        pace: &P,
+        slot: Slot,
+        offset: u32,
+        width: u8,
+        value: u32,
+    ) -> Result<(), NoMemory>
+        requires image { program.now ≡ I.image }
+        requires rest { IsAtRest self.old
+            (next.Shared (AWant.Slot slot (ASlotWant.Store offset width value))) }
+        ensures { OnOk result (IsSame self.old.progress self.new.progress) }
+    {
+        let want = SlotWant::Store {
+            offset,
+            width,
+            value,
+        };
+        self.do_event(rt, program, cells, pace, Want::Slot { slot, want })
+    }
+
+    /// Any event on a cell, out of line so that it is in nobody's way.
+    #[inline(never)]
+    fn do_other<R: Wait, P: Pace>(
+        &mut self,
+        rt: &R,
+        program: &Program<'_>,
+        cells: &RunCells<I>,
+        pace: &P,
+        want: Want,
+    ) -> Result<(), NoMemory>
+        requires image { program.now ≡ I.image }
+        requires rest { IsAtRest self.old (next.Shared want) }
+        requires of_cell { IsOfCell want }
+        ensures { OnOk result (IsSame self.old.progress self.new.progress) }
+    {
+        self.do_event(rt, program, cells, pace, want)
+    }
+
+    /// The event that the actor wants, done and logged.
+    #[inline(always)]
+    fn do_event<R: Wait, P: Pace>(
         &mut self,
         rt: &R,
         program: &Program<'_>,
@@ -126,13 +242,10 @@ impl<I: RunOf> ActorTask<I> {
         self.take_plain(program, entry)
     }
 
-    /// The actor's part of an event that creates no actor and joins none.
+    /// Makes the actor's part of an event that creates no actor and joins none, and adds its entry to the log. Fails where out
+    /// of memory.
     #[inline(always)]
-    pub(crate) fn take_plain(
-        &mut self,
-        program: &Program<'_>,
-        entry: LogEntry,
-    ) -> Result<(), NoMemory>
+    pub fn take_plain(&mut self, program: &Program<'_>, entry: LogEntry) -> Result<(), NoMemory>
         requires image { program.now ≡ I.image }
         requires going { self.old.stopped ≡ false }
         requires entry { IsPlainEntry I.image self.old.progress entry }

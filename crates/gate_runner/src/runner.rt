@@ -9,6 +9,7 @@ ghost use Rattle.actor_task.specs.Steps.{IsStep, IsJointStep};
 ghost use Rattle.actor_task.specs.Tasks.{IsSame, IsUnlocked, Wants, WantsEntry};
 
 use crate::gather::gathered;
+use actor_ends::{finish_locked, finish_unlocked, join_child, resume};
 use actor_task::{
     ActorTask, Created, Creating, GateEntry, Last, NewActor, Returned, ReturnsFamily, Step,
 };
@@ -96,7 +97,7 @@ fn do_joint<'s, 'e, I: RunOf + Send + Sync, R: Threads + Wait + Sync, P: Pace + 
     ensures { IfOk result (λ k. IsSame task.progress k.progress) }
 {
     match step {
-        Step::Waits { number } => task.resume(all.rt, number),
+        Step::Waits { number } => resume(task, all.rt, number),
         Step::Join { number } => join(all, task, number),
         Step::Start { child } => start(scope, all, task, child),
         Step::Enter { run } => enter_fresh(all, task, run),
@@ -116,7 +117,7 @@ fn join<'e, I: RunOf, R: Threads, P: Pace>(
 {
     let mut task = task;
     all.pace.before(task.name());
-    task.join(all.rt, all.program, number)?;
+    join_child(&mut task, all.rt, all.program, number)?;
     Ok(task)
 }
 
@@ -176,7 +177,7 @@ fn run_whole<'e, I: RunOf + Send + Sync, R: Threads + Wait + Sync, P: Pace + Syn
     ensures { IfOk result (IsReturned I.image new.resident new.stamp) }
 {
     let AtEnd { task, last } = run_to_end(all, new)?;
-    task.finish_unlocked(all.rt, all.program, all.pace, last)
+    finish_unlocked(task, all.rt, all.program, all.pace, last)
 }
 
 /// The entry of a fresh gate, and its run on this thread.
@@ -267,7 +268,7 @@ fn leave_inside<'e, I: RunOf, R: Threads, P: Pace>(
     ensures { IfOk result (λ k. IsSame creating.progress k.progress) }
 {
     let AtEnd { task, last } = at_end;
-    let returned = task.finish_locked(all.rt, all.program, all.pace, last, locked)?;
+    let returned = finish_locked(task, all.rt, all.program, all.pace, last, locked)?;
     creating.adopt_ended(returned)
 }
 

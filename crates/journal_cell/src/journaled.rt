@@ -90,6 +90,7 @@ impl<O: Object, I: RunOf> Journaled<O, I> {
     ///
     /// Fails only where out of memory, and always where the greater clock is 2^64 - 1, above which there is
     /// no stamp. Then the cell and the pass are as before.
+    #[inline(always)]
     pub fn enter(
         &mut self,
         pass: &mut Pass<'_>,

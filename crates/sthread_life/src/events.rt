@@ -1,6 +1,6 @@
 //! An actor's part of a shared event.
 
-ghost use Rattle.std.specs.Prelude.{◌≡◌, ◌<◌, IfOk, IfSome, OnOk, OnErr, true, false, option_map, option_and_then};
+ghost use Rattle.std.specs.Prelude.{◌≡◌, ◌<◌, IfOk, IfSome, OnOk, OnErr, None, true, false, option_map, option_and_then};
 ghost use Rattle.cow_pages.specs.PrivateMemory.{PrivateMemory, no_memory};
 ghost use Rattle.wedge_base.specs.Images.{fetch, slots};
 ghost use Rattle.wedge_events.specs.declared.events.Event.{Event as AnEvent};
@@ -49,6 +49,71 @@ pub fn take(
     let taken = take_event(actor, program, memory, event);
     actor.stopped = taken.is_err();
     taken
+}
+
+/// What an event makes of the actor that begins no other: as `take`, without room for one that begins.
+#[inline(always)]
+pub fn take_alone(
+    actor: &mut Actor,
+    program: &Program<'_>,
+    memory: &mut PrivateView,
+    event: &Event,
+) -> Result<(), NoMemory>
+    requires fits { TakesFit (whole actor.old memory.old) event.now }
+    requires alone { taking.actor_begun program.now (whole actor.old memory.old) event.now ≡ None }
+    ensures takes { OnOk result (whole actor.new memory.new
+        ≡ taking.takes program.now (whole actor.old memory.old) event.now) }
+    ensures name { OnOk result (actor.new.name ≡ actor.old.name) }
+    ensures going { OnOk result ((actor.old.stopped ≡ false) × (actor.new.stopped ≡ false)) }
+    ensures stops { OnErr result (actor.new.stopped ≡ true) }
+{
+    if actor.stopped {
+        return Err(NoMemory);
+    }
+    let taken = take_event_alone(actor, program, memory, event);
+    actor.stopped = taken.is_err();
+    taken
+}
+
+/// What an event makes of it that begins no other. Those of slots have their arm here, since they are the most.
+#[inline(always)]
+#[tactic(auto, unfolding(machine::specs::Take::takes))]
+fn take_event_alone(
+    actor: &mut Actor,
+    program: &Program<'_>,
+    memory: &mut PrivateView,
+    event: &Event,
+) -> Result<(), NoMemory>
+    requires fits { TakesFit (whole actor.old memory.old) event.now }
+    requires alone { taking.actor_begun program.now (whole actor.old memory.old) event.now ≡ None }
+    ensures takes { OnOk result (whole actor.new memory.new
+        ≡ taking.takes program.now (whole actor.old memory.old) event.now) }
+    ensures name { OnOk result (actor.new.name ≡ actor.old.name) }
+{
+    match event {
+        Event::Slot { slot, ask, reply } => take_slot(actor, program, memory, *slot, ask, reply),
+        _ => take_any_alone(actor, program, memory, event),
+    }
+}
+
+/// The same of any event.
+#[inline(never)]
+fn take_any_alone(
+    actor: &mut Actor,
+    program: &Program<'_>,
+    memory: &mut PrivateView,
+    event: &Event,
+) -> Result<(), NoMemory>
+    requires fits { TakesFit (whole actor.old memory.old) event.now }
+    requires alone { taking.actor_begun program.now (whole actor.old memory.old) event.now ≡ None }
+    ensures takes { OnOk result (whole actor.new memory.new
+        ≡ taking.takes program.now (whole actor.old memory.old) event.now) }
+    ensures name { OnOk result (actor.new.name ≡ actor.old.name) }
+{
+    match take_event(actor, program, memory, event)? {
+        None => Ok(()),
+        Some(_) => unreachable!(),
+    }
 }
 
 /// What an event makes of it.

@@ -10,6 +10,6 @@ mod streams;
 mod wants;
 
 pub use entering::resume;
-pub use events::take;
+pub use events::{take, take_alone};
 pub use machine::{Actor, Next};
 pub use resting::local;

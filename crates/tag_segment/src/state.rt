@@ -116,6 +116,7 @@ impl Object for SlotState {
 
     ghost fits = { FitsState };
 
+    #[inline(always)]
     fn act(&mut self, ask: &SlotAsk) -> Result<(SlotReply, SlotReply), NoMemory>
         requires { SlotFits self.old ask.now }
         ensures first { IfOk result (λ r. r.0 ≡ slot_reply self.old ask.now) }

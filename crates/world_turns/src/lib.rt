@@ -8,5 +8,5 @@ mod world;
 
 pub use error::{NoTurn, ReplayFault, Why};
 pub use residents::Residents;
-pub use turns::{Taken, Went, advance, turn};
+pub use turns::{Taken, Went, advance, go_on, turn};
 pub use world::{World, open_world};

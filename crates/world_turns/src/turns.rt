@@ -178,7 +178,7 @@ fn advance_over(
 }
 
 /// The actor at an index goes on if it waits for the run of a gate that has ended. Returns false where it waits still.
-fn go_on(residents: &mut Residents, name: &ActorName, index: usize) -> Result<bool, NoMemory>
+pub fn go_on(residents: &mut Residents, name: &ActorName, index: usize) -> Result<bool, NoMemory>
     requires there { IsIndexOf residents.old name.now index }
     requires family { Family residents.old }
     ensures goes { IfOk result (λ r. r ≡ true

@@ -2,7 +2,7 @@ use Rattle.std.proofs.Common.{rules, ◌≡◌, ◌++◌, sym, subst}
 use Rattle.std.specs.Prelude.{All}
 use Rattle.std.proofs.lemmas.List.Elements.{All-append}
 use Rattle.thread_laws.specs.Replaying.{IsKept}
-use Rattle.actor_task.proofs.finishing.add.Goals as goal
+use Rattle.actor_ends.proofs.finishing.add.Goals as goal
 
 pub returns-clause-gates : goal.returns-clause-gates
 returns-clause-gates g c =

@@ -4,7 +4,7 @@ use Rattle.std.specs.Vec.Iter.{into_iter_items, into_iter_len}
 use Rattle.thread_laws.specs.ActorProgresses.{ActorProgress, CreatedActor, Families, IsProgress}
 use Rattle.thread_laws.specs.Replaying.{IsKept}
 use Rattle.actor_task.specs.Tasks.{IsTask}
-use Rattle.actor_task.proofs.finishing.gather.Given as goal
+use Rattle.actor_ends.proofs.finishing.gather.Given as goal
 
 abbrev pub invariant-loop-one : goal.invariant-loop-one
 invariant-loop-one g l =

@@ -4,7 +4,7 @@ use Rattle.std.specs.Prelude.{Some}
 use Rattle.std.specs.Vec.Iter.{into_iter_items}
 use Rattle.thread_laws.specs.ActorProgresses.{CreatedActor, IsProgress, nobody, another, learns}
 use Rattle.actor_task.proofs.CreatedLists.{append_step, none_there, there_last, set_last}
-use Rattle.actor_task.proofs.finishing.gather.Goals as goal
+use Rattle.actor_ends.proofs.finishing.gather.Goals as goal
 
 pub loop-one-init : goal.loop-one-init
 loop-one-init g c = ([], nobody [] _ refl (search rules), λ r h. subst (IsProgress g.I.RunOf.image r) (search rules) h.progress, search rules, search rules)

@@ -1,9 +1,0 @@
-use Rattle.std.proofs.Common.{ap}
-use Rattle.wedge_events.specs.declared.cells.GateReply.TheVariants as gate_reply
-use Rattle.actor_task.specs.Tasks.{TaskState}
-use Rattle.actor_task.proofs.EntriesFit.{gate_leave_ends}
-use Rattle.actor_task.proofs.task.ActorTask.leave_recycled.Goals as goal
-
-pub finish-requires-clause-ended : goal.finish-requires-clause-ended
-finish-requires-clause-ended g c =
-    gate_leave_ends g.I.RunOf.image c.args.self.progress c.take_plain.new.self.progress c.in_ok-entry.entry c.args.gate c.args.end c.args.memory gate_reply.Left (ap (λ (k : TaskState). k.progress) c.in_ok-take_plain.ensures) c.in_ok-entry.ensures.event
