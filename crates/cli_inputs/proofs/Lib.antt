@@ -6,3 +6,7 @@ pub mod Partitions
 pub mod TraceFaults
 -- The image that a program and a partition are joined to, or why there is none.
 pub mod Joined
+-- The number of workers that an argument is.
+pub mod Workers
+-- The number of workers that arguments ask for is from 1 to 200.
+pub mod FitWorkers

@@ -1,6 +1,8 @@
 -- What the arguments of the command line ask.
-use Rattle.std.specs.Prelude.{ℕ, ◌==◌, Bool, false, not, ◌&&◌, List, [], ◌∷◌, map, Option, Some, None, option_map, codes, String, if◌then◌else◌}
+use Rattle.std.specs.Prelude.{ℕ, ◌==◌, ◌≤◌, nat_le, Bool, false, not, ◌&&◌, List, [], ◌∷◌, map, Option, Some, None, option_map, codes, String, if◌then◌else◌}
+use Rattle.std.specs.Fmt.{decimal}
 use Rattle.std.specs.Str.{bytes_eq}
+use Rattle.std.specs.Str.Parse.{digits_value}
 use Rattle.std.specs.String.{string_bytes}
 use Rattle.cli_inputs.specs.declared.words.RunFlag.{RunFlag}
 use Rattle.cli_inputs.specs.declared.words.RunFlag.TheVariants.{Plain, Schedule}
@@ -9,7 +11,7 @@ use Rattle.cli_inputs.specs.declared.words.Query.TheVariants.{Accessed, Users, W
 use Rattle.cli_inputs.specs.declared.words.Command.{Command}
 use Rattle.cli_inputs.specs.declared.words.Command.TheVariants as command
 
--- a command, with the names of its files
+-- a command, with the names of its files, or the number of workers
 pub data Asked : Type 0 where
   Run : List ℕ → RunFlag → Asked
   Show : List ℕ → Asked
@@ -18,6 +20,7 @@ pub data Asked : Type 0 where
   Replay : List ℕ → List ℕ → Asked
   Derive : List ℕ → Asked
   Analyze : List ℕ → Query → List ℕ → Asked
+  Gen : ℕ → Asked
 
 -- the same as the program has it
 abbrev pub asked_by : Command → Asked
@@ -28,6 +31,7 @@ asked_by (command.Link elf part) = Link elf.now part.now
 asked_by (command.Replay image schedule) = Replay image.now schedule.now
 asked_by (command.Derive trace) = Derive trace.now
 asked_by (command.Analyze trace query name) = Analyze trace.now query name.now
+asked_by (command.Gen workers) = Gen workers
 
 -- the texts of the arguments
 abbrev pub texts : {A : Type 0} → List (String A) → List (List ℕ)
@@ -92,6 +96,23 @@ abbrev pub analyze_of : List (List ℕ) → Option Asked
 analyze_of (trace ∷ query ∷ name ∷ []) = analyze_with trace name (query_of query)
 analyze_of arguments = None
 
+-- the most workers of a workload
+abbrev pub most_workers : ℕ
+most_workers = 200
+
+-- whether n is from 1 to that, and an argument is its decimal form: digits, the first not 0
+abbrev pub is_workers : ℕ → List ℕ → Bool
+is_workers n argument = nat_le 1 n && nat_le n most_workers && bytes_eq (decimal n) argument
+
+-- the number of workers that an argument is
+unfoldable pub workers_in : List ℕ → Option ℕ
+workers_in argument =
+    if is_workers (digits_value 10 argument) argument then Some (digits_value 10 argument) else None
+
+abbrev pub gen_of : List (List ℕ) → Option Asked
+gen_of (count ∷ []) = option_map Gen (workers_in count)
+gen_of arguments = None
+
 -- the command that all arguments ask
 abbrev pub command_of : List (List ℕ) → Option Asked
 command_of [] = None
@@ -103,4 +124,17 @@ command_of (command ∷ arguments) =
     else if bytes_eq command (codes "replay") then replay_command arguments
     else if bytes_eq command (codes "derive") then derive_of arguments
     else if bytes_eq command (codes "analyze") then analyze_of arguments
+    else if bytes_eq command (codes "gen") then gen_of arguments
     else None
+
+-- ---- what the code uses of it
+
+-- the number of workers of a workload is from 1 to 200
+abbrev pub HasFitWorkers : Asked → Type 0
+HasFitWorkers (Gen workers) = (1 ≤ workers) × (workers ≤ most_workers)
+HasFitWorkers other = Unit {0}
+
+-- whether the first byte is a digit other than 0
+abbrev pub begins_with_nonzero_digit : List ℕ → Bool
+begins_with_nonzero_digit [] = false
+begins_with_nonzero_digit (c ∷ cs) = nat_le 49 c && nat_le c 57

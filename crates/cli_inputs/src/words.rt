@@ -1,8 +1,13 @@
 //! The arguments of the command line.
 
-ghost use Rattle.std.specs.Prelude.{◌≡◌, Some, None, option_map, MatchResult};
+ghost use Rattle.std.specs.Prelude.{◌≡◌, Some, None, option_map, IfOk, MatchResult};
 ghost use Rattle.std.specs.String.{string_bytes};
 ghost use Rattle.cli_inputs.specs.Words as asking;
+
+use thiserror::Error;
+
+/// The most workers of a workload.
+const MOST_WORKERS: u32 = 200;
 
 /// How a run is reported.
 #[derive(Clone, Copy, Debug, PartialEq, Eq)]
@@ -60,21 +65,28 @@ pub enum Command<'a> {
         query: Query,
         name: &'a str,
     },
+    /// To run the workload of 1 to 200 workers and write the line that sums it up.
+    Gen {
+        workers: u32,
+    },
 }
 
 /// Why arguments are no command.
-#[derive(Clone, Copy, Debug, PartialEq, Eq)]
+#[derive(Clone, Copy, Debug, PartialEq, Eq, Error)]
 pub enum WordsFault {
     /// They have not the form of any command.
+    #[error("usage")]
     Usage,
 }
 
-/// The command of the arguments after the program's name. An argument that is empty or begins with `-` names no
-/// file.
+/// Returns the command of the arguments after the program's name. An argument that is empty or begins with `-` names
+/// no file. `Usage` where they are no command.
 pub fn read_words(words: &[String]) -> Result<Command<'_>, WordsFault>
-    ensures { MatchResult result
+    ensures asked { MatchResult result
         (λ c. asking.command_of (asking.texts words.now) ≡ Some (asking.asked_by c))
         (λ _. asking.command_of (asking.texts words.now) ≡ None) }
+    // The number of workers of a workload is from 1 to 200.
+    ensures workers { IfOk result (λ c. asking.HasFitWorkers (asking.asked_by c)) }
 {
     match command_in(words) {
         Some(command) => Ok(command),
@@ -95,6 +107,7 @@ fn command_in(words: &[String]) -> Option<Command<'_>>
         "replay" => replay_in(arguments),
         "derive" => derive_in(arguments),
         "analyze" => analyze_in(arguments),
+        "gen" => gen_in(arguments),
         _ => None,
     }
 }
@@ -210,6 +223,43 @@ fn query_in(argument: &str) -> Option<Query>
         "users" => Some(Query::Users),
         "written" => Some(Query::Written),
         _ => None,
+    }
+}
+
+/// The command of the arguments after `gen`.
+fn gen_in(arguments: &[String]) -> Option<Command<'_>>
+    ensures { option_map asking.asked_by result ≡ asking.gen_of (asking.texts arguments.now) }
+{
+    match arguments {
+        [count] => {
+            let workers = workers_in(count.as_str())?;
+            Some(Command::Gen { workers })
+        }
+        _ => None,
+    }
+}
+
+/// Returns the number of workers, from 1 to 200, whose decimal form an argument is.
+fn workers_in(argument: &str) -> Option<u32>
+    ensures { result ≡ asking.workers_in argument.now }
+{
+    if !begins_with_nonzero_digit(argument.as_bytes()) {
+        return None;
+    }
+    let workers = argument.parse::<u32>().ok()?;
+    if workers > MOST_WORKERS {
+        return None;
+    }
+    Some(workers)
+}
+
+/// Whether the first byte is a decimal digit other than 0.
+fn begins_with_nonzero_digit(bytes: &[u8]) -> bool
+    ensures { result ≡ asking.begins_with_nonzero_digit bytes.now }
+{
+    match bytes {
+        [] => false,
+        [first, ..] => b'1' <= *first && *first <= b'9',
     }
 }
 

@@ -1,10 +1,11 @@
-//! The texts of a run: its report, and its schedule.
+//! The texts of a run: its report, its schedule, and the summary of a run of the workload.
 #![tactic(auto)]
 
 mod fault;
 mod lines;
 mod numbers;
 mod reading;
+mod summaries;
 mod text;
 mod words;
 mod writing;
@@ -12,6 +13,7 @@ mod writing;
 pub use fault::ScheduleFault;
 pub use numbers::{write_address, write_decimal, write_name};
 pub use reading::read_schedule;
+pub use summaries::summary;
 pub use text::report;
 pub use words::{bits_word, right_word};
 pub use writing::write_schedule;

@@ -10,3 +10,5 @@ pub mod Again
 pub mod Links
 -- What `run` ended with.
 pub mod RunEnds
+-- What `gen` ended with.
+pub mod GenEnds

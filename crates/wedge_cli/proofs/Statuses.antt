@@ -13,7 +13,7 @@ use Rattle.wedge_cli.specs.Lines.{line, usage_line, refusal_text, status_of}
 use Rattle.cli_inputs.specs.Loading.{image_from_bytes, built_of, IsRefusedBy}
 use Rattle.cli_inputs.specs.Replaying.{replay_text}
 use Rattle.cli_inputs.specs.Linking.{link_text, IsLinkedImage}
-use Rattle.cli_inputs.specs.Words.{Asked, Run, Show, Build, Link, Replay, Derive, Analyze}
+use Rattle.cli_inputs.specs.Words.{Asked, Run, Show, Build, Link, Replay, Derive, Analyze, Gen}
 use Rattle.wedge_cli.specs.Outside.{Device, Sinks, Outside, Rises, Takes}
 use Rattle.trace_form.specs.Records.{records_of}
 use Rattle.cb_analyze.specs.Sheets.{sheets_of}
@@ -30,10 +30,10 @@ abbrev pub IsEither : Asked → Ended → Outside → Outside → Type 0
 IsEither a ended before after = IsRefusal a ended before after ⊎ IsCommandDone a ended before after
 
 -- the status of a refusal, of out of memory for its line, or of a fault
-abbrev IsRefusalStatus : Refusal → ℕ → Device → Device → Type 0
+abbrev pub IsRefusalStatus : Refusal → ℕ → Device → Device → Type 0
 IsRefusalStatus why status e f = (status ≡ status_of why) ⊎ (status ≡ 6) ⊎ ((status ≡ 5) × Rises e f)
 
-refusal_status : (why : Refusal) (ended : Ended) (e f : Device) → SaysRefusal why ended e f → IsRefusalStatus why ended.status e f
+pub refusal_status : (why : Refusal) (ended : Ended) (e f : Device) → SaysRefusal why ended e f → IsRefusalStatus why ended.status e f
 refusal_status why ended e f (inl said) =
     elim (said_status (status_of why) (line (refusal_text why)) ended e f said) [ inl is ↦ inl is | inr fault ↦ inr (inr fault) ]
 refusal_status why ended e f (inr said) =
@@ -83,6 +83,10 @@ other_than (refusal.Schedule s) n h e = absurd (omega arith)
 other_than (refusal.Trace fault) n h e = absurd (omega arith)
 other_than (refusal.Elf fault) n h e = absurd (omega arith)
 other_than (refusal.NoSuchName item) n h e = absurd (omega arith)
+
+-- out of memory has the status 6 alone
+only_6 : (r : Refusal) (n : ℕ) → r ≡ refusal.NoMemory → (6 ≡ n → ⊥) → status_of r ≡ n → ⊥
+only_6 r n h other e = other (sym (ap status_of h) ∙ e)
 
 -- ---- 3
 
@@ -142,6 +146,7 @@ unfit (Link elf part) files before after r h e = unfit_link elf part files befor
 unfit (Replay image schedule) files before after r h e = unfit_replay image schedule files before after r h e
 unfit (Derive trace) files before after r h e = unfit_trace trace (files trace) (before trace) (after trace) r h e
 unfit (Analyze trace query name) files before after r h e = unfit_query query name trace (files trace) (before trace) (after trace) r h e
+unfit (Gen workers) files before after r h e = only_6 r 3 h (λ six. omega (arith, six)) e
 
 pub image_only : (a : Asked) (ended : Ended) (before after : Outside) → IsEither a ended before after → ended.status ≡ 3 → IsUnfit a before.files
 image_only a ended before after either is =
@@ -202,6 +207,7 @@ unread (Link elf part) files before after r h e = unread_link elf part files bef
 unread (Replay image schedule) files before after r h e = unread_replay image schedule files before after r h e
 unread (Derive trace) files before after r h e = unread_trace trace (files trace) (before trace) (after trace) r h e
 unread (Analyze trace query name) files before after r h e = unread_query query name trace (files trace) (before trace) (after trace) r h e
+unread (Gen workers) files before after r h e = only_6 r 4 h (λ six. omega (arith, six)) e
 
 pub read_only : (a : Asked) (ended : Ended) (before after : Outside) → IsEither a ended before after → ended.status ≡ 4 → IsUnreadable a before.reads after.reads
 read_only a ended before after either is =
@@ -261,6 +267,7 @@ rejected (Link elf part) files before after r h e = no_other_link elf part files
 rejected (Replay image schedule) files before after r h e = rejected_replay image schedule files before after r h e
 rejected (Derive trace) files before after r h e = rejected_trace trace (files trace) (before trace) (after trace) r h e
 rejected (Analyze trace query name) files before after r h e = rejected_query query name trace (files trace) (before trace) (after trace) r h e
+rejected (Gen workers) files before after r h e = only_6 r 8 h (λ six. omega (arith, six)) e
 
 pub rejected_only : (a : Asked) (ended : Ended) (before after : Outside) → IsEither a ended before after → ended.status ≡ 8 → IsRejected a before.files
 rejected_only a ended before after either is =
@@ -321,6 +328,7 @@ unknown (Link elf part) files before after r h e = no_other_link elf part files 
 unknown (Replay image schedule) files before after r h e = known_replay image schedule files before after r h e
 unknown (Derive trace) files before after r h e = known_trace trace (files trace) (before trace) (after trace) r h e
 unknown (Analyze trace query name) files before after r h e = unknown_query query name trace (files trace) (before trace) (after trace) r h e
+unknown (Gen workers) files before after r h e = only_6 r 9 h (λ six. omega (arith, six)) e
 
 pub name_only : (a : Asked) (ended : Ended) (before after : Outside) → IsEither a ended before after → ended.status ≡ 9 → IsUnknown a before.files
 name_only a ended before after either is =
@@ -381,6 +389,7 @@ elf_rejected (Link elf part) files before after r h e = rejected_elf elf part fi
 elf_rejected (Replay image schedule) files before after r h e = not_elf_replay image schedule files before after r h e
 elf_rejected (Derive trace) files before after r h e = not_elf_trace trace (files trace) (before trace) (after trace) r h e
 elf_rejected (Analyze trace query name) files before after r h e = not_elf_query query name trace (files trace) (before trace) (after trace) r h e
+elf_rejected (Gen workers) files before after r h e = only_6 r 10 h (λ six. omega (arith, six)) e
 
 pub elf_only : (a : Asked) (ended : Ended) (before after : Outside) → IsEither a ended before after → ended.status ≡ 10 → IsElfRejected a before.files
 elf_only a ended before after either is =
@@ -436,6 +445,25 @@ write_only None ended before after w is =
       | inr fault ↦ inr fault.1
     ]
 write_only (Some a) ended before after w is = rises_by a ended before after (w.command a refl) is
+
+-- ---- 6
+
+-- what is done has another status
+done_not_6 : (a : Asked) (ended : Ended) (before after : Outside) → IsCommandDone a ended before after → Not ended.status 6
+done_not_6 a ended before after d is =
+    elim (status_of_done a ended before after d) [
+      | inl status ↦ absurd (omega (arith, status, is))
+      | inr (inl status) ↦ absurd (omega (arith, status, is))
+      | inr (inr fault) ↦ absurd (omega (arith, fault.0, is))
+    ]
+
+pub unwritten : (asked : Option Asked) (ended : Ended) (before after : Outside) → IsCommandAnswer asked ended before after → ended.status ≡ 6 → after.sinks.out ≡ before.sinks.out
+unwritten None ended before after w is = (w.usage refl).out
+unwritten (Some a) ended before after w is =
+    elim (w.command a refl) [
+      | inl r ↦ r.out
+      | inr d ↦ absurd (done_not_6 a ended before after d is)
+    ]
 
 -- ---- 7
 

@@ -17,7 +17,7 @@ use Rattle.elf_in.specs.declared.fault.Fault.{Fault as ElfFault}
 use Rattle.elf_in.specs.Reading.{elf_program as elf_reading}
 use Rattle.cli_inputs.specs.Linking.{link_text, IsUnjoined}
 use Rattle.cli_inputs.specs.Traces.{trace_fault, IsUnknownIn, IsTraceRefused, IsQueryRefused}
-use Rattle.cli_inputs.specs.Words.{Asked, Run, Show, Build, Link, Replay, Derive, Analyze}
+use Rattle.cli_inputs.specs.Words.{Asked, Run, Show, Build, Link, Replay, Derive, Analyze, Gen}
 use Rattle.wedge_cli.specs.Ended.{IsCommandOutput, IsWritten, IsSaid, done_status}
 
 -- a read of one of the two files failed; where it is the second, the first is not too long
@@ -80,6 +80,7 @@ IsRefused (Link elf part) files before after why = IsLinkRefused elf part files 
 IsRefused (Replay image schedule) files before after why = IsReplayRefused image schedule files before after why
 IsRefused (Derive trace) files before after why = IsTraceRefused trace (files trace) (before trace) (after trace) why
 IsRefused (Analyze trace query name) files before after why = IsQueryRefused query name trace (files trace) (before trace) (after trace) why
+IsRefused (Gen workers) files before after why = why ≡ refusal.NoMemory
 
 -- its image or its partition is rejected, or the two files of a link make no image
 abbrev pub IsUnfit : Asked → (List ℕ → Option (List ℕ)) → Type 0
@@ -90,6 +91,7 @@ IsUnfit (Link elf part) files = (bytes text : List ℕ) → files elf ≡ Some b
 IsUnfit (Replay image schedule) files = WhereExposed (files image) (λ bytes. IsErr (image_from_bytes bytes))
 IsUnfit (Derive trace) files = ⊥
 IsUnfit (Analyze trace query name) files = ⊥
+IsUnfit (Gen workers) files = ⊥
 
 -- its trace is too long or malformed
 abbrev pub IsTraceRejected : Option (List ℕ) → Type 0
@@ -104,6 +106,7 @@ IsRejected (Link elf part) files = ⊥
 IsRejected (Replay image schedule) files = (s : ScheduleRefusal) × IsReplayAnswer image schedule files (Err (refusal.Schedule s))
 IsRejected (Derive trace) files = IsTraceRejected (files trace)
 IsRejected (Analyze trace query name) files = IsTraceRejected (files trace)
+IsRejected (Gen workers) files = ⊥
 
 -- no record of its trace has the name that it asks for
 abbrev pub IsUnknown : Asked → (List ℕ → Option (List ℕ)) → Type 0
@@ -114,6 +117,7 @@ IsUnknown (Link elf part) files = ⊥
 IsUnknown (Replay image schedule) files = ⊥
 IsUnknown (Derive trace) files = ⊥
 IsUnknown (Analyze trace query name) files = WhereExposed (files trace) (IsUnknownIn query name)
+IsUnknown (Gen workers) files = ⊥
 
 -- its ELF file is rejected
 abbrev pub IsElfRejected : Asked → (List ℕ → Option (List ℕ)) → Type 0
@@ -129,6 +133,7 @@ IsUnreadable (Link elf part) before after = (before elf < after elf) ⊎ (before
 IsUnreadable (Replay image schedule) before after = (before image < after image) ⊎ (before schedule < after schedule)
 IsUnreadable (Derive trace) before after = before trace < after trace
 IsUnreadable (Analyze trace query name) before after = before trace < after trace
+IsUnreadable (Gen workers) before after = ⊥
 
 -- the line of a refusal is said, or that memory ran out for that line
 abbrev pub SaysRefusal : Refusal → Ended → Device → Device → Type 0

@@ -12,6 +12,7 @@ use Rattle.audited_run.specs.Texts.{difference_text}
 use Rattle.audited_run.specs.declared.run.Differs.{Differs}
 use Rattle.report_text.specs.Reports.{report_of}
 use Rattle.report_text.specs.Schedules.{actors_of, schedule_of, names_in}
+use Rattle.report_text.specs.Summaries.{summary_of}
 use Rattle.wedge_events.specs.declared.events.LogEntry.{LogEntry}
 use Rattle.cli_inputs.specs.declared.loading.FileKind.TheVariants as kind
 use Rattle.cli_inputs.specs.declared.words.RunFlag.{RunFlag}
@@ -29,7 +30,8 @@ use Rattle.cli_inputs.specs.Loading.{image_from_bytes, built_of, most_of}
 use Rattle.cli_inputs.specs.Replaying.{replay_text}
 use Rattle.cli_inputs.specs.Linking.{link_text, IsLinkedImage}
 use Rattle.cli_inputs.specs.Traces.{derive_text, analyze_text}
-use Rattle.cli_inputs.specs.Words.{Asked, Run, Show, Build, Link, Replay, Derive, Analyze}
+use Rattle.cli_inputs.specs.Words.{Asked, Run, Show, Build, Link, Replay, Derive, Analyze, Gen}
+use Rattle.workload.specs.Workload.{workload}
 
 -- ---- what a command makes of its files
 
@@ -79,6 +81,29 @@ IsReportOfKept i flag (Some journal) differs texts = IsReportOf i flag journal d
 
 abbrev pub IsReported : Image → RunFlag → KeptRun → List Text → Type 0
 IsReported i flag kept texts = IsReportOfKept i flag kept.journal kept.differs texts
+
+-- the line that sums up a run of a workload with this journal and this outcome
+abbrev pub summary_line : ℕ → Journal → Outcome → List ℕ
+summary_line workers journal outcome = summary_of workers outcome (length journal.entries)
+
+-- The same of the image of a workload, with the line that sums the run up in place of the report.
+pub record IsSummaryOf (i : Image) (workers : ℕ) (journal : Journal) (differs : Option Differs) (texts : List Text) : Type 0 where
+  pub outcome : Outcome
+  pub run : IsJournaledRun i journal.entries outcome
+  pub made : IsMadeSo i differs journal.entries outcome
+  pub are : texts ≡ on_out (summary_line workers journal outcome) ++ differs_texts differs
+
+-- and it is kept
+abbrev pub IsSummaryOfKept : Image → ℕ → Option Journal → Option Differs → List Text → Type 0
+IsSummaryOfKept i workers None differs texts = ⊥
+IsSummaryOfKept i workers (Some journal) differs texts = IsSummaryOf i workers journal differs texts
+
+abbrev pub IsSummary : Image → ℕ → KeptRun → List Text → Type 0
+IsSummary i workers kept texts = IsSummaryOfKept i workers kept.journal kept.differs texts
+
+-- the workload of so many workers is run
+abbrev pub IsSummed : ℕ → KeptRun → List Text → Type 0
+IsSummed workers kept texts = IsSummary (workload workers) workers kept texts
 
 -- a file is run or listed as an image, or built as a partition
 pub record RunsImage (flag : RunFlag) (content : Option (List ℕ)) (kept : KeptRun) (texts : List Text) : Type 0 where
@@ -139,6 +164,7 @@ IsCommandOutput (Link elf part) files kept texts = IsLinked (files elf) (files p
 IsCommandOutput (Replay image schedule) files kept texts = IsPairAnswer replay_text (files image) (files schedule) kept texts
 IsCommandOutput (Derive trace) files kept texts = IsTraceAnswer derive_text (files trace) kept texts
 IsCommandOutput (Analyze trace query name) files kept texts = IsTraceAnswer (analyze_text query name) (files trace) kept texts
+IsCommandOutput (Gen workers) files kept texts = IsSummed workers kept texts
 
 -- ---- how texts are written
 
@@ -257,6 +283,36 @@ IsRunEnd (Err why) status before after =
 -- a read or a write failed, or memory ran out
 abbrev pub IsCutShort : ℕ → Type 0
 IsCutShort status = (status ≡ 4) ⊎ (status ≡ 5) ⊎ (status ≡ 6)
+
+-- `gen N` was done: the journal is that of a complete run of the workload of N workers on threads, out
+-- has grown by the line that sums the run up, and err is as it was
+pub record IsGenDone (workers : ℕ) (kept : Option Journal) (before after : Sinks) : Type 0 where
+  pub journal : Journal
+  pub kept_is : kept ≡ Some journal
+  pub outcome : Outcome
+  pub run : IsJournaledRun (workload workers) journal.entries outcome
+  pub threads : IsThreaded (workload workers) journal.entries outcome
+  pub out : Takes (summary_line workers journal outcome) before.out after.out
+  pub err : after.err ≡ before.err
+
+-- `gen` ended with the status 7: what the threads left differs, and says so; the journal is that of a
+-- complete run of the workload on one thread, of which the line was written, and then the line of what
+-- differs
+pub record IsGenMadeAgain (workers : ℕ) (ended : Ended) (before after : Sinks) : Type 0 where
+  pub differs : Differs
+  pub differs_is : ended.differs ≡ Some differs
+  pub threads : IsDiffering (workload workers) differs
+  pub journal : Journal
+  pub journal_is : ended.journal ≡ Some journal
+  pub outcome : Outcome
+  pub run : IsJournaledRun (workload workers) journal.entries outcome
+  pub serial : IsInSerialOrder (workload workers) journal.entries
+  pub out : Takes (summary_line workers journal outcome) before.out after.out
+  pub err : Takes (line (difference_text differs.disagree)) before.err after.err
+
+-- `gen` was done, or made again; or a write failed, or memory ran out
+abbrev pub IsGenEnd : ℕ → Type 0
+IsGenEnd status = (status ≡ 0) ⊎ (status ≡ 7) ⊎ (status ≡ 5) ⊎ (status ≡ 6)
 
 -- a command ended as the answer of its files' bytes says: out has grown by the text, or err by the
 -- line of the refusal

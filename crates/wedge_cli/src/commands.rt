@@ -9,6 +9,7 @@ ghost use Rattle.cli_inputs.specs.Replaying as replays;
 ghost use Rattle.cli_inputs.specs.Traces.{derive_text, analyze_text, IsTraceRefused, IsQueryRefused};
 
 use crate::lines::difference_line;
+use crate::workloads::run_workload;
 use crate::writing::{KeptRun, Ready, SinkName, Text};
 use audited_run::{AuditedRun, Differs, run_audited};
 use cb_analyze::QueryFault;
@@ -34,6 +35,7 @@ pub(crate) fn prepare<R: Threads + Wait + Sync, F: Files, P: Pace + Sync>(
     files: &mut F,
     pace: &P,
 ) -> Result<Ready, Refusal>
+    requires workers { asking.HasFitWorkers (asking.asked_by command) }
     ensures made { IfOk result (λ r. IsCommandOutput (asking.asked_by command.entry)
         (F.content files.old) r.kept r.texts.items) }
     ensures refused { IfErr result (IsRefused (asking.asked_by command.entry) (F.content files.old)
@@ -50,6 +52,10 @@ pub(crate) fn prepare<R: Threads + Wait + Sync, F: Files, P: Pace + Sync>(
         Command::Replay { image, schedule } => replay(alloc, files, image, schedule),
         Command::Derive { trace } => derive(alloc, files, trace),
         Command::Analyze { trace, query, name } => analyze(alloc, files, trace, query, name),
+        Command::Gen { workers } => {
+            let ready = run_workload(rt, alloc, workers, pace)?;
+            Ok(ready)
+        }
     }
 }
 
@@ -129,7 +135,7 @@ fn texts_of(
 }
 
 /// Adds the line of what differs, if anything does.
-fn add_difference(
+pub(crate) fn add_difference(
     alloc: Global,
     texts: &mut Vec<Text>,
     differs: &Option<Differs>,
@@ -281,7 +287,7 @@ fn on_out(alloc: Global, bytes: Vec<u8>) -> Result<Ready, NoMemory>
 }
 
 /// A text for a sink.
-fn text_on(sink: SinkName, bytes: Vec<u8>) -> Text
+pub(crate) fn text_on(sink: SinkName, bytes: Vec<u8>) -> Text
     ensures { result ≡ record { sink = sink; bytes = bytes.items } }
 {
     Text {

@@ -5,6 +5,7 @@ mod commands;
 mod lines;
 mod status;
 mod top;
+mod workloads;
 mod writing;
 
 pub use cli_inputs::{

@@ -5,7 +5,7 @@ ghost use Rattle.cli_inputs.specs.Words as asking;
 ghost use Rattle.cli_inputs.specs.Words.{Asked, command_of, texts};
 ghost use Rattle.wedge_cli.specs.Outside.{outside, sinks, device};
 ghost use Rattle.wedge_cli.specs.Lines as lines;
-ghost use Rattle.wedge_cli.specs.Ended.{IsSaid, IsRunDone, IsScheduleDone, IsMadeAgain, IsRunEnd, IsLinkDone, IsCutShort, IsAnswerEnd, HasEnd};
+ghost use Rattle.wedge_cli.specs.Ended.{IsSaid, IsRunDone, IsScheduleDone, IsMadeAgain, IsRunEnd, IsLinkDone, IsGenDone, IsGenMadeAgain, IsGenEnd, IsCutShort, IsAnswerEnd, HasEnd};
 ghost use Rattle.cli_inputs.specs.Loading.{image_from_bytes};
 ghost use Rattle.cli_inputs.specs.Linking.{link_text};
 ghost use Rattle.cli_inputs.specs.Replaying.{replay_text};
@@ -31,6 +31,7 @@ use std::thread::Threads;
 /// `replay IMAGE SCHEDULE` takes the turns of a schedule and writes the report of the run that they make.
 /// `derive TRACE` writes the sheets that a trace needs, and `analyze TRACE accessed PROC`,
 /// `analyze TRACE users ITEM` and `analyze TRACE written PROC` write the lines that answer a query of it.
+/// `gen N` runs the workload of N workers on threads and writes the line that sums the run up on `out`; it reads no file.
 ///
 /// A run on threads is that of the interleaving which its journal has. Where the logs of its actors and the histories
 /// of its cells differ, the image is run again on one thread, and that run's texts are written, with a line of what
@@ -85,6 +86,26 @@ pub fn wedge<R: Threads + Wait + Sync, F: Files, O: Sink, E: Sink, P: Pace + Syn
         → IsCutShort result.status ⊎ IsRunEnd (image_from_bytes bytes) result.status
         (sinks (O.written out.old) (O.faults out.old) (E.written err.old) (E.faults err.old))
         (sinks (O.written out.new) (O.faults out.new) (E.written err.new) (E.faults err.new)) }
+
+    // Of `gen N` and the status 0: the journal is that of a complete run of the workload of N workers on threads, and the
+    // line that sums it up alone was written.
+    ensures workload { (workers : ℕ)
+        → command_of (texts words.now) ≡ Some (asking.Gen workers) → result.status ≡ 0
+        → IsGenDone workers result.journal
+        (sinks (O.written out.old) (O.faults out.old) (E.written err.old) (E.faults err.old))
+        (sinks (O.written out.new) (O.faults out.new) (E.written err.new) (E.faults err.new)) }
+
+    // Of `gen N` and the status 7: what the threads left differs; and the journal and what was written are those of a
+    // complete run on one thread.
+    ensures workload_again { (workers : ℕ)
+        → command_of (texts words.now) ≡ Some (asking.Gen workers) → result.status ≡ 7
+        → IsGenMadeAgain workers result
+        (sinks (O.written out.old) (O.faults out.old) (E.written err.old) (E.faults err.old))
+        (sinks (O.written out.new) (O.faults out.new) (E.written err.new) (E.faults err.new)) }
+
+    // `gen N` ends with one of both, unless a write failed or memory ran out.
+    ensures workload_ends { (workers : ℕ)
+        → command_of (texts words.now) ≡ Some (asking.Gen workers) → IsGenEnd result.status }
 
     // Of `link ELF PART`, where no read or write failed and memory did not run out: what the bytes of the two files
     // say. Where the ELF file is rejected, that is the status 10 and its line.
@@ -159,6 +180,9 @@ pub fn wedge<R: Threads + Wait + Sync, F: Files, O: Sink, E: Sink, P: Pace + Syn
         → IsUnreadable a (F.faults files.old) (F.faults files.new) }
     ensures write_only { result.status ≡ 5
         → (O.faults out.old < O.faults out.new) ⊎ (E.faults err.old < E.faults err.new) }
+    ensures unwritten { result.status ≡ 6
+        → device (O.written out.new) (O.faults out.new)
+        ≡ device (O.written out.old) (O.faults out.old) }
     ensures differs_only { result.status ≡ 7 → IsSome result.differs }
     ensures differs { IsSome result.differs → result.status ≡ 7 }
 {
@@ -199,6 +223,18 @@ pub fn exit_status<R: Threads + Wait + Sync, F: Files, O: Sink, E: Sink, P: Pace
         → IsCutShort result ⊎ IsRunEnd (image_from_bytes bytes) result
         (sinks (O.written out.old) (O.faults out.old) (E.written err.old) (E.faults err.old))
         (sinks (O.written out.new) (O.faults out.new) (E.written err.new) (E.faults err.new)) }
+    ensures workload { (workers : ℕ)
+        → command_of (texts words.now) ≡ Some (asking.Gen workers) → result ≡ 0
+        → HasEnd result (λ ended. IsGenDone workers ended.journal
+        (sinks (O.written out.old) (O.faults out.old) (E.written err.old) (E.faults err.old))
+        (sinks (O.written out.new) (O.faults out.new) (E.written err.new) (E.faults err.new))) }
+    ensures workload_again { (workers : ℕ)
+        → command_of (texts words.now) ≡ Some (asking.Gen workers) → result ≡ 7
+        → HasEnd result (λ ended. IsGenMadeAgain workers ended
+        (sinks (O.written out.old) (O.faults out.old) (E.written err.old) (E.faults err.old))
+        (sinks (O.written out.new) (O.faults out.new) (E.written err.new) (E.faults err.new))) }
+    ensures workload_ends { (workers : ℕ)
+        → command_of (texts words.now) ≡ Some (asking.Gen workers) → IsGenEnd result }
     ensures link { (elf part bytes text : List ℕ)
         → command_of (texts words.now) ≡ Some (asking.Link elf part)
         → F.content files.old elf ≡ Some bytes → F.content files.old part ≡ Some text
@@ -250,6 +286,9 @@ pub fn exit_status<R: Threads + Wait + Sync, F: Files, O: Sink, E: Sink, P: Pace
         → IsUnreadable a (F.faults files.old) (F.faults files.new) }
     ensures write_only { result ≡ 5
         → (O.faults out.old < O.faults out.new) ⊎ (E.faults err.old < E.faults err.new) }
+    ensures unwritten { result ≡ 6
+        → device (O.written out.new) (O.faults out.new)
+        ≡ device (O.written out.old) (O.faults out.old) }
 {
     let ended = wedge(rt, alloc, words, files, out, err, pace);
     ended.status

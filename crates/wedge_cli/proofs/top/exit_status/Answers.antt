@@ -12,3 +12,9 @@ returns-clause-answer g c = record { ended = c.wedge-ended.result; status_is = r
 
 pub returns-clause-again : goal.returns-clause-again
 returns-clause-again g c = λ image bytes flag asked exposed is. record { ended = c.wedge-ended.result; status_is = refl; is_so = c.wedge-ended.ensures.again image bytes flag asked exposed is }
+
+pub returns-clause-workload : goal.returns-clause-workload
+returns-clause-workload g c = λ workers asked is. record { ended = c.wedge-ended.result; status_is = refl; is_so = c.wedge-ended.ensures.workload workers asked is }
+
+pub returns-clause-workload_again : goal.returns-clause-workload_again
+returns-clause-workload_again g c = λ workers asked is. record { ended = c.wedge-ended.result; status_is = refl; is_so = c.wedge-ended.ensures.workload_again workers asked is }

@@ -1,5 +1,6 @@
+use Rattle.wedge_cli.proofs.GenEnds.{gen_done, gen_again, gen_ended}
 use Rattle.wedge_cli.proofs.RunEnds.{run_done, schedule_done, run_again, run_ended}
-use Rattle.wedge_cli.proofs.Statuses.{replay_done, link_answered, link_done, derive_done, analyze_done, rejected_only, name_only, elf_only, usage_only, image_only, read_only, write_only, differs_only, differs_7}
+use Rattle.wedge_cli.proofs.Statuses.{replay_done, link_answered, link_done, derive_done, analyze_done, rejected_only, name_only, elf_only, usage_only, image_only, read_only, write_only, unwritten, differs_only, differs_7}
 use Rattle.wedge_cli.proofs.top.wedge.Goals as goal
 
 pub returns-clause-run : goal.returns-clause-run
@@ -55,3 +56,15 @@ returns-clause-differs_only g c = differs_only _ _ _ _ c.does.ensures.answer
 
 pub returns-clause-differs : goal.returns-clause-differs
 returns-clause-differs g c = differs_7 _ _ _ _ c.does.ensures.answer
+
+pub returns-clause-unwritten : goal.returns-clause-unwritten
+returns-clause-unwritten g c = unwritten _ _ _ _ c.does.ensures.answer
+
+pub returns-clause-workload : goal.returns-clause-workload
+returns-clause-workload g c = λ workers asked is. gen_done workers _ _ _ (c.does.ensures.answer.command _ asked) is
+
+pub returns-clause-workload_again : goal.returns-clause-workload_again
+returns-clause-workload_again g c = λ workers asked is. gen_again workers _ _ _ (c.does.ensures.answer.command _ asked) is
+
+pub returns-clause-workload_ends : goal.returns-clause-workload_ends
+returns-clause-workload_ends g c = λ workers asked. gen_ended workers _ _ _ (c.does.ensures.answer.command _ asked)
