@@ -11,6 +11,8 @@ mod many;
 #[cfg(test)]
 mod orders;
 #[cfg(test)]
+mod parts;
+#[cfg(test)]
 mod prefixes;
 #[cfg(test)]
 mod threads;
