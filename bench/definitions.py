@@ -226,7 +226,7 @@ RUN = [
                 "`grown_by` of nothing exposed is nothing exposed: see [real files](THEOREM.md#real-files).",
             ),
             ("wedge_cli/Outside", "`Takes` says both."),
-            ("cli_inputs/Words", "`command_of` is eleven lines."),
+            ("cli_inputs/Words", "`command_of` is twelve lines."),
             ("image_form/Forms", "Five short functions."),
             ("image_form/Encoding", "Compare with the fields in [FORMATS.md](FORMATS.md#the-image)."),
             ("image_form/Rules", "The same."),
@@ -365,6 +365,15 @@ OTHERS = [
         ],
     ),
     (
+        "`gen`",
+        "One image, and a line that is a function of its run. Compare with [FORMATS.md](FORMATS.md#the-workload).",
+        [
+            ("workload/Mnemonics", ""),
+            ("workload/Workload", "The text of the partition is there, instruction by instruction."),
+            ("report_text/Summaries", ""),
+        ],
+    ),
+    (
         "Laws that the top call does not name",
         "Contracts of their own.",
         [
@@ -444,6 +453,9 @@ OTHERS = [
             ("run_audit/ListDifferences", ""),
             ("run_audit/LogOrder", ""),
             ("run_audit/Orders", ""),
+            ("run_audit/IndexedEntries", ""),
+            ("run_audit/Merges", ""),
+            ("run_audit/Rooms", ""),
             ("run_audit/StreamsLeft", ""),
             ("actor_run/Runs", ""),
             ("run_cells/Names", ""),
