@@ -28,7 +28,6 @@ impl<I: RunOf> ActorRun<I> {
             actor,
             entries,
             clock,
-            cache,
             ..
         } = self;
         let EndedActor {
@@ -54,7 +53,6 @@ impl<I: RunOf> ActorRun<I> {
             denials,
             labels,
             entries: Items::new(entries),
-            cache: cache.count(),
         };
         (log, learned)
     }

@@ -2,7 +2,6 @@
 #![tactic(auto)]
 
 mod finished;
-mod looking;
 mod run;
 
 pub use run::ActorRun;

@@ -12,7 +12,6 @@ use Rattle.wedge_base.specs.declared.rights.End.TheVariants as end
 use Rattle.stable_sort.proofs.Sorted.{IsLow, Rises, rises_if_sorted}
 use Rattle.run_laws.proofs.Named.{same_equal}
 use Rattle.wedge_events.specs.declared.events.LogEntry.{LogEntry}
-use Rattle.grant_cache.specs.Caches.{zero_count}
 use Rattle.thread_laws.specs.Executions.{names_begun}
 use Rattle.thread_laws.specs.Joining.{log_named, with_log, logs_named}
 use Rattle.thread_laws.specs.declared.gathered.ActorLog.{ActorLog}
@@ -20,7 +19,7 @@ use Rattle.run_audit.specs.LogOrder.{log_before, logs_sortable, IsCountBefore}
 
 -- a log of each name
 abbrev log_on : List ℕ → ActorLog
-log_on name = record { name = name; compartment = 0; end = end.Exited 0; pc = 0; fuel = 0; denials = []; labels = []; entries = []; cache = zero_count }
+log_on name = record { name = name; compartment = 0; end = end.Exited 0; pc = 0; fuel = 0; denials = []; labels = []; entries = [] }
 
 -- ---- two names, by how they compare
 

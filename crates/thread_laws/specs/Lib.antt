@@ -10,8 +10,6 @@ pub mod Forests
 pub mod Sorting
 -- What holds of them.
 pub mod Laws
--- The tags that an actor looks up in its cache, and the counts of the cache.
-pub mod LookUps
 -- What a run on threads leaves, and the theorem.
 pub mod Joining
 -- What an actor has done so far, as its thread comes to know it.

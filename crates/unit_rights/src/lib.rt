@@ -4,6 +4,4 @@
 #[cfg(test)]
 mod callgate_tests;
 #[cfg(test)]
-mod grant_cache_tests;
-#[cfg(test)]
 mod grant_sheet_tests;
