@@ -374,27 +374,6 @@ OTHERS = [
         ],
     ),
     (
-        "The log of a run",
-        "Kept beside the machine: no definition of an actor or of the world reads it.",
-        [
-            ("run_notes/Doers", "One record."),
-            (
-                "run_notes/Chains",
-                "Compare with the calling convention of the RISC-V ABI: a call keeps its return address in ra.",
-            ),
-            ("run_notes/Items", ""),
-            ("run_notes/Notes", "See that a note of an event depends on its reply."),
-            ("run_log/Logs", "One record."),
-            (
-                "run_log/Logging",
-                "`log_turn` follows a turn of the machine: the actor goes on, comes to rest, and its event takes place.",
-            ),
-            ("run_log/ChainLaws", "A law that is proved of every schedule."),
-            ("cb_log/Texts", "Compare with [FORMATS.md](FORMATS.md#the-trace)."),
-            ("cb_log/Logs", "One line."),
-        ],
-    ),
-    (
         "Laws that the top call does not name",
         "Contracts of their own.",
         [
@@ -418,9 +397,6 @@ OTHERS = [
             ("run_laws/FamilyTrees", ""),
             ("world_turns/Turning", ""),
             ("world_turns/Indices", ""),
-            ("run_notes/Procedures", ""),
-            ("run_log/LoggedParts", ""),
-            ("cb_log/Names", ""),
             ("grant_sheet/Excess", ""),
             ("grant_sheet/NumberMap", ""),
             ("grant_sheet/Paths", ""),
