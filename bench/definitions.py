@@ -259,6 +259,9 @@ RUN = [
             ("thread_laws/Forests", "`IsForestOf` goes over the creations one by one."),
             ("thread_laws/Sorting", "Two comparisons, and std's order on lists."),
             ("thread_laws/Replaying", "One line for each of the six kinds of cell."),
+            ("grant_cache/Caches", "A log has the counts of a cache; the clause uses nothing else of it."),
+            ("grant_cache/Hits", "Five short functions."),
+            ("thread_laws/LookUps", "`IsCounted` is what a log says of its counts."),
             ("thread_laws/Joining", "The theorem is `GatheredIsRun`, and `IsRun` is what it promises."),
             (
                 "audited_run/AuditedRuns",
@@ -365,12 +368,43 @@ OTHERS = [
         ],
     ),
     (
+        "`run --stats`",
+        "What the counts of the caches are is `AreCountsOf` of `LookUps`, above.",
+        [
+            ("thread_laws/CacheLines", "`CachesAreCounted` is a law: the counts in the logs are those by the journal."),
+            ("report_text/CacheTexts", "One line for each actor."),
+        ],
+    ),
+    (
         "`gen`",
         "One image, and a line that is a function of its run. Compare with [FORMATS.md](FORMATS.md#the-workload).",
         [
             ("workload/Mnemonics", ""),
             ("workload/Workload", "The text of the partition is there, instruction by instruction."),
             ("report_text/Summaries", ""),
+        ],
+    ),
+    (
+        "The log of a run",
+        "Kept beside the machine: no definition of an actor or of the world reads it.",
+        [
+            ("run_notes/Doers", "One record."),
+            (
+                "run_notes/Chains",
+                "Compare with the calling convention of the RISC-V ABI: a call keeps its return address in ra.",
+            ),
+            ("run_notes/Items", ""),
+            ("run_notes/Notes", "See that a note of an event depends on its reply."),
+            ("run_log/Logs", "One record."),
+            (
+                "run_log/Logging",
+                "`log_turn` follows a turn of the machine: the actor goes on, comes to rest, and its event takes place.",
+            ),
+            ("run_log/ChainLaws", "A law that is proved of every schedule."),
+            ("run_log/NamedNotes", "Another."),
+            ("run_log/NoteLaws", "`NotesAreWithin` says of each turn which notes it adds, and that the sheet permits them."),
+            ("cb_log/Texts", "Compare with [FORMATS.md](FORMATS.md#the-trace)."),
+            ("cb_log/Logs", "One line."),
         ],
     ),
     (
@@ -397,6 +431,9 @@ OTHERS = [
             ("run_laws/FamilyTrees", ""),
             ("world_turns/Turning", ""),
             ("world_turns/Indices", ""),
+            ("run_notes/Procedures", ""),
+            ("run_log/LoggedParts", ""),
+            ("cb_log/Names", ""),
             ("grant_sheet/Excess", ""),
             ("grant_sheet/NumberMap", ""),
             ("grant_sheet/Paths", ""),

@@ -1,2 +1,6 @@
 -- What an actor's phase says of it.
 pub mod Phases
+-- The tags that an actor looks up for its entries.
+pub mod LookUps
+-- An actor's sheet never changes, so its cache keeps the rights of it.
+pub mod Caches

@@ -28,6 +28,7 @@ impl<I: RunOf> ActorRun<I> {
             actor,
             entries,
             clock,
+            cache,
             ..
         } = self;
         let EndedActor {
@@ -53,6 +54,7 @@ impl<I: RunOf> ActorRun<I> {
             denials,
             labels,
             entries: Items::new(entries),
+            cache: cache.count(),
         };
         (log, learned)
     }

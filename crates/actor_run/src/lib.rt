@@ -2,6 +2,7 @@
 #![tactic(auto)]
 
 mod finished;
+mod looking;
 mod run;
 
 pub use run::ActorRun;

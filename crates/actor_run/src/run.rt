@@ -1,6 +1,7 @@
 //! An actor with its log.
 
 ghost use Rattle.std.specs.Prelude.{◌≡◌, ◌≤◌, ◌⊎◌, IfOk, OnOk, OnErr, IsSomeAnd, Some, None, is_some, true, false, map};
+ghost use Rattle.machine.specs.Actors.{right_of};
 ghost use Rattle.machine.specs.Between.{TakesFit};
 ghost use Rattle.machine.specs.Children.{fuel_given};
 ghost use Rattle.machine.specs.Local.{end_reached, run_awaited};
@@ -12,8 +13,10 @@ ghost use Rattle.run_laws.specs.Walks.{IsEntryOf};
 ghost use Rattle.thread_laws.specs.ActorProgresses.{at_creation, after_rest, after_entry, after_run};
 ghost use Rattle.actor_run.specs.Runs.{going, AffordsGate};
 
+use crate::looking::note_entry;
 use callgate::Gate;
 use cow_pages::PrivateView;
+use grant_cache::GrantCache;
 use journal_cell::RunOf;
 use machine::{Actor, Next, Phase, Resident};
 use ready_text::Program;
@@ -22,10 +25,10 @@ use std::marker::{Model, PhantomData};
 use std::snapshot::Snapshot;
 use std::sync::Arc;
 use thread_laws::ActorEnd;
-use wedge_base::{ActorName, NoMemory, Stamp, TagNo};
+use wedge_base::{ActorName, NoMemory, Right, Stamp, TagNo};
 use wedge_events::{Ask, Live, LogEntry, Want};
 
-/// An actor with its private memory, and the log of what it did since it was created. It takes part in a run
+/// An actor with its private memory, its cache of rights, and the log of what it did since it was created. It takes part in a run
 /// of the image for which `I` stands. Where it ran out of memory it has stopped, and does nothing more.
 ///
 /// Contracts see its progress: how it began, its entries, its state now, and its clock. Each call is one step
@@ -37,6 +40,7 @@ pub struct ActorRun<I: RunOf> {
     pub(crate) memory: PrivateView,
     pub(crate) entries: Vec<LogEntry>,
     pub(crate) clock: Stamp,
+    pub(crate) cache: GrantCache,
     /// For proofs alone: how it began, and the clock then.
     pub(crate) began: Snapshot<Resident>,
     pub(crate) low: Stamp,
@@ -45,7 +49,7 @@ pub struct ActorRun<I: RunOf> {
 
 impl<I: RunOf> Model for ActorRun<I> {
     ghost use Rattle.machine.specs.Actors.{whole};
-    ghost use Rattle.actor_run.specs.Runs.{RunState};
+    ghost use Rattle.actor_run.specs.Runs.{RunState, KeepsCache};
 
     ghost Value = { RunState };
 
@@ -59,24 +63,28 @@ impl<I: RunOf> Model for ActorRun<I> {
       };
       stopped = r.actor.stopped;
     } };
+
+    ghost invariant = { λ r. KeepsCache r.actor r.entries.items r.cache };
 }
 
 impl<I: RunOf> ActorRun<I> {
-    /// Returns an actor as it is created, with the stamp of the event that creates it. It takes no memory.
-    pub fn new(alloc: Global, resident: Resident, clock: Stamp) -> ActorRun<I>
-        ensures { result.progress ≡ at_creation resident clock }
+    /// Returns an actor as it is created, with the stamp of the event that creates it. Its cache is empty.
+    pub fn new(alloc: Global, resident: Resident, clock: Stamp) -> Result<ActorRun<I>, NoMemory>
+        ensures { IfOk result (λ r. r.progress ≡ at_creation resident clock) }
     {
+        let cache = GrantCache::of_actor(alloc)?;
         let began = Snapshot::of(&resident);
         let Resident { actor, memory } = resident;
-        ActorRun {
+        Ok(ActorRun {
             actor,
             memory,
             entries: Vec::new(alloc),
             clock,
+            cache,
             began,
             low: clock,
             run: PhantomData,
-        }
+        })
     }
 
     /// Makes the actor's local events up to its next shared event. Returns which that is, or the actor's end, or
@@ -119,6 +127,7 @@ impl<I: RunOf> ActorRun<I> {
         self.entries.reserve(1)?;
         let begun = sthread_life::take(&mut self.actor, program, &mut self.memory, &entry.event)?;
         self.clock = entry.stamp;
+        note_entry(&mut self.cache, &self.actor, &entry);
         self.entries.push_reserved(entry);
         match begun {
             None => Ok(None),
@@ -142,6 +151,7 @@ impl<I: RunOf> ActorRun<I> {
         let log = &mut self.entries;
         log.reserve(1)?;
         sthread_life::take_alone(&mut self.actor, program, &mut self.memory, &entry.event)?;
+        note_entry(&mut self.cache, &self.actor, &entry);
         let stamp = entry.stamp;
         log.push_reserved(entry);
         self.clock = stamp;
@@ -188,7 +198,7 @@ impl<I: RunOf> ActorRun<I> {
     pub fn ask_of(&self, want: Want, live: Option<TagNo>) -> Ask
         ensures { result ≡ asks self.now.progress.state live want }
     {
-        self.actor.ask(want, live)
+        want.with(self.pair(live))
     }
 
     /// Returns the tag that lives in a slot, with the actor's right on it.
@@ -196,7 +206,20 @@ impl<I: RunOf> ActorRun<I> {
     pub fn pair(&self, live: Option<TagNo>) -> Option<Live>
         ensures { result ≡ pair self.now.progress.state live }
     {
-        self.actor.pair(live)
+        let tag = live?;
+        let right = self.right_on(tag);
+        Some(Live { tag, right })
+    }
+
+    /// Returns the actor's right on a tag. The cache of one that has stopped is not asked.
+    #[inline(always)]
+    fn right_on(&self, tag: TagNo) -> Option<Right>
+        ensures { result ≡ right_of self.now.progress.state tag }
+    {
+        if self.actor.stopped {
+            return grant_sheet::right_on(&self.actor.sheet, &self.actor.made, tag);
+        }
+        self.cache.peek(&self.actor.sheet, &self.actor.made, tag)
     }
 
     /// Returns a reference to its name.

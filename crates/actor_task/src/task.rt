@@ -48,21 +48,21 @@ impl<I: RunOf> Model for ActorTask<I> {
 
 impl<I: RunOf> ActorTask<I> {
     /// Returns an actor as it is created.
-    pub fn new(alloc: Global, new: NewActor<I>) -> ActorTask<I>
-        ensures progress { result.progress ≡ at_creation new.resident new.stamp }
-        ensures created { result.created ≡ [] }
+    pub fn new(alloc: Global, new: NewActor<I>) -> Result<ActorTask<I>, NoMemory>
+        ensures progress { IfOk result (λ k. k.progress ≡ at_creation new.resident new.stamp) }
+        ensures created { IfOk result (λ k. k.created ≡ []) }
     {
         let NewActor {
             resident,
             stamp,
             gates,
         } = new;
-        ActorTask {
+        Ok(ActorTask {
             alloc,
-            run: ActorRun::new(alloc, resident, stamp),
+            run: ActorRun::new(alloc, resident, stamp)?,
             created: Vec::new(alloc),
             gates,
-        }
+        })
     }
 
     /// Returns a reference to its name.

@@ -2,6 +2,7 @@
 use Rattle.std.specs.Prelude.{None}
 use Rattle.wedge_base.specs.Images.{Image}
 use Rattle.thread_laws.specs.Joining.{AreWalked, IsRun, journal_of}
+use Rattle.thread_laws.specs.LookUps.{AreCountsOf}
 use Rattle.thread_laws.specs.Replaying.{Legal}
 use Rattle.thread_laws.specs.declared.gathered.Gathered.{Gathered}
 use Rattle.thread_laws.proofs.Replaying.{kept_are_legal}
@@ -17,8 +18,9 @@ use Rattle.audited_run.proofs.Journaled.{runs_are_journaled}
 pub agreed : (i : Image) (g : Gathered) (a : Audited) → IsGathered i g
     → IsAudit i g.logs g.cells a
     → (AreWalked i g.logs → Legal i g.cells → IsRun i a.journal.entries a.outcome)
-    → IsAuditedRun i (record { journal = a.journal; outcome = a.outcome; differs = None })
-agreed i g a left is run =
+    → (AreWalked i g.logs → AreCountsOf a.journal.entries a.outcome.actors a.caches)
+    → IsAuditedRun i (record { journal = a.journal; outcome = a.outcome; caches = a.caches; differs = None })
+agreed i g a left is run counts =
     let whole = run left.walked (kept_are_legal i g.cells left.kept) in
     record {
       run = runs_are_journaled i a.journal.entries a.outcome whole;
@@ -31,6 +33,7 @@ agreed i g a left is run =
         rising = whole.rising;
         outcome_is = is.outcome;
       };
+      caches = counts left.walked;
     }
 
 -- where something differs, it is so of a run that is whole and legal

@@ -1,6 +1,7 @@
 -- A run of an image: on threads, or, where what these left differs, made again on one.
-use Rattle.std.specs.Prelude.{◌≡◌, List, Option, Some, None}
+use Rattle.std.specs.Prelude.{◌≡◌, List, [], Option, Some, None}
 use Rattle.wedge_base.specs.Images.{Image}
+use Rattle.wedge_base.specs.declared.outcome.ActorLine.{ActorLine}
 use Rattle.wedge_base.specs.declared.outcome.Outcome.{Outcome}
 use Rattle.wedge_events.specs.Journals.{turns_of}
 use Rattle.wedge_events.specs.declared.events.LogEntry.{LogEntry}
@@ -8,7 +9,9 @@ use Rattle.machine.specs.Worlds.{initial_state}
 use Rattle.run_laws.specs.CompleteRuns.{IsJournaledRun}
 use Rattle.world_turns.specs.Progress.{IsNumbered}
 use Rattle.wedge_core.specs.Serial.{InSerialOrder}
+use Rattle.grant_cache.specs.declared.count.CacheLine.{CacheLine}
 use Rattle.thread_laws.specs.Joining.{AreWalked, Agrees, journal_of, outcome_gathered}
+use Rattle.thread_laws.specs.LookUps.{AreCountsOf}
 use Rattle.thread_laws.specs.Merging.{IsRising}
 use Rattle.thread_laws.specs.Replaying.{AreKept, Legal}
 use Rattle.thread_laws.specs.declared.gathered.Gathered.{Gathered}
@@ -46,10 +49,17 @@ abbrev pub IsMadeSo : Image → Option Differs → List LogEntry → Outcome →
 IsMadeSo i None entries outcome = IsThreaded i entries outcome
 IsMadeSo i (Some d) entries outcome = IsDiffering i d × IsInSerialOrder i entries
 
--- a complete run of the image, with its journal and its outcome
+-- The counts of the caches of rights are those of each actor of a run on threads, for its entries in the
+-- journal; a run on one thread has no caches.
+abbrev pub AreCachesOf : Option Differs → List LogEntry → List ActorLine → List CacheLine → Type 0
+AreCachesOf None entries actors caches = AreCountsOf entries actors caches
+AreCachesOf (Some d) entries actors caches = caches ≡ []
+
+-- a complete run of the image, with its journal, its outcome and the counts of its caches
 pub record IsAuditedRun (i : Image) (r : AuditedRun) : Type 0 where
   pub run : IsJournaledRun i r.journal.entries r.outcome
   pub made : IsMadeSo i r.differs r.journal.entries r.outcome
+  pub caches : AreCachesOf r.differs r.journal.entries r.outcome.actors r.caches
 
 -- something differs exactly where logs and histories do not agree, and then it is these that differ
 abbrev pub IsAudited : Gathered → Option Differs → Type 0

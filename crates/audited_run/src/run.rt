@@ -5,6 +5,7 @@ ghost use Rattle.gate_runner.specs.Gathering.{IsGathered};
 ghost use Rattle.audited_run.specs.AuditedRuns.{IsAudited, IsAuditedRun, IsDiffering};
 
 use gate_runner::run_image;
+use grant_cache::CacheLine;
 use host_io::Pace;
 use image_form::Image;
 use run_audit::{AuditFault, AuditRefusal, Audited, Difference, audit};
@@ -12,7 +13,7 @@ use std::alloc::Global;
 use std::sync::Wait;
 use std::thread::Threads;
 use thread_laws::Gathered;
-use wedge_base::{NoMemory, Outcome};
+use wedge_base::{Items, NoMemory, Outcome};
 use wedge_core::serial;
 use wedge_events::Journal;
 
@@ -30,6 +31,8 @@ pub struct Differs {
 pub struct AuditedRun {
     pub journal: Journal,
     pub outcome: Outcome,
+    /// The counts of the caches of rights of its actors, in the order of their names. A run on one thread has none.
+    pub caches: Items<CacheLine>,
     pub differs: Option<Differs>,
 }
 
@@ -68,12 +71,22 @@ pub fn audited(alloc: Global, image: &Image, gathered: Gathered) -> Result<Audit
 
 /// Returns a run of which logs and histories agree.
 fn without_difference(audited: Audited) -> AuditedRun
-    ensures { result ≡ record { journal = audited.journal; outcome = audited.outcome; differs = None } }
+    ensures { result ≡ record {
+      journal = audited.journal;
+      outcome = audited.outcome;
+      caches = audited.caches;
+      differs = None;
+    } }
 {
-    let Audited { journal, outcome } = audited;
+    let Audited {
+        journal,
+        outcome,
+        caches,
+    } = audited;
     AuditedRun {
         journal,
         outcome,
+        caches,
         differs: None,
     }
 }
@@ -88,6 +101,7 @@ fn again(alloc: Global, image: &Image, differs: Differs) -> Result<AuditedRun, N
     Ok(AuditedRun {
         journal,
         outcome,
+        caches: Items::new(Vec::new(alloc)),
         differs: Some(differs),
     })
 }

@@ -6,7 +6,7 @@ use Rattle.std.specs.Str.Parse.{digits_value}
 use Rattle.std.specs.Fmt.{decimal}
 use Rattle.std.proofs.lemmas.Bool.{leb-true, and_parts}
 use Rattle.cli_inputs.specs.declared.words.RunFlag.{RunFlag}
-use Rattle.cli_inputs.specs.Words.{Asked, Gen, Show, Build, Derive, Analyze, HasFitWorkers, is_workers, workers_in, is_schedule, is_plain_argument, file_argument, run_with, run_of, link_of, replay_command, query_of, analyze_of, gen_of, command_of}
+use Rattle.cli_inputs.specs.Words.{Asked, Gen, Show, Build, Derive, Analyze, HasFitWorkers, is_workers, workers_in, flag_of, is_plain_argument, file_argument, run_with, run_flagged, run_of, link_of, replay_command, log_command, query_of, analyze_of, gen_of, command_of}
 
 -- of what is asked, if anything is
 abbrev IsFit : Option Asked → Type 0
@@ -24,10 +24,15 @@ fit_map f h (Some a) = h a
 fit_run_with : (flag : RunFlag) (image : List ℕ) → IsFit (run_with flag image)
 fit_run_with flag image = fit_if (is_plain_argument image) _ _ tt tt
 
+fit_flagged : (f g : Option RunFlag) (one other : List ℕ) → IsFit (run_flagged f g one other)
+fit_flagged (Some flag) g one other = fit_run_with flag other
+fit_flagged None (Some flag) one other = fit_run_with flag one
+fit_flagged None None one other = tt
+
 fit_run : (arguments : List (List ℕ)) → IsFit (run_of arguments)
 fit_run [] = tt
 fit_run (image ∷ []) = fit_run_with _ image
-fit_run (one ∷ other ∷ []) = fit_if (is_schedule one) _ _ (fit_run_with _ other) (fit_if (is_schedule other) _ _ (fit_run_with _ one) tt)
+fit_run (one ∷ other ∷ []) = fit_flagged (flag_of one) (flag_of other) one other
 fit_run (one ∷ other ∷ third ∷ more) = tt
 
 fit_link : (arguments : List (List ℕ)) → IsFit (link_of arguments)
@@ -41,6 +46,12 @@ fit_replay [] = tt
 fit_replay (image ∷ []) = tt
 fit_replay (image ∷ schedule ∷ []) = fit_if (is_plain_argument image && is_plain_argument schedule) _ _ tt tt
 fit_replay (image ∷ schedule ∷ third ∷ more) = tt
+
+fit_log : (arguments : List (List ℕ)) → IsFit (log_command arguments)
+fit_log [] = tt
+fit_log (image ∷ []) = tt
+fit_log (image ∷ schedule ∷ []) = fit_if (is_plain_argument image && is_plain_argument schedule) _ _ tt tt
+fit_log (image ∷ schedule ∷ third ∷ more) = tt
 
 fit_analyze : (arguments : List (List ℕ)) → IsFit (analyze_of arguments)
 fit_analyze [] = tt
@@ -72,9 +83,10 @@ fit_command (command ∷ arguments) =
     (fit_if (bytes_eq command (codes "build")) _ _ (fit_map Build (λ n. tt) (file_argument arguments))
     (fit_if (bytes_eq command (codes "link")) _ _ (fit_link arguments)
     (fit_if (bytes_eq command (codes "replay")) _ _ (fit_replay arguments)
+    (fit_if (bytes_eq command (codes "log")) _ _ (fit_log arguments)
     (fit_if (bytes_eq command (codes "derive")) _ _ (fit_map Derive (λ n. tt) (file_argument arguments))
     (fit_if (bytes_eq command (codes "analyze")) _ _ (fit_analyze arguments)
-    (fit_if (bytes_eq command (codes "gen")) _ _ (fit_gen arguments) tt)))))))
+    (fit_if (bytes_eq command (codes "gen")) _ _ (fit_gen arguments) tt))))))))
 
 pub fit : (words : List (List ℕ)) (a : Asked) → command_of words ≡ Some a → HasFitWorkers a
 fit words a is = subst IsFit is (fit_command words)

@@ -5,7 +5,7 @@ use Rattle.std.specs.Str.{bytes_eq}
 use Rattle.std.specs.Str.Parse.{digits_value}
 use Rattle.std.specs.String.{string_bytes}
 use Rattle.cli_inputs.specs.declared.words.RunFlag.{RunFlag}
-use Rattle.cli_inputs.specs.declared.words.RunFlag.TheVariants.{Plain, Schedule}
+use Rattle.cli_inputs.specs.declared.words.RunFlag.TheVariants.{Plain, Schedule, Stats}
 use Rattle.cli_inputs.specs.declared.words.Query.{Query}
 use Rattle.cli_inputs.specs.declared.words.Query.TheVariants.{Accessed, Users, Written}
 use Rattle.cli_inputs.specs.declared.words.Command.{Command}
@@ -18,6 +18,7 @@ pub data Asked : Type 0 where
   Build : List ℕ → Asked
   Link : List ℕ → List ℕ → Asked
   Replay : List ℕ → List ℕ → Asked
+  Log : List ℕ → List ℕ → Asked
   Derive : List ℕ → Asked
   Analyze : List ℕ → Query → List ℕ → Asked
   Gen : ℕ → Asked
@@ -29,6 +30,7 @@ asked_by (command.Show image) = Show image.now
 asked_by (command.Build part) = Build part.now
 asked_by (command.Link elf part) = Link elf.now part.now
 asked_by (command.Replay image schedule) = Replay image.now schedule.now
+asked_by (command.Log image schedule) = Log image.now schedule.now
 asked_by (command.Derive trace) = Derive trace.now
 asked_by (command.Analyze trace query name) = Analyze trace.now query name.now
 asked_by (command.Gen workers) = Gen workers
@@ -47,20 +49,26 @@ abbrev pub file_argument : List (List ℕ) → Option (List ℕ)
 file_argument (name ∷ []) = if is_plain_argument name then Some name else None
 file_argument arguments = None
 
--- whether an argument is the flag
-abbrev pub is_schedule : List ℕ → Bool
-is_schedule argument = bytes_eq argument (codes "--schedule")
+-- the flag that an argument is
+abbrev pub flag_of : List ℕ → Option RunFlag
+flag_of argument =
+    if bytes_eq argument (codes "--schedule") then Some Schedule
+    else if bytes_eq argument (codes "--stats") then Some Stats
+    else None
 
 abbrev pub run_with : RunFlag → List ℕ → Option Asked
 run_with flag image = if is_plain_argument image then Some (Run image flag) else None
 
--- the arguments after each command; the flag of `run` may be before the image or after it
+-- an image and a flag, which may be before the image or after it
+abbrev pub run_flagged : Option RunFlag → Option RunFlag → List ℕ → List ℕ → Option Asked
+run_flagged (Some flag) f one other = run_with flag other
+run_flagged None (Some flag) one other = run_with flag one
+run_flagged None None one other = None
+
+-- the arguments after each command
 abbrev pub run_of : List (List ℕ) → Option Asked
 run_of (image ∷ []) = run_with Plain image
-run_of (one ∷ other ∷ []) =
-    if is_schedule one then run_with Schedule other
-    else if is_schedule other then run_with Schedule one
-    else None
+run_of (one ∷ other ∷ []) = run_flagged (flag_of one) (flag_of other) one other
 run_of arguments = None
 
 abbrev pub show_of : List (List ℕ) → Option Asked
@@ -76,6 +84,10 @@ link_of arguments = None
 abbrev pub replay_command : List (List ℕ) → Option Asked
 replay_command (image ∷ schedule ∷ []) = if is_plain_argument image && is_plain_argument schedule then Some (Replay image schedule) else None
 replay_command arguments = None
+
+abbrev pub log_command : List (List ℕ) → Option Asked
+log_command (image ∷ schedule ∷ []) = if is_plain_argument image && is_plain_argument schedule then Some (Log image schedule) else None
+log_command arguments = None
 
 abbrev pub derive_of : List (List ℕ) → Option Asked
 derive_of arguments = option_map Derive (file_argument arguments)
@@ -122,6 +134,7 @@ command_of (command ∷ arguments) =
     else if bytes_eq command (codes "build") then build_of arguments
     else if bytes_eq command (codes "link") then link_of arguments
     else if bytes_eq command (codes "replay") then replay_command arguments
+    else if bytes_eq command (codes "log") then log_command arguments
     else if bytes_eq command (codes "derive") then derive_of arguments
     else if bytes_eq command (codes "analyze") then analyze_of arguments
     else if bytes_eq command (codes "gen") then gen_of arguments

@@ -14,7 +14,7 @@ mod words;
 pub use linking::{link_text, program_of, read_partition_file};
 pub use loading::{FileKind, load_built, load_image, read_file};
 pub use refusal::{PartRefusal, Refusal, ScheduleRefusal};
-pub use replaying::replay_text;
+pub use replaying::{log_text, replay_text};
 pub use show::listing;
 pub use traces::{load_trace, query_text, sheets_text};
 pub use words::{Command, Query, RunFlag, WordsFault, read_words};

@@ -16,6 +16,8 @@ pub enum RunFlag {
     Plain,
     /// Its schedule is written on the output, and its report on the error stream.
     Schedule,
+    /// Its report is written on the output, and then the counts of the caches of rights.
+    Stats,
 }
 
 /// What is asked of a trace.
@@ -52,6 +54,11 @@ pub enum Command<'a> {
     },
     /// To replay a schedule over an image and write the report.
     Replay {
+        image: &'a str,
+        schedule: &'a str,
+    },
+    /// To replay a schedule over an image and write the trace.
+    Log {
         image: &'a str,
         schedule: &'a str,
     },
@@ -105,6 +112,7 @@ fn command_in(words: &[String]) -> Option<Command<'_>>
         "build" => build_in(arguments),
         "link" => link_in(arguments),
         "replay" => replay_in(arguments),
+        "log" => log_in(arguments),
         "derive" => derive_in(arguments),
         "analyze" => analyze_in(arguments),
         "gen" => gen_in(arguments),
@@ -112,14 +120,17 @@ fn command_in(words: &[String]) -> Option<Command<'_>>
     }
 }
 
-/// The command of the arguments after `run`: an image, and the flag before it or after it.
+/// The command of the arguments after `run`: an image, and a flag before it or after it.
 fn run_in(arguments: &[String]) -> Option<Command<'_>>
     ensures { option_map asking.asked_by result ≡ asking.run_of (asking.texts arguments.now) }
 {
     match arguments {
         [image] => run_with(image, RunFlag::Plain),
-        [flag, image] if is_schedule(flag) => run_with(image, RunFlag::Schedule),
-        [image, flag] if is_schedule(flag) => run_with(image, RunFlag::Schedule),
+        [one, other] => match (flag_in(one), flag_in(other)) {
+            (Some(flag), _) => run_with(other, flag),
+            (None, Some(flag)) => run_with(one, flag),
+            (None, None) => None,
+        },
         _ => None,
     }
 }
@@ -137,11 +148,15 @@ fn run_with(image: &String, flag: RunFlag) -> Option<Command<'_>>
     })
 }
 
-/// Whether an argument is the flag.
-fn is_schedule(argument: &String) -> bool
-    ensures { result ≡ asking.is_schedule (string_bytes argument.now) }
+/// The flag that an argument is.
+fn flag_in(argument: &String) -> Option<RunFlag>
+    ensures { result ≡ asking.flag_of (string_bytes argument.now) }
 {
-    argument.as_str() == "--schedule"
+    match argument.as_str() {
+        "--schedule" => Some(RunFlag::Schedule),
+        "--stats" => Some(RunFlag::Stats),
+        _ => None,
+    }
 }
 
 /// The command of the arguments after `show`.
@@ -181,6 +196,22 @@ fn replay_in(arguments: &[String]) -> Option<Command<'_>>
     match arguments {
         [image, schedule] if is_plain(image.as_str()) && is_plain(schedule.as_str()) => {
             Some(Command::Replay {
+                image: image.as_str(),
+                schedule: schedule.as_str(),
+            })
+        }
+        _ => None,
+    }
+}
+
+/// The command of the arguments after `log`.
+fn log_in(arguments: &[String]) -> Option<Command<'_>>
+    ensures { option_map asking.asked_by result
+        ≡ asking.log_command (asking.texts arguments.now) }
+{
+    match arguments {
+        [image, schedule] if is_plain(image.as_str()) && is_plain(schedule.as_str()) => {
+            Some(Command::Log {
                 image: image.as_str(),
                 schedule: schedule.as_str(),
             })

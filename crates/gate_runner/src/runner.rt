@@ -73,7 +73,7 @@ fn act<'s, 'e, I: RunOf + Send + Sync, R: Threads + Wait + Sync, P: Pace + Sync>
 ) -> Result<AtEnd<I>, NoMemory>
     ensures { IfOk result (IsAtEnd new.resident new.stamp) }
 {
-    let mut task = ActorTask::new(all.alloc, new);
+    let mut task = ActorTask::new(all.alloc, new)?;
     for _ in all.rt.forever() {
         match task.step(all.rt, all.program, all.cells, all.pace)? {
             Step::Went => {}

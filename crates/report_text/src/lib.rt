@@ -1,6 +1,7 @@
-//! The texts of a run: its report, its schedule, and the summary of a run of the workload.
+//! The texts of a run: its report, its schedule, the counts of its caches, and the summary of a run of the workload.
 #![tactic(auto)]
 
+mod caches;
 mod fault;
 mod lines;
 mod numbers;
@@ -10,6 +11,7 @@ mod text;
 mod words;
 mod writing;
 
+pub use caches::write_caches;
 pub use fault::ScheduleFault;
 pub use numbers::{write_address, write_decimal, write_name};
 pub use reading::read_schedule;

@@ -43,7 +43,12 @@ fn denials_of(actors: &[ActorLine]) -> u64
 
 /// Adds a word, a space, a number in decimal and a byte.
 #[tactic(auto, unfolding(crate::specs::Summaries::field))]
-fn write_field(out: &mut Vec<u8>, word: &[u8], number: u64, after: u8) -> Result<(), NoMemory>
+pub(crate) fn write_field(
+    out: &mut Vec<u8>,
+    word: &[u8],
+    number: u64,
+    after: u8,
+) -> Result<(), NoMemory>
     ensures { OnOk result (out.new.items ≡ out.old.items ++ field word.now number after) }
 {
     let text = number.to_string(*out.allocator())?;

@@ -20,6 +20,8 @@ pub mod Comparing
 pub mod OneDifference
 -- The logs of actors by name.
 pub mod NamedLogs
+-- The counts in logs, by the names of their actors.
+pub mod CountedLogs
 -- The lines of logs are those of actors that ended so.
 pub mod LogLines
 -- The stream of a descriptor as its history leaves it, by the entries of that history alone.

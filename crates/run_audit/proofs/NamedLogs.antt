@@ -12,6 +12,7 @@ use Rattle.wedge_base.specs.declared.rights.End.TheVariants as end
 use Rattle.stable_sort.proofs.Sorted.{IsLow, Rises, rises_if_sorted}
 use Rattle.run_laws.proofs.Named.{same_equal}
 use Rattle.wedge_events.specs.declared.events.LogEntry.{LogEntry}
+use Rattle.grant_cache.specs.Caches.{zero_count}
 use Rattle.thread_laws.specs.Executions.{names_begun}
 use Rattle.thread_laws.specs.Joining.{log_named, with_log, logs_named}
 use Rattle.thread_laws.specs.declared.gathered.ActorLog.{ActorLog}
@@ -19,7 +20,7 @@ use Rattle.run_audit.specs.LogOrder.{log_before, logs_sortable, IsCountBefore}
 
 -- a log of each name
 abbrev log_on : List ℕ → ActorLog
-log_on name = record { name = name; compartment = 0; end = end.Exited 0; pc = 0; fuel = 0; denials = []; labels = []; entries = [] }
+log_on name = record { name = name; compartment = 0; end = end.Exited 0; pc = 0; fuel = 0; denials = []; labels = []; entries = []; cache = zero_count }
 
 -- ---- two names, by how they compare
 
@@ -118,7 +119,7 @@ find_first name (g ∷ gs) = by_name (same g.name name) (ties log_before (log_on
     by_name false true e others = absurd cc
     by_name false false e others = others
 
-named_sorted : (gs hs : List ActorLog) → IsStableBy log_before gs hs → (name : List ℕ) → log_named hs name ≡ log_named gs name
+pub named_sorted : (gs hs : List ActorLog) → IsStableBy log_before gs hs → (name : List ℕ) → log_named hs name ≡ log_named gs name
 named_sorted gs hs stable name = find_first name hs ∙ (ap first_in (stable (log_on name)) ∙ sym (find_first name gs))
 
 all_named_sorted : (gs hs : List ActorLog) → IsStableBy log_before gs hs → (names : List (List ℕ)) → logs_named hs names ≡ logs_named gs names

@@ -1,10 +1,13 @@
 -- An audit of whole executions and legal histories is a run.
 use Rattle.std.proofs.Common.{List, sym, subst}
 use Rattle.wedge_base.specs.Images.{Image}
-use Rattle.thread_laws.specs.Joining.{AreWalked, IsRun, journal_of}
+use Rattle.thread_laws.specs.CacheLines.{counts_in}
+use Rattle.thread_laws.specs.Joining.{AreWalked, IsRun, journal_of, lines_in, logs_in_order}
+use Rattle.thread_laws.specs.LookUps.{AreCountsOf}
 use Rattle.thread_laws.specs.Replaying.{Legal}
 use Rattle.thread_laws.specs.declared.gathered.ActorLog.{ActorLog}
 use Rattle.thread_laws.specs.declared.gathered.CellHistory.{CellHistory}
+use Rattle.thread_laws.proofs.CacheLines.{caches_are_counted}
 use Rattle.thread_laws.proofs.Joining.{gathered_is_run}
 use Rattle.run_audit.specs.Audits.{IsAudit}
 use Rattle.run_audit.specs.declared.auditing.Audited.{Audited}
@@ -12,3 +15,10 @@ use Rattle.run_audit.specs.declared.auditing.Audited.{Audited}
 pub audit_is_run : (i : Image) (logs : List ActorLog) (cells : List CellHistory) (a : Audited) → AreWalked i logs → Legal i cells → IsAudit i logs cells a → IsRun i a.journal.entries a.outcome
 audit_is_run i logs cells a walked legal h =
     subst (λ es. IsRun i es a.outcome) (sym h.journal) (subst (λ o. IsRun i (journal_of logs) o) (sym h.outcome) (gathered_is_run i logs cells walked legal h.agrees))
+
+-- and the counts of its caches are those for the entries of its journal
+pub audit_counts : (i : Image) (logs : List ActorLog) (cells : List CellHistory) (a : Audited) → AreWalked i logs → IsAudit i logs cells a → AreCountsOf a.journal.entries a.outcome.actors a.caches
+audit_counts i logs cells a walked h =
+    subst (λ es. AreCountsOf es a.outcome.actors a.caches) (sym h.journal)
+    (subst (λ o. AreCountsOf (journal_of logs) o.actors a.caches) (sym h.outcome)
+    (subst (λ cs. AreCountsOf (journal_of logs) (lines_in i (logs_in_order logs)) cs) (sym h.caches) (caches_are_counted i logs walked)))

@@ -1,6 +1,7 @@
 -- What an audit returns.
 use Rattle.std.specs.Prelude.{◌≡◌, List}
 use Rattle.wedge_base.specs.Images.{Image}
+use Rattle.thread_laws.specs.CacheLines.{counts_in}
 use Rattle.thread_laws.specs.Joining.{journal_of, Agrees, outcome_gathered}
 use Rattle.thread_laws.specs.declared.gathered.ActorLog.{ActorLog}
 use Rattle.thread_laws.specs.declared.gathered.CellHistory.{CellHistory}
@@ -9,18 +10,21 @@ use Rattle.run_audit.specs.Rooms.{IsRoomFor}
 use Rattle.run_audit.specs.declared.auditing.Audited.{Audited}
 use Rattle.run_audit.specs.declared.auditing.Compared.{Compared}
 
--- logs and histories agree for every cell, the journal is all that was logged, in order, and the
--- outcome is the one that is read off both
+-- logs and histories agree for every cell, the journal is all that was logged, in order, the
+-- outcome is the one that is read off both, and the counts of caches are those of the logs
 pub record IsAudit (i : Image) (logs : List ActorLog) (cells : List CellHistory) (a : Audited)
     : Type 0 where
   pub agrees : Agrees logs cells
   pub journal : a.journal.entries ≡ journal_of logs
   pub outcome : a.outcome ≡ outcome_gathered i logs cells
+  pub caches : a.caches ≡ counts_in i logs
 
--- logs and histories agree for every cell, the outcome is the one that is read off both, and there
--- is all that it takes to make the journal of the entries of the logs
+-- logs and histories agree for every cell, the outcome is the one that is read off both, the counts
+-- of caches are those of the logs, and there is all that it takes to make the journal of the entries
+-- of the logs
 pub record IsCompared (i : Image) (logs : List ActorLog) (cells : List CellHistory) (c : Compared)
     : Type 0 where
   pub agrees : Agrees logs cells
   pub outcome : c.outcome ≡ outcome_gathered i logs cells
+  pub caches : c.caches ≡ counts_in i logs
   pub room : IsRoomFor (indexed_journal logs) c.room

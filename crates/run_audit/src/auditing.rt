@@ -4,12 +4,14 @@ ghost use Rattle.std.specs.Prelude.{◌≡◌, IfOk};
 ghost use Rattle.std.specs.Result.{MatchResult};
 ghost use Rattle.thread_laws.specs.Joining.{AreWalked, IsRun};
 ghost use Rattle.thread_laws.specs.Joining as joining;
+ghost use Rattle.thread_laws.specs.LookUps.{AreCountsOf};
 ghost use Rattle.thread_laws.specs.Replaying.{Legal};
 ghost use Rattle.run_audit.specs.Audits.{IsAudit, IsCompared};
 ghost use Rattle.run_audit.specs.Differences.{IsComparison, IsFault};
 ghost use Rattle.run_audit.specs.IndexedEntries.{indexed_journal};
 ghost use Rattle.run_audit.specs.Rooms.{IsRoomFor};
 
+use crate::caches::counts_of;
 use crate::comparison::first_difference;
 use crate::fault::{AuditFault, Difference};
 use crate::merging::entries_in_order;
@@ -18,10 +20,11 @@ use crate::outcome::outcome_gathered;
 use crate::sorts::{
     JournalEntry, histories_by_cell, journal_references, kept_of_histories, logged_by_cell,
 };
+use grant_cache::CacheLine;
 use image_form::Image;
 use std::alloc::Global;
 use thread_laws::{ActorLog, CellHistory, Gathered};
-use wedge_base::{NoMemory, Outcome};
+use wedge_base::{Items, NoMemory, Outcome};
 use wedge_events::Journal;
 
 /// The journal and the outcome of a run on threads.
@@ -29,6 +32,8 @@ use wedge_events::Journal;
 pub struct Audited {
     pub journal: Journal,
     pub outcome: Outcome,
+    /// The counts of the caches of its actors, in the order of their names.
+    pub caches: Items<CacheLine>,
 }
 
 /// Says why there is no audit, and hands back what was to be audited.
@@ -42,6 +47,7 @@ pub struct AuditRefusal {
 #[derive(Drop)]
 pub(crate) struct Compared {
     outcome: Outcome,
+    caches: Items<CacheLine>,
     room: Room,
 }
 
@@ -76,8 +82,8 @@ fn compare_cells(
     first_difference(alloc, kept.as_slice(), logged.as_slice())
 }
 
-/// Returns the outcome of logs with which the histories of all cells agree, and what it takes to
-/// make the journal of their entries.
+/// Returns the outcome of logs with which the histories of all cells agree, the counts of their
+/// caches, and what it takes to make the journal of their entries.
 fn compare_gathered(
     alloc: Global,
     image: &Image,
@@ -93,31 +99,44 @@ fn compare_gathered(
         return Err(AuditFault::Disagree(difference));
     }
     let outcome = outcome_gathered(alloc, image, entries, gathered)?;
-    Ok(Compared { outcome, room })
+    let caches = counts_of(alloc, gathered.logs.as_slice(), outcome.actors.as_slice())?;
+    Ok(Compared {
+        outcome,
+        caches: Items::new(caches),
+        room,
+    })
 }
 
 /// Returns the journal and the outcome of what a run on threads left: the journal is all logged
 /// entries in the order of their stamps, those of one stamp by the names of their actors, and the
-/// outcome is read off logs and histories. Fails with `Disagree` exactly where the history of a
+/// outcome is read off logs and histories, as are the counts of the caches. Fails with `Disagree` exactly where the history of a
 /// cell differs from the logged entries of that cell, at the first difference in the order of
 /// cells, and hands back what it was given.
 ///
 /// Where the logs are those of whole executions and the histories are legal, Ok says that the
-/// journal is a complete run of the image, with this outcome.
+/// journal is a complete run of the image, with this outcome, and that there are counts for each
+/// actor of the outcome, which are those for its entries in the journal.
 pub fn audit(alloc: Global, image: &Image, gathered: Gathered) -> Result<Audited, AuditRefusal>
     ensures result { MatchResult result
         (λ a. IsAudit image.now gathered.logs gathered.cells a)
         (λ r. (r.gathered ≡ gathered) × IsFault gathered.logs gathered.cells r.fault) }
     ensures run { AreWalked image.now gathered.logs → Legal image.now gathered.cells
         → IfOk result (λ a. IsRun image.now a.journal.entries a.outcome) }
+    ensures caches { AreWalked image.now gathered.logs
+        → IfOk result (λ a. AreCountsOf a.journal.entries a.outcome.actors a.caches) }
 {
     match compare_gathered(alloc, image, &gathered) {
         Ok(compared) => {
-            let Compared { outcome, room } = compared;
+            let Compared {
+                outcome,
+                caches,
+                room,
+            } = compared;
             let Gathered { logs, .. } = gathered;
             Ok(Audited {
                 journal: journal_moved(logs, room),
                 outcome,
+                caches,
             })
         }
         Err(fault) => Err(AuditRefusal { fault, gathered }),

@@ -3,6 +3,7 @@
 
 mod actor_lines;
 mod auditing;
+mod caches;
 mod comparison;
 mod equality;
 mod fault;

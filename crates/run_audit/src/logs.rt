@@ -60,7 +60,10 @@ fn log_references<'a>(
 }
 
 /// Returns logs in the order of their names; those of one name stay in their order.
-fn logs_by_name<'a>(alloc: Global, logs: &'a [ActorLog]) -> Result<Vec<LogReference<'a>>, NoMemory>
+pub(crate) fn logs_by_name<'a>(
+    alloc: Global,
+    logs: &'a [ActorLog],
+) -> Result<Vec<LogReference<'a>>, NoMemory>
     ensures sorted { IfOk result (λ v. IsSortedBy log_before v.items) }
     ensures stable { IfOk result (λ v. IsStableBy log_before logs.now v.items) }
 {
@@ -79,7 +82,7 @@ fn count_before(sorted: &[LogReference<'_>], name: &ActorName) -> usize
 }
 
 /// Returns the first log of a name, among logs in the order of their names.
-fn log_named<'a>(sorted: &[LogReference<'a>], name: &ActorName) -> Option<&'a ActorLog>
+pub(crate) fn log_named<'a>(sorted: &[LogReference<'a>], name: &ActorName) -> Option<&'a ActorLog>
     requires { IsSortedBy log_before sorted.now }
     ensures { option_copied result ≡ joining.log_named sorted.now name.now }
 {

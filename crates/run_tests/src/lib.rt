@@ -1,5 +1,5 @@
 //! Tests of the program that compute what they run or what they want: every order of turns, each prefix of a file, as many actors as
-//! there may be, and runs that no single thread makes. Rows that are written out stand in `run_cases`.
+//! there may be, runs that no single thread makes, and the image of each workload. Rows that are written out stand in `run_cases`.
 #![tactic(auto)]
 
 #[cfg(test)]
@@ -16,3 +16,5 @@ mod parts;
 mod prefixes;
 #[cfg(test)]
 mod threads;
+#[cfg(test)]
+mod workloads;

@@ -77,7 +77,6 @@ pub fn take_alone(
 
 /// What an event makes of it that begins no other. Those of slots have their arm here, since they are the most.
 #[inline(always)]
-#[tactic(auto, unfolding(machine::specs::Take::takes))]
 fn take_event_alone(
     actor: &mut Actor,
     program: &Program<'_>,
@@ -91,9 +90,31 @@ fn take_event_alone(
     ensures name { OnOk result (actor.new.name ≡ actor.old.name) }
 {
     match event {
-        Event::Slot { slot, ask, reply } => take_slot(actor, program, memory, *slot, ask, reply),
+        Event::Slot { slot, ask, reply } => {
+            take_slot_event(actor, program, memory, *slot, ask, reply)
+        }
         _ => take_any_alone(actor, program, memory, event),
     }
+}
+
+/// What an event of a slot makes of it.
+#[inline(always)]
+#[tactic(auto, unfolding(machine::specs::Take::takes))]
+fn take_slot_event(
+    actor: &mut Actor,
+    program: &Program<'_>,
+    memory: &mut PrivateView,
+    slot: Slot,
+    ask: &SlotAsk,
+    reply: &SlotReply,
+) -> Result<(), NoMemory>
+    requires { TakesFit (whole actor.old memory.old) (AnEvent.Slot slot ask.now reply.now) }
+    ensures takes { OnOk result (whole actor.new memory.new
+        ≡ taking.takes program.now (whole actor.old memory.old)
+        (AnEvent.Slot slot ask.now reply.now)) }
+    ensures name { OnOk result (actor.new.name ≡ actor.old.name) }
+{
+    take_slot(actor, program, memory, slot, ask, reply)
 }
 
 /// The same of any event.

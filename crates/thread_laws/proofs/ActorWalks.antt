@@ -1,11 +1,10 @@
 -- In each run the entries of every actor are a walk of it, from any moment on.
-use Rattle.std.proofs.Common.{◌≡◌, ℕ, ◌+◌, refl, subst, ◌∙◌, arith}
+use Rattle.std.proofs.Common.{◌≡◌, ◌+◌, subst, arith}
 use Rattle.std.specs.Prelude.{length}
 use Rattle.machine.specs.Worlds.{initial_state}
 use Rattle.run_laws.specs.Walks.{IsWalk, entries_in}
 use Rattle.run_laws.proofs.Bounding.{run_image}
 use Rattle.run_laws.proofs.Walking.{actor_walks}
-use Rattle.wedge_base.specs.Images.{Image}
 use Rattle.thread_laws.specs.ActorWalks.{EveryActorWalks}
 
 pub every_actor_walks : EveryActorWalks

@@ -18,7 +18,7 @@ use Rattle.run_laws.proofs.FamilyRuns.{run_family}
 use Rattle.run_laws.proofs.Named.{same_self, same_equal}
 use Rattle.thread_laws.specs.declared.gathered.ActorLog.{ActorLog}
 use Rattle.thread_laws.specs.declared.gathered.CellHistory.{CellHistory}
-use Rattle.thread_laws.specs.Joining.{IsEndOf, IsLogOf, AreLogs, all_logged, journal_of, log_named, with_log, logs_named, logs_in_order, line_in, lines_in, labels_in, stream_left, streams_from, streams_left, outcome_gathered, GatheredIsRun}
+use Rattle.thread_laws.specs.Joining.{IsEndOf, IsLogOf, AreLogs, AreWalked, all_logged, journal_of, log_named, with_log, logs_named, logs_in_order, line_in, lines_in, labels_in, stream_left, streams_from, streams_left, outcome_gathered, GatheredIsRun}
 use Rattle.thread_laws.specs.Histories.{entries_on, IsLegal, left_by_history, replay_of}
 use Rattle.thread_laws.specs.Forests.{Forest, nobody, someone, executions, IsForestOfRoot}
 use Rattle.thread_laws.specs.Laws.{IsRunOfExecutions}
@@ -94,13 +94,13 @@ logged i (l ∷ ls) [] h = absurd h
 logged i (l ∷ ls) (g ∷ gs) h = ap (λ es. es ++ all_logged gs) h.0.entries ∙ ap (λ es. l.entries ++ es) (logged i ls gs h.1)
 
 -- a log and a execution of each name
-abbrev IsLogIf : Image → Option Execution → Option ActorLog → Type 0
+abbrev pub IsLogIf : Image → Option Execution → Option ActorLog → Type 0
 IsLogIf i None None = Unit {0}
 IsLogIf i None (Some g) = ⊥
 IsLogIf i (Some l) None = ⊥
 IsLogIf i (Some l) (Some g) = IsLogOf i l g
 
-log_if : (i : Image) (ls : List Execution) (logs : List ActorLog) (m : List ℕ) → AreLogs i ls logs → IsLogIf i (execution_named ls m) (log_named logs m)
+pub log_if : (i : Image) (ls : List Execution) (logs : List ActorLog) (m : List ℕ) → AreLogs i ls logs → IsLogIf i (execution_named ls m) (log_named logs m)
 log_if i [] [] m h = tt
 log_if i [] (g ∷ gs) m h = absurd h
 log_if i (l ∷ ls) [] m h = absurd h
@@ -172,6 +172,16 @@ lifted i ls w there none m a e = by_execution (execution_named ls m) refl
     by_execution None is = let f : None ≡ Some a = sym (none m is) ∙ e in absurd cc
     by_execution (Some l) is = let f : Some (final_state i l) ≡ Some a = sym (there m l is) ∙ e in (l, is, cc)
 
+-- the journal of walked logs is a merge of the executions
+pub walked_merge : (i : Image) (logs : List ActorLog) (walked : AreWalked i logs) → IsMerge (executions (someone walked.own walked.its nobody)) (journal_of logs)
+walked_merge i logs walked = subst (λ xs. IsMerge ls (in_order xs)) (sym (logged i ls logs walked.logs_)) (order_is_merge i ls fits.executions_ fits.apart)
+  where
+    ls : List Execution
+    ls = executions (someone walked.own walked.its nobody)
+
+    fits : IsForestOfRoot i (someone walked.own walked.its nobody)
+    fits = forest_is_executions i (someone walked.own walked.its nobody) walked.forest
+
 pub gathered_is_run : GatheredIsRun
 gathered_is_run i logs cells walked legal agrees = record { last = r.last; run = r.run; complete = r.complete; rising = merge.rising; goes_on = runs_go_on i (turns_of es) r.last r.run; ends = sym outcome }
   where
@@ -188,7 +198,7 @@ gathered_is_run i logs cells walked legal agrees = record { last = r.last; run =
     fits = forest_is_executions i k walked.forest
 
     merge : IsMerge ls es
-    merge = subst (λ xs. IsMerge ls (in_order xs)) (sym (logged i ls logs walked.logs_)) (order_is_merge i ls fits.executions_ fits.apart)
+    merge = walked_merge i logs walked
 
     r : IsRunOfExecutions i ls es
     r = executions_are_a_run i ls es fits.executions_ merge (λ x. subst (IsLegal i x) (agrees x tt) (legal x))

@@ -14,6 +14,8 @@ pub mod Sorting
 pub mod GoingOn
 -- The journal of what a run on threads leaves is a complete run.
 pub mod Joining
+-- The counts in logs are for the entries of the journal.
+pub mod CacheLines
 -- What an actor did, as its thread came to know it, is a walk.
 pub mod ActorProgresses
 -- What the thread of an actor returns are the logs of a family.

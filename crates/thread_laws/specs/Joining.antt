@@ -19,6 +19,7 @@ use Rattle.machine.specs.Worlds.{WorldState, initial_state, Runs, is_complete}
 use Rattle.thread_laws.specs.Histories.{entries_on, left_by_history}
 use Rattle.thread_laws.specs.Forests.{Forest, nobody, someone, executions, IsForestOf}
 use Rattle.thread_laws.specs.Executions.{Execution, final_state, names_begun}
+use Rattle.thread_laws.specs.LookUps.{IsCounted}
 use Rattle.thread_laws.specs.Merging.{IsRising}
 use Rattle.thread_laws.specs.Replaying.{history_of, Legal}
 use Rattle.thread_laws.specs.Sorting.{in_order}
@@ -27,7 +28,7 @@ use Rattle.thread_laws.specs.declared.gathered.CellHistory.{CellHistory}
 
 -- ---- logs
 
--- a log says how an actor ended
+-- a log says how an actor ended, and has the counts of its cache for the entries of the log
 pub record IsEndOf (a : ActorState) (g : ActorLog) : Type 0 where
   pub ended : a.phase ≡ phase.Ended g.end
   pub name : g.name ≡ a.name
@@ -36,6 +37,7 @@ pub record IsEndOf (a : ActorState) (g : ActorLog) : Type 0 where
   pub fuel : g.fuel ≡ a.fuel
   pub denials : g.denials ≡ a.denials
   pub labels : g.labels ≡ a.labels
+  pub counted : IsCounted g.entries g.cache
 
 -- the log of an execution
 pub record IsLogOf (i : Image) (l : Execution) (g : ActorLog) : Type 0 where

@@ -10,8 +10,12 @@ pub mod Forests
 pub mod Sorting
 -- What holds of them.
 pub mod Laws
+-- The tags that an actor looks up in its cache, and the counts of the cache.
+pub mod LookUps
 -- What a run on threads leaves, and the theorem.
 pub mod Joining
+-- The counts of the caches of all actors, read off the logs.
+pub mod CacheLines
 -- What an actor has done so far, as its thread comes to know it.
 pub mod ActorProgresses
 -- Histories as locked cells keep them.

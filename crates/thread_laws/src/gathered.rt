@@ -1,5 +1,6 @@
 //! What a run on threads leaves: the logs of its actors, and the histories of its cells.
 
+use grant_cache::CacheCount;
 use journal_cell::Entry;
 use machine::StreamLabel;
 use wedge_base::{ActorName, DenialAt, End, FdNo, GateId, Items, Slot, Stamp};
@@ -24,6 +25,8 @@ pub struct ActorLog {
     /// The paths of the files that it opened.
     pub labels: Items<StreamLabel>,
     pub entries: Items<LogEntry>,
+    /// The counts of its cache of rights.
+    pub cache: CacheCount,
 }
 
 /// The history of a cell, as the cell kept it: its entries, the oldest first.

@@ -3,6 +3,7 @@
 ghost use Rattle.thread_laws.specs.ActorWalks.{EveryActorWalks};
 ghost use Rattle.thread_laws.specs.Auditing.{ComparedAgree, DifferentDisagree};
 ghost use Rattle.thread_laws.specs.ActorProgresses.{ProgressKeepsAccount, ReturnedLogsAreFamilies};
+ghost use Rattle.thread_laws.specs.CacheLines.{CachesAreCounted};
 ghost use Rattle.thread_laws.specs.Joining.{GatheredIsRun};
 ghost use Rattle.thread_laws.specs.Forests.{ForestIsExecutions};
 ghost use Rattle.thread_laws.specs.Laws.{ExecutionsAreARun};
@@ -32,6 +33,13 @@ pub fn order_is_merge()
 /// all logged entries in the order of their stamps, those of one stamp by the names of their actors.
 pub fn gathered_is_run()
     ensures { GatheredIsRun }
+{}
+
+/// Where the logs of a run on threads are walked, their counts are for the entries of the journal: there are
+/// counts for each actor that the outcome lists, in that order, of as many look-ups as the actor's entries in
+/// the journal made; and where none was refused, the hits are those of a cache of 8 tags.
+pub fn caches_are_counted()
+    ensures { CachesAreCounted }
 {}
 
 /// What the thread of an actor returns are the logs of a family: of whole executions, one for each actor

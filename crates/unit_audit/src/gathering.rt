@@ -1,6 +1,7 @@
 //! Logs and histories to be audited.
 
 use cow_pages::PrivateView;
+use grant_cache::CacheCount;
 use image_form::{Image, ImageParts, finish_image};
 use journal_cell::Entry;
 use std::alloc::Global;
@@ -48,7 +49,7 @@ pub fn image(alloc: Global) -> Result<Image, Fail> {
     Ok(finish_image(alloc, parts).ok().ok_or("an image")?)
 }
 
-/// The log of an actor that began at `main` and exited with so much fuel left.
+/// The log of an actor that began at `main`, looked up no tag, and exited with so much fuel left.
 pub fn log(alloc: Global, name: ActorName, fuel: u32, entries: Vec<LogEntry>) -> ActorLog {
     ActorLog {
         name,
@@ -59,6 +60,11 @@ pub fn log(alloc: Global, name: ActorName, fuel: u32, entries: Vec<LogEntry>) ->
         denials: Items::new(Vec::new(alloc)),
         labels: Items::new(Vec::new(alloc)),
         entries: Items::new(entries),
+        cache: CacheCount {
+            lookups: 0,
+            hits: 0,
+            refused: 0,
+        },
     }
 }
 

@@ -4,4 +4,6 @@
 #[cfg(test)]
 mod callgate_tests;
 #[cfg(test)]
+mod grant_cache_tests;
+#[cfg(test)]
 mod grant_sheet_tests;

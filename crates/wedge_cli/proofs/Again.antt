@@ -14,7 +14,7 @@ use Rattle.run_laws.specs.CompleteRuns.{IsJournaledRun}
 use Rattle.world_turns.proofs.Replays.{journals_replay}
 use Rattle.cli_inputs.specs.declared.loading.FileKind.TheVariants as kind
 use Rattle.cli_inputs.specs.Loading.{image_from_bytes, most_of}
-use Rattle.cli_inputs.specs.Replaying.{replay_text, report_of_replay, schedule_by, replay_report}
+use Rattle.cli_inputs.specs.Replaying.{replay_text, report_made, text_of_read, schedule_by, text_made}
 use Rattle.wedge_cli.proofs.Replays.{text_within}
 
 -- the actors of entries are those of their turns
@@ -27,9 +27,9 @@ pub schedule_replays : (i : Image) (bytes schedule : List ℕ) (entries : List L
 schedule_replays i bytes schedule entries outcome encoded accepted whole read short =
     let within : length bytes ≤ most_of kind.Image = omega (arith, ap length encoded.encoded, encoded.valid.small) in
     let replay = journals_replay i entries outcome whole in
-    text_within bytes schedule within short
-    ∙ ap (λ m. report_of_replay m (schedule_by (names_in schedule))) accepted
-    ∙ ap (λ n. report_of_replay (Ok i) (schedule_by n)) read
-    ∙ ap (λ names. replay_report (replay_from (initial_state i) 1 names)) (actors_are entries)
-    ∙ ap replay_report replay.1
+    text_within report_made bytes schedule within short
+    ∙ ap (λ m. text_of_read report_made m (schedule_by (names_in schedule))) accepted
+    ∙ ap (λ n. text_of_read report_made (Ok i) (schedule_by n)) read
+    ∙ ap (λ names. text_made report_made i names (replay_from (initial_state i) 1 names)) (actors_are entries)
+    ∙ ap (text_made report_made i (names_of (turns_of entries))) replay.1
     ∙ ap (λ (o : Outcome). Ok (report_of o)) (sym replay.2)

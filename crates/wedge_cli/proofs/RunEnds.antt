@@ -1,11 +1,11 @@
 -- What `run` ended with.
-use Rattle.std.proofs.Common.{◌≡◌, ◌⊎◌, inl, inr, ℕ, List, refl, sym, subst, ◌∙◌, arith}
+use Rattle.std.proofs.Common.{◌≡◌, ◌⊎◌, inl, inr, ℕ, List, ◌++◌, refl, sym, subst, ◌∙◌, arith}
 use Rattle.std.specs.Prelude.{Option, Some, None, Ok, Err}
 use Rattle.wedge_base.specs.Images.{Image}
 use Rattle.wedge_events.specs.declared.events.Journal.{Journal}
 use Rattle.wedge_cli.specs.declared.status.Ended.{Ended}
 use Rattle.cli_inputs.specs.declared.words.RunFlag.{RunFlag}
-use Rattle.cli_inputs.specs.declared.words.RunFlag.TheVariants.{Plain, Schedule}
+use Rattle.cli_inputs.specs.declared.words.RunFlag.TheVariants.{Plain, Schedule, Stats}
 use Rattle.cli_inputs.specs.declared.refusal.Refusal.{Refusal}
 use Rattle.cli_inputs.specs.declared.refusal.Refusal.TheVariants as refusal
 use Rattle.audited_run.specs.declared.run.Differs.{Differs}
@@ -14,10 +14,11 @@ use Rattle.wedge_cli.specs.Lines.{status_of}
 use Rattle.cli_inputs.specs.Loading.{image_from_bytes, IsRefusedBy}
 use Rattle.cli_inputs.specs.Words.{Run}
 use Rattle.image_form.specs.Rules.{Encodes}
+use Rattle.report_text.specs.CacheTexts.{cache_lines}
 use Rattle.report_text.specs.Reports.{report_of}
 use Rattle.report_text.specs.Schedules.{actors_of, schedule_of}
 use Rattle.wedge_cli.specs.Outside.{Sinks, Outside, Takes}
-use Rattle.wedge_cli.specs.Ended.{AreTaken, IsReportOfKept, IsScheduleReadAgain, IsRunDone, IsScheduleDone, IsMadeAgain, IsRunEnd, IsCutShort, done_status}
+use Rattle.wedge_cli.specs.Ended.{AreTaken, IsReportOfKept, IsScheduleReadAgain, IsRunDone, IsScheduleDone, IsStatsDone, IsMadeAgain, IsRunEnd, IsCutShort, done_status, run_texts, differs_texts}
 use Rattle.wedge_cli.specs.Causes.{IsCommandDone}
 use Rattle.wedge_cli.proofs.Written.{took_out, took_both}
 use Rattle.wedge_cli.proofs.Again.{schedule_replays}
@@ -91,6 +92,38 @@ schedule_done image bytes ended before after (inr d) exposed is =
       | inr fault ↦ absurd (omega (arith, fault.1, is))
     ]
 
+-- ---- a run with the counts of its caches and the status 0
+
+counted : (i : Image) (kept : Option Journal) (differs : Option Differs) (texts : List Text) (bytes : List ℕ) (s u : Sinks)
+    → Encodes i bytes → IsReportOfKept i Stats kept differs texts → done_status differs ≡ 0 → AreTaken texts s u → IsStatsDone bytes kept s u
+counted i None differs texts bytes s u encoded r zero taken = absurd r
+counted i (Some journal) (Some d) texts bytes s u encoded r zero taken = absurd (omega (arith, zero))
+counted i (Some journal) None texts bytes s u encoded r zero taken =
+    let took = took_out (report_of r.outcome ++ cache_lines r.caches) s u (subst (λ ts. AreTaken ts s u) r.are taken) in
+    record {
+      image = i;
+      encoded = encoded;
+      journal = journal;
+      kept_is = refl;
+      outcome = r.outcome;
+      run = r.run;
+      threads = r.made;
+      caches = r.caches;
+      counted = r.counted;
+      out = took.0;
+      err = took.1;
+    }
+
+pub stats_done : (image bytes : List ℕ) (ended : Ended) (before after : Outside) → IsEither (Run image Stats) ended before after
+    → before.files image ≡ Some bytes → ended.status ≡ 0 → IsStatsDone bytes ended.journal before.sinks after.sinks
+stats_done image bytes ended before after (inl r) exposed is = absurd (refused_not_0 (Run image Stats) ended before after r is)
+stats_done image bytes ended before after (inr d) exposed is =
+    elim d.written.cases [
+      | inl done ↦ subst (λ kept. IsStatsDone bytes kept before.sinks after.sinks) (sym d.written.journal)
+          (counted d.made.image d.kept.journal d.kept.differs d.texts bytes before.sinks after.sinks (d.made.encoded bytes exposed) d.made.reported (sym done.1 ∙ is) done.0)
+      | inr fault ↦ absurd (omega (arith, fault.1, is))
+    ]
+
 -- ---- a run with the status 7
 
 made_again : (i : Image) (flag : RunFlag) (kept : Option Journal) (differs : Option Differs) (texts : List Text) (bytes : List ℕ) (ended : Ended) (s u : Sinks)
@@ -111,7 +144,7 @@ made_again i flag (Some journal) (Some d) texts bytes ended s u encoded accepted
       outcome = r.outcome;
       run = r.run;
       serial = r.made.1;
-      written = subst (λ ts. AreTaken ts s u) r.are taken;
+      written = subst (λ cs. AreTaken (run_texts flag journal r.outcome cs ++ differs_texts (Some d)) s u) r.counted (subst (λ ts. AreTaken ts s u) r.are taken);
       replays = λ is short. schedule_replays i bytes schedule journal.entries r.outcome encoded accepted r.run (subst (λ f. IsScheduleReadAgain f journal.entries) is r.again) short;
     }
 

@@ -11,9 +11,10 @@ use Rattle.wedge_cli.specs.declared.writing.KeptRun.{KeptRun}
 use Rattle.wedge_cli.specs.declared.writing.Text.{Text}
 use Rattle.wedge_cli.specs.Lines.{line, usage_line, refusal_text, status_of}
 use Rattle.cli_inputs.specs.Loading.{image_from_bytes, built_of, IsRefusedBy}
-use Rattle.cli_inputs.specs.Replaying.{replay_text}
+use Rattle.cli_inputs.specs.declared.refusal.ScheduleRefusal.{ScheduleRefusal}
+use Rattle.cli_inputs.specs.Replaying.{Making, report_made, trace_made, text_of_replay, replay_text, log_text}
 use Rattle.cli_inputs.specs.Linking.{link_text, IsLinkedImage}
-use Rattle.cli_inputs.specs.Words.{Asked, Run, Show, Build, Link, Replay, Derive, Analyze, Gen}
+use Rattle.cli_inputs.specs.Words.{Asked, Run, Show, Build, Link, Replay, Log, Derive, Analyze, Gen}
 use Rattle.wedge_cli.specs.Outside.{Device, Sinks, Outside, Rises, Takes}
 use Rattle.trace_form.specs.Records.{records_of}
 use Rattle.cb_analyze.specs.Sheets.{sheets_of}
@@ -21,7 +22,7 @@ use Rattle.cb_analyze.specs.Texts.{sheets_text}
 use Rattle.wedge_cli.specs.Ended.{AreTaken, IsPairAnswer, IsTraceAnswer, IsWritten, IsSaid, IsLinkDone, IsCutShort, IsAnswerEnd, done_status, no_run}
 use Rattle.cli_inputs.specs.declared.words.Query.{Query}
 use Rattle.cli_inputs.specs.Traces.{derive_text, analyze_text, query_lines, answer_to, unless_fault, IsUnknownIn, IsTraceRefused, IsQueryRefused}
-use Rattle.wedge_cli.specs.Causes.{IsReplayRefused, IsRefused, IsUnfit, IsRejected, IsTraceRejected, IsElfRejected, IsUnknown, IsUnreadable, SaysRefusal, IsRefusal, IsCommandDone, IsUsage, IsCommandAnswer}
+use Rattle.wedge_cli.specs.Causes.{IsReplayAnswer, IsReplayRefused, IsRefused, IsUnfit, IsRejected, IsTraceRejected, IsElfRejected, IsUnknown, IsUnreadable, SaysRefusal, IsRefusal, IsCommandDone, IsUsage, IsCommandAnswer}
 use Rattle.wedge_cli.proofs.Written.{Rise, written_status, said_status, said_nothing, took_out, took_err}
 use Rattle.wedge_cli.proofs.Links.{unfit_link, unread_link, rejected_elf, no_other_link, link_refusal}
 
@@ -105,16 +106,16 @@ unfit_by meant name content before after (refusal.Trace fault) h e = absurd h
 unfit_by meant name content before after (refusal.Elf fault) h e = absurd h
 unfit_by meant name content before after (refusal.NoSuchName item) h e = absurd h
 
-unfit_replay : (image schedule : List ℕ) (files : List ℕ → Option (List ℕ)) (before after : List ℕ → ℕ) (r : Refusal)
-    → IsReplayRefused image schedule files before after r → status_of r ≡ 3 → WhereExposed (files image) (λ bytes. IsErr (image_from_bytes bytes))
-unfit_replay image schedule files before after refusal.NoMemory h e = absurd (omega arith)
-unfit_replay image schedule files before after (refusal.Read file) h e = absurd (omega arith)
-unfit_replay image schedule files before after (refusal.Image fault) h e = λ bytes exposed. is_err_of (image_from_bytes bytes) (refusal.Image fault) (h.1 bytes exposed)
-unfit_replay image schedule files before after (refusal.Partition p) h e = absurd h
-unfit_replay image schedule files before after (refusal.Schedule s) h e = absurd (omega arith)
-unfit_replay image schedule files before after (refusal.Trace fault) h e = absurd h
-unfit_replay image schedule files before after (refusal.Elf fault) h e = absurd h
-unfit_replay image schedule files before after (refusal.NoSuchName item) h e = absurd h
+unfit_replay : (make : Making) (image schedule : List ℕ) (files : List ℕ → Option (List ℕ)) (before after : List ℕ → ℕ) (r : Refusal)
+    → IsReplayRefused make image schedule files before after r → status_of r ≡ 3 → WhereExposed (files image) (λ bytes. IsErr (image_from_bytes bytes))
+unfit_replay make image schedule files before after refusal.NoMemory h e = absurd (omega arith)
+unfit_replay make image schedule files before after (refusal.Read file) h e = absurd (omega arith)
+unfit_replay make image schedule files before after (refusal.Image fault) h e = λ bytes exposed. is_err_of (image_from_bytes bytes) (refusal.Image fault) (h.1 bytes exposed)
+unfit_replay make image schedule files before after (refusal.Partition p) h e = absurd h
+unfit_replay make image schedule files before after (refusal.Schedule s) h e = absurd (omega arith)
+unfit_replay make image schedule files before after (refusal.Trace fault) h e = absurd h
+unfit_replay make image schedule files before after (refusal.Elf fault) h e = absurd h
+unfit_replay make image schedule files before after (refusal.NoSuchName item) h e = absurd h
 
 unfit_trace : (trace : List ℕ) (content : Option (List ℕ)) (before after : ℕ) (r : Refusal)
     → IsTraceRefused trace content before after r → status_of r ≡ 3 → ⊥
@@ -143,7 +144,8 @@ unfit (Run image flag) files before after r h e = unfit_by image_from_bytes imag
 unfit (Show image) files before after r h e = unfit_by image_from_bytes image (files image) (before image) (after image) r h e
 unfit (Build part) files before after r h e = unfit_by built_of part (files part) (before part) (after part) r h e
 unfit (Link elf part) files before after r h e = unfit_link elf part files before after r h e
-unfit (Replay image schedule) files before after r h e = unfit_replay image schedule files before after r h e
+unfit (Replay image schedule) files before after r h e = unfit_replay report_made image schedule files before after r h e
+unfit (Log image schedule) files before after r h e = unfit_replay trace_made image schedule files before after r h e
 unfit (Derive trace) files before after r h e = unfit_trace trace (files trace) (before trace) (after trace) r h e
 unfit (Analyze trace query name) files before after r h e = unfit_query query name trace (files trace) (before trace) (after trace) r h e
 unfit (Gen workers) files before after r h e = only_6 r 3 h (λ six. omega (arith, six)) e
@@ -165,17 +167,17 @@ unread_by meant name content before after (refusal.Trace fault) h e = absurd h
 unread_by meant name content before after (refusal.Elf fault) h e = absurd h
 unread_by meant name content before after (refusal.NoSuchName item) h e = absurd h
 
-unread_replay : (image schedule : List ℕ) (files : List ℕ → Option (List ℕ)) (before after : List ℕ → ℕ) (r : Refusal)
-    → IsReplayRefused image schedule files before after r → status_of r ≡ 4 → IsUnreadable (Replay image schedule) before after
-unread_replay image schedule files before after refusal.NoMemory h e = absurd (omega arith)
-unread_replay image schedule files before after (refusal.Read file) (inl h) e = inl h.rose
-unread_replay image schedule files before after (refusal.Read file) (inr h) e = inr h.0.rose
-unread_replay image schedule files before after (refusal.Image fault) h e = absurd (omega arith)
-unread_replay image schedule files before after (refusal.Partition p) h e = absurd (omega arith)
-unread_replay image schedule files before after (refusal.Schedule s) h e = absurd (omega arith)
-unread_replay image schedule files before after (refusal.Trace fault) h e = absurd h
-unread_replay image schedule files before after (refusal.Elf fault) h e = absurd h
-unread_replay image schedule files before after (refusal.NoSuchName item) h e = absurd h
+unread_replay : (make : Making) (image schedule : List ℕ) (files : List ℕ → Option (List ℕ)) (before after : List ℕ → ℕ) (r : Refusal)
+    → IsReplayRefused make image schedule files before after r → status_of r ≡ 4 → (before image < after image) ⊎ (before schedule < after schedule)
+unread_replay make image schedule files before after refusal.NoMemory h e = absurd (omega arith)
+unread_replay make image schedule files before after (refusal.Read file) (inl h) e = inl h.rose
+unread_replay make image schedule files before after (refusal.Read file) (inr h) e = inr h.0.rose
+unread_replay make image schedule files before after (refusal.Image fault) h e = absurd (omega arith)
+unread_replay make image schedule files before after (refusal.Partition p) h e = absurd (omega arith)
+unread_replay make image schedule files before after (refusal.Schedule s) h e = absurd (omega arith)
+unread_replay make image schedule files before after (refusal.Trace fault) h e = absurd h
+unread_replay make image schedule files before after (refusal.Elf fault) h e = absurd h
+unread_replay make image schedule files before after (refusal.NoSuchName item) h e = absurd h
 
 unread_trace : (trace : List ℕ) (content : Option (List ℕ)) (before after : ℕ) (r : Refusal)
     → IsTraceRefused trace content before after r → status_of r ≡ 4 → before < after
@@ -204,7 +206,8 @@ unread (Run image flag) files before after r h e = unread_by image_from_bytes im
 unread (Show image) files before after r h e = unread_by image_from_bytes image (files image) (before image) (after image) r h e
 unread (Build part) files before after r h e = unread_by built_of part (files part) (before part) (after part) r h e
 unread (Link elf part) files before after r h e = unread_link elf part files before after r h e
-unread (Replay image schedule) files before after r h e = unread_replay image schedule files before after r h e
+unread (Replay image schedule) files before after r h e = unread_replay report_made image schedule files before after r h e
+unread (Log image schedule) files before after r h e = unread_replay trace_made image schedule files before after r h e
 unread (Derive trace) files before after r h e = unread_trace trace (files trace) (before trace) (after trace) r h e
 unread (Analyze trace query name) files before after r h e = unread_query query name trace (files trace) (before trace) (after trace) r h e
 unread (Gen workers) files before after r h e = only_6 r 4 h (λ six. omega (arith, six)) e
@@ -226,16 +229,16 @@ rejected_by meant name content before after (refusal.Trace fault) h e = h
 rejected_by meant name content before after (refusal.Elf fault) h e = h
 rejected_by meant name content before after (refusal.NoSuchName item) h e = h
 
-rejected_replay : (image schedule : List ℕ) (files : List ℕ → Option (List ℕ)) (before after : List ℕ → ℕ) (r : Refusal)
-    → IsReplayRefused image schedule files before after r → status_of r ≡ 8 → IsRejected (Replay image schedule) files
-rejected_replay image schedule files before after refusal.NoMemory h e = absurd (omega arith)
-rejected_replay image schedule files before after (refusal.Read file) h e = absurd (omega arith)
-rejected_replay image schedule files before after (refusal.Image fault) h e = absurd (omega arith)
-rejected_replay image schedule files before after (refusal.Partition p) h e = absurd h
-rejected_replay image schedule files before after (refusal.Schedule s) h e = (s, h)
-rejected_replay image schedule files before after (refusal.Trace fault) h e = absurd h
-rejected_replay image schedule files before after (refusal.Elf fault) h e = absurd h
-rejected_replay image schedule files before after (refusal.NoSuchName item) h e = absurd h
+rejected_replay : (make : Making) (image schedule : List ℕ) (files : List ℕ → Option (List ℕ)) (before after : List ℕ → ℕ) (r : Refusal)
+    → IsReplayRefused make image schedule files before after r → status_of r ≡ 8 → (s : ScheduleRefusal) × IsReplayAnswer make image schedule files (Err (refusal.Schedule s))
+rejected_replay make image schedule files before after refusal.NoMemory h e = absurd (omega arith)
+rejected_replay make image schedule files before after (refusal.Read file) h e = absurd (omega arith)
+rejected_replay make image schedule files before after (refusal.Image fault) h e = absurd (omega arith)
+rejected_replay make image schedule files before after (refusal.Partition p) h e = absurd h
+rejected_replay make image schedule files before after (refusal.Schedule s) h e = (s, h)
+rejected_replay make image schedule files before after (refusal.Trace fault) h e = absurd h
+rejected_replay make image schedule files before after (refusal.Elf fault) h e = absurd h
+rejected_replay make image schedule files before after (refusal.NoSuchName item) h e = absurd h
 
 rejected_trace : (trace : List ℕ) (content : Option (List ℕ)) (before after : ℕ) (r : Refusal)
     → IsTraceRefused trace content before after r → status_of r ≡ 8 → IsTraceRejected content
@@ -264,7 +267,8 @@ rejected (Run image flag) files before after r h e = rejected_by image_from_byte
 rejected (Show image) files before after r h e = rejected_by image_from_bytes image (files image) (before image) (after image) r h e
 rejected (Build part) files before after r h e = rejected_by built_of part (files part) (before part) (after part) r h e
 rejected (Link elf part) files before after r h e = no_other_link elf part files before after r h (inl e)
-rejected (Replay image schedule) files before after r h e = rejected_replay image schedule files before after r h e
+rejected (Replay image schedule) files before after r h e = rejected_replay report_made image schedule files before after r h e
+rejected (Log image schedule) files before after r h e = rejected_replay trace_made image schedule files before after r h e
 rejected (Derive trace) files before after r h e = rejected_trace trace (files trace) (before trace) (after trace) r h e
 rejected (Analyze trace query name) files before after r h e = rejected_query query name trace (files trace) (before trace) (after trace) r h e
 rejected (Gen workers) files before after r h e = only_6 r 8 h (λ six. omega (arith, six)) e
@@ -287,16 +291,16 @@ known_by meant name content before after (refusal.Trace fault) h e = h
 known_by meant name content before after (refusal.Elf fault) h e = h
 known_by meant name content before after (refusal.NoSuchName item) h e = h
 
-known_replay : (image schedule : List ℕ) (files : List ℕ → Option (List ℕ)) (before after : List ℕ → ℕ) (r : Refusal)
-    → IsReplayRefused image schedule files before after r → status_of r ≡ 9 → ⊥
-known_replay image schedule files before after refusal.NoMemory h e = omega arith
-known_replay image schedule files before after (refusal.Read file) h e = omega arith
-known_replay image schedule files before after (refusal.Image fault) h e = omega arith
-known_replay image schedule files before after (refusal.Partition p) h e = h
-known_replay image schedule files before after (refusal.Schedule s) h e = omega arith
-known_replay image schedule files before after (refusal.Trace fault) h e = h
-known_replay image schedule files before after (refusal.Elf fault) h e = h
-known_replay image schedule files before after (refusal.NoSuchName item) h e = h
+known_replay : (make : Making) (image schedule : List ℕ) (files : List ℕ → Option (List ℕ)) (before after : List ℕ → ℕ) (r : Refusal)
+    → IsReplayRefused make image schedule files before after r → status_of r ≡ 9 → ⊥
+known_replay make image schedule files before after refusal.NoMemory h e = omega arith
+known_replay make image schedule files before after (refusal.Read file) h e = omega arith
+known_replay make image schedule files before after (refusal.Image fault) h e = omega arith
+known_replay make image schedule files before after (refusal.Partition p) h e = h
+known_replay make image schedule files before after (refusal.Schedule s) h e = omega arith
+known_replay make image schedule files before after (refusal.Trace fault) h e = h
+known_replay make image schedule files before after (refusal.Elf fault) h e = h
+known_replay make image schedule files before after (refusal.NoSuchName item) h e = h
 
 known_trace : (trace : List ℕ) (content : Option (List ℕ)) (before after : ℕ) (r : Refusal)
     → IsTraceRefused trace content before after r → status_of r ≡ 9 → ⊥
@@ -325,7 +329,8 @@ unknown (Run image flag) files before after r h e = known_by image_from_bytes im
 unknown (Show image) files before after r h e = known_by image_from_bytes image (files image) (before image) (after image) r h e
 unknown (Build part) files before after r h e = known_by built_of part (files part) (before part) (after part) r h e
 unknown (Link elf part) files before after r h e = no_other_link elf part files before after r h (inr e)
-unknown (Replay image schedule) files before after r h e = known_replay image schedule files before after r h e
+unknown (Replay image schedule) files before after r h e = known_replay report_made image schedule files before after r h e
+unknown (Log image schedule) files before after r h e = known_replay trace_made image schedule files before after r h e
 unknown (Derive trace) files before after r h e = known_trace trace (files trace) (before trace) (after trace) r h e
 unknown (Analyze trace query name) files before after r h e = unknown_query query name trace (files trace) (before trace) (after trace) r h e
 unknown (Gen workers) files before after r h e = only_6 r 9 h (λ six. omega (arith, six)) e
@@ -348,16 +353,16 @@ not_elf meant name content before after (refusal.Trace fault) h e = h
 not_elf meant name content before after (refusal.Elf fault) h e = h
 not_elf meant name content before after (refusal.NoSuchName item) h e = h
 
-not_elf_replay : (image schedule : List ℕ) (files : List ℕ → Option (List ℕ)) (before after : List ℕ → ℕ) (r : Refusal)
-    → IsReplayRefused image schedule files before after r → status_of r ≡ 10 → ⊥
-not_elf_replay image schedule files before after refusal.NoMemory h e = omega arith
-not_elf_replay image schedule files before after (refusal.Read file) h e = omega arith
-not_elf_replay image schedule files before after (refusal.Image fault) h e = omega arith
-not_elf_replay image schedule files before after (refusal.Partition p) h e = h
-not_elf_replay image schedule files before after (refusal.Schedule s) h e = omega arith
-not_elf_replay image schedule files before after (refusal.Trace fault) h e = h
-not_elf_replay image schedule files before after (refusal.Elf fault) h e = h
-not_elf_replay image schedule files before after (refusal.NoSuchName item) h e = h
+not_elf_replay : (make : Making) (image schedule : List ℕ) (files : List ℕ → Option (List ℕ)) (before after : List ℕ → ℕ) (r : Refusal)
+    → IsReplayRefused make image schedule files before after r → status_of r ≡ 10 → ⊥
+not_elf_replay make image schedule files before after refusal.NoMemory h e = omega arith
+not_elf_replay make image schedule files before after (refusal.Read file) h e = omega arith
+not_elf_replay make image schedule files before after (refusal.Image fault) h e = omega arith
+not_elf_replay make image schedule files before after (refusal.Partition p) h e = h
+not_elf_replay make image schedule files before after (refusal.Schedule s) h e = omega arith
+not_elf_replay make image schedule files before after (refusal.Trace fault) h e = h
+not_elf_replay make image schedule files before after (refusal.Elf fault) h e = h
+not_elf_replay make image schedule files before after (refusal.NoSuchName item) h e = h
 
 not_elf_trace : (trace : List ℕ) (content : Option (List ℕ)) (before after : ℕ) (r : Refusal)
     → IsTraceRefused trace content before after r → status_of r ≡ 10 → ⊥
@@ -386,7 +391,8 @@ elf_rejected (Run image flag) files before after r h e = not_elf image_from_byte
 elf_rejected (Show image) files before after r h e = not_elf image_from_bytes image (files image) (before image) (after image) r h e
 elf_rejected (Build part) files before after r h e = not_elf built_of part (files part) (before part) (after part) r h e
 elf_rejected (Link elf part) files before after r h e = rejected_elf elf part files before after r h e
-elf_rejected (Replay image schedule) files before after r h e = not_elf_replay image schedule files before after r h e
+elf_rejected (Replay image schedule) files before after r h e = not_elf_replay report_made image schedule files before after r h e
+elf_rejected (Log image schedule) files before after r h e = not_elf_replay trace_made image schedule files before after r h e
 elf_rejected (Derive trace) files before after r h e = not_elf_trace trace (files trace) (before trace) (after trace) r h e
 elf_rejected (Analyze trace query name) files before after r h e = not_elf_query query name trace (files trace) (before trace) (after trace) r h e
 elf_rejected (Gen workers) files before after r h e = only_6 r 10 h (λ six. omega (arith, six)) e
@@ -539,17 +545,17 @@ refused_not_0 a ended before after r is =
 -- ---- a replay
 
 -- the answer of both files is this refusal, or memory ran out, or a read failed
-replay_refusal : (image schedule bytes names : List ℕ) (files : List ℕ → Option (List ℕ)) (before after : List ℕ → ℕ) (r : Refusal)
-    → IsReplayRefused image schedule files before after r → files image ≡ Some bytes → files schedule ≡ Some names
-    → IsCutShort (status_of r) ⊎ (replay_text bytes names ≡ Err r)
-replay_refusal image schedule bytes names files before after refusal.NoMemory h image_is schedule_is = inl (inr (inr refl))
-replay_refusal image schedule bytes names files before after (refusal.Read file) h image_is schedule_is = inl (inl refl)
-replay_refusal image schedule bytes names files before after (refusal.Image fault) h image_is schedule_is = inr (h.0 bytes names image_is schedule_is)
-replay_refusal image schedule bytes names files before after (refusal.Partition p) h image_is schedule_is = absurd h
-replay_refusal image schedule bytes names files before after (refusal.Schedule s) h image_is schedule_is = inr (h bytes names image_is schedule_is)
-replay_refusal image schedule bytes names files before after (refusal.Trace fault) h image_is schedule_is = absurd h
-replay_refusal image schedule bytes names files before after (refusal.Elf fault) h image_is schedule_is = absurd h
-replay_refusal image schedule bytes names files before after (refusal.NoSuchName item) h image_is schedule_is = absurd h
+replay_refusal : (make : Making) (image schedule bytes names : List ℕ) (files : List ℕ → Option (List ℕ)) (before after : List ℕ → ℕ) (r : Refusal)
+    → IsReplayRefused make image schedule files before after r → files image ≡ Some bytes → files schedule ≡ Some names
+    → IsCutShort (status_of r) ⊎ (text_of_replay make bytes names ≡ Err r)
+replay_refusal make image schedule bytes names files before after refusal.NoMemory h image_is schedule_is = inl (inr (inr refl))
+replay_refusal make image schedule bytes names files before after (refusal.Read file) h image_is schedule_is = inl (inl refl)
+replay_refusal make image schedule bytes names files before after (refusal.Image fault) h image_is schedule_is = inr (h.0 bytes names image_is schedule_is)
+replay_refusal make image schedule bytes names files before after (refusal.Partition p) h image_is schedule_is = absurd h
+replay_refusal make image schedule bytes names files before after (refusal.Schedule s) h image_is schedule_is = inr (h bytes names image_is schedule_is)
+replay_refusal make image schedule bytes names files before after (refusal.Trace fault) h image_is schedule_is = absurd h
+replay_refusal make image schedule bytes names files before after (refusal.Elf fault) h image_is schedule_is = absurd h
+replay_refusal make image schedule bytes names files before after (refusal.NoSuchName item) h image_is schedule_is = absurd h
 
 -- a line that was said with its status, or the status of a write that failed
 said_line : (status : ℕ) (text : List ℕ) (ended : Ended) (e f : Device) → IsSaid status text ended e f
@@ -626,9 +632,20 @@ pub replay_done : (image schedule bytes names : List ℕ) (ended : Ended) (befor
     → IsCutShort ended.status ⊎ IsAnswerEnd (replay_text bytes names) ended.status before.sinks after.sinks
 replay_done image schedule bytes names ended before after (inl r) image_is schedule_is =
     answer_refused (replay_text bytes names) (Replay image schedule) ended before after r
-    (replay_refusal image schedule bytes names before.files before.reads after.reads r.why r.cause image_is schedule_is)
+    (replay_refusal report_made image schedule bytes names before.files before.reads after.reads r.why r.cause image_is schedule_is)
 replay_done image schedule bytes names ended before after (inr d) image_is schedule_is =
     pair_done replay_text (before.files image) (before.files schedule) bytes names d.kept d.texts ended before.sinks after.sinks d.made image_is schedule_is d.written
+
+-- ---- a log
+
+pub log_done : (image schedule bytes names : List ℕ) (ended : Ended) (before after : Outside) → IsEither (Log image schedule) ended before after
+    → before.files image ≡ Some bytes → before.files schedule ≡ Some names
+    → IsCutShort ended.status ⊎ IsAnswerEnd (log_text bytes names) ended.status before.sinks after.sinks
+log_done image schedule bytes names ended before after (inl r) image_is schedule_is =
+    answer_refused (log_text bytes names) (Log image schedule) ended before after r
+    (replay_refusal trace_made image schedule bytes names before.files before.reads after.reads r.why r.cause image_is schedule_is)
+log_done image schedule bytes names ended before after (inr d) image_is schedule_is =
+    pair_done log_text (before.files image) (before.files schedule) bytes names d.kept d.texts ended before.sinks after.sinks d.made image_is schedule_is d.written
 
 -- ---- a link
 

@@ -12,12 +12,12 @@ use Rattle.cli_inputs.specs.declared.loading.FileKind.TheVariants as kind
 use Rattle.cli_inputs.specs.declared.refusal.ScheduleRefusal.{ScheduleRefusal}
 use Rattle.cli_inputs.specs.Loading.{image_from_bytes, built_of, most_of, IsReadFault, IsRefusedBy}
 use Rattle.trace_form.specs.declared.fault.TraceFault.{TraceFault}
-use Rattle.cli_inputs.specs.Replaying.{replay_text}
+use Rattle.cli_inputs.specs.Replaying.{Making, report_made, trace_made, text_of_replay}
 use Rattle.elf_in.specs.declared.fault.Fault.{Fault as ElfFault}
 use Rattle.elf_in.specs.Reading.{elf_program as elf_reading}
 use Rattle.cli_inputs.specs.Linking.{link_text, IsUnjoined}
 use Rattle.cli_inputs.specs.Traces.{trace_fault, IsUnknownIn, IsTraceRefused, IsQueryRefused}
-use Rattle.cli_inputs.specs.Words.{Asked, Run, Show, Build, Link, Replay, Derive, Analyze, Gen}
+use Rattle.cli_inputs.specs.Words.{Asked, Run, Show, Build, Link, Replay, Log, Derive, Analyze, Gen}
 use Rattle.wedge_cli.specs.Ended.{IsCommandOutput, IsWritten, IsSaid, done_status}
 
 -- a read of one of the two files failed; where it is the second, the first is not too long
@@ -28,21 +28,21 @@ IsReplayFault image schedule files before after file =
     × WhereExposed (files image) (λ bytes. length bytes ≤ most_of kind.Image))
 
 -- where both files are exposed, that is the answer
-abbrev pub IsReplayAnswer : List ℕ → List ℕ → (List ℕ → Option (List ℕ)) → Result (List ℕ) Refusal → Type 0
-IsReplayAnswer image schedule files answer =
-    (bytes names : List ℕ) → files image ≡ Some bytes → files schedule ≡ Some names → replay_text bytes names ≡ answer
+abbrev pub IsReplayAnswer : Making → List ℕ → List ℕ → (List ℕ → Option (List ℕ)) → Result (List ℕ) Refusal → Type 0
+IsReplayAnswer make image schedule files answer =
+    (bytes names : List ℕ) → files image ≡ Some bytes → files schedule ≡ Some names → text_of_replay make bytes names ≡ answer
 
 -- why there is no replay
-abbrev pub IsReplayRefused : List ℕ → List ℕ → (List ℕ → Option (List ℕ)) → (List ℕ → ℕ) → (List ℕ → ℕ) → Refusal → Type 0
-IsReplayRefused image schedule files before after refusal.NoMemory = Unit {0}
-IsReplayRefused image schedule files before after (refusal.Read file) = IsReplayFault image schedule files before after file
-IsReplayRefused image schedule files before after (refusal.Image fault) =
-    IsReplayAnswer image schedule files (Err (refusal.Image fault)) × WhereExposed (files image) (λ bytes. image_from_bytes bytes ≡ Err (refusal.Image fault))
-IsReplayRefused image schedule files before after (refusal.Partition p) = ⊥
-IsReplayRefused image schedule files before after (refusal.Schedule s) = IsReplayAnswer image schedule files (Err (refusal.Schedule s))
-IsReplayRefused image schedule files before after (refusal.Trace fault) = ⊥
-IsReplayRefused image schedule files before after (refusal.Elf fault) = ⊥
-IsReplayRefused image schedule files before after (refusal.NoSuchName item) = ⊥
+abbrev pub IsReplayRefused : Making → List ℕ → List ℕ → (List ℕ → Option (List ℕ)) → (List ℕ → ℕ) → (List ℕ → ℕ) → Refusal → Type 0
+IsReplayRefused make image schedule files before after refusal.NoMemory = Unit {0}
+IsReplayRefused make image schedule files before after (refusal.Read file) = IsReplayFault image schedule files before after file
+IsReplayRefused make image schedule files before after (refusal.Image fault) =
+    IsReplayAnswer make image schedule files (Err (refusal.Image fault)) × WhereExposed (files image) (λ bytes. image_from_bytes bytes ≡ Err (refusal.Image fault))
+IsReplayRefused make image schedule files before after (refusal.Partition p) = ⊥
+IsReplayRefused make image schedule files before after (refusal.Schedule s) = IsReplayAnswer make image schedule files (Err (refusal.Schedule s))
+IsReplayRefused make image schedule files before after (refusal.Trace fault) = ⊥
+IsReplayRefused make image schedule files before after (refusal.Elf fault) = ⊥
+IsReplayRefused make image schedule files before after (refusal.NoSuchName item) = ⊥
 
 -- a read of one of the two files failed; where it is the second, the first is not too long
 abbrev pub IsLinkFault : List ℕ → List ℕ → (List ℕ → Option (List ℕ)) → (List ℕ → ℕ) → (List ℕ → ℕ) → List ℕ → Type 0
@@ -77,7 +77,8 @@ IsRefused (Run image flag) files before after why = IsRefusedBy image_from_bytes
 IsRefused (Show image) files before after why = IsRefusedBy image_from_bytes image (files image) (before image) (after image) why
 IsRefused (Build part) files before after why = IsRefusedBy built_of part (files part) (before part) (after part) why
 IsRefused (Link elf part) files before after why = IsLinkRefused elf part files before after why
-IsRefused (Replay image schedule) files before after why = IsReplayRefused image schedule files before after why
+IsRefused (Replay image schedule) files before after why = IsReplayRefused report_made image schedule files before after why
+IsRefused (Log image schedule) files before after why = IsReplayRefused trace_made image schedule files before after why
 IsRefused (Derive trace) files before after why = IsTraceRefused trace (files trace) (before trace) (after trace) why
 IsRefused (Analyze trace query name) files before after why = IsQueryRefused query name trace (files trace) (before trace) (after trace) why
 IsRefused (Gen workers) files before after why = why ≡ refusal.NoMemory
@@ -89,6 +90,7 @@ IsUnfit (Show image) files = WhereExposed (files image) (λ bytes. IsErr (image_
 IsUnfit (Build part) files = WhereExposed (files part) (λ bytes. IsErr (built_of bytes))
 IsUnfit (Link elf part) files = (bytes text : List ℕ) → files elf ≡ Some bytes → files part ≡ Some text → IsUnjoined bytes text
 IsUnfit (Replay image schedule) files = WhereExposed (files image) (λ bytes. IsErr (image_from_bytes bytes))
+IsUnfit (Log image schedule) files = WhereExposed (files image) (λ bytes. IsErr (image_from_bytes bytes))
 IsUnfit (Derive trace) files = ⊥
 IsUnfit (Analyze trace query name) files = ⊥
 IsUnfit (Gen workers) files = ⊥
@@ -103,7 +105,8 @@ IsRejected (Run image flag) files = ⊥
 IsRejected (Show image) files = ⊥
 IsRejected (Build part) files = ⊥
 IsRejected (Link elf part) files = ⊥
-IsRejected (Replay image schedule) files = (s : ScheduleRefusal) × IsReplayAnswer image schedule files (Err (refusal.Schedule s))
+IsRejected (Replay image schedule) files = (s : ScheduleRefusal) × IsReplayAnswer report_made image schedule files (Err (refusal.Schedule s))
+IsRejected (Log image schedule) files = (s : ScheduleRefusal) × IsReplayAnswer trace_made image schedule files (Err (refusal.Schedule s))
 IsRejected (Derive trace) files = IsTraceRejected (files trace)
 IsRejected (Analyze trace query name) files = IsTraceRejected (files trace)
 IsRejected (Gen workers) files = ⊥
@@ -115,6 +118,7 @@ IsUnknown (Show image) files = ⊥
 IsUnknown (Build part) files = ⊥
 IsUnknown (Link elf part) files = ⊥
 IsUnknown (Replay image schedule) files = ⊥
+IsUnknown (Log image schedule) files = ⊥
 IsUnknown (Derive trace) files = ⊥
 IsUnknown (Analyze trace query name) files = WhereExposed (files trace) (IsUnknownIn query name)
 IsUnknown (Gen workers) files = ⊥
@@ -131,6 +135,7 @@ IsUnreadable (Show image) before after = before image < after image
 IsUnreadable (Build part) before after = before part < after part
 IsUnreadable (Link elf part) before after = (before elf < after elf) ⊎ (before part < after part)
 IsUnreadable (Replay image schedule) before after = (before image < after image) ⊎ (before schedule < after schedule)
+IsUnreadable (Log image schedule) before after = (before image < after image) ⊎ (before schedule < after schedule)
 IsUnreadable (Derive trace) before after = before trace < after trace
 IsUnreadable (Analyze trace query name) before after = before trace < after trace
 IsUnreadable (Gen workers) before after = ⊥

@@ -7,16 +7,19 @@ use Rattle.wedge_events.specs.declared.events.Journal.{Journal}
 use Rattle.wedge_base.specs.declared.outcome.Outcome.{Outcome}
 use Rattle.host_io.specs.Exposed.{WhereExposed}
 use Rattle.run_laws.specs.CompleteRuns.{IsJournaledRun}
-use Rattle.audited_run.specs.AuditedRuns.{IsThreaded, IsDiffering, IsInSerialOrder, IsMadeSo}
+use Rattle.grant_cache.specs.declared.count.CacheLine.{CacheLine}
+use Rattle.thread_laws.specs.LookUps.{AreCountsOf}
+use Rattle.audited_run.specs.AuditedRuns.{IsThreaded, IsDiffering, IsInSerialOrder, IsMadeSo, AreCachesOf}
 use Rattle.audited_run.specs.Texts.{difference_text}
 use Rattle.audited_run.specs.declared.run.Differs.{Differs}
+use Rattle.report_text.specs.CacheTexts.{cache_lines}
 use Rattle.report_text.specs.Reports.{report_of}
 use Rattle.report_text.specs.Schedules.{actors_of, schedule_of, names_in}
 use Rattle.report_text.specs.Summaries.{summary_of}
 use Rattle.wedge_events.specs.declared.events.LogEntry.{LogEntry}
 use Rattle.cli_inputs.specs.declared.loading.FileKind.TheVariants as kind
 use Rattle.cli_inputs.specs.declared.words.RunFlag.{RunFlag}
-use Rattle.cli_inputs.specs.declared.words.RunFlag.TheVariants.{Plain, Schedule}
+use Rattle.cli_inputs.specs.declared.words.RunFlag.TheVariants.{Plain, Schedule, Stats}
 use Rattle.wedge_cli.specs.declared.status.Ended.{Ended}
 use Rattle.cli_inputs.specs.declared.refusal.Refusal.{Refusal}
 use Rattle.wedge_cli.specs.declared.writing.KeptRun.{KeptRun}
@@ -27,10 +30,10 @@ use Rattle.wedge_cli.specs.Outside.{Device, Sinks, Takes, IsFailedWrite, Tried}
 use Rattle.wedge_cli.specs.Lines.{line, write_fault_line, refusal_text, status_of}
 use Rattle.cli_inputs.specs.Listing.{listing}
 use Rattle.cli_inputs.specs.Loading.{image_from_bytes, built_of, most_of}
-use Rattle.cli_inputs.specs.Replaying.{replay_text}
+use Rattle.cli_inputs.specs.Replaying.{replay_text, log_text}
 use Rattle.cli_inputs.specs.Linking.{link_text, IsLinkedImage}
 use Rattle.cli_inputs.specs.Traces.{derive_text, analyze_text}
-use Rattle.cli_inputs.specs.Words.{Asked, Run, Show, Build, Link, Replay, Derive, Analyze, Gen}
+use Rattle.cli_inputs.specs.Words.{Asked, Run, Show, Build, Link, Replay, Log, Derive, Analyze, Gen}
 use Rattle.workload.specs.Workload.{workload}
 
 -- ---- what a command makes of its files
@@ -50,15 +53,17 @@ on_both out err = record { sink = sink.Out; bytes = out } ∷ record { sink = si
 abbrev pub no_run : KeptRun
 no_run = record { journal = None; differs = None }
 
--- the texts of a run with this journal and this outcome
-abbrev pub run_texts : RunFlag → Journal → Outcome → List Text
-run_texts Plain journal outcome = on_out (report_of outcome)
-run_texts Schedule journal outcome = on_both (schedule_of (actors_of journal.entries)) (report_of outcome)
+-- the texts of a run with this journal, this outcome and these counts of its caches
+abbrev pub run_texts : RunFlag → Journal → Outcome → List CacheLine → List Text
+run_texts Plain journal outcome caches = on_out (report_of outcome)
+run_texts Schedule journal outcome caches = on_both (schedule_of (actors_of journal.entries)) (report_of outcome)
+run_texts Stats journal outcome caches = on_out (report_of outcome ++ cache_lines caches)
 
 -- a schedule that is written is read as the names of the journal's actors
 abbrev pub IsScheduleReadAgain : RunFlag → List LogEntry → Type 0
 IsScheduleReadAgain Plain entries = Unit {0}
 IsScheduleReadAgain Schedule entries = names_in (schedule_of (actors_of entries)) ≡ Ok (actors_of entries)
+IsScheduleReadAgain Stats entries = Unit {0}
 
 -- where a run's logs and histories differ, a line says so behind its texts
 abbrev pub differs_texts : Option Differs → List Text
@@ -71,7 +76,9 @@ pub record IsReportOf (i : Image) (flag : RunFlag) (journal : Journal) (differs 
   pub outcome : Outcome
   pub run : IsJournaledRun i journal.entries outcome
   pub made : IsMadeSo i differs journal.entries outcome
-  pub are : texts ≡ run_texts flag journal outcome ++ differs_texts differs
+  pub caches : List CacheLine
+  pub counted : AreCachesOf differs journal.entries outcome.actors caches
+  pub are : texts ≡ run_texts flag journal outcome caches ++ differs_texts differs
   pub again : IsScheduleReadAgain flag journal.entries
 
 -- and it is kept
@@ -162,6 +169,7 @@ IsCommandOutput (Show image) files kept texts = IsShown (files image) kept texts
 IsCommandOutput (Build part) files kept texts = IsBuilt (files part) kept texts
 IsCommandOutput (Link elf part) files kept texts = IsLinked (files elf) (files part) kept texts
 IsCommandOutput (Replay image schedule) files kept texts = IsPairAnswer replay_text (files image) (files schedule) kept texts
+IsCommandOutput (Log image schedule) files kept texts = IsPairAnswer log_text (files image) (files schedule) kept texts
 IsCommandOutput (Derive trace) files kept texts = IsTraceAnswer derive_text (files trace) kept texts
 IsCommandOutput (Analyze trace query name) files kept texts = IsTraceAnswer (analyze_text query name) (files trace) kept texts
 IsCommandOutput (Gen workers) files kept texts = IsSummed workers kept texts
@@ -256,9 +264,25 @@ pub record IsScheduleDone (bytes : List ℕ) (kept : Option Journal) (before aft
   pub err : Takes (report_of outcome) before.err after.err
   pub replays : Replays bytes schedule (report_of outcome)
 
+-- `run IMAGE --stats` was done: out has grown by the report, and then by a line for each of its actors
+-- with the counts of the actor's cache of rights, which are those for its entries in the journal
+pub record IsStatsDone (bytes : List ℕ) (kept : Option Journal) (before after : Sinks) : Type 0 where
+  pub image : Image
+  pub encoded : Encodes image bytes
+  pub journal : Journal
+  pub kept_is : kept ≡ Some journal
+  pub outcome : Outcome
+  pub run : IsJournaledRun image journal.entries outcome
+  pub threads : IsThreaded image journal.entries outcome
+  pub caches : List CacheLine
+  pub counted : AreCountsOf journal.entries outcome.actors caches
+  pub out : Takes (report_of outcome ++ cache_lines caches) before.out after.out
+  pub err : after.err ≡ before.err
+
 -- `run` ended with the status 7: what the threads left differs, and says so; the journal is that of a
--- complete run of the image on one thread, of which the texts were written, and then the line of what
--- differs; and the schedule of that run, where it was written, replayed gives its report
+-- complete run of the image on one thread, of which the texts were written, with no counts of caches, and
+-- then the line of what differs; and the schedule of that run, where it was written, replayed gives its
+-- report
 pub record IsMadeAgain (bytes : List ℕ) (flag : RunFlag) (ended : Ended) (before after : Sinks) : Type 0 where
   pub image : Image
   pub encoded : Encodes image bytes
@@ -270,7 +294,7 @@ pub record IsMadeAgain (bytes : List ℕ) (flag : RunFlag) (ended : Ended) (befo
   pub outcome : Outcome
   pub run : IsJournaledRun image journal.entries outcome
   pub serial : IsInSerialOrder image journal.entries
-  pub written : AreTaken (run_texts flag journal outcome ++ on_err (line (difference_text differs.disagree))) before after
+  pub written : AreTaken (run_texts flag journal outcome [] ++ on_err (line (difference_text differs.disagree))) before after
   pub replays : flag ≡ Schedule → Replays bytes (schedule_of (actors_of journal.entries)) (report_of outcome)
 
 -- `run` ended as the bytes of its file say: where they encode an image, the run was done, or made again;

@@ -6,6 +6,7 @@ ghost use Rattle.cli_inputs.specs.Loading.{IsRefusedBy, image_from_bytes, built_
 ghost use Rattle.wedge_cli.specs.Causes.{IsLinkRefused, IsReplayRefused, IsRefused};
 ghost use Rattle.wedge_cli.specs.Ended.{on_out, run_texts, differs_texts, no_run, IsReported, IsScheduleReadAgain, RunsImage, IsShown, IsBuilt, IsLinked, IsPairAnswer, IsTraceAnswer, IsCommandOutput};
 ghost use Rattle.cli_inputs.specs.Replaying as replays;
+ghost use Rattle.cli_inputs.specs.Replaying.{report_made, trace_made};
 ghost use Rattle.cli_inputs.specs.Traces.{derive_text, analyze_text, IsTraceRefused, IsQueryRefused};
 
 use crate::lines::difference_line;
@@ -15,16 +16,17 @@ use audited_run::{AuditedRun, Differs, run_audited};
 use cb_analyze::QueryFault;
 use cli_inputs::{
     Command, FileKind, PartRefusal, Query, Refusal, RunFlag, link_text, listing, load_built,
-    load_image, load_trace, program_of, query_text, read_file, read_partition_file, replay_text,
-    sheets_text,
+    load_image, load_trace, log_text, program_of, query_text, read_file, read_partition_file,
+    replay_text, sheets_text,
 };
+use grant_cache::CacheLine;
 use host_io::{Files, Pace};
 use image_form::{Image, write_image};
-use report_text::{report, write_schedule};
+use report_text::{report, write_caches, write_schedule};
 use std::alloc::Global;
 use std::sync::Wait;
 use std::thread::Threads;
-use wedge_base::{Bytes, NoMemory, Outcome};
+use wedge_base::{Bytes, Items, NoMemory, Outcome};
 use wedge_events::Journal;
 
 /// The texts of a command: all of them are made before the first is written.
@@ -50,6 +52,7 @@ pub(crate) fn prepare<R: Threads + Wait + Sync, F: Files, P: Pace + Sync>(
         Command::Build { part } => build(alloc, files, part),
         Command::Link { elf, part } => link(alloc, files, elf, part),
         Command::Replay { image, schedule } => replay(alloc, files, image, schedule),
+        Command::Log { image, schedule } => log(alloc, files, image, schedule),
         Command::Derive { trace } => derive(alloc, files, trace),
         Command::Analyze { trace, query, name } => analyze(alloc, files, trace, query, name),
         Command::Gen { workers } => {
@@ -96,9 +99,10 @@ fn run_image<R: Threads + Wait + Sync, P: Pace + Sync>(
     let AuditedRun {
         journal,
         outcome,
+        caches,
         differs,
     } = run_audited(rt, alloc, image, pace)?;
-    let mut texts = texts_of(alloc, &journal, &outcome, flag)?;
+    let mut texts = texts_of(alloc, &journal, &outcome, &caches, flag)?;
     add_difference(alloc, &mut texts, &differs)?;
     let kept = KeptRun {
         journal: Some(journal),
@@ -107,17 +111,19 @@ fn run_image<R: Threads + Wait + Sync, P: Pace + Sync>(
     Ok(Ready { kept, texts })
 }
 
-/// The texts of a run with this journal and this outcome.
+/// The texts of a run with this journal, this outcome and these counts of its caches.
 fn texts_of(
     alloc: Global,
     journal: &Journal,
     outcome: &Outcome,
+    caches: &Items<CacheLine>,
     flag: RunFlag,
 ) -> Result<Vec<Text>, NoMemory>
-    ensures texts { IfOk result (λ t. t.items ≡ run_texts flag journal.now outcome.now) }
+    ensures texts { IfOk result
+        (λ t. t.items ≡ run_texts flag journal.now outcome.now caches.now) }
     ensures again { IfOk result (λ t. IsScheduleReadAgain flag journal.now.entries) }
 {
-    let report = report(alloc, outcome)?;
+    let mut report = report(alloc, outcome)?;
     match flag {
         RunFlag::Plain => {
             let texts = vec![in alloc; text_on(SinkName::Out, report)]?;
@@ -129,6 +135,11 @@ fn texts_of(
                 text_on(SinkName::Out, schedule),
                 text_on(SinkName::Err, report),
             ]?;
+            Ok(texts)
+        }
+        RunFlag::Stats => {
+            write_caches(&mut report, caches.as_slice())?;
+            let texts = vec![in alloc; text_on(SinkName::Out, report)]?;
             Ok(texts)
         }
     }
@@ -213,7 +224,8 @@ fn replay<F: Files>(
     ensures made { IfOk result
         (λ r. IsPairAnswer replays.replay_text (F.content files.old image.now)
         (F.content files.old schedule.now) r.kept r.texts.items) }
-    ensures refused { IfErr result (IsReplayRefused image.now schedule.now (F.content files.old)
+    ensures refused { IfErr result (IsReplayRefused report_made image.now schedule.now
+        (F.content files.old)
         (F.faults files.old) (F.faults files.new)) }
     ensures content { (other : List ℕ) → F.content files.new other
         ≡ F.content files.old other }
@@ -222,6 +234,30 @@ fn replay<F: Files>(
     let bytes = read_file(alloc, files, FileKind::Image, image)?;
     let names = read_file(alloc, files, FileKind::Schedule, schedule)?;
     let text = replay_text(alloc, bytes.as_slice(), names.as_slice())?;
+    let ready = on_out(alloc, text)?;
+    Ok(ready)
+}
+
+/// Logs the replay of a schedule over an image. Both files are read first, in this order.
+fn log<F: Files>(
+    alloc: Global,
+    files: &mut F,
+    image: &str,
+    schedule: &str,
+) -> Result<Ready, Refusal>
+    ensures made { IfOk result
+        (λ r. IsPairAnswer replays.log_text (F.content files.old image.now)
+        (F.content files.old schedule.now) r.kept r.texts.items) }
+    ensures refused { IfErr result (IsReplayRefused trace_made image.now schedule.now
+        (F.content files.old)
+        (F.faults files.old) (F.faults files.new)) }
+    ensures content { (other : List ℕ) → F.content files.new other
+        ≡ F.content files.old other }
+    ensures rises { (other : List ℕ) → F.faults files.old other ≤ F.faults files.new other }
+{
+    let bytes = read_file(alloc, files, FileKind::Image, image)?;
+    let names = read_file(alloc, files, FileKind::Schedule, schedule)?;
+    let text = log_text(alloc, bytes.as_slice(), names.as_slice())?;
     let ready = on_out(alloc, text)?;
     Ok(ready)
 }

@@ -5,10 +5,10 @@ ghost use Rattle.cli_inputs.specs.Words as asking;
 ghost use Rattle.cli_inputs.specs.Words.{Asked, command_of, texts};
 ghost use Rattle.wedge_cli.specs.Outside.{outside, sinks, device};
 ghost use Rattle.wedge_cli.specs.Lines as lines;
-ghost use Rattle.wedge_cli.specs.Ended.{IsSaid, IsRunDone, IsScheduleDone, IsMadeAgain, IsRunEnd, IsLinkDone, IsGenDone, IsGenMadeAgain, IsGenEnd, IsCutShort, IsAnswerEnd, HasEnd};
+ghost use Rattle.wedge_cli.specs.Ended.{IsSaid, IsRunDone, IsScheduleDone, IsStatsDone, IsMadeAgain, IsRunEnd, IsLinkDone, IsGenDone, IsGenMadeAgain, IsGenEnd, IsCutShort, IsAnswerEnd, HasEnd};
 ghost use Rattle.cli_inputs.specs.Loading.{image_from_bytes};
 ghost use Rattle.cli_inputs.specs.Linking.{link_text};
-ghost use Rattle.cli_inputs.specs.Replaying.{replay_text};
+ghost use Rattle.cli_inputs.specs.Replaying.{log_text, replay_text};
 ghost use Rattle.cli_inputs.specs.Traces.{derive_text, analyze_text};
 ghost use Rattle.wedge_cli.specs.Causes.{IsUnfit, IsRejected, IsElfRejected, IsUnknown, IsUnreadable, SaysRefusal, IsCommandAnswer};
 
@@ -70,7 +70,16 @@ pub fn wedge<R: Threads + Wait + Sync, F: Files, O: Sink, E: Sink, P: Pace + Syn
         (sinks (O.written out.old) (O.faults out.old) (E.written err.old) (E.faults err.old))
         (sinks (O.written out.new) (O.faults out.new) (E.written err.new) (E.faults err.new)) }
 
-    // Of both and the status 7: what the threads left differs; and the journal, what was written and the schedule are
+    // Of `run IMAGE --stats` and the status 0: after the report, there is a line for each of its actors, with the
+    // counts of the actor's cache of rights for its entries in the journal.
+    ensures stats { (image bytes : List ℕ)
+        → command_of (texts words.now) ≡ Some (asking.Run image RunFlag.Stats)
+        → F.content files.old image ≡ Some bytes → result.status ≡ 0
+        → IsStatsDone bytes result.journal
+        (sinks (O.written out.old) (O.faults out.old) (E.written err.old) (E.faults err.old))
+        (sinks (O.written out.new) (O.faults out.new) (E.written err.new) (E.faults err.new)) }
+
+    // Of all of these and the status 7: what the threads left differs; and the journal, what was written and the schedule are
     // those of a complete run on one thread.
     ensures again { (image bytes : List ℕ) (flag : RunFlag)
         → command_of (texts words.now) ≡ Some (asking.Run image flag)
@@ -79,7 +88,7 @@ pub fn wedge<R: Threads + Wait + Sync, F: Files, O: Sink, E: Sink, P: Pace + Syn
         (sinks (O.written out.old) (O.faults out.old) (E.written err.old) (E.faults err.old))
         (sinks (O.written out.new) (O.faults out.new) (E.written err.new) (E.faults err.new)) }
 
-    // Of both, where no read or write failed and memory did not run out: an image is run, and other bytes are refused.
+    // Of all of these, where no read or write failed and memory did not run out: an image is run, and other bytes are refused.
     ensures run_ends { (image bytes : List ℕ) (flag : RunFlag)
         → command_of (texts words.now) ≡ Some (asking.Run image flag)
         → F.content files.old image ≡ Some bytes
@@ -131,6 +140,15 @@ pub fn wedge<R: Threads + Wait + Sync, F: Files, O: Sink, E: Sink, P: Pace + Syn
         → command_of (texts words.now) ≡ Some (asking.Replay image schedule)
         → F.content files.old image ≡ Some bytes → F.content files.old schedule ≡ Some names
         → IsCutShort result.status ⊎ IsAnswerEnd (replay_text bytes names) result.status
+        (sinks (O.written out.old) (O.faults out.old) (E.written err.old) (E.faults err.old))
+        (sinks (O.written out.new) (O.faults out.new) (E.written err.new) (E.faults err.new)) }
+
+    // Of `log IMAGE SCHEDULE`, where no read or write failed and memory did not run out: what the bytes of both files
+    // say. They are refused as those of a replay are.
+    ensures log { (image schedule bytes names : List ℕ)
+        → command_of (texts words.now) ≡ Some (asking.Log image schedule)
+        → F.content files.old image ≡ Some bytes → F.content files.old schedule ≡ Some names
+        → IsCutShort result.status ⊎ IsAnswerEnd (log_text bytes names) result.status
         (sinks (O.written out.old) (O.faults out.old) (E.written err.old) (E.faults err.old))
         (sinks (O.written out.new) (O.faults out.new) (E.written err.new) (E.faults err.new)) }
 
@@ -211,6 +229,12 @@ pub fn exit_status<R: Threads + Wait + Sync, F: Files, O: Sink, E: Sink, P: Pace
         → HasEnd result (λ ended. IsScheduleDone bytes ended.journal
         (sinks (O.written out.old) (O.faults out.old) (E.written err.old) (E.faults err.old))
         (sinks (O.written out.new) (O.faults out.new) (E.written err.new) (E.faults err.new))) }
+    ensures stats { (image bytes : List ℕ)
+        → command_of (texts words.now) ≡ Some (asking.Run image RunFlag.Stats)
+        → F.content files.old image ≡ Some bytes → result ≡ 0
+        → HasEnd result (λ ended. IsStatsDone bytes ended.journal
+        (sinks (O.written out.old) (O.faults out.old) (E.written err.old) (E.faults err.old))
+        (sinks (O.written out.new) (O.faults out.new) (E.written err.new) (E.faults err.new))) }
     ensures again { (image bytes : List ℕ) (flag : RunFlag)
         → command_of (texts words.now) ≡ Some (asking.Run image flag)
         → F.content files.old image ≡ Some bytes → result ≡ 7
@@ -251,6 +275,12 @@ pub fn exit_status<R: Threads + Wait + Sync, F: Files, O: Sink, E: Sink, P: Pace
         → command_of (texts words.now) ≡ Some (asking.Replay image schedule)
         → F.content files.old image ≡ Some bytes → F.content files.old schedule ≡ Some names
         → IsCutShort result ⊎ IsAnswerEnd (replay_text bytes names) result
+        (sinks (O.written out.old) (O.faults out.old) (E.written err.old) (E.faults err.old))
+        (sinks (O.written out.new) (O.faults out.new) (E.written err.new) (E.faults err.new)) }
+    ensures log { (image schedule bytes names : List ℕ)
+        → command_of (texts words.now) ≡ Some (asking.Log image schedule)
+        → F.content files.old image ≡ Some bytes → F.content files.old schedule ≡ Some names
+        → IsCutShort result ⊎ IsAnswerEnd (log_text bytes names) result
         (sinks (O.written out.old) (O.faults out.old) (E.written err.old) (E.faults err.old))
         (sinks (O.written out.new) (O.faults out.new) (E.written err.new) (E.faults err.new)) }
     ensures derive { (trace bytes : List ℕ)

@@ -48,6 +48,7 @@ fn run_summed<R: Threads + Wait + Sync, P: Pace + Sync>(
         journal,
         outcome,
         differs,
+        ..
     } = run_audited(rt, alloc, image, pace)?;
     let mut texts = summary_texts(alloc, workers, &journal, &outcome)?;
     add_difference(alloc, &mut texts, &differs)?;

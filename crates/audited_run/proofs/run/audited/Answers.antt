@@ -14,4 +14,4 @@ again-requires c =
 
 pub returns-in-Ok-clause-run : goal.returns-in-Ok-clause-run
 returns-in-Ok-clause-run c =
-    rw c.without_difference.ensures (agreed c.args.image.now c.args.gathered c.in-Ok.audited c.requires c.in-Ok.ensures.result c.in-Ok.ensures.run)
+    rw c.without_difference.ensures (agreed c.args.image.now c.args.gathered c.in-Ok.audited c.requires c.in-Ok.ensures.result c.in-Ok.ensures.run c.in-Ok.ensures.caches)

@@ -7,6 +7,9 @@ returns-clause-run g c = λ image bytes asked exposed is. record { ended = c.wed
 pub returns-clause-schedule : goal.returns-clause-schedule
 returns-clause-schedule g c = λ image bytes asked exposed is. record { ended = c.wedge-ended.result; status_is = refl; is_so = c.wedge-ended.ensures.schedule image bytes asked exposed is }
 
+pub returns-clause-stats : goal.returns-clause-stats
+returns-clause-stats g c = λ image bytes asked exposed is. record { ended = c.wedge-ended.result; status_is = refl; is_so = c.wedge-ended.ensures.stats image bytes asked exposed is }
+
 pub returns-clause-answer : goal.returns-clause-answer
 returns-clause-answer g c = record { ended = c.wedge-ended.result; status_is = refl; is_so = c.wedge-ended.ensures.answer }
 

@@ -1,6 +1,6 @@
 use Rattle.wedge_cli.proofs.GenEnds.{gen_done, gen_again, gen_ended}
-use Rattle.wedge_cli.proofs.RunEnds.{run_done, schedule_done, run_again, run_ended}
-use Rattle.wedge_cli.proofs.Statuses.{replay_done, link_answered, link_done, derive_done, analyze_done, rejected_only, name_only, elf_only, usage_only, image_only, read_only, write_only, unwritten, differs_only, differs_7}
+use Rattle.wedge_cli.proofs.RunEnds.{run_done, schedule_done, stats_done, run_again, run_ended}
+use Rattle.wedge_cli.proofs.Statuses.{replay_done, log_done, link_answered, link_done, derive_done, analyze_done, rejected_only, name_only, elf_only, usage_only, image_only, read_only, write_only, unwritten, differs_only, differs_7}
 use Rattle.wedge_cli.proofs.top.wedge.Goals as goal
 
 pub returns-clause-run : goal.returns-clause-run
@@ -9,8 +9,14 @@ returns-clause-run g c = λ image bytes asked exposed is. run_done image bytes _
 pub returns-clause-schedule : goal.returns-clause-schedule
 returns-clause-schedule g c = λ image bytes asked exposed is. schedule_done image bytes _ _ _ (c.does.ensures.answer.command _ asked) exposed is
 
+pub returns-clause-stats : goal.returns-clause-stats
+returns-clause-stats g c = λ image bytes asked exposed is. stats_done image bytes _ _ _ (c.does.ensures.answer.command _ asked) exposed is
+
 pub returns-clause-replay : goal.returns-clause-replay
 returns-clause-replay g c = λ image schedule bytes names asked image_is schedule_is. replay_done image schedule bytes names _ _ _ (c.does.ensures.answer.command _ asked) image_is schedule_is
+
+pub returns-clause-log : goal.returns-clause-log
+returns-clause-log g c = λ image schedule bytes names asked image_is schedule_is. log_done image schedule bytes names _ _ _ (c.does.ensures.answer.command _ asked) image_is schedule_is
 
 pub returns-clause-rejected_only : goal.returns-clause-rejected_only
 returns-clause-rejected_only g c = λ a asked is. rejected_only a _ _ _ (c.does.ensures.answer.command a asked) is

@@ -1,0 +1,4 @@
+-- A cache of the rights that a sheet gives on tags, and what the look-up of a tag makes of it.
+pub mod Caches
+-- Which tags were looked up last, and how many look-ups are hits.
+pub mod Hits

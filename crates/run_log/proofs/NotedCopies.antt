@@ -1,0 +1,218 @@
+-- Each load and each store of a private copy is noted, of a tag of which the actor's sheet grants a copy.
+use Rattle.std.proofs.Common.{◌≡◌, inl, inr, ℕ, zero, suc, ◌+◌, ◌≤◌, Bool, true, false, List, [], ◌∷◌, ◌++◌, refl, sym, ap, subst, ◌∙◌, append_assoc, append-nil, arith}
+use Rattle.std.proofs.lemmas.Bool.{eqb-true}
+use Rattle.std.specs.Prelude.{Option, Some, None, is_some, max, not, option_map, ◌⊎◌, ◌&&◌, ◌||◌, ◌==◌, ◌%◌, if◌then◌else◌}
+use Rattle.cow_pages.specs.Copies.{copy_at, holds_copy}
+use Rattle.cow_pages.specs.PrivateMemory.{PrivateMemory}
+use Rattle.wedge_base.specs.Images.{Image, in_text, slot_of}
+use Rattle.wedge_base.specs.Maps.{Map}
+use Rattle.wedge_base.specs.Memory.{range_at}
+use Rattle.wedge_base.specs.declared.address.Place.{Place}
+use Rattle.wedge_base.specs.declared.image.MemoryRange.{MemoryRange}
+use Rattle.wedge_base.specs.declared.rights.Grant.{Grant}
+use Rattle.rv_isa.specs.declared.Instr.{Instr}
+use Rattle.rv_hart.specs.declared.Need.{Need}
+use Rattle.rv_hart.specs.declared.Need.TheVariants as need
+use Rattle.rv_hart.specs.Local.{local}
+use Rattle.machine.specs.Actors.{ActorState}
+use Rattle.machine.specs.Local.{step, is_running}
+use Rattle.run_laws.specs.CopiesGranted.{grants_copy, AreOwnCopiesGranted}
+use Rattle.trace_form.specs.declared.words.Kind.{Kind}
+use Rattle.trace_form.specs.declared.words.Kind.TheVariants as kind
+use Rattle.trace_form.specs.declared.words.Mode.TheVariants as mode
+use Rattle.run_notes.specs.Doers.{doer_of}
+use Rattle.run_notes.specs.Items.{tag_item, is_copy_in, greater, greatest_copy}
+use Rattle.run_notes.specs.Notes.{Noted, note_by, with_note, copy_note, copy_in_window, copy_past_range, held_copy, copy_reached, note_of_need, noted_instr, instr_at, noted_step, noted_local, noted_rest}
+use Rattle.run_notes.specs.declared.chain.CallChain.{CallChain}
+use Rattle.run_notes.specs.declared.items.Makings.{Makings}
+use Rattle.run_notes.specs.declared.note.Note.{Note}
+use Rattle.run_log.specs.NoteLaws.{CopyAccess, copy_access_of, copy_access_by, copy_access, grants_copy_of, IsCopyNote, BeginWith, AreCopyNotes}
+use Rattle.run_log.proofs.CopiesKept.{step_granted}
+use Rattle.run_log.proofs.KnownItems.{max_is}
+
+-- ---- the greatest tag of which a copy in a slot is granted
+
+-- it is granted, or the best so far, and none is greater
+record IsGreatest (slot : ℕ) (best : Option ℕ) (gs : Map Grant) (tag : ℕ) : Type 0 where
+  is : (best ≡ Some tag) ⊎ (grants_copy_of gs slot tag ≡ true)
+  before : (t : ℕ) → best ≡ Some t → t ≤ tag
+  others : (t : ℕ) → grants_copy_of gs slot t ≡ true → t ≤ tag
+
+max_least : (a b : ℕ) → (a ≤ max a b) × (b ≤ max a b)
+max_least a b = (grind arith, grind arith)
+
+greatest_is : (slot : ℕ) (gs : Map Grant) (best : Option ℕ) (tag : ℕ) → greatest_copy slot best gs ≡ Some tag → IsGreatest slot best gs tag
+greatest_is slot [] best tag e = record { is = inl e; before = λ t f. (let both : Some t ≡ Some tag = sym f ∙ e in let same_tag : t ≡ tag = cc in omega (arith, same_tag)); others = λ t f. absurd cc }
+greatest_is slot (x ∷ gs) best tag e =
+    let p = by_copy (is_copy_in slot x.1) (greatest_is slot gs (if is_copy_in slot x.1 then Some (greater x.0 best) else best) tag e) in
+    record { is = p.0; before = p.1; others = p.2 }
+  where
+    further : (t : Bool) (u : Bool) → u ≡ true → (t || u) ≡ true
+    further true u h = refl
+    further false u h = h
+
+    here : (n : ℕ) → (true && (n == n)) ≡ true
+    here n = grind arith
+
+    of_best : (b : Option ℕ) → Some (greater x.0 b) ≡ Some tag → (b ≡ Some tag) ⊎ (((true && (x.0 == tag)) || grants_copy_of gs slot tag) ≡ true)
+    of_best None is = let same_tag : x.0 ≡ tag = cc in inr (ap (λ n. (true && (x.0 == n)) || grants_copy_of gs slot tag) (sym same_tag) ∙ ap (λ t. t || grants_copy_of gs slot tag) (here x.0))
+    of_best (Some b) is =
+        let same_tag : max b x.0 ≡ tag = cc in
+        elim (max_is b x.0) [
+          | inl old ↦ inl (ap (λ n. Some n) (sym old ∙ same_tag))
+          | inr new ↦ inr (ap (λ n. (true && (x.0 == n)) || grants_copy_of gs slot tag) (sym (sym new ∙ same_tag)) ∙ ap (λ t. t || grants_copy_of gs slot tag) (here x.0))
+        ]
+
+    is_here : ((Some (greater x.0 best)) ≡ Some tag) ⊎ (grants_copy_of gs slot tag ≡ true) → (best ≡ Some tag) ⊎ (((true && (x.0 == tag)) || grants_copy_of gs slot tag) ≡ true)
+    is_here (inl is) = of_best best is
+    is_here (inr there) = inr (further (true && (x.0 == tag)) (grants_copy_of gs slot tag) there)
+
+    best_below : (b : Option ℕ) → greater x.0 b ≤ tag → (t : ℕ) → b ≡ Some t → t ≤ tag
+    best_below None le t is = absurd cc
+    best_below (Some b) le t is = let same_best : b ≡ t = cc in let m = (max_least b x.0).0 in omega (arith, le, same_best, m)
+
+    first_below : (b : Option ℕ) → greater x.0 b ≤ tag → x.0 ≤ tag
+    first_below None le = le
+    first_below (Some b) le = let m = (max_least b x.0).1 in omega (arith, le, m)
+
+    all_below : (t : ℕ) (u : Bool) → x.0 ≤ tag → (grants_copy_of gs slot t ≡ true → t ≤ tag) → (x.0 == t) ≡ u → ((true && u) || grants_copy_of gs slot t) ≡ true → t ≤ tag
+    all_below t true le more same_one h = let is : x.0 ≡ t = eqb-true x.0 t same_one in omega (arith, le, is)
+    all_below t false le more same_one h = more h
+
+    by_copy : (t : Bool) → IsGreatest slot (if t then Some (greater x.0 best) else best) gs tag
+        → ((best ≡ Some tag) ⊎ (((t && (x.0 == tag)) || grants_copy_of gs slot tag) ≡ true)) × ((n : ℕ) → best ≡ Some n → n ≤ tag) × ((n : ℕ) → ((t && (x.0 == n)) || grants_copy_of gs slot n) ≡ true → n ≤ tag)
+    by_copy true g =
+        let le : greater x.0 best ≤ tag = g.before (greater x.0 best) refl in
+        (is_here g.is, best_below best le, λ n h. all_below n (x.0 == n) (first_below best le) (g.others n) refl h)
+    by_copy false g = (g.is, g.before, g.others)
+
+-- where a copy in a slot is granted, there is one
+granted_some : (slot : ℕ) (gs : Map Grant) (best : Option ℕ) → (is_some best || grants_copy gs slot) ≡ true → is_some (greatest_copy slot best gs) ≡ true
+granted_some slot [] best h = by_best best h
+  where
+    by_best : (b : Option ℕ) → (is_some b || false) ≡ true → is_some b ≡ true
+    by_best None e = e
+    by_best (Some n) e = refl
+granted_some slot (x ∷ gs) best h = granted_some slot gs (if is_copy_in slot x.1 then Some (greater x.0 best) else best) (by_copy (is_copy_in slot x.1) h)
+  where
+    by_copy : (t : Bool) → (is_some best || (t || grants_copy gs slot)) ≡ true → (is_some (if t then Some (greater x.0 best) else best) || grants_copy gs slot) ≡ true
+    by_copy true e = refl
+    by_copy false e = e
+
+-- ---- an access of a private copy
+
+-- it reaches one that is there
+reached_there : (i : Image) (m : PrivateMemory) (address width slot : ℕ) → copy_reached i m address width ≡ Some slot → is_some (copy_at m.copies slot) ≡ true
+reached_there i m address width slot e = by_aligned (not (address % width == 0)) e
+  where
+    by_bytes : (p : Place) (o : Option (List ℕ)) → copy_at m.copies p.slot ≡ o → held_copy p width o ≡ Some slot → is_some (copy_at m.copies slot) ≡ true
+    by_bytes p None is h = absurd cc
+    by_bytes p (Some bytes) is h = by_held (holds_copy p.offset width bytes) h
+      where
+        by_held : (t : Bool) → (if t then Some p.slot else None) ≡ Some slot → is_some (copy_at m.copies slot) ≡ true
+        by_held false k = absurd cc
+        by_held true k = let same_slot : p.slot ≡ slot = cc in ap (λ s. is_some (copy_at m.copies s)) (sym same_slot) ∙ ap is_some is
+
+    by_place : (p : Option Place) → copy_in_window m width p ≡ Some slot → is_some (copy_at m.copies slot) ≡ true
+    by_place None h = absurd cc
+    by_place (Some p) h = by_bytes p (copy_at m.copies p.slot) refl h
+
+    by_range : (r : Option MemoryRange) → copy_past_range m address width r ≡ Some slot → is_some (copy_at m.copies slot) ≡ true
+    by_range (Some r) h = absurd cc
+    by_range None h = by_place (slot_of address) h
+
+    by_text : (t : Bool) → (if t then None else copy_past_range m address width (range_at m.ranges address width)) ≡ Some slot → is_some (copy_at m.copies slot) ≡ true
+    by_text true h = absurd cc
+    by_text false h = by_range (range_at m.ranges address width) h
+
+    by_aligned : (t : Bool) → (if t then None else if in_text i address width then None else copy_past_range m address width (range_at m.ranges address width)) ≡ Some slot → is_some (copy_at m.copies slot) ≡ true
+    by_aligned true h = absurd cc
+    by_aligned false h = by_text (in_text i address width) h
+
+-- whether an access is noted, and by what
+abbrev IsNotedAs : Image → Makings → ActorState → Option CopyAccess → Option Note → Type 0
+IsNotedAs i m a None o = o ≡ None
+IsNotedAs i m a (Some x) o = (n : Note) × (o ≡ Some n) × IsCopyNote i m a x n
+
+copy_noted : (i : Image) (m : Makings) (a : ActorState) (ch : CallChain) (k : Kind) (o : Option ℕ) → ((slot : ℕ) → o ≡ Some slot → grants_copy a.sheet.tags slot ≡ true)
+    → IsNotedAs i m a (option_map (λ slot. record { kind = k; slot = slot }) o) (copy_note i m a ch k o)
+copy_noted i m a ch k None granted = refl
+copy_noted i m a ch k (Some slot) granted = by_tag (greatest_copy slot None a.sheet.tags) refl (granted_some slot a.sheet.tags None (granted slot refl))
+  where
+    by_tag : (t : Option ℕ) → greatest_copy slot None a.sheet.tags ≡ t → is_some (greatest_copy slot None a.sheet.tags) ≡ true
+        → (n : Note) × (option_map (note_by (doer_of a) ch k mode.Private) (option_map (tag_item i m) t) ≡ Some n) × IsCopyNote i m a (record { kind = k; slot = slot }) n
+    by_tag None e there = let f : false ≡ true = ap is_some (sym e) ∙ there in absurd cc
+    by_tag (Some tag) e there =
+        let g = greatest_is slot a.sheet.tags None tag e in
+        let own : grants_copy_of a.sheet.tags slot tag ≡ true = elim g.is [ inl none ↦ absurd (let f : None ≡ Some tag = none in cc) | inr here ↦ here ] in
+        (note_by (doer_of a) ch k mode.Private (tag_item i m tag), refl, record { of = record { actor = refl; pc = refl; compartment = refl; kind = refl; mode = refl }; tag = tag; granted = own; greatest = g.others; item = refl })
+
+need_noted : (i : Image) (m : Makings) (a : ActorState) (ch : CallChain) (n : Need) → AreOwnCopiesGranted a → IsNotedAs i m a (copy_access_of i a n) (note_of_need i m a ch n)
+need_noted i m a ch (need.Load address width s) own = copy_noted i m a ch kind.Load (copy_reached i a.memory address width) (λ slot is. own slot (reached_there i a.memory address width slot is))
+need_noted i m a ch (need.Store address width value) own = copy_noted i m a ch kind.Store (copy_reached i a.memory address width) (λ slot is. own slot (reached_there i a.memory address width slot is))
+need_noted i m a ch need.Done own = refl
+need_noted i m a ch need.Call own = refl
+need_noted i m a ch need.Break own = refl
+need_noted i m a ch need.JumpMisaligned own = refl
+
+-- ---- instructions
+
+-- one instruction adds its note, if it has one
+record StepNotes (i : Image) (m : Makings) (a : ActorState) (l : Noted) : Type 0 where
+  note : Option Note
+  notes : (noted_step i m a l).notes ≡ with_note l.notes note
+  is : IsNotedAs i m a (copy_access i a) note
+
+step_notes : (i : Image) (m : Makings) (a : ActorState) (l : Noted) → AreOwnCopiesGranted a → StepNotes i m a l
+step_notes i m a l own = by_instr (instr_at i a) refl
+  where
+    by_instr : (o : Option Instr) → instr_at i a ≡ o → StepNotes i m a l
+    by_instr None e = record { note = None; notes = ap (λ q. (noted_instr i m a l q).notes) e; is = subst (λ q. IsNotedAs i m a (copy_access_by i a q) None) (sym e) refl }
+    by_instr (Some ins) e = record {
+      note = note_of_need i m a l.chain (local ins a.hart).need;
+      notes = ap (λ q. (noted_instr i m a l q).notes) e;
+      is = subst (λ q. IsNotedAs i m a (copy_access_by i a q) (note_of_need i m a l.chain (local ins a.hart).need)) (sym e) (need_noted i m a l.chain (local ins a.hart).need own);
+    }
+
+-- the notes of instructions
+record LocalNotes (i : Image) (m : Makings) (n : ℕ) (a : ActorState) (l : Noted) (after : List Note) : Type 0 where
+  own : List Note
+  notes : after ≡ l.notes ++ own
+  are : AreCopyNotes i m n a own
+
+behind_step : (i : Image) (m : Makings) (n : ℕ) (a : ActorState) (l : Noted) (after : List Note) → StepNotes i m a l → LocalNotes i m n (step i a) (noted_step i m a l) after
+    → (own : List Note) × (after ≡ l.notes ++ own) × BeginWith i m a (copy_access i a) (AreCopyNotes i m n (step i a)) own
+behind_step i m n a l after s more = by_access (copy_access i a) s.note s.notes s.is
+  where
+    by_access : (x : Option CopyAccess) (o : Option Note) → (noted_step i m a l).notes ≡ with_note l.notes o → IsNotedAs i m a x o
+        → (own : List Note) × (after ≡ l.notes ++ own) × BeginWith i m a x (AreCopyNotes i m n (step i a)) own
+    by_access None o notes is =
+        (more.own, more.notes ∙ ap (λ ns. ns ++ more.own) (notes ∙ ap (with_note l.notes) is), more.are)
+    by_access (Some x) o notes is =
+        let first = is.0 in
+        (first ∷ more.own, more.notes ∙ (ap (λ ns. ns ++ more.own) (notes ∙ ap (with_note l.notes) is.1) ∙ append_assoc l.notes (first ∷ []) more.own), (is.2, more.are))
+
+abbrev AreFrom : Image → Makings → ℕ → ActorState → Bool → List Note → Type 0
+AreFrom i m n a t own = elim t [ true ↦ BeginWith i m a (copy_access i a) (AreCopyNotes i m n (step i a)) own | false ↦ own ≡ [] ]
+
+local_notes : (i : Image) (m : Makings) (n : ℕ) (a : ActorState) (l : Noted) → AreOwnCopiesGranted a → LocalNotes i m n a l (noted_local i m n a l).notes
+unfolding noted_local
+local_notes i m zero a l own = record { own = []; notes = sym (append-nil l.notes); are = refl }
+local_notes i m (suc n) a l own =
+    let so = by_running (is_running a.phase) (behind_step i m n a l (noted_local i m n (step i a) (noted_step i m a l)).notes (step_notes i m a l own) (local_notes i m n (step i a) (noted_step i m a l) (step_granted i a own))) in
+    record { own = so.0; notes = so.1; are = so.2 }
+  where
+    by_running : (t : Bool) → (own : List Note) × ((noted_local i m n (step i a) (noted_step i m a l)).notes ≡ l.notes ++ own) × BeginWith i m a (copy_access i a) (AreCopyNotes i m n (step i a)) own
+        → (let after : Noted = elim t [ true ↦ noted_local i m n (step i a) (noted_step i m a l) | false ↦ l ] in
+        (own : List Note) × (after.notes ≡ l.notes ++ own) × AreFrom i m n a t own)
+    by_running true more = more
+    by_running false more = ([], sym (append-nil l.notes), refl)
+
+pub record RestNotes (i : Image) (m : Makings) (a : ActorState) (l : Noted) : Type 0 where
+  pub own : List Note
+  pub notes : (noted_rest i m a l).notes ≡ l.notes ++ own
+  pub are : AreCopyNotes i m (a.fuel + 1) a own
+
+pub rest_notes : (i : Image) (m : Makings) (a : ActorState) (l : Noted) → AreOwnCopiesGranted a → RestNotes i m a l
+unfolding noted_rest
+rest_notes i m a l own = (let n = local_notes i m (a.fuel + 1) a l own in record { own = n.own; notes = n.notes; are = n.are })
