@@ -36,5 +36,3 @@ pub mod NotedCopies
 pub mod NotedEvents
 -- In every run a turn adds its own notes to the log.
 pub mod WithinNotes
--- In every run what a log knows was made in that run.
-pub mod Makers

@@ -26,7 +26,7 @@ use Rattle.run_notes.specs.Notes.{Noted, note_by, with_note, copy_note, copy_in_
 use Rattle.run_notes.specs.declared.chain.CallChain.{CallChain}
 use Rattle.run_notes.specs.declared.items.Makings.{Makings}
 use Rattle.run_notes.specs.declared.note.Note.{Note}
-use Rattle.run_log.specs.NoteLaws.{CopyAccess, copy_access_at, copy_access_of, copy_access_by, copy_access, grants_copy_of, IsCopyNote, BeginWith, AreCopyNotes}
+use Rattle.run_log.specs.NoteLaws.{CopyAccess, copy_access_of, copy_access_by, copy_access, grants_copy_of, IsCopyNote, BeginWith, AreCopyNotes}
 use Rattle.run_log.proofs.CopiesKept.{step_granted}
 use Rattle.run_log.proofs.KnownItems.{max_is}
 
@@ -135,7 +135,7 @@ IsNotedAs i m a None o = o ≡ None
 IsNotedAs i m a (Some x) o = (n : Note) × (o ≡ Some n) × IsCopyNote i m a x n
 
 copy_noted : (i : Image) (m : Makings) (a : ActorState) (ch : CallChain) (k : Kind) (o : Option ℕ) → ((slot : ℕ) → o ≡ Some slot → grants_copy a.sheet.tags slot ≡ true)
-    → IsNotedAs i m a (option_map (copy_access_at k) o) (copy_note i m a ch k o)
+    → IsNotedAs i m a (option_map (λ slot. record { kind = k; slot = slot }) o) (copy_note i m a ch k o)
 copy_noted i m a ch k None granted = refl
 copy_noted i m a ch k (Some slot) granted = by_tag (greatest_copy slot None a.sheet.tags) refl (granted_some slot a.sheet.tags None (granted slot refl))
   where

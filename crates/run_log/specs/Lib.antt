@@ -10,5 +10,3 @@ pub mod ChainLaws
 pub mod NamedNotes
 -- What a turn adds to the notes.
 pub mod NoteLaws
--- Who made what the notes name.
-pub mod MakerLaws

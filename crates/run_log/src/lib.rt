@@ -8,7 +8,7 @@ mod log;
 mod logging;
 mod replaying;
 
-pub use laws::{chains_are_well_formed, makers_are_of_the_run, notes_are_named, notes_are_within};
+pub use laws::{chains_are_well_formed, notes_are_named, notes_are_within};
 pub use log::RunLog;
 pub use logging::turn_logged;
 pub use replaying::replay_logged;
