@@ -24,6 +24,7 @@ LINES = {
     8: rb"wedge: (schedule|trace) refused at \d+: [a-z]+\n",
     9: rb"wedge: no such name: .+\n",
     10: rb"wedge: elf refused at \d+: [a-z]+\n",
+    11: rb"wedge: enforced at \d+: [0-9.]+ [0-9a-f]{8} [a-z]+ [a-z]+ .+\n",
 }
 
 
@@ -49,6 +50,12 @@ def seeds(folder):
             with open(schedule, "wb") as it:
                 it.write(run(["run", image, "--schedule"]).stdout)
             found.append((schedule, lambda file, image=image: ["replay", image, file]))
+            found.append((schedule, lambda file, image=image: ["log", image, file]))
+            trace = f"{folder}/{name}.trace"
+            with open(trace, "wb") as it:
+                it.write(run(["log", image, schedule]).stdout)
+            for command in ("emulate", "enforce"):
+                found.append((trace, lambda file, of=(command, image, schedule): [*of, file]))
         elif name.endswith(".trace"):
             found += [(path, lambda file: ["derive", file]), (path, lambda file: ["analyze", file, "accessed", "main"])]
         elif name.endswith(".elf"):

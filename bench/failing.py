@@ -75,6 +75,7 @@ def commands():
         all_ += [["run", image], ["run", image, "--schedule"], ["run", image, "--stats"]]
         all_ += [["show", image], ["replay", image, schedule], ["log", image, schedule]]
         all_ += [["derive", f"{name}.trace"]]
+        all_ += [[command, image, schedule, f"{name}.trace"] for command in ("emulate", "enforce")]
     all_ += [["gen", "2"], ["build", "counter.toml"], ["link", "server.elf", "server.toml"]]
     all_ += [["analyze", "server.trace", "users", "tag:req"]]
     return all_

@@ -4,12 +4,13 @@ ghost use Rattle.std.specs.Prelude.{◌≡◌, ◌≤◌, ◌⊎◌, IfOk, OnOk,
 ghost use Rattle.machine.specs.Actors.{right_of};
 ghost use Rattle.machine.specs.Between.{TakesFit};
 ghost use Rattle.machine.specs.Children.{fuel_given};
-ghost use Rattle.machine.specs.Local.{end_reached, run_awaited};
+ghost use Rattle.machine.specs.Local.{end_reached, is_running, run_awaited};
 ghost use Rattle.machine.specs.Resting.{want_in, end_in, run_in, NextFits};
 ghost use Rattle.machine.specs.Take.{asks, pair, current_want, actor_begun};
 ghost use Rattle.std.specs.Arc.{arc_value};
 ghost use Rattle.machine.specs.declared.phase.Phase.TheVariants as phase;
 ghost use Rattle.run_laws.specs.Walks.{IsEntryOf};
+ghost use Rattle.sthread_life.specs.Within.{FitsWithin};
 ghost use Rattle.thread_laws.specs.ActorProgresses.{at_creation, after_rest, after_entry, after_run};
 ghost use Rattle.actor_run.specs.Runs.{going, AffordsGate};
 
@@ -87,20 +88,47 @@ impl<I: RunOf> ActorRun<I> {
         })
     }
 
-    /// Makes the actor's local events up to its next shared event. Returns which that is, or the actor's end, or
-    /// the run of a gate for which it waits. An actor that runs out of memory has stopped.
+    /// Makes the actor's local events up to its next shared event. An actor that runs out of memory has stopped.
     #[inline(always)]
-    pub fn local(&mut self, program: &Program<'_>) -> Result<Next, NoMemory>
+    pub fn rest(&mut self, program: &Program<'_>) -> Result<(), NoMemory>
         requires { program.now ≡ I.image }
         ensures rests { OnOk result (self.new ≡ going (after_rest I.image self.old.progress)) }
+        ensures still { OnOk result (is_running self.new.progress.state.phase ≡ false) }
         ensures going { OnOk result (self.old.stopped ≡ false) }
         ensures stops { OnErr result (self.new.stopped ≡ true) }
-        ensures next { IfOk result (λ n. want_in n ≡ current_want self.new.progress.state) }
-        ensures ended { IfOk result (λ n. end_in n ≡ end_reached self.new.progress.state.phase) }
-        ensures waits { IfOk result (λ n. run_in n ≡ run_awaited self.new.progress.state.phase) }
-        ensures fits { IfOk result (NextFits self.new.progress.state) }
     {
-        sthread_life::local(&mut self.actor, program, &mut self.memory)
+        sthread_life::rest(&mut self.actor, program, &mut self.memory)
+    }
+
+    /// Returns what an actor at rest wants, its end, or the run of a gate for which it waits. An actor that runs out of
+    /// memory has stopped.
+    #[inline(always)]
+    pub fn next(&mut self) -> Result<Next, NoMemory>
+        requires still { is_running self.old.progress.state.phase ≡ false }
+        requires going { self.old.stopped ≡ false }
+        ensures same { OnOk result (self.new ≡ self.old) }
+        ensures stops { OnErr result (self.new.stopped ≡ true) }
+        ensures next { IfOk result (λ n. want_in n ≡ current_want self.old.progress.state) }
+        ensures ended { IfOk result (λ n. end_in n ≡ end_reached self.old.progress.state.phase) }
+        ensures waits { IfOk result (λ n. run_in n ≡ run_awaited self.old.progress.state.phase) }
+        ensures fits { IfOk result (NextFits self.old.progress.state) }
+    {
+        sthread_life::next(&mut self.actor, &self.memory)
+    }
+
+    /// Returns a reference to its phase.
+    #[inline(always)]
+    pub fn phase(&self) -> &Phase
+        ensures { result.now ≡ self.now.progress.state.phase }
+    {
+        &self.actor.phase
+    }
+
+    /// For proofs alone: at a shared event it wants what it may want.
+    pub fn wants_fit(&self)
+        ensures { FitsWithin self.now.progress.state self.now.progress.state.phase }
+    {
+        sthread_life::wants_fit(&self.actor);
     }
 
     /// Makes the actor's part of an event, and adds the event's entry to the log. Returns the actor that the event

@@ -18,10 +18,10 @@ use rv_hart::Need;
 use rv_isa::Instr;
 use wedge_base::{End, NoMemory};
 
-/// One instruction.
+/// One instruction. `Site` stands for the place of the call, as for `Hart::begin`.
 #[inline(always)]
 #[tactic(auto, unfolding(machine::specs::Local::step))]
-pub fn step(
+pub fn step<Site>(
     actor: &mut Actor,
     program: &Program<'_>,
     memory: &mut PrivateView,
@@ -41,14 +41,14 @@ pub fn step(
     actor.fuel = fuel;
     match found {
         None => actor.end(End::BadInstruction),
-        Some(instr) => execute(actor, program, memory, instr)?,
+        Some(instr) => execute::<Site>(actor, program, memory, instr)?,
     }
     Ok(())
 }
 
 /// An instruction that is paid for.
 #[inline(always)]
-fn execute(
+fn execute<Site>(
     actor: &mut Actor,
     program: &Program<'_>,
     memory: &mut PrivateView,
@@ -62,7 +62,7 @@ fn execute(
         ≡ local.proceeds program.now instr.now (whole actor.old memory.old)
         (hart.local instr.now actor.old.hart)) }
 {
-    match actor.hart.begin(instr) {
+    match actor.hart.begin::<Site>(instr) {
         Need::Done => {}
         Need::Load {
             address,

@@ -6,5 +6,3 @@ pub mod EntriesFit
 pub mod CreatedLists
 -- The cells of the recycled gates that an actor knows.
 pub mod GateCellsKnown
--- An actor at rest, and what it is at.
-pub mod AtRest

@@ -1,5 +1,6 @@
-//! An actor on its thread: the actor with those that it created, and each step by which it goes on or creates another. How
-//! it learns how these ended, and how it ends itself, is in `actor_ends`; threads are started in `gate_runner`.
+//! An actor on its thread: the actor with those that it created, and how it creates another. The steps that it makes alone are
+//! in `actor_steps`; how it learns how others ended, and how it ends itself, in `actor_ends`; threads are started in
+//! `gate_runner`.
 #![tactic(auto)]
 
 mod created;

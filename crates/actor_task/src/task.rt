@@ -1,7 +1,9 @@
 //! What the thread of an actor has in hand.
 
-ghost use Rattle.std.specs.Prelude.{◌≡◌, IfOk, OnOk, []};
-ghost use Rattle.thread_laws.specs.ActorProgresses.{at_creation, after_rest};
+ghost use Rattle.std.specs.Prelude.{◌≡◌, IfOk, OnOk, [], false};
+ghost use Rattle.run_cells.specs.Entries.{IsPlainEntry};
+ghost use Rattle.machine.specs.Local.{is_running};
+ghost use Rattle.thread_laws.specs.ActorProgresses.{at_creation, after_rest, after_entry};
 ghost use Rattle.actor_task.specs.Steps.{IsAtRest};
 ghost use Rattle.actor_task.specs.Tasks.{WantsEntry, going_on};
 
@@ -18,6 +20,7 @@ use std::alloc::Global;
 use std::marker::Model;
 use std::sync::{Arc, Mutex};
 use wedge_base::{ActorName, NoMemory};
+use wedge_events::LogEntry;
 
 /// An actor that a thread runs, those that it created, in the order of their numbers, and the cells of the
 /// recycled gates that it knows. Contracts see its progress, and that of those that it created as far as it
@@ -74,13 +77,24 @@ impl<I: RunOf> ActorTask<I> {
 
     /// Makes the actor's local events up to its next shared event.
     #[inline(always)]
-    pub fn local(&mut self, program: &Program<'_>) -> Result<Next, NoMemory>
+    pub fn rest(&mut self, program: &Program<'_>) -> Result<(), NoMemory>
         requires { program.now ≡ I.image }
         ensures rests { OnOk result (self.new
             ≡ going_on (after_rest I.image self.old.progress) self.old.created) }
-        ensures at_rest { IfOk result (IsAtRest self.new) }
+        ensures still { OnOk result (is_running self.new.progress.state.phase ≡ false) }
     {
-        self.run.local(program)
+        self.run.rest(program)
+    }
+
+    /// Returns what an actor at rest is at.
+    #[inline(always)]
+    pub fn next(&mut self) -> Result<Next, NoMemory>
+        requires still { is_running self.old.progress.state.phase ≡ false }
+        requires going { self.old.stopped ≡ false }
+        ensures same { OnOk result (self.new ≡ self.old) }
+        ensures at_rest { IfOk result (IsAtRest self.old) }
+    {
+        self.run.next()
     }
 
     /// Returns the cell of the recycled gate that the actor is about to enter.
@@ -96,5 +110,18 @@ impl<I: RunOf> ActorTask<I> {
             Some(cell) => Ok(cell),
             None => unreachable!(),
         }
+    }
+
+    /// Makes the actor's part of an event that creates no actor and joins none, and adds its entry to the log. Fails where out
+    /// of memory.
+    #[inline(always)]
+    pub fn take_plain(&mut self, program: &Program<'_>, entry: LogEntry) -> Result<(), NoMemory>
+        requires image { program.now ≡ I.image }
+        requires going { self.old.stopped ≡ false }
+        requires entry { IsPlainEntry I.image self.old.progress entry }
+        ensures { OnOk result (self.new
+            ≡ going_on (after_entry I.image self.old.progress entry) self.old.created) }
+    {
+        self.run.take_alone(program, entry)
     }
 }

@@ -1,5 +1,5 @@
 -- The trace of a schedule is in the grammar of traces.
-use Rattle.std.proofs.Common.{◌≡◌, inl, inr, ℕ, ◌<◌, ◌≤◌, Bool, true, false, List, [], ◌∷◌, ◌++◌, length, map, refl, ap, subst, ◌∙◌, arith}
+use Rattle.std.proofs.Common.{◌≡◌, inl, inr, ℕ, ◌<◌, ◌≤◌, Bool, true, false, List, [], ◌∷◌, ◌++◌, length, map, refl, sym, ap, subst, ◌∙◌, arith}
 use Rattle.std.proofs.lemmas.Bool.{and_parts, eqb-true}
 use Rattle.std.proofs.lemmas.List.{length-map}
 use Rattle.std.proofs.lemmas.List.Elements.{All-nil, All-cons}
@@ -129,3 +129,7 @@ records_are i (n ∷ ns) valid named framed = (record_is i n valid named.0 frame
 
 pub in_grammar : (i : Image) (names : List (List ℕ)) → IsImage i → IsTraceOf (trace_of i names) (records_of i names)
 in_grammar i names valid = record { records = records_are i (log_of i names).notes valid (notes_named i names valid) (chains_well_formed i names); text = refl }
+
+-- so are the bytes that are the trace of a schedule
+pub written_in_grammar : (i : Image) (names : List (List ℕ)) (bytes : List ℕ) → IsImage i → bytes ≡ trace_of i names → IsTraceOf bytes (records_of i names)
+written_in_grammar i names bytes valid is = subst (λ (bs : List ℕ). IsTraceOf bs (records_of i names)) (sym is) (in_grammar i names valid)

@@ -23,7 +23,7 @@ pub fn log(alloc: Global, image: &Image, schedule: &[ActorName]) -> Result<Vec<u
     ensures sound { IfOk result (λ v. first_fault v.items ≡ None) }
     ensures rejected { IfErr result (λ e. IsFaultOf (replay_of image.now schedule.now) e) }
 {
-    let log = replay_logged(alloc, image, schedule)?;
-    let text = trace_text(alloc, image, log.notes())?;
+    let run = replay_logged(alloc, image, schedule)?;
+    let text = trace_text(alloc, image, run.notes())?;
     Ok(text)
 }

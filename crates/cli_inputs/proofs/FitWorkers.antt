@@ -6,7 +6,7 @@ use Rattle.std.specs.Str.Parse.{digits_value}
 use Rattle.std.specs.Fmt.{decimal}
 use Rattle.std.proofs.lemmas.Bool.{leb-true, and_parts}
 use Rattle.cli_inputs.specs.declared.words.RunFlag.{RunFlag}
-use Rattle.cli_inputs.specs.Words.{Asked, Gen, Show, Build, Derive, Analyze, HasFitWorkers, is_workers, workers_in, flag_of, is_plain_argument, file_argument, run_with, run_flagged, run_of, link_of, replay_command, log_command, query_of, analyze_of, gen_of, command_of}
+use Rattle.cli_inputs.specs.Words.{Asked, Gen, Show, Build, Emulate, Enforce, Derive, Analyze, HasFitWorkers, ThreeFiles, three_files, is_workers, workers_in, flag_of, is_plain_argument, file_argument, run_with, run_flagged, run_of, link_of, replay_command, log_command, query_of, analyze_of, gen_of, command_of}
 
 -- of what is asked, if anything is
 abbrev IsFit : Option Asked → Type 0
@@ -53,6 +53,10 @@ fit_log (image ∷ []) = tt
 fit_log (image ∷ schedule ∷ []) = fit_if (is_plain_argument image && is_plain_argument schedule) _ _ tt tt
 fit_log (image ∷ schedule ∷ third ∷ more) = tt
 
+fit_three : (make : ThreeFiles → Asked) → ((f : ThreeFiles) → HasFitWorkers (make f)) → (arguments : List (List ℕ))
+    → IsFit (option_map make (three_files arguments))
+fit_three make h arguments = fit_map make h (three_files arguments)
+
 fit_analyze : (arguments : List (List ℕ)) → IsFit (analyze_of arguments)
 fit_analyze [] = tt
 fit_analyze (trace ∷ []) = tt
@@ -84,9 +88,11 @@ fit_command (command ∷ arguments) =
     (fit_if (bytes_eq command (codes "link")) _ _ (fit_link arguments)
     (fit_if (bytes_eq command (codes "replay")) _ _ (fit_replay arguments)
     (fit_if (bytes_eq command (codes "log")) _ _ (fit_log arguments)
+    (fit_if (bytes_eq command (codes "emulate")) _ _ (fit_three (λ f. Emulate f.image f.schedule f.trace) (λ f. tt) arguments)
+    (fit_if (bytes_eq command (codes "enforce")) _ _ (fit_three (λ f. Enforce f.image f.schedule f.trace) (λ f. tt) arguments)
     (fit_if (bytes_eq command (codes "derive")) _ _ (fit_map Derive (λ n. tt) (file_argument arguments))
     (fit_if (bytes_eq command (codes "analyze")) _ _ (fit_analyze arguments)
-    (fit_if (bytes_eq command (codes "gen")) _ _ (fit_gen arguments) tt))))))))
+    (fit_if (bytes_eq command (codes "gen")) _ _ (fit_gen arguments) tt))))))))))
 
 pub fit : (words : List (List ℕ)) (a : Asked) → command_of words ≡ Some a → HasFitWorkers a
 fit words a is = subst IsFit is (fit_command words)

@@ -1,10 +1,9 @@
 -- The image that a program and a partition are joined to, or why there is none.
-use Rattle.std.proofs.Common.{◌≡◌, ◌⊎◌, inl, inr, ℕ, ◌<◌, ◌≤◌, Bool, true, false, cond, List, length, refl, sym, ap, subst, ◌∙◌, arith}
-use Rattle.std.specs.Prelude.{Option, Some, None, Result, Ok, Err, nat_le, nat_lt}
-use Rattle.std.specs.Str.{IsUtf8, is_utf8}
+use Rattle.std.proofs.Common.{◌≡◌, ℕ, ◌<◌, ◌≤◌, true, false, List, length, refl, ap}
+use Rattle.std.specs.Prelude.{Some, None, Result, Ok, Err, nat_le, nat_lt}
+use Rattle.std.specs.Str.{IsUtf8}
 use Rattle.std.proofs.lemmas.Str.{is_utf8-from_IsUtf8}
 use Rattle.std.proofs.lemmas.Bool.{lt-leb, le-ltb, lt-ltb}
-use Rattle.host_io.specs.Exposed.{WhereExposed}
 use Rattle.wedge_base.specs.Images.{Image}
 use Rattle.elf_in.specs.declared.fault.Fault.{Fault as ElfFault}
 use Rattle.elf_in.specs.declared.fault.ElfError.{ElfError}
@@ -20,14 +19,12 @@ use Rattle.part_toml.specs.Faults as meant
 use Rattle.part_toml.specs.Joining.{partition_with}
 use Rattle.part_toml.specs.Partition.{Reports, refusal_in}
 use Rattle.cli_inputs.specs.declared.loading.FileKind.TheVariants as kind
-use Rattle.cli_inputs.specs.declared.refusal.Refusal.{Refusal}
 use Rattle.cli_inputs.specs.declared.refusal.Refusal.TheVariants as refusal
 use Rattle.cli_inputs.specs.declared.refusal.PartRefusal.TheVariants as part
 use Rattle.cli_inputs.specs.Refusals.{as_unjoined, elf_refusal_of, joining_refusal_of}
-use Rattle.cli_inputs.specs.Loading.{most_of, most_partition, long_elf, IsUnread, IsPartitionUnread}
+use Rattle.cli_inputs.specs.Loading.{most_of, most_partition, long_elf}
 use Rattle.cli_inputs.specs.Replaying.{IsRefusalIn}
-use Rattle.cli_inputs.specs.Linking.{program_by, by_joining, joined_of, encoding_by, link_with, link_text, IsUnjoined}
-use Rattle.cli_inputs.specs.Words.{Link}
+use Rattle.cli_inputs.specs.Linking.{program_by, by_joining, joined_of}
 use Rattle.cli_inputs.proofs.Partitions.{not_utf8}
 
 -- ---- the ELF file

@@ -10,3 +10,5 @@ pub mod Joined
 pub mod Workers
 -- The number of workers that arguments ask for is from 1 to 200.
 pub mod FitWorkers
+-- A run's own trace permits all of the run.
+pub mod OwnTraces

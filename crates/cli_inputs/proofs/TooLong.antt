@@ -58,6 +58,7 @@ unread_by meant k name content before after (refusal.Schedule s) long unlike no_
 unread_by meant k name content before after (refusal.Trace fault) long unlike no_trace no_elf h = no_trace fault h.is
 unread_by meant k name content before after (refusal.Elf fault) long unlike no_trace no_elf h = no_elf fault h.is
 unread_by meant k name content before after (refusal.NoSuchName item) long unlike no_trace no_elf h = absurd h
+unread_by meant k name content before after (refusal.Violation v) long unlike no_trace no_elf h = absurd h
 
 -- a file whose bytes were read and are refused
 refused_by : (meant : List ℕ → Result Image Refusal) (name : List ℕ) (content : Option (List ℕ)) (before after : ℕ) (bytes : List ℕ) (r : Refusal)
@@ -70,6 +71,7 @@ refused_by meant name content before after bytes (refusal.Schedule s) same h = a
 refused_by meant name content before after bytes (refusal.Trace fault) same h = absurd h
 refused_by meant name content before after bytes (refusal.Elf fault) same h = absurd h
 refused_by meant name content before after bytes (refusal.NoSuchName item) same h = absurd h
+refused_by meant name content before after bytes (refusal.Violation v) same h = absurd h
 
 pub answer_by : (meant : List ℕ → Result Image Refusal) (name : List ℕ) (content : Option (List ℕ)) (before after : ℕ) (bytes : List ℕ) (result : Result Image Refusal)
     → WhereExposed content (λ b. bytes ≡ b) → IfErr result (IsRefusalOf (meant bytes)) → IfErr result (IsRefusedBy meant name content before after)

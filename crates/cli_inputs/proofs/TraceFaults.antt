@@ -44,6 +44,7 @@ unread_trace name content before after (refusal.Trace fault) h =
     λ bytes exposed. long_fault bytes (h.longer bytes exposed) ∙ ap (λ f. Some f) (sym (trace_of fault long_trace h.is))
 unread_trace name content before after (refusal.Elf fault) h = let e = h.is in absurd cc
 unread_trace name content before after (refusal.NoSuchName item) h = absurd h
+unread_trace name content before after (refusal.Violation v) h = absurd h
 
 -- a trace that is not had has no query that is answered
 pub query_unread : (query : Query) (asked name : List ℕ) (content : Option (List ℕ)) (before after : ℕ) (r : Refusal)
@@ -56,3 +57,4 @@ query_unread query asked name content before after (refusal.Schedule s) h = h
 query_unread query asked name content before after (refusal.Trace fault) h = h
 query_unread query asked name content before after (refusal.Elf fault) h = h
 query_unread query asked name content before after (refusal.NoSuchName item) h = absurd h
+query_unread query asked name content before after (refusal.Violation v) h = absurd h

@@ -6,6 +6,9 @@ pub mod Refusals
 pub mod Loading
 -- The report of a replay, as a function of the bytes of an image's file and of a schedule's.
 pub mod Replaying
+-- The report of a replay whose accesses are checked by the sheets of a trace, as a function of the
+-- bytes of three files.
+pub mod Enforcing
 -- The bytes of the image that an ELF file and a partition are joined to, as a function of the
 -- bytes of both.
 pub mod Linking

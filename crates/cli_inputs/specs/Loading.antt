@@ -57,6 +57,7 @@ IsRefusalOf meant (refusal.Schedule s) = ⊥
 IsRefusalOf meant (refusal.Trace fault) = ⊥
 IsRefusalOf meant (refusal.Elf fault) = ⊥
 IsRefusalOf meant (refusal.NoSuchName item) = ⊥
+IsRefusalOf meant (refusal.Violation v) = ⊥
 
 -- ---- files
 
@@ -116,6 +117,7 @@ IsUnread k name content before after (refusal.Schedule s) = IsTooLong k content 
 IsUnread k name content before after (refusal.Trace fault) = IsTooLong k content (refusal.Trace fault)
 IsUnread k name content before after (refusal.Elf fault) = IsTooLong k content (refusal.Elf fault)
 IsUnread k name content before after (refusal.NoSuchName item) = ⊥
+IsUnread k name content before after (refusal.Violation v) = ⊥
 
 -- why the image of a file could not be used: out of memory, a read that failed, or bytes that are rejected so
 abbrev pub IsRefusedBy : (List ℕ → Result Image Refusal) → List ℕ → Option (List ℕ) → ℕ → ℕ → Refusal → Type 0
@@ -127,3 +129,4 @@ IsRefusedBy meant name content before after (refusal.Schedule s) = ⊥
 IsRefusedBy meant name content before after (refusal.Trace fault) = ⊥
 IsRefusedBy meant name content before after (refusal.Elf fault) = ⊥
 IsRefusedBy meant name content before after (refusal.NoSuchName item) = ⊥
+IsRefusedBy meant name content before after (refusal.Violation v) = ⊥

@@ -64,3 +64,4 @@ IsRefusalIn meant (refusal.Schedule s) = meant ≡ Err (refusal.Schedule s)
 IsRefusalIn meant (refusal.Trace fault) = ⊥
 IsRefusalIn meant (refusal.Elf fault) = meant ≡ Err (refusal.Elf fault)
 IsRefusalIn meant (refusal.NoSuchName item) = ⊥
+IsRefusalIn meant (refusal.Violation v) = ⊥

@@ -65,6 +65,7 @@ IsTraceRefused trace content before after (refusal.Trace fault) =
     WhereExposed content (λ bytes. trace_fault bytes ≡ Some fault)
 IsTraceRefused trace content before after (refusal.Elf fault) = ⊥
 IsTraceRefused trace content before after (refusal.NoSuchName item) = ⊥
+IsTraceRefused trace content before after (refusal.Violation v) = ⊥
 
 -- why a query of a trace is not answered: besides, no record has the name that is asked for
 abbrev pub IsQueryRefused : Query → List ℕ → List ℕ → Option (List ℕ) → ℕ → ℕ → Refusal → Type 0
@@ -78,3 +79,4 @@ IsQueryRefused query name trace content before after (refusal.Trace fault) =
 IsQueryRefused query name trace content before after (refusal.Elf fault) = ⊥
 IsQueryRefused query name trace content before after (refusal.NoSuchName item) =
     (item ≡ name) × WhereExposed content (IsUnknownIn query name)
+IsQueryRefused query name trace content before after (refusal.Violation v) = ⊥

@@ -8,6 +8,7 @@ use Rattle.cli_inputs.specs.declared.words.RunFlag.{RunFlag}
 use Rattle.cli_inputs.specs.declared.words.RunFlag.TheVariants.{Plain, Schedule, Stats}
 use Rattle.cli_inputs.specs.declared.words.Query.{Query}
 use Rattle.cli_inputs.specs.declared.words.Query.TheVariants.{Accessed, Users, Written}
+use Rattle.cli_inputs.specs.declared.words.ThreeFiles.{ThreeFiles as Files}
 use Rattle.cli_inputs.specs.declared.words.Command.{Command}
 use Rattle.cli_inputs.specs.declared.words.Command.TheVariants as command
 
@@ -19,6 +20,8 @@ pub data Asked : Type 0 where
   Link : List ℕ → List ℕ → Asked
   Replay : List ℕ → List ℕ → Asked
   Log : List ℕ → List ℕ → Asked
+  Emulate : List ℕ → List ℕ → List ℕ → Asked
+  Enforce : List ℕ → List ℕ → List ℕ → Asked
   Derive : List ℕ → Asked
   Analyze : List ℕ → Query → List ℕ → Asked
   Gen : ℕ → Asked
@@ -31,6 +34,8 @@ asked_by (command.Build part) = Build part.now
 asked_by (command.Link elf part) = Link elf.now part.now
 asked_by (command.Replay image schedule) = Replay image.now schedule.now
 asked_by (command.Log image schedule) = Log image.now schedule.now
+asked_by (command.Emulate image schedule trace) = Emulate image.now schedule.now trace.now
+asked_by (command.Enforce image schedule trace) = Enforce image.now schedule.now trace.now
 asked_by (command.Derive trace) = Derive trace.now
 asked_by (command.Analyze trace query name) = Analyze trace.now query name.now
 asked_by (command.Gen workers) = Gen workers
@@ -89,6 +94,28 @@ abbrev pub log_command : List (List ℕ) → Option Asked
 log_command (image ∷ schedule ∷ []) = if is_plain_argument image && is_plain_argument schedule then Some (Log image schedule) else None
 log_command arguments = None
 
+-- the names of an image, a schedule and a trace
+pub record ThreeFiles : Type 0 where
+  pub image : List ℕ
+  pub schedule : List ℕ
+  pub trace : List ℕ
+
+-- the three arguments, if each can name a file
+abbrev pub three_files : List (List ℕ) → Option ThreeFiles
+three_files (image ∷ schedule ∷ trace ∷ []) =
+    if is_plain_argument image && is_plain_argument schedule && is_plain_argument trace
+    then Some (record { image = image; schedule = schedule; trace = trace }) else None
+three_files arguments = None
+
+abbrev pub three_names : Files → ThreeFiles
+three_names f = record { image = f.image.now; schedule = f.schedule.now; trace = f.trace.now }
+
+abbrev pub emulate_command : List (List ℕ) → Option Asked
+emulate_command arguments = option_map (λ f. Emulate f.image f.schedule f.trace) (three_files arguments)
+
+abbrev pub enforce_command : List (List ℕ) → Option Asked
+enforce_command arguments = option_map (λ f. Enforce f.image f.schedule f.trace) (three_files arguments)
+
 abbrev pub derive_of : List (List ℕ) → Option Asked
 derive_of arguments = option_map Derive (file_argument arguments)
 
@@ -135,6 +162,8 @@ command_of (command ∷ arguments) =
     else if bytes_eq command (codes "link") then link_of arguments
     else if bytes_eq command (codes "replay") then replay_command arguments
     else if bytes_eq command (codes "log") then log_command arguments
+    else if bytes_eq command (codes "emulate") then emulate_command arguments
+    else if bytes_eq command (codes "enforce") then enforce_command arguments
     else if bytes_eq command (codes "derive") then derive_of arguments
     else if bytes_eq command (codes "analyze") then analyze_of arguments
     else if bytes_eq command (codes "gen") then gen_of arguments

@@ -2,6 +2,7 @@
 //! with the cause of each refusal.
 #![tactic(auto)]
 
+mod enforcing;
 mod headings;
 mod linking;
 mod loading;
@@ -11,6 +12,7 @@ mod show;
 mod traces;
 mod words;
 
+pub use enforcing::{emulate_text, enforce_text, own_traces_permit};
 pub use linking::{link_text, program_of, read_partition_file};
 pub use loading::{FileKind, load_built, load_image, read_file};
 pub use refusal::{PartRefusal, Refusal, ScheduleRefusal};

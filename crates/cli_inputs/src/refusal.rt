@@ -8,6 +8,7 @@ use elf_in::ElfError;
 use image_form::{Fault, ImageError};
 use part_toml::PartFault;
 use report_text::ScheduleFault;
+use sheet_enforce::Violation;
 use trace_form::TraceFault;
 use wedge_base::{Bytes, NoMemory};
 use wedge_core::ReplayFault;
@@ -31,6 +32,8 @@ pub enum Refusal {
     Elf(elf_in::Fault),
     /// The trace has no such procedure or item.
     NoSuchName { name: Bytes },
+    /// The first access of the run that the sheets derived from the trace do not permit.
+    Violation(Violation),
 }
 
 /// The first thing that is wrong with a partition's file.

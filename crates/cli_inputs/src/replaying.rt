@@ -45,7 +45,7 @@ pub fn log_text(alloc: Global, image: &[u8], schedule: &[u8]) -> Result<Vec<u8>,
 }
 
 /// The names of a schedule.
-fn schedule_of(alloc: Global, bytes: &[u8]) -> Result<Vec<ActorName>, Refusal>
+pub(crate) fn schedule_of(alloc: Global, bytes: &[u8]) -> Result<Vec<ActorName>, Refusal>
     ensures names { IfOk result (λ v. schedule_by (names_in bytes.now) ≡ Ok v.items) }
     ensures rejected { IfErr result (IsRefusalIn (schedule_by (names_in bytes.now))) }
 {
@@ -56,7 +56,11 @@ fn schedule_of(alloc: Global, bytes: &[u8]) -> Result<Vec<ActorName>, Refusal>
 }
 
 /// The report of the state to which the turns of these actors lead.
-fn report_of(alloc: Global, image: &Image, names: &[ActorName]) -> Result<Vec<u8>, Refusal>
+pub(crate) fn report_of(
+    alloc: Global,
+    image: &Image,
+    names: &[ActorName],
+) -> Result<Vec<u8>, Refusal>
     ensures text { IfOk result
         (λ v. text_made report_made image.now names.now (replay_of image.now names.now)
         ≡ Ok v.items) }

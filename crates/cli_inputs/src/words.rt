@@ -62,6 +62,20 @@ pub enum Command<'a> {
         image: &'a str,
         schedule: &'a str,
     },
+    /// To replay a schedule over an image, and write the report and the accesses that the sheets derived from a
+    /// trace do not permit.
+    Emulate {
+        image: &'a str,
+        schedule: &'a str,
+        trace: &'a str,
+    },
+    /// To replay a schedule over an image, and write the report if the sheets derived from a trace permit every
+    /// access.
+    Enforce {
+        image: &'a str,
+        schedule: &'a str,
+        trace: &'a str,
+    },
     /// To derive the sheets that a trace needs and write them.
     Derive {
         trace: &'a str,
@@ -76,6 +90,14 @@ pub enum Command<'a> {
     Gen {
         workers: u32,
     },
+}
+
+/// The names of an image, a schedule and a trace.
+#[derive(Clone, Copy, Debug)]
+struct ThreeFiles<'a> {
+    image: &'a str,
+    schedule: &'a str,
+    trace: &'a str,
 }
 
 /// Why arguments are no command.
@@ -113,6 +135,8 @@ fn command_in(words: &[String]) -> Option<Command<'_>>
         "link" => link_in(arguments),
         "replay" => replay_in(arguments),
         "log" => log_in(arguments),
+        "emulate" => emulate_in(arguments),
+        "enforce" => enforce_in(arguments),
         "derive" => derive_in(arguments),
         "analyze" => analyze_in(arguments),
         "gen" => gen_in(arguments),
@@ -220,6 +244,40 @@ fn log_in(arguments: &[String]) -> Option<Command<'_>>
     }
 }
 
+/// The command of the arguments after `emulate`.
+fn emulate_in(arguments: &[String]) -> Option<Command<'_>>
+    ensures { option_map asking.asked_by result
+        ≡ asking.emulate_command (asking.texts arguments.now) }
+{
+    let ThreeFiles {
+        image,
+        schedule,
+        trace,
+    } = three_files_in(arguments)?;
+    Some(Command::Emulate {
+        image,
+        schedule,
+        trace,
+    })
+}
+
+/// The command of the arguments after `enforce`.
+fn enforce_in(arguments: &[String]) -> Option<Command<'_>>
+    ensures { option_map asking.asked_by result
+        ≡ asking.enforce_command (asking.texts arguments.now) }
+{
+    let ThreeFiles {
+        image,
+        schedule,
+        trace,
+    } = three_files_in(arguments)?;
+    Some(Command::Enforce {
+        image,
+        schedule,
+        trace,
+    })
+}
+
 /// The command of the arguments after `derive`.
 fn derive_in(arguments: &[String]) -> Option<Command<'_>>
     ensures { option_map asking.asked_by result ≡ asking.derive_of (asking.texts arguments.now) }
@@ -291,6 +349,26 @@ fn begins_with_nonzero_digit(bytes: &[u8]) -> bool
     match bytes {
         [] => false,
         [first, ..] => b'1' <= *first && *first <= b'9',
+    }
+}
+
+/// The three arguments, if each can name a file.
+fn three_files_in(arguments: &[String]) -> Option<ThreeFiles<'_>>
+    ensures { option_map asking.three_names result
+        ≡ asking.three_files (asking.texts arguments.now) }
+{
+    match arguments {
+        [image, schedule, trace]
+            if is_plain(image.as_str())
+                && is_plain(schedule.as_str())
+                && is_plain(trace.as_str()) => {
+            Some(ThreeFiles {
+                image: image.as_str(),
+                schedule: schedule.as_str(),
+                trace: trace.as_str(),
+            })
+        }
+        _ => None,
     }
 }
 

@@ -10,6 +10,7 @@ ghost use Rattle.actor_task.specs.Tasks.{IsSame, IsUnlocked, Wants, WantsEntry};
 
 use crate::gather::gathered;
 use actor_ends::{finish_locked, finish_unlocked, join_child, resume};
+use actor_steps::step;
 use actor_task::{
     ActorTask, Created, Creating, GateEntry, Last, NewActor, Returned, ReturnsFamily, Step,
 };
@@ -75,7 +76,7 @@ fn act<'s, 'e, I: RunOf + Send + Sync, R: Threads + Wait + Sync, P: Pace + Sync>
 {
     let mut task = ActorTask::new(all.alloc, new)?;
     for _ in all.rt.forever() {
-        match task.step(all.rt, all.program, all.cells, all.pace)? {
+        match step(&mut task, all.rt, all.program, all.cells, all.pace)? {
             Step::Went => {}
             Step::AtEnd(last) => return Ok(AtEnd { task, last }),
             step => task = do_joint(scope, all, task, step)?,

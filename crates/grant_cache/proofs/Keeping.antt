@@ -5,8 +5,7 @@ use Rattle.std.specs.Option.{option_map_or}
 use Rattle.std.specs.Map.{lookup, lookup_entry, remove_entry}
 use Rattle.std.proofs.lemmas.Bool.{eqb-true}
 use Rattle.lru.specs.LruCache.{promoted}
-use Rattle.wedge_base.specs.Maps.{has}
-use Rattle.wedge_base.specs.Sheets.{Sheet, Made, right_on}
+use Rattle.wedge_base.specs.Sheets.{Sheet}
 use Rattle.wedge_base.specs.declared.rights.Right.{Right}
 use Rattle.grant_cache.specs.Caches.{Cache, HaveRights, IsCacheOf, sheet_right, is_cached, after_put, after_refusal, IsLookedUp}
 
@@ -47,11 +46,6 @@ module _ (s : Sheet) where
     | true ↦ λ is. let at = rw is at found in let same : v ≡ f.1 = cc in same ∙ h.0 ∙ ap (sheet_right s) (sym (eqb-true t f.0 is))
     | false ↦ λ is. found_rights t es v h.1 (rw is at found)
   ]) refl
-
-  -- and with no tag of that number made, it is the actor's right
-  pub found_right_on : (m : Made) (t : ℕ) (es : List (ℕ × Option Right)) (v : Option Right) → HaveRights s es → Some v ≡ lookup (nat_eq t) es → has m.tags t ≡ false
-      → v ≡ right_on s m t
-  found_right_on m t es v h found unmade = rw unmade (found_rights t es v h found)
 
   missed_keeps : (tag : ℕ) (old new : Cache) → IsCacheOf s old
       → (new ≡ after_put (sheet_right s tag) tag old) ⊎ (new ≡ after_refusal old) → IsCacheOf s new

@@ -2,3 +2,5 @@
 pub mod Caches
 -- Which tags were looked up last, and how many look-ups are hits.
 pub mod Hits
+-- The entry that is kept beside a cache.
+pub mod LatestEntries

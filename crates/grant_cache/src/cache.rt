@@ -6,6 +6,7 @@ ghost use Rattle.lru.specs.LruCache.{promoted};
 ghost use Rattle.wedge_base.specs.Sheets as sheets;
 ghost use Rattle.grant_cache.specs.Caches as caches;
 ghost use Rattle.grant_cache.specs.Hits.{IsAfter};
+ghost use Rattle.grant_cache.specs.LatestEntries.{IsLatestOf};
 
 use crate::count::CacheCount;
 use grant_sheet::{Made, Sheet};
@@ -18,18 +19,28 @@ use wedge_base::{NoMemory, Right, TagNo};
 /// The most tags in the cache of an actor.
 pub const CAPACITY: u32 = 8;
 
+/// The entry of the tag that was looked up last.
+#[derive(Clone, Copy)]
+struct Latest {
+    tag: u32,
+    right: Option<Right>,
+}
+
 /// The rights that an actor's sheet gives on the tags that the actor used last, and counts of the look-ups. That the
 /// sheet gives no right on a tag is cached too. The tags that the actor made are not looked up here first: on these it
 /// has every right, whatever its sheet gives.
 #[derive(Drop)]
 pub struct GrantCache {
     rights: LruCache<u32, Option<Right>>,
+    /// The first entry of `rights`, once more: most look-ups are of the tag that was looked up last.
+    latest: Option<Latest>,
     count: CacheCount,
 }
 
 impl Model for GrantCache {
     ghost use Rattle.std.specs.Prelude.{◌+◌, ◌≤◌};
     ghost use Rattle.grant_cache.specs.Caches.{Cache};
+    ghost use Rattle.grant_cache.specs.LatestEntries.{IsLatestOf};
 
     ghost Value = { Cache };
 
@@ -39,7 +50,11 @@ impl Model for GrantCache {
       count = c.count;
     } };
 
-    ghost invariant = { λ c. (1 ≤ c.rights.cap) × (c.count.hits + c.count.refused ≤ c.count.lookups) };
+    ghost invariant = { λ c. record {
+      room : 1 ≤ c.rights.cap;
+      counts : c.count.hits + c.count.refused ≤ c.count.lookups;
+      latest : IsLatestOf c.rights.entries c.latest;
+    } };
 }
 
 impl GrantCache {
@@ -52,6 +67,7 @@ impl GrantCache {
         let capacity = NonZeroUsize::new(capacity as usize).unwrap();
         Ok(GrantCache {
             rights: LruCache::sparse(alloc, capacity)?,
+            latest: None,
             count: CacheCount {
                 lookups: 0,
                 hits: 0,
@@ -77,18 +93,29 @@ impl GrantCache {
     }
 
     /// Returns the right of an actor on a tag: ReadWrite where it made the tag, else what its sheet gives, if
-    /// anything. The tag that was looked up last is found without a search. Nothing is counted.
+    /// anything. The tag that was looked up last is found without a search; where the sheet gives ReadWrite on it, what
+    /// the actor made is not looked up. Nothing is counted.
     #[inline(always)]
     pub fn peek(&self, sheet: &Sheet, made: &Made, tag: TagNo) -> Option<Right>
         requires { caches.IsCacheOf sheet.now self.now }
         ensures { result ≡ sheets.right_on sheet.now made.now tag }
     {
-        if made.tags().contains_key(tag.0) {
-            return Some(Right::ReadWrite);
+        let given = self.given(sheet, tag.0);
+        if given == Some(Right::ReadWrite) || !made.tags().contains_key(tag.0) {
+            return given;
         }
-        match latest(&self.rights, tag.0) {
+        Some(Right::ReadWrite)
+    }
+
+    /// What the sheet gives on a tag.
+    #[inline(always)]
+    fn given(&self, sheet: &Sheet, tag: u32) -> Option<Right>
+        requires { caches.IsCacheOf sheet.now self.now }
+        ensures { result ≡ caches.sheet_right sheet.now tag }
+    {
+        match self.latest(tag) {
             Some(right) => right,
-            None => self.peek_any(sheet, tag.0),
+            None => self.peek_any(sheet, tag),
         }
     }
 
@@ -102,6 +129,20 @@ impl GrantCache {
             Some(right) => *right,
             None => sheet_right(sheet, tag),
         }
+    }
+
+    /// What is cached for a tag, where it is the one that was looked up last.
+    #[inline(always)]
+    fn latest(&self, tag: u32) -> Option<Option<Right>>
+        ensures found { IfSome result (λ r. Some r ≡ lookup (nat_eq tag) self.now.entries) }
+        ensures first { IfSome result (λ r.
+            self.now.entries ≡ promoted (nat_eq tag) self.now.entries) }
+    {
+        let latest = self.latest?;
+        if latest.tag != tag {
+            return None;
+        }
+        Some(latest.right)
     }
 
     /// Counts a look-up of a tag, and makes the tag the most recently used. Where it is not cached, it is put into the
@@ -131,7 +172,7 @@ impl GrantCache {
             self.old self.new }
         ensures capacity { 1 ≤ self.old.capacity }
     {
-        if latest(&self.rights, tag).is_some() {
+        if self.latest(tag).is_some() {
             self.count.lookups += 1;
             self.count.hits += 1;
             return;
@@ -149,11 +190,15 @@ impl GrantCache {
         self.count.lookups += 1;
         if self.rights.promote(&tag) {
             self.count.hits += 1;
+            self.latest = first_of(&self.rights);
             return;
         }
         match self.rights.put(tag, sheet_right(sheet, tag)) {
-            Ok(_) => {}
-            Err(_) => self.count.refused += 1,
+            Ok(_) => self.latest = first_of(&self.rights),
+            Err(_) => {
+                self.count.refused += 1;
+                self.latest = first_of(&self.rights);
+            }
         }
     }
 
@@ -176,18 +221,15 @@ impl GrantCache {
     }
 }
 
-/// What is cached for a tag, where it is the one that was looked up last.
-#[inline(always)]
-fn latest(rights: &LruCache<u32, Option<Right>>, tag: u32) -> Option<Option<Right>>
-    ensures found { IfSome result (λ r. Some r ≡ lookup (nat_eq tag) rights.now.entries) }
-    ensures first { IfSome result (λ r.
-        rights.now.entries ≡ promoted (nat_eq tag) rights.now.entries) }
+/// Returns the first entry of a cache.
+fn first_of(rights: &LruCache<u32, Option<Right>>) -> Option<Latest>
+    ensures { IsLatestOf rights.now.entries result }
 {
-    let (latest, right) = rights.peek_mru()?;
-    if *latest != tag {
-        return None;
-    }
-    Some(*right)
+    let (tag, right) = rights.peek_mru()?;
+    Some(Latest {
+        tag: *tag,
+        right: *right,
+    })
 }
 
 /// The right that a sheet itself gives on a tag, if any.

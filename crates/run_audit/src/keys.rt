@@ -1,6 +1,8 @@
 //! The order of cells.
 
 ghost use Rattle.std.specs.Prelude.{◌≡◌, Some, []};
+ghost use Rattle.std.specs.Cmp.Lexicographic.{slice_cmp};
+ghost use Rattle.std.specs.Ordering.{nat_cmp};
 ghost use Rattle.wedge_events.specs.Journals.{cell_of};
 ghost use Rattle.thread_laws.specs.Replaying.{cell_in};
 ghost use Rattle.run_audit.specs.CellOrder.{IsKeyOf, keys_order};
@@ -98,13 +100,24 @@ pub(crate) fn kept_key<'a>(kept: &KeptEntry<'a>) -> CellKey<'a>
     }
 }
 
+/// Compares the makers of two gates. Most cells are no gates, and have none.
+#[inline]
+fn maker_order(a: &[u32], b: &[u32]) -> Ordering
+    ensures { result ≡ slice_cmp nat_cmp a.now b.now }
+{
+    if a.is_empty() && b.is_empty() {
+        return Ordering::Equal;
+    }
+    a.cmp(b)
+}
+
 /// Compares two keys.
 pub(crate) fn key_order(a: &CellKey<'_>, b: &CellKey<'_>) -> Ordering
     ensures { result ≡ keys_order a.now.kind a.now.maker.now a.now.number
         b.now.kind b.now.maker.now b.now.number }
 {
     match a.kind.cmp(&b.kind) {
-        Ordering::Equal => match a.maker.cmp(b.maker) {
+        Ordering::Equal => match maker_order(a.maker, b.maker) {
             Ordering::Equal => a.number.cmp(&b.number),
             order => order,
         },

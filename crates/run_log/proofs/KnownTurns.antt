@@ -7,10 +7,11 @@ use Rattle.wedge_base.specs.Images.{Image}
 use Rattle.wedge_base.specs.declared.image.FileEntry.{FileEntry}
 use Rattle.wedge_base.specs.Maps.{Map, at, with}
 use Rattle.wedge_base.specs.Names.{same}
-use Rattle.wedge_base.specs.declared.rights.StreamKind.{StreamKind}
 use Rattle.wedge_events.specs.Directories.{Directory, Claim, claim, claim_reply, claim_next, is_claimed}
 use Rattle.wedge_events.specs.declared.cells.DirectoryAsk.TheVariants as directory_ask
 use Rattle.wedge_events.specs.declared.cells.DirectoryReply.TheVariants as directory_reply
+use Rattle.wedge_events.specs.declared.cells.SlotAsk.TheVariants as slot_ask
+use Rattle.wedge_events.specs.declared.cells.SlotReply.TheVariants as slot_reply
 use Rattle.wedge_events.specs.declared.cells.StreamAsk.{StreamAsk}
 use Rattle.wedge_events.specs.declared.cells.StreamAsk.TheVariants as stream_ask
 use Rattle.wedge_events.specs.declared.cells.StreamReply.{StreamReply}
@@ -21,6 +22,7 @@ use Rattle.wedge_events.specs.declared.events.SlotWant.TheVariants as slot_want
 use Rattle.wedge_events.specs.declared.events.Want.{Want}
 use Rattle.wedge_events.specs.declared.events.Want.TheVariants as want
 use Rattle.machine.specs.Actors.{ActorState}
+use Rattle.machine.specs.Calls.{a0}
 use Rattle.machine.specs.Cells.{Cells}
 use Rattle.machine.specs.Local.{is_running, rest}
 use Rattle.machine.specs.Opening.{FileOpening}
@@ -59,10 +61,10 @@ OpensNoStream (event.Fd fd (stream_ask.Open k bytes) r) = ⊥
 OpensNoStream e = Unit {0}
 
 -- by its actor: nothing, a tag, or a file
-data Makes (i : Image) (b : ActorState) (m : Makings) (e : Event) (n : Makings) : Type 0 where
+pub data Makes (i : Image) (b : ActorState) (m : Makings) (e : Event) (n : Makings) : Type 0 where
   MakesNone : n ≡ m → tag_of_call b.phase ≡ None → OpensNoStream e → Makes i b m e n
-  MakesTag : (slot tag : ℕ) → b.phase ≡ phase.Opening slot tag → OpensNoStream e → n ≡ record m { tags = with m.tags tag (record { compartment = b.compartment; pc = b.hart.pc }) } → Makes i b m e n
-  MakesFile : (fd : ℕ) (path : List ℕ) (k : StreamKind) (bytes : List ℕ) → tag_of_call b.phase ≡ None → IsFileOf i path → e ≡ event.Fd fd (stream_ask.Open k bytes) stream_reply.Opened → n ≡ record m { files = with m.files fd path } → Makes i b m e n
+  MakesTag : (slot tag pages : ℕ) → b.phase ≡ phase.Opening slot tag → OpensNoStream e → e ≡ event.Slot slot (slot_ask.Open tag pages) slot_reply.Opened → n ≡ record m { tags = with m.tags tag (record { compartment = b.compartment; pc = b.hart.pc }) } → Makes i b m e n
+  MakesFile : (fd : ℕ) (o : FileOpening) → b.phase ≡ phase.OpeningFile o → IsFileOf i o.path → e ≡ event.Fd fd (stream_ask.Open o.kind o.bytes) stream_reply.Opened → n ≡ record m { files = with m.files fd o.path } → Makes i b m e n
 
 request_makes : (i : Image) (c : Cells) (b : ActorState) (m : Makings) (N : ℕ → Type 0) (q : Want) (labels : List StreamLabel) → IsRequest N b q → tag_of_call b.phase ≡ None → Makes i b m (event_for c b q) (makings_after m (doer_of b) labels (event_for c b q))
 request_makes i c b m N (want.Slots q) labels own none = MakesNone refl none tt
@@ -111,9 +113,9 @@ file_makes i b m o fd at_ file =
     let l : StreamLabel = record { number = fd; path = o.path } in
     let labels : x.labels ≡ b.labels ++ l ∷ [] = ap (λ (y : ActorState). y.labels) (opened_at i b o fd (stream_ask.Open o.kind o.bytes) at_) in
     let last : last_label x.labels ≡ Some l = ap last_label labels ∙ last_pushed b.labels l in
-    MakesFile fd o.path o.kind o.bytes (ap tag_of_call at_) file refl (ap (λ q. record m { files = with_label m.files fd q }) last)
+    MakesFile fd o at_ file refl (ap (λ q. record m { files = with_label m.files fd q }) last)
 
-event_makes : (w : WorldState) (b : ActorState) (e : Event) (m : Makings) → Happens w b e → Makes w.image b m e (makings_after m (doer_of b) (takes w.image b e).labels e)
+pub event_makes : (w : WorldState) (b : ActorState) (e : Event) (m : Makings) → Happens w b e → Makes w.image b m e (makings_after m (doer_of b) (takes w.image b e).labels e)
 event_makes w b e m h = by_case h
   where
     by_case : Happens w b e → Makes w.image b m e (makings_after m (doer_of b) (takes w.image b e).labels e)
@@ -122,7 +124,7 @@ event_makes w b e m h = by_case h
     by_case (Snaps s) = subst (λ y. Makes w.image b m y (makings_after m (doer_of b) (takes w.image b y).labels y)) (sym s.is) (MakesNone refl (ap tag_of_call s.at) tt)
     by_case (GateSnaps s) = subst (λ y. Makes w.image b m y (makings_after m (doer_of b) (takes w.image b y).labels y)) (sym s.is) (MakesNone refl (ap tag_of_call s.at) tt)
     by_case (Started s) = subst (λ y. Makes w.image b m y (makings_after m (doer_of b) (takes w.image b y).labels y)) (sym s.is) (MakesNone refl (ap tag_of_call s.at) tt)
-    by_case (OpensTag o) = subst (λ y. Makes w.image b m y (makings_after m (doer_of b) (takes w.image b y).labels y)) (sym o.is) (MakesTag o.slot o.tag o.at tt refl)
+    by_case (OpensTag o) = subst (λ y. Makes w.image b m y (makings_after m (doer_of b) (takes w.image b y).labels y)) (sym o.is) (MakesTag o.slot o.tag (a0 b) o.at tt refl refl)
     by_case (Releases r) = subst (λ y. Makes w.image b m y (makings_after m (doer_of b) (takes w.image b y).labels y)) (sym r.is) (MakesNone refl (ap tag_of_call r.at) tt)
     by_case (Numbers n) = subst (λ y. Makes w.image b m y (makings_after m (doer_of b) (takes w.image b y).labels y)) (sym n.is) (MakesNone refl (ap tag_of_call n.at) tt)
     by_case (OpensFile f) =
@@ -166,19 +168,19 @@ still_there {X = X} m k v n there = by_key (n == k) refl
 -- what is known stays known
 keeps_made : (i : Image) (b : ActorState) (m : Makings) (e : Event) (n : Makings) (tag : ℕ) → Makes i b m e n → IsMade m tag → IsMade n tag
 keeps_made i b m e n tag (MakesNone is none quiet) made = subst (λ x. IsMade x tag) (sym is) made
-keeps_made i b m e n tag (MakesTag slot t at_ quiet is) made = subst (λ x. IsMade x tag) (sym is) (still_there m.tags t (record { compartment = b.compartment; pc = b.hart.pc }) tag made)
-keeps_made i b m e n tag (MakesFile fd path k bytes none file is_event is) made = subst (λ x. IsMade x tag) (sym is) made
+keeps_made i b m e n tag (MakesTag slot t pages at_ quiet is_event is) made = subst (λ x. IsMade x tag) (sym is) (still_there m.tags t (record { compartment = b.compartment; pc = b.hart.pc }) tag made)
+keeps_made i b m e n tag (MakesFile fd o at_ file is_event is) made = subst (λ x. IsMade x tag) (sym is) made
 
 keeps_path : (i : Image) (b : ActorState) (m : Makings) (e : Event) (n : Makings) (fd : ℕ) → Makes i b m e n → HasPath m fd → HasPath n fd
 keeps_path i b m e n fd (MakesNone is none quiet) has_path = subst (λ x. HasPath x fd) (sym is) has_path
-keeps_path i b m e n fd (MakesTag slot t at_ quiet is) has_path = subst (λ x. HasPath x fd) (sym is) has_path
-keeps_path i b m e n fd (MakesFile f path k bytes none file is_event is) has_path = subst (λ x. HasPath x fd) (sym is) (still_there m.files f path fd has_path)
+keeps_path i b m e n fd (MakesTag slot t pages at_ quiet is_event is) has_path = subst (λ x. HasPath x fd) (sym is) has_path
+keeps_path i b m e n fd (MakesFile f o at_ file is_event is) has_path = subst (λ x. HasPath x fd) (sym is) (still_there m.files f o.path fd has_path)
 
 next_origins : (i : Image) (b : ActorState) (m : Makings) (e : Event) (n : Makings) → Makes i b m e n → Begins i b.compartment → ((t : ℕ) (o : Origin) → at m.tags t ≡ Some o → Begins i o.compartment)
     → (t : ℕ) (o : Origin) → at n.tags t ≡ Some o → Begins i o.compartment
 next_origins i b m e n (MakesNone is none quiet) own old t o there = old t o (subst (λ (x : Makings). at x.tags t ≡ Some o) is there)
-next_origins i b m e n (MakesFile fd path k bytes none file is_event is) own old t o there = old t o (subst (λ (x : Makings). at x.tags t ≡ Some o) is there)
-next_origins i b m e n (MakesTag slot tag at_ quiet is) own old t o there =
+next_origins i b m e n (MakesFile fd opening at_ file is_event is) own old t o there = old t o (subst (λ (x : Makings). at x.tags t ≡ Some o) is there)
+next_origins i b m e n (MakesTag slot tag pages at_ quiet is_event is) own old t o there =
     elim (same_or m.tags tag (record { compartment = b.compartment; pc = b.hart.pc }) t o (subst (λ (x : Makings). at x.tags t ≡ Some o) is there)) [
       | inl new ↦ subst (λ (x : Origin). Begins i x.compartment) (sym new) own
       | inr before ↦ old t o before
@@ -187,9 +189,9 @@ next_origins i b m e n (MakesTag slot tag at_ quiet is) own old t o there =
 next_paths : (i : Image) (b : ActorState) (m : Makings) (e : Event) (n : Makings) → Makes i b m e n → ((fd : ℕ) (path : List ℕ) → at m.files fd ≡ Some path → IsFileOf i path)
     → (fd : ℕ) (path : List ℕ) → at n.files fd ≡ Some path → IsFileOf i path
 next_paths i b m e n (MakesNone is none quiet) old fd path there = old fd path (subst (λ (x : Makings). at x.files fd ≡ Some path) is there)
-next_paths i b m e n (MakesTag slot tag at_ quiet is) old fd path there = old fd path (subst (λ (x : Makings). at x.files fd ≡ Some path) is there)
-next_paths i b m e n (MakesFile f p k bytes none file is_event is) old fd path there =
-    elim (same_or m.files f p fd path (subst (λ (x : Makings). at x.files fd ≡ Some path) is there)) [
+next_paths i b m e n (MakesTag slot tag pages at_ quiet is_event is) old fd path there = old fd path (subst (λ (x : Makings). at x.files fd ≡ Some path) is there)
+next_paths i b m e n (MakesFile f o at_ file is_event is) old fd path there =
+    elim (same_or m.files f o.path fd path (subst (λ (x : Makings). at x.files fd ≡ Some path) is there)) [
       | inl new ↦ subst (IsFileOf i) (sym new) file
       | inr before ↦ old fd path before
     ]
@@ -226,13 +228,13 @@ next_streams i b m e n fd old k makes known is = by_case makes
 
     by_case : Makes i b m e n → (fd < length i.fds) ⊎ HasPath n fd
     by_case (MakesNone same_makings none quiet) = (let h = had_stream fd old k e quiet is in keeps (known h.0 h.1))
-    by_case (MakesTag slot tag at_ quiet same_makings) = (let h = had_stream fd old k e quiet is in keeps (known h.0 h.1))
-    by_case (MakesFile f path kind bytes none file is_event same_makings) = by_fd (f == fd) refl (subst (λ y. mode_after_event fd old y ≡ Some k) is_event is)
+    by_case (MakesTag slot tag pages at_ quiet is_event same_makings) = (let h = had_stream fd old k e quiet is in keeps (known h.0 h.1))
+    by_case (MakesFile f o at_ file is_event same_makings) = by_fd (f == fd) refl (subst (λ y. mode_after_event fd old y ≡ Some k) is_event is)
       where
-        by_fd : (t : Bool) → (f == fd) ≡ t → (if t then Some (mode kind true) else old) ≡ Some k → (fd < length i.fds) ⊎ HasPath n fd
+        by_fd : (t : Bool) → (f == fd) ≡ t → (if t then Some (mode o.kind true) else old) ≡ Some k → (fd < length i.fds) ⊎ HasPath n fd
         by_fd true same_fd h =
-            let there : at (with m.files f path) fd ≡ Some path = ap (at (with m.files f path)) (sym (eqb-true f fd same_fd)) ∙ with_same m.files f path in
-            inr (subst (λ (x : Makings). HasPath x fd) (sym same_makings) (path, there))
+            let there : at (with m.files f o.path) fd ≡ Some o.path = ap (at (with m.files f o.path)) (sym (eqb-true f fd same_fd)) ∙ with_same m.files f o.path in
+            inr (subst (λ (x : Makings). HasPath x fd) (sym same_makings) (o.path, there))
         by_fd false apart h = keeps (known k h)
 
 -- ---- tags
@@ -318,8 +320,8 @@ called_at_rest i a tag called =
 -- it opens it, and so makes it
 called_makes : (i : Image) (b : ActorState) (m : Makings) (e : Event) (n : Makings) (tag : ℕ) → Makes i b m e n → tag_of_call b.phase ≡ Some tag → IsMade n tag
 called_makes i b m e n tag (MakesNone is none quiet) called = let f : None ≡ Some tag = sym none ∙ called in absurd cc
-called_makes i b m e n tag (MakesFile fd path k bytes none file is_event is) called = let f : None ≡ Some tag = sym none ∙ called in absurd cc
-called_makes i b m e n tag (MakesTag slot t at_ quiet is) called =
+called_makes i b m e n tag (MakesFile fd o at_ file is_event is) called = let f : None ≡ Some tag = sym (ap tag_of_call at_) ∙ called in absurd cc
+called_makes i b m e n tag (MakesTag slot t pages at_ quiet is_event is) called =
     let o : Origin = record { compartment = b.compartment; pc = b.hart.pc } in
     let both : Some t ≡ Some tag = sym (ap tag_of_call at_) ∙ called in
     let same_tag : t ≡ tag = cc in

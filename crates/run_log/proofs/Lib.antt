@@ -6,6 +6,8 @@ pub mod LoggedTurns
 pub mod Behind
 -- A schedule with its log, name by name.
 pub mod LoggedReplays
+-- The turns of the notes of a schedule, name by name.
+pub mod NoteTurns
 -- A turn that is taken back.
 pub mod TakenBack
 -- Chains of calls stay framed, call by call and instruction by instruction.
@@ -32,7 +34,15 @@ pub mod NamedLogs
 pub mod CopiesKept
 -- Each load and each store of a private copy is noted.
 pub mod NotedCopies
+-- A chain has the first 64 of the calls that have not returned.
+pub mod OpenCalls
+-- What a note names, by its number or by who made it.
+pub mod NotedItems
 -- An event has a note exactly where it succeeded.
 pub mod NotedEvents
 -- In every run a turn adds its own notes to the log.
 pub mod WithinNotes
+-- In every run what a log knows was made in that run.
+pub mod Makers
+-- The turns of notes are those in which the schedule's notes were made.
+pub mod TurnLaws

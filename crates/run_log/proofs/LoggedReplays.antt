@@ -19,6 +19,12 @@ drop_at [] n x lt is = absurd (omega (arith, lt))
 drop_at (y ∷ ys) zero x lt is = ap (λ z. z ∷ ys) (sym is)
 drop_at (y ∷ ys) (suc n) x lt is = drop_at ys n x (omega (arith, lt)) is
 
+-- the names that are left, from one that takes its turn on
+pub names_left : (names : List (List ℕ)) (n : ℕ) (name : List ℕ) → n < length names → name ≡ get_or names n name → drop n names ≡ name ∷ drop (n + 1) names
+names_left names n name lt is =
+    let one : suc n ≡ n + 1 = omega arith in
+    drop_at names n name lt is ∙ ap (λ k. name ∷ drop k names) one
+
 -- the log so far, and what the names that are left make of it
 pub record IsLogging (i : Image) (names : List (List ℕ)) (n : ℕ) (p : Progress) (l : Log) : Type 0 where
   pub logged : log_from p.state l (drop n names) ≡ log_of i names
@@ -31,16 +37,15 @@ pub logging_next : (i : Image) (names : List (List ℕ)) (n : ℕ) (name : List 
     → IsLogging i names n p l → TookLogged p l name q m → IsLogging i names (n + 1) q m
 unfolding log_from
 logging_next i names n name p q l m lt is was t =
-    let one : suc n ≡ n + 1 = omega arith in
     let rest = drop (n + 1) names in
-    let left : drop n names ≡ name ∷ rest = drop_at names n name lt is ∙ ap (λ k. name ∷ drop k names) one in
+    let left : drop n names ≡ name ∷ rest = names_left names n name lt is in
     let step : log_from p.state l (name ∷ rest) ≡ log_from q.state (log_turn p.state l name t.0) rest =
     ap (λ (o : Option Taken). elim o [ None ↦ l | Some u ↦ log_from u.world (log_turn p.state l name u.event) rest ]) t.1.turn in
     record {
       logged = ap (λ x. log_from q.state x rest) t.1.logged ∙ (sym step ∙ (ap (log_from p.state l) (sym left) ∙ was.logged));
     }
 
-drop_none : {X : Type 0} (xs : List X) (n : ℕ) → length xs ≤ n → drop n xs ≡ []
+pub drop_none : {X : Type 0} (xs : List X) (n : ℕ) → length xs ≤ n → drop n xs ≡ []
 drop_none [] zero le = refl
 drop_none [] (suc n) le = refl
 drop_none (x ∷ xs) zero le = absurd (omega arith)

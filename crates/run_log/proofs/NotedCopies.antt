@@ -1,22 +1,24 @@
 -- Each load and each store of a private copy is noted, of a tag of which the actor's sheet grants a copy.
 use Rattle.std.proofs.Common.{◌≡◌, inl, inr, ℕ, zero, suc, ◌+◌, ◌≤◌, Bool, true, false, List, [], ◌∷◌, ◌++◌, refl, sym, ap, subst, ◌∙◌, append_assoc, append-nil, arith}
 use Rattle.std.proofs.lemmas.Bool.{eqb-true}
-use Rattle.std.specs.Prelude.{Option, Some, None, is_some, max, not, option_map, ◌⊎◌, ◌&&◌, ◌||◌, ◌==◌, ◌%◌, if◌then◌else◌}
-use Rattle.cow_pages.specs.Copies.{copy_at, holds_copy}
+use Rattle.std.specs.Prelude.{Option, Some, None, is_some, max, not, option_map, option_and_then, slice_range, ◌⊎◌, ◌&&◌, ◌||◌, ◌==◌, ◌%◌, if◌then◌else◌}
+use Rattle.cow_pages.specs.Copies.{copy_at, holds_copy, read_copy}
 use Rattle.cow_pages.specs.PrivateMemory.{PrivateMemory}
-use Rattle.wedge_base.specs.Images.{Image, in_text, slot_of}
+use Rattle.wedge_base.specs.Images.{Image, fetch, in_text, slot_of}
 use Rattle.wedge_base.specs.Maps.{Map}
 use Rattle.wedge_base.specs.Memory.{range_at}
 use Rattle.wedge_base.specs.declared.address.Place.{Place}
 use Rattle.wedge_base.specs.declared.image.MemoryRange.{MemoryRange}
 use Rattle.wedge_base.specs.declared.rights.Grant.{Grant}
 use Rattle.rv_isa.specs.declared.Instr.{Instr}
+use Rattle.rv_isa.specs.Table.{decode}
 use Rattle.rv_hart.specs.declared.Need.{Need}
 use Rattle.rv_hart.specs.declared.Need.TheVariants as need
 use Rattle.rv_hart.specs.Local.{local}
 use Rattle.machine.specs.Actors.{ActorState}
 use Rattle.machine.specs.Local.{step, is_running}
 use Rattle.run_laws.specs.CopiesGranted.{grants_copy, AreOwnCopiesGranted}
+use Rattle.run_laws.specs.Remembering.{copied_bytes, Elsewhere, copy_target, target_among, target_of}
 use Rattle.trace_form.specs.declared.words.Kind.{Kind}
 use Rattle.trace_form.specs.declared.words.Kind.TheVariants as kind
 use Rattle.trace_form.specs.declared.words.Mode.TheVariants as mode
@@ -26,9 +28,10 @@ use Rattle.run_notes.specs.Notes.{Noted, note_by, with_note, copy_note, copy_in_
 use Rattle.run_notes.specs.declared.chain.CallChain.{CallChain}
 use Rattle.run_notes.specs.declared.items.Makings.{Makings}
 use Rattle.run_notes.specs.declared.note.Note.{Note}
-use Rattle.run_log.specs.NoteLaws.{CopyAccess, copy_access_of, copy_access_by, copy_access, grants_copy_of, IsCopyNote, BeginWith, AreCopyNotes}
+use Rattle.run_log.specs.NoteLaws.{CopyAccess, slot_of_target, copy_access_at, copy_access_of, copy_access_by, copy_access_with, copy_access, grants_copy_of, IsCopyNote, BeginWith, AreCopyNotes}
 use Rattle.run_log.proofs.CopiesKept.{step_granted}
 use Rattle.run_log.proofs.KnownItems.{max_is}
+use Rattle.run_log.proofs.NotedItems.{tag_item_is}
 
 -- ---- the greatest tag of which a copy in a slot is granted
 
@@ -129,13 +132,39 @@ reached_there i m address width slot e = by_aligned (not (address % width == 0))
     by_aligned true h = absurd cc
     by_aligned false h = by_text (in_text i address width) h
 
+-- it is the one to which a store there goes
+reached_is : (i : Image) (a : ActorState) (address width : ℕ) → copy_reached i a.memory address width ≡ slot_of_target (target_of i a address width)
+reached_is i a address width = by_tests (address % width == 0) (in_text i address width)
+  where
+    by_bytes : (p : Place) (o : Option (List ℕ)) → held_copy p width o ≡ slot_of_target (copy_target (Some p) (option_and_then (read_copy p.offset width) o))
+    by_bytes p None = refl
+    by_bytes p (Some bytes) = by_held (holds_copy p.offset width bytes)
+      where
+        by_held : (t : Bool) → (if t then Some p.slot else None) ≡ slot_of_target (copy_target (Some p) (if t then Some (slice_range bytes p.offset (p.offset + width)) else None))
+        by_held true = refl
+        by_held false = refl
+
+    by_place : (p : Option Place) → slot_of address ≡ p → copy_in_window a.memory width (slot_of address) ≡ slot_of_target (target_among a address width None)
+    by_place None e = subst (λ q. copy_in_window a.memory width q ≡ slot_of_target (copy_target q (copied_bytes a.memory.copies width q))) (sym e) refl
+    by_place (Some p) e = subst (λ q. copy_in_window a.memory width q ≡ slot_of_target (copy_target q (copied_bytes a.memory.copies width q))) (sym e) (by_bytes p (copy_at a.memory.copies p.slot))
+
+    by_range : (r : Option MemoryRange) → copy_past_range a.memory address width r ≡ slot_of_target (target_among a address width r)
+    by_range (Some r) = refl
+    by_range None = by_place (slot_of address) refl
+
+    by_tests : (t u : Bool) → (if not t then None else if u then None else copy_past_range a.memory address width (range_at a.memory.ranges address width))
+        ≡ slot_of_target (if t && not u then target_among a address width (range_at a.memory.ranges address width) else Elsewhere)
+    by_tests false u = refl
+    by_tests true true = refl
+    by_tests true false = by_range (range_at a.memory.ranges address width)
+
 -- whether an access is noted, and by what
 abbrev IsNotedAs : Image → Makings → ActorState → Option CopyAccess → Option Note → Type 0
 IsNotedAs i m a None o = o ≡ None
 IsNotedAs i m a (Some x) o = (n : Note) × (o ≡ Some n) × IsCopyNote i m a x n
 
 copy_noted : (i : Image) (m : Makings) (a : ActorState) (ch : CallChain) (k : Kind) (o : Option ℕ) → ((slot : ℕ) → o ≡ Some slot → grants_copy a.sheet.tags slot ≡ true)
-    → IsNotedAs i m a (option_map (λ slot. record { kind = k; slot = slot }) o) (copy_note i m a ch k o)
+    → IsNotedAs i m a (option_map (copy_access_at k) o) (copy_note i m a ch k o)
 copy_noted i m a ch k None granted = refl
 copy_noted i m a ch k (Some slot) granted = by_tag (greatest_copy slot None a.sheet.tags) refl (granted_some slot a.sheet.tags None (granted slot refl))
   where
@@ -145,11 +174,17 @@ copy_noted i m a ch k (Some slot) granted = by_tag (greatest_copy slot None a.sh
     by_tag (Some tag) e there =
         let g = greatest_is slot a.sheet.tags None tag e in
         let own : grants_copy_of a.sheet.tags slot tag ≡ true = elim g.is [ inl none ↦ absurd (let f : None ≡ Some tag = none in cc) | inr here ↦ here ] in
-        (note_by (doer_of a) ch k mode.Private (tag_item i m tag), refl, record { of = record { actor = refl; pc = refl; compartment = refl; kind = refl; mode = refl }; tag = tag; granted = own; greatest = g.others; item = refl })
+        (note_by (doer_of a) ch k mode.Private (tag_item i m tag), refl, record { of = record { actor = refl; pc = refl; compartment = refl; kind = refl; mode = refl }; tag = tag; granted = own; greatest = g.others; item = tag_item_is i m tag })
+
+reached_noted : (i : Image) (m : Makings) (a : ActorState) (ch : CallChain) (k : Kind) (address width : ℕ) → AreOwnCopiesGranted a
+    → IsNotedAs i m a (option_map (copy_access_at k) (slot_of_target (target_of i a address width))) (copy_note i m a ch k (copy_reached i a.memory address width))
+reached_noted i m a ch k address width own =
+    let reached = copy_reached i a.memory address width in
+    subst (λ o. IsNotedAs i m a (option_map (copy_access_at k) o) (copy_note i m a ch k reached)) (reached_is i a address width) (copy_noted i m a ch k reached (λ slot is. own slot (reached_there i a.memory address width slot is)))
 
 need_noted : (i : Image) (m : Makings) (a : ActorState) (ch : CallChain) (n : Need) → AreOwnCopiesGranted a → IsNotedAs i m a (copy_access_of i a n) (note_of_need i m a ch n)
-need_noted i m a ch (need.Load address width s) own = copy_noted i m a ch kind.Load (copy_reached i a.memory address width) (λ slot is. own slot (reached_there i a.memory address width slot is))
-need_noted i m a ch (need.Store address width value) own = copy_noted i m a ch kind.Store (copy_reached i a.memory address width) (λ slot is. own slot (reached_there i a.memory address width slot is))
+need_noted i m a ch (need.Load address width s) own = reached_noted i m a ch kind.Load address width own
+need_noted i m a ch (need.Store address width value) own = reached_noted i m a ch kind.Store address width own
 need_noted i m a ch need.Done own = refl
 need_noted i m a ch need.Call own = refl
 need_noted i m a ch need.Break own = refl
@@ -163,15 +198,30 @@ record StepNotes (i : Image) (m : Makings) (a : ActorState) (l : Noted) : Type 0
   notes : (noted_step i m a l).notes ≡ with_note l.notes note
   is : IsNotedAs i m a (copy_access i a) note
 
+-- the access is that of the instruction for which there is fuel
+access_is : (i : Image) (a : ActorState) → copy_access_by i a (instr_at i a) ≡ copy_access i a
+access_is i a = by_fuel a.fuel
+  where
+    is_some_fuel : (n : ℕ) → (suc n == 0) ≡ false
+    is_some_fuel n = grind arith
+
+    by_fuel : (n : ℕ) → copy_access_by i a (if n == 0 then None else option_and_then decode (fetch i a.hart.pc)) ≡ copy_access_with i a n
+    by_fuel zero = refl
+    by_fuel (suc n) = ap (λ t. copy_access_by i a (if t then None else option_and_then decode (fetch i a.hart.pc))) (is_some_fuel n)
+
 step_notes : (i : Image) (m : Makings) (a : ActorState) (l : Noted) → AreOwnCopiesGranted a → StepNotes i m a l
 step_notes i m a l own = by_instr (instr_at i a) refl
   where
     by_instr : (o : Option Instr) → instr_at i a ≡ o → StepNotes i m a l
-    by_instr None e = record { note = None; notes = ap (λ q. (noted_instr i m a l q).notes) e; is = subst (λ q. IsNotedAs i m a (copy_access_by i a q) None) (sym e) refl }
+    by_instr None e = record {
+      note = None;
+      notes = ap (λ q. (noted_instr i m a l q).notes) e;
+      is = subst (λ x. IsNotedAs i m a x None) (ap (copy_access_by i a) (sym e) ∙ access_is i a) refl;
+    }
     by_instr (Some ins) e = record {
       note = note_of_need i m a l.chain (local ins a.hart).need;
       notes = ap (λ q. (noted_instr i m a l q).notes) e;
-      is = subst (λ q. IsNotedAs i m a (copy_access_by i a q) (note_of_need i m a l.chain (local ins a.hart).need)) (sym e) (need_noted i m a l.chain (local ins a.hart).need own);
+      is = subst (λ x. IsNotedAs i m a x (note_of_need i m a l.chain (local ins a.hart).need)) (ap (copy_access_by i a) (sym e) ∙ access_is i a) (need_noted i m a l.chain (local ins a.hart).need own);
     }
 
 -- the notes of instructions

@@ -39,6 +39,7 @@ use Rattle.run_notes.specs.Notes.{entry_note, event_note}
 use Rattle.run_notes.specs.declared.chain.CallChain.{CallChain}
 use Rattle.run_notes.specs.declared.items.Makings.{Makings}
 use Rattle.run_log.specs.NoteLaws.{IsEventNote}
+use Rattle.run_log.proofs.NotedItems.{tag_item_is, fd_item_is}
 
 module _ (i : Image) (c : Cells) (m : Makings) (b : ActorState) (ch : CallChain) where
   -- the note of an event
@@ -58,7 +59,7 @@ module _ (i : Image) (c : Cells) (m : Makings) (b : ActorState) (ch : CallChain)
       by_tests value true false e = record { exactly = refl; within = tt }
       by_tests value true true e = record {
         exactly = refl;
-        within = (record { actor = refl; pc = refl; compartment = refl; kind = refl; mode = refl }, record { tag = g.tag; lives = ap (option_map (λ (x : Segment). x.tag)) there; permitted = e; item = refl });
+        within = (record { actor = refl; pc = refl; compartment = refl; kind = refl; mode = refl }, record { tag = g.tag; lives = ap (option_map (λ (x : Segment). x.tag)) there; permitted = e; item = tag_item_is i m g.tag });
       }
 
   store_noted : (slot offset width value : ℕ) (o : Option Segment) → slot_in c slot ≡ o
@@ -72,7 +73,7 @@ module _ (i : Image) (c : Cells) (m : Makings) (b : ActorState) (ch : CallChain)
       by_tests true false e = record { exactly = refl; within = tt }
       by_tests true true e = record {
         exactly = refl;
-        within = (record { actor = refl; pc = refl; compartment = refl; kind = refl; mode = refl }, record { tag = g.tag; lives = ap (option_map (λ (x : Segment). x.tag)) there; permitted = e; item = refl });
+        within = (record { actor = refl; pc = refl; compartment = refl; kind = refl; mode = refl }, record { tag = g.tag; lives = ap (option_map (λ (x : Segment). x.tag)) there; permitted = e; item = tag_item_is i m g.tag });
       }
 
   -- ---- reads and appends
@@ -87,7 +88,7 @@ module _ (i : Image) (c : Cells) (m : Makings) (b : ActorState) (ch : CallChain)
       by_tests true true e stream_kind.Append = record { exactly = refl; within = tt }
       by_tests true true e stream_kind.Source = record {
         exactly = refl;
-        within = (record { actor = refl; pc = refl; compartment = refl; kind = refl; mode = refl }, refl, sym (ap (λ (y : FdBits). y.read) own) ∙ e);
+        within = (record { actor = refl; pc = refl; compartment = refl; kind = refl; mode = refl }, fd_item_is i m fd, sym (ap (λ (y : FdBits). y.read) own) ∙ e);
       }
 
   append_noted : (fd : ℕ) (bits : FdBits) (bytes : List ℕ) (s : Option Stream) → bits ≡ bits_of b fd → Noted (event.Fd fd (stream_ask.Append bits bytes) (stream_reply_of s (stream_ask.Append bits bytes)))
@@ -100,7 +101,7 @@ module _ (i : Image) (c : Cells) (m : Makings) (b : ActorState) (ch : CallChain)
       by_tests true true e stream_kind.Source = record { exactly = refl; within = tt }
       by_tests true true e stream_kind.Append = record {
         exactly = refl;
-        within = (record { actor = refl; pc = refl; compartment = refl; kind = refl; mode = refl }, refl, sym (ap (λ (y : FdBits). y.append) own) ∙ e);
+        within = (record { actor = refl; pc = refl; compartment = refl; kind = refl; mode = refl }, fd_item_is i m fd, sym (ap (λ (y : FdBits). y.append) own) ∙ e);
       }
 
   stream_noted : (fd : ℕ) (q : StreamAsk) → IsStreamRequest b fd q → Noted (event.Fd fd q (stream_reply_of (stream_in c fd) q))

@@ -22,7 +22,7 @@ use Rattle.run_log.proofs.NotedEvents.{event_noted}
 use Rattle.world_turns.specs.Progress.{IsTurn}
 
 turn_notes : (w : WorldState) (l : Log) (name : List ℕ) (e : Event) (new : WorldState) → AllReady w → length l.chains ≡ length w.actors → (t : Turned w name e new) → AreOwnCopiesGranted t.actor
-    → AreTurnNotes w l.makings name e l.notes (log_turn w l name e).notes
+    → AreTurnNotes w l.makings (record { actor = name; event = e }) l.notes (log_turn w l name e).notes
 turn_notes w l name e new all aligned t granted =
     let i = w.image in
     let a = t.actor in
@@ -47,7 +47,7 @@ turn_notes w l name e new all aligned t granted =
 
 -- ---- the log of a run, turn by turn
 
-first_logged : (w mid : WorldState) (l : Log) (name : List ℕ) (e : Event) (names : List (List ℕ)) → turn_of w name ≡ Some (record { event = e; world = mid }) → log_from w l (name ∷ names) ≡ log_from mid (log_turn w l name e) names
+pub first_logged : (w mid : WorldState) (l : Log) (name : List ℕ) (e : Event) (names : List (List ℕ)) → turn_of w name ≡ Some (record { event = e; world = mid }) → log_from w l (name ∷ names) ≡ log_from mid (log_turn w l name e) names
 unfolding log_from
 first_logged w mid l name e names turn = ap (λ (o : Option Taken). elim o [ None ↦ l | Some t ↦ log_from t.world (log_turn w l name t.event) names ]) turn
 
@@ -63,7 +63,7 @@ last_logged old l (t ∷ ts) w new name e run turn =
     ∙ ap (λ x. log_turn w x name e) (sym (first_logged old run.0 l t.actor t.event later run.1)))
 
 -- each actor has a chain
-turn_aligned : (w : WorldState) (l : Log) (name : List ℕ) (e : Event) (new : WorldState) → IsTurn w name e new → length l.chains ≡ length w.actors → length (log_turn w l name e).chains ≡ length new.actors
+pub turn_aligned : (w : WorldState) (l : Log) (name : List ℕ) (e : Event) (new : WorldState) → IsTurn w name e new → length l.chains ≡ length w.actors → length (log_turn w l name e).chains ≡ length new.actors
 turn_aligned w l name e new turn aligned = (let p = logs_turn w l name e new (turn_from w name e new turn) aligned in ap (λ (x : Log). length x.chains) p.is ∙ p.aligned)
 
 run_aligned : (old : WorldState) (l : Log) (turns : List Turn) (w : WorldState) → Runs old turns w → length l.chains ≡ length old.actors → length (log_from old l (map (λ t. t.actor) turns)).chains ≡ length w.actors
@@ -82,4 +82,4 @@ notes_within i turns w new t run turn =
     let aligned = run_aligned old (opening_log i) turns w run refl in
     let granted : AreOwnCopiesGranted p.actor = (copies_granted i turns w run t.actor p.actor p.named).own in
     let whole = ap (log_from old (opening_log i)) (map-append (λ (u : Turn). u.actor) turns (t ∷ [])) ∙ last_logged old (opening_log i) turns w new t.actor t.event run turn in
-    subst (λ (x : Log). AreTurnNotes w l.makings t.actor t.event l.notes x.notes) (sym whole) (turn_notes w l t.actor t.event new (run_ready i turns w run) aligned p granted)
+    subst (λ (x : Log). AreTurnNotes w l.makings t l.notes x.notes) (sym whole) (turn_notes w l t.actor t.event new (run_ready i turns w run) aligned p granted)

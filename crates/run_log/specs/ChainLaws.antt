@@ -3,7 +3,6 @@ use Rattle.std.specs.Prelude.{◌≡◌, ℕ, ◌<◌, true, List, [], ◌∷◌
 use Rattle.std.specs.List.{AllByRecursion}
 use Rattle.wedge_base.specs.Images.{Image, in_text}
 use Rattle.image_form.specs.Address.{proc_of}
-use Rattle.run_notes.specs.Chains.{most_frames}
 use Rattle.run_notes.specs.declared.note.Note.{Note}
 use Rattle.run_log.specs.Logging.{log_of}
 
@@ -14,7 +13,7 @@ IsProcedureIn i f = (target : ℕ) × (in_text i target 1 ≡ true) × (f ≡ pr
 -- the first frame is the compartment, and at most 63 procedures that were called follow
 abbrev pub IsFramed : Image → ℕ → List ℕ → Type 0
 IsFramed i compartment [] = ⊥
-IsFramed i compartment (f ∷ fs) = (f ≡ compartment) × (length fs < most_frames) × AllByRecursion (IsProcedureIn i) fs
+IsFramed i compartment (f ∷ fs) = (f ≡ compartment) × (length fs < 64) × AllByRecursion (IsProcedureIn i) fs
 
 abbrev pub IsNoteFramed : Image → Note → Type 0
 IsNoteFramed i n = IsFramed i n.compartment n.chain

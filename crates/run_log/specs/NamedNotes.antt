@@ -45,7 +45,8 @@ IsItemNamed i kind.Read it = IsStreamNamed i it
 IsItemNamed i kind.Append it = IsStreamNamed i it
 IsItemNamed i kind.Call it = IsGateNamed i it
 
--- the compartment is a procedure, a private access is a load or a store, and the item is of its kind
+-- the compartment is a procedure, a private access is a load or a store, and the item is of its
+-- kind
 pub record IsNamed (i : Image) (n : Note) : Type 0 where
   pub compartment : Begins i n.compartment
   pub mode : mode_fits n.kind n.mode ≡ true
@@ -53,4 +54,5 @@ pub record IsNamed (i : Image) (n : Note) : Type 0 where
 
 -- so it is of each note of a schedule over a valid image
 abbrev pub NotesAreNamed : Type 0
-NotesAreNamed = (i : Image) (names : List (List ℕ)) → IsImage i → AllByRecursion (IsNamed i) (log_of i names).notes
+NotesAreNamed = (i : Image) (names : List (List ℕ))
+    → IsImage i → AllByRecursion (IsNamed i) (log_of i names).notes

@@ -1,5 +1,5 @@
 -- What is noted: each access that succeeded, of an instruction and of an event.
-use Rattle.std.specs.Prelude.{ℕ, zero, suc, ◌+◌, ◌%◌, ◌==◌, true, false, not, List, [], ◌∷◌, ◌++◌, Option, Some, None, option_map, option_and_then, if◌then◌else◌}
+use Rattle.std.specs.Prelude.{ℕ, zero, suc, ◌+◌, ◌%◌, ◌==◌, Bool, true, false, not, List, [], ◌∷◌, ◌++◌, Option, Some, None, option_map, option_and_then, if◌then◌else◌}
 use Rattle.cow_pages.specs.Copies.{copy_at, holds_copy}
 use Rattle.wedge_base.specs.Images.{Image, fetch, in_text, slot_of}
 use Rattle.wedge_base.specs.Memory.{range_at}
@@ -85,6 +85,12 @@ abbrev pub note_of_need : Image → Makings → ActorState → CallChain → Nee
 note_of_need i m a c (need.Load address width is_signed) = copy_note i m a c kind.Load (copy_reached i a.memory address width)
 note_of_need i m a c (need.Store address width value) = copy_note i m a c kind.Store (copy_reached i a.memory address width)
 note_of_need i m a c n = None
+
+-- whether a need is an access of memory
+abbrev pub is_access_need : Need → Bool
+is_access_need (need.Load address width is_signed) = true
+is_access_need (need.Store address width value) = true
+is_access_need n = false
 
 -- the instruction that an actor is about to make: there is one at its pc, and it has fuel for it
 abbrev pub instr_at : Image → ActorState → Option Instr

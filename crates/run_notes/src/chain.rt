@@ -59,29 +59,23 @@ impl Frames {
         })
     }
 
-    /// These frames and one more.
-    fn with(&self, procedure: u32) -> Result<Frames, NoMemory>
-        ensures { IfOk result (λ f. f ≡ self.now ++ procedure ∷ []) }
+    /// Adds a frame. The list is copied where others hold it.
+    fn push(&mut self, procedure: u32) -> Result<(), NoMemory>
+        ensures { OnOk result (self.new ≡ self.old ++ procedure ∷ []) }
     {
-        let alloc = *self.list.allocator();
-        let mut list = Vec::from_slice(alloc, self.list.as_slice())?;
+        let list = Arc::make_mut(&mut self.list)?;
         list.push(procedure)?;
-        Ok(Frames {
-            list: Arc::new(alloc, list)?,
-        })
+        Ok(())
     }
 
-    /// These frames but the last.
-    fn without_last(&self) -> Result<Frames, NoMemory>
-        requires { 0 < length self.now }
-        ensures { IfOk result (λ f. f ≡ take (length self.now - 1) self.now) }
+    /// Takes the last frame off. The list is copied where others hold it.
+    fn pop(&mut self) -> Result<(), NoMemory>
+        requires { 0 < length self.old }
+        ensures { OnOk result (self.new ≡ take (length self.old - 1) self.old) }
     {
-        let alloc = *self.list.allocator();
-        let frames = self.as_slice();
-        let list = Vec::from_slice(alloc, &frames[..frames.len() - 1])?;
-        Ok(Frames {
-            list: Arc::new(alloc, list)?,
-        })
+        let list = Arc::make_mut(&mut self.list)?;
+        list.pop();
+        Ok(())
     }
 }
 
@@ -108,7 +102,7 @@ impl CallChain {
         ensures { OnOk result (self.new ≡ chains.with_call self.old procedure) }
     {
         if self.frames.as_slice().len() < MOST_FRAMES {
-            self.frames = self.frames.with(procedure)?;
+            self.frames.push(procedure)?;
         } else {
             self.beyond = self.beyond.checked_add(1).ok_or(NoMemory)?;
         }
@@ -122,7 +116,7 @@ impl CallChain {
         if self.beyond > 0 {
             self.beyond -= 1;
         } else if self.frames.as_slice().len() > 1 {
-            self.frames = self.frames.without_last()?;
+            self.frames.pop()?;
         }
         Ok(())
     }
@@ -151,14 +145,14 @@ impl CallChain {
 }
 
 /// Whether an instruction is a call: JAL or JALR with rd = ra.
-fn is_call(instr: &Instr) -> bool
+pub(crate) fn is_call(instr: &Instr) -> bool
     ensures { result ≡ chains.is_call instr.now }
 {
     matches!(instr.op, Op::Jal | Op::Jalr) && instr.rd == RA
 }
 
 /// Whether an instruction is a return: JALR with rd = x0, rs1 = ra and no offset.
-fn is_return(instr: &Instr) -> bool
+pub(crate) fn is_return(instr: &Instr) -> bool
     ensures { result ≡ chains.is_return instr.now }
 {
     matches!(instr.op, Op::Jalr) && instr.rd == 0 && instr.rs1 == RA && instr.imm == 0

@@ -10,17 +10,23 @@ ghost use Rattle.machine.specs.Local as local;
 ghost use Rattle.run_notes.specs.Notes as notes;
 ghost use Rattle.run_notes.specs.Procedures.{AreProceduresOf};
 
-use crate::chain::CallChain;
+use crate::chain::{CallChain, is_call, is_return};
 use crate::context::Context;
 use crate::note::Note;
 use actor_step::step;
 use cow_pages::PrivateView;
 use machine::{Actor, Phase};
 use ready_text::Program;
-use rv_hart::Need;
-use rv_isa::Instr;
+use rv_hart::{Hart, Need};
+use rv_isa::{Instr, Op};
 use trace_form::{Kind, Mode};
 use wedge_base::{NoMemory, Place, Slot, WINDOWS_BASE, slot_of};
+
+/// The place of the instructions of runs that are logged.
+struct Logged;
+
+/// The place where an instruction is looked at before it is made.
+struct Looked;
 
 /// Brings an actor to rest, as `local` of `sthread_life` does, and notes its accesses to private copies of tags. An actor
 /// that runs out of memory has stopped.
@@ -65,7 +71,7 @@ fn run_noted(
 {
     while is_running(actor) {
         note_step(context, actor, memory, chain, list)?;
-        step(actor, context.program, memory)?;
+        step::<Logged>(actor, context.program, memory)?;
     }
     Ok(())
 }
@@ -115,8 +121,11 @@ fn note_instr(
         (whole actor.now memory.now) (record { chain = chain.old; notes = list.old.items })
         instr.now (hart.local instr.now actor.now.hart)) }
 {
+    if !is_call(instr) && !is_return(instr) && !is_access(&actor.hart, instr) {
+        return Ok(());
+    }
     let mut hart = actor.hart;
-    match hart.begin(instr) {
+    match hart.begin::<Looked>(instr) {
         Need::Done => chain.follow(context.program.image(), context.procedures, instr, hart.pc),
         Need::Load { address, width, .. } => {
             let slot = copy_reached(context.program, memory, address, width);
@@ -127,6 +136,17 @@ fn note_instr(
             note_copy(context, actor, chain, list, Kind::Store, slot)
         }
         Need::Call | Need::Break | Need::JumpMisaligned => Ok(()),
+    }
+}
+
+/// Whether an instruction accesses memory.
+#[tactic(auto, unfolding(rv_hart::specs::Local::local))]
+fn is_access(before: &Hart, instr: &Instr) -> bool
+    ensures { result ≡ notes.is_access_need (hart.local instr.now before.now).need }
+{
+    match instr.op {
+        Op::Lb | Op::Lh | Op::Lw | Op::Lbu | Op::Lhu | Op::Sb | Op::Sh | Op::Sw => true,
+        _ => false,
     }
 }
 

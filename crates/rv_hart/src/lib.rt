@@ -178,9 +178,12 @@ impl Hart {
     /// Begins the step of an instruction, by chapters 2 and 7 of the manual, and completes it where
     /// nothing is needed for it. Where something is needed, nothing is changed, and `finish`
     /// completes the step.
+    ///
+    /// `Site` is a type of its own for each place that calls this: so each has its own copy, and the compiler inlines a
+    /// large function that is called once.
     #[inline]
     #[tactic(auto, unfolding(crate::specs::Local::local))]
-    pub fn begin(&mut self, instr: &Instr) -> Need
+    pub fn begin<Site>(&mut self, instr: &Instr) -> Need
         requires { HasRegisters instr.now }
         ensures step { record { hart = self.new; need = result } ≡ local instr.now self.old }
         ensures kept { result ≢ Need.Done → self.new ≡ self.old }

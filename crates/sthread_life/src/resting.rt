@@ -8,6 +8,7 @@ ghost use Rattle.cow_pages.specs.PrivateMemory.{no_memory};
 ghost use Rattle.machine.specs.Local.{end_reached, run_awaited};
 ghost use Rattle.machine.specs.Take.{current_want};
 ghost use Rattle.machine.specs.Resting.{want_in, end_in, run_in, NextFits};
+ghost use Rattle.sthread_life.specs.Within.{FitsWithin};
 
 use crate::entering::entering_want;
 use crate::starting::{ending_want, starting_want};
@@ -69,8 +70,60 @@ fn come_to_rest(
         → OnOk result (whole actor.new memory.new ≡ whole actor.old memory.old) }
 {
     run(actor, program, memory)?;
-    next(actor, memory)
+    next_of(actor, memory)
 }
+
+/// Makes the actor's local events up to its next shared event. An actor that runs out of memory has stopped: from then on
+/// `rest`, `next` and `take` answer `NoMemory`.
+#[inline(always)]
+pub fn rest(
+    actor: &mut Actor,
+    program: &Program<'_>,
+    memory: &mut PrivateView,
+) -> Result<(), NoMemory>
+    ensures rests { OnOk result (whole actor.new memory.new
+        ≡ local.rest program.now (whole actor.old memory.old)) }
+    ensures still { OnOk result (local.is_running actor.new.phase ≡ false) }
+    ensures going { OnOk result ((actor.old.stopped ≡ false) × (actor.new.stopped ≡ false)) }
+    ensures stops { OnErr result (actor.new.stopped ≡ true) }
+{
+    if actor.stopped {
+        return Err(NoMemory);
+    }
+    let rested = run(actor, program, memory);
+    actor.stopped = rested.is_err();
+    rested
+}
+
+/// Returns what an actor at rest wants, its end, or the run of a gate for which it waits. An actor that runs out of memory
+/// has stopped.
+#[inline(always)]
+pub fn next(actor: &mut Actor, memory: &PrivateView) -> Result<Next, NoMemory>
+    requires still { local.is_running actor.old.phase ≡ false }
+    requires going { actor.old.stopped ≡ false }
+    ensures same { OnOk result (actor.new ≡ actor.old) }
+    ensures going { OnOk result (actor.new.stopped ≡ false) }
+    ensures next { IfOk result (λ n. want_in n ≡ current_want (whole actor.old memory.now)) }
+    ensures ended { IfOk result (λ n. end_in n ≡ end_reached actor.old.phase) }
+    ensures waits { IfOk result (λ n. run_in n ≡ run_awaited actor.old.phase) }
+    ensures fits { IfOk result (NextFits (whole actor.old no_memory)) }
+    ensures stops { OnErr result (actor.new.stopped ≡ true) }
+{
+    let next = next_of(actor, memory);
+    actor.stopped = next.is_err();
+    next
+}
+
+/// For proofs alone: an actor at a shared event wants what it may want.
+pub fn wants_fit(actor: &Actor)
+    ensures { FitsWithin (whole actor.now no_memory) actor.now.phase }
+{
+    // The phase is read here, so that what the actor's type keeps is at hand.
+    let _ = matches!(actor.phase, Phase::Within(_));
+}
+
+/// The place of the instructions of runs that are not logged.
+struct Unlogged;
 
 /// Runs instructions until it no longer runs: each takes a unit of fuel.
 #[inline(never)]
@@ -80,14 +133,14 @@ fn run(actor: &mut Actor, program: &Program<'_>, memory: &mut PrivateView) -> Re
     ensures stops { OnOk result (local.is_running actor.new.phase ≡ false) }
 {
     while is_running(actor) {
-        step(actor, program, memory)?;
+        step::<Unlogged>(actor, program, memory)?;
     }
     Ok(())
 }
 
 /// Returns the actor's next want, its end, or the run it waits for.
 #[inline(always)]
-fn next(actor: &Actor, memory: &PrivateView) -> Result<Next, NoMemory>
+fn next_of(actor: &Actor, memory: &PrivateView) -> Result<Next, NoMemory>
     requires { local.is_running actor.now.phase ≡ false }
     ensures wants { IfOk result (λ n. want_in n ≡ current_want (whole actor.now memory.now)) }
     ensures ended { IfOk result (λ n. end_in n ≡ end_reached actor.now.phase) }

@@ -12,4 +12,6 @@ mod report_text_tests;
 #[cfg(test)]
 mod rv_asm_tests;
 #[cfg(test)]
+mod sheet_enforce_tests;
+#[cfg(test)]
 mod trace_form_tests;

@@ -23,7 +23,7 @@ use wedge_events::{
 };
 
 /// A run of an image that declares nothing.
-struct Bare;
+pub(crate) struct Bare;
 
 impl RunOf for Bare {
     ghost use Rattle.std.specs.Prelude.{[]};
@@ -72,7 +72,7 @@ type LivesEntry = Entry<LivesAsk, LivesReply>;
 type DirectoryEntry = Entry<DirectoryAsk, DirectoryReply>;
 
 /// An entry of a slot.
-type SlotEntry = Entry<SlotAsk, SlotReply>;
+pub(crate) type SlotEntry = Entry<SlotAsk, SlotReply>;
 
 /// An entry of a stream.
 type StreamEntry = Entry<StreamAsk, StreamReply>;
@@ -81,7 +81,7 @@ type StreamEntry = Entry<StreamAsk, StreamReply>;
 type GateEntry = Entry<GateAsk, GateReply>;
 
 /// Returns the entry of an actor with this stamp, ask and reply.
-fn entry_of<Q: Drop, R: Drop>(
+pub(crate) fn entry_of<Q: Drop, R: Drop>(
     actor: &ActorName,
     stamp: u64,
     ask: Q,
@@ -100,12 +100,12 @@ fn entry_of<Q: Drop, R: Drop>(
 }
 
 /// Returns whether two entries are equal.
-fn is_same<Q: PartialEq, R: PartialEq>(a: &Entry<Q, R>, b: &Entry<Q, R>) -> bool {
+pub(crate) fn is_same<Q: PartialEq, R: PartialEq>(a: &Entry<Q, R>, b: &Entry<Q, R>) -> bool {
     a.stamp == b.stamp && a.actor == b.actor && a.ask == b.ask && a.reply == b.reply
 }
 
 /// Returns whether a history has these entries, and no other.
-fn has_entries<Q: PartialEq, R: PartialEq>(
+pub(crate) fn has_entries<Q: PartialEq, R: PartialEq>(
     history: &[Entry<Q, R>],
     wanted: &[Entry<Q, R>],
 ) -> bool {

@@ -3,3 +3,5 @@
 
 #[cfg(test)]
 mod journal_cell_tests;
+#[cfg(test)]
+mod ruled_cell_tests;

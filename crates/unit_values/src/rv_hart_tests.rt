@@ -27,7 +27,7 @@ fn instr(op: Op, rd: u8, rs1: u8, rs2: u8, imm: i32) -> Instr
 fn step(hart: &mut Hart, instr: Instr, reply: Reply) -> Need
     requires { HasRegisters instr }
 {
-    let need = hart.begin(&instr);
+    let need = hart.begin::<()>(&instr);
     match (need, reply) {
         (Need::Load { .. }, Reply::Loaded(_)) => hart.finish(instr, reply),
         (Need::Store { .. }, Reply::Stored) => hart.finish(instr, reply),
@@ -42,7 +42,7 @@ fn of_two(op: Op, a: u32, b: u32) -> u32 {
     let mut hart = Hart::new(0x1000);
     hart.put(5, a);
     hart.put(6, b);
-    let _need = hart.begin(&instr(op, 7, 5, 6, 0));
+    let _need = hart.begin::<()>(&instr(op, 7, 5, 6, 0));
     hart.reg(7)
 }
 
@@ -94,7 +94,7 @@ fn after_immediate(rt: &impl Abort, op: Op, a: u32, imm: i32) -> Hart {
     let mut hart = Hart::new(0x1000);
     hart.put(5, a);
     hart.put(7, 9);
-    assert!(rt; hart.begin(&instr(op, 7, 5, 0, imm)) == Need::Done && hart.pc == 0x1004);
+    assert!(rt; hart.begin::<()>(&instr(op, 7, 5, 0, imm)) == Need::Done && hart.pc == 0x1004);
     hart
 }
 
@@ -130,7 +130,7 @@ fn after_branch(rt: &impl Abort, op: Op, a: u32, b: u32) -> u32 {
     let mut hart = Hart::new(0x1000);
     hart.put(5, a);
     hart.put(6, b);
-    assert!(rt; hart.begin(&instr(op, 0, 5, 6, -8)) == Need::Done);
+    assert!(rt; hart.begin::<()>(&instr(op, 0, 5, 6, -8)) == Need::Done);
     hart.pc
 }
 
@@ -164,12 +164,12 @@ fn branches_by_their_condition(rt: HostRuntime) {
 #[test]
 fn jumps_and_their_links(rt: HostRuntime) {
     let mut hart = Hart::new(0x1000);
-    assert!(rt; hart.begin(&instr(Op::Jal, 1, 0, 0, -0x1004)) == Need::Done);
+    assert!(rt; hart.begin::<()>(&instr(Op::Jal, 1, 0, 0, -0x1004)) == Need::Done);
     assert!(rt; hart.pc == 0xffff_fffc && hart.reg(1) == 0x1004);
 
     // Bit 0 of the target is cleared, and the target is taken before the link is written.
     hart.put(5, 0x2004);
-    assert!(rt; hart.begin(&instr(Op::Jalr, 5, 5, 0, 1)) == Need::Done);
+    assert!(rt; hart.begin::<()>(&instr(Op::Jalr, 5, 5, 0, 1)) == Need::Done);
     assert!(rt; hart.pc == 0x2004 && hart.reg(5) == 0);
 }
 
@@ -180,7 +180,10 @@ fn leaves(rt: &impl Abort, op: Op, rd: u8, imm: i32, need: Need, pc: u32)
     let mut hart = Hart::new(0x1000);
     hart.put(1, 7);
     let before = hart;
-    assert!(rt; hart.begin(&instr(op, rd, 0, 0, imm)) == need, "{op:?}");
+    assert!(rt;
+        hart.begin::<()>(&instr(op, rd, 0, 0, imm)) == need,
+        "{op:?}"
+    );
     assert!(rt; hart.regs == before.regs, "{op:?}");
     assert!(rt; hart.pc == pc, "{op:?}");
 }
@@ -272,7 +275,7 @@ fn calls_and_their_answers(rt: HostRuntime) {
 fn register_0_reads_0(rt: HostRuntime) {
     let mut hart = Hart::new(0x1000);
     hart.put(0, 5);
-    assert_eq!(rt; hart.begin(&instr(Op::Addi, 0, 0, 0, 5)), Need::Done);
+    assert_eq!(rt; hart.begin::<()>(&instr(Op::Addi, 0, 0, 0, 5)), Need::Done);
     assert_eq!(rt; hart.reg(0), 0);
     assert_eq!(rt; of_two(Op::Add, 0, 0), 0);
 }

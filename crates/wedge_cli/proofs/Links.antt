@@ -19,9 +19,8 @@ use Rattle.cli_inputs.specs.Refusals.{as_unjoined}
 use Rattle.cli_inputs.specs.Loading.{most_of, most_partition, long_elf, IsUnread, IsPartitionUnread}
 use Rattle.cli_inputs.specs.Replaying.{IsRefusalIn}
 use Rattle.cli_inputs.specs.Linking.{program_by, by_joining, joined_of, encoding_by, link_with, link_text, IsUnjoined}
-use Rattle.wedge_cli.specs.Causes.{IsLinkAnswer, IsLinkRefused, IsElfRejected, IsUnreadable}
+use Rattle.wedge_cli.specs.Causes.{IsLinkAnswer, IsLinkRefused}
 use Rattle.wedge_cli.specs.Ended.{IsCutShort}
-use Rattle.cli_inputs.specs.Words.{Link}
 use Rattle.cli_inputs.proofs.Joined.{long_file, joined_long}
 
 -- what is wrong is of the partition, or of the image
@@ -89,6 +88,7 @@ module _ (elf part_name : List ℕ) (files : List ℕ → Option (List ℕ)) (be
         λ bytes elf_is. long_file bytes (h.longer bytes elf_is) ∙ ap (λ g. Err g) (sym is),
       )
   elf_unread (refusal.NoSuchName item) h = absurd h
+  elf_unread (refusal.Violation v) h = absurd h
 
   -- the partition's was not, after the ELF file
   pub part_unread : (middle : ℕ) (read : List ℕ) (r : Refusal) → before part_name ≤ middle → WhereExposed (files elf) (λ b. read ≡ b) → length read ≤ most_of kind.Elf
@@ -103,6 +103,7 @@ module _ (elf part_name : List ℕ) (files : List ℕ → Option (List ℕ)) (be
   part_unread middle read (refusal.Trace fault) low same within h = absurd h
   part_unread middle read (refusal.Elf f) low same within h = absurd h
   part_unread middle read (refusal.NoSuchName item) low same within h = absurd h
+  part_unread middle read (refusal.Violation v) low same within h = absurd h
 
   -- the ELF file was rejected
   pub elf_rejected : (read : List ℕ) (r : Refusal) → WhereExposed (files elf) (λ b. read ≡ b) → IsRefusalIn (program_by (elf_program read)) r → IsLinkRefused elf part_name files before after r
@@ -118,6 +119,7 @@ module _ (elf part_name : List ℕ) (files : List ℕ → Option (List ℕ)) (be
         λ bytes elf_is. ap elf_program (sym (same bytes elf_is)) ∙ is,
       )
   elf_rejected read (refusal.NoSuchName item) same h = absurd h
+  elf_rejected read (refusal.Violation v) same h = absurd h
 
   module _ (read : List ℕ) (p : Program) (same : WhereExposed (files elf) (λ b. read ≡ b)) (accepted : elf_program read ≡ Ok p) where
     accepted_at : (bytes : List ℕ) → files elf ≡ Some bytes → elf_program bytes ≡ Ok p
@@ -143,8 +145,9 @@ module _ (elf part_name : List ℕ) (files : List ℕ → Option (List ℕ)) (be
     part_rejected given (refusal.Trace fault) same_part h = absurd h
     part_rejected given (refusal.Elf f) same_part h = absurd (of_joined p given (refusal.Elf f) h)
     part_rejected given (refusal.NoSuchName item) same_part h = absurd h
+    part_rejected given (refusal.Violation v) same_part h = absurd h
 
--- ---- statuses
+-- ---- images of a link that is refused
 
 unjoined_of : (elf text : List ℕ) (p : Program) (j : Result Image Refusal) (r : Refusal) → elf_program elf ≡ Ok p → joined_of p text ≡ j → encoding_by j ≡ Err r → IsUnjoined elf text
 unjoined_of elf text p (Ok i) r is joined e = absurd cc
@@ -156,54 +159,10 @@ unjoined_at elf text (Err f) r unlike is e = absurd (unlike f (let same : refusa
 unjoined_at elf text (Ok p) r unlike is e = unjoined_of elf text p (joined_of p text) r is refl e
 
 -- a link that is refused with another status than 10 has an ELF file that is accepted
-unjoined : (elf text : List ℕ) (r : Refusal) → ((f : ElfFault) → r ≡ refusal.Elf f → ⊥) → link_text elf text ≡ Err r → IsUnjoined elf text
+pub unjoined : (elf text : List ℕ) (r : Refusal) → ((f : ElfFault) → r ≡ refusal.Elf f → ⊥) → link_text elf text ≡ Err r → IsUnjoined elf text
 unjoined elf text r unlike e = unjoined_at elf text (elf_program elf) r unlike refl e
 
 module _ (elf part_name : List ℕ) (files : List ℕ → Option (List ℕ)) (before after : List ℕ → ℕ) where
-  pub unfit_link : (r : Refusal) → IsLinkRefused elf part_name files before after r → status_of r ≡ 3
-      → (bytes text : List ℕ) → files elf ≡ Some bytes → files part_name ≡ Some text → IsUnjoined bytes text
-  unfit_link refusal.NoMemory h e = absurd (omega arith)
-  unfit_link (refusal.Read file) h e = absurd (omega arith)
-  unfit_link (refusal.Image fault) h e = λ bytes text elf_is part_is. unjoined bytes text (refusal.Image fault) (λ f e. cc) (h bytes text elf_is part_is)
-  unfit_link (refusal.Partition p) h e = λ bytes text elf_is part_is. unjoined bytes text (refusal.Partition p) (λ f e. cc) (h bytes text elf_is part_is)
-  unfit_link (refusal.Schedule s) h e = absurd h
-  unfit_link (refusal.Trace fault) h e = absurd h
-  unfit_link (refusal.Elf f) h e = absurd (omega arith)
-  unfit_link (refusal.NoSuchName item) h e = absurd h
-
-  pub unread_link : (r : Refusal) → IsLinkRefused elf part_name files before after r → status_of r ≡ 4 → IsUnreadable (Link elf part_name) before after
-  unread_link refusal.NoMemory h e = absurd (omega arith)
-  unread_link (refusal.Read file) (inl h) e = inl h.rose
-  unread_link (refusal.Read file) (inr h) e = inr h.0.rose
-  unread_link (refusal.Image fault) h e = absurd (omega arith)
-  unread_link (refusal.Partition p) h e = absurd (omega arith)
-  unread_link (refusal.Schedule s) h e = absurd h
-  unread_link (refusal.Trace fault) h e = absurd h
-  unread_link (refusal.Elf f) h e = absurd (omega arith)
-  unread_link (refusal.NoSuchName item) h e = absurd h
-
-  -- the ELF file is rejected with the status 10
-  pub rejected_elf : (r : Refusal) → IsLinkRefused elf part_name files before after r → status_of r ≡ 10 → IsElfRejected (Link elf part_name) files
-  rejected_elf refusal.NoMemory h e = absurd (omega arith)
-  rejected_elf (refusal.Read file) h e = absurd (omega arith)
-  rejected_elf (refusal.Image fault) h e = absurd (omega arith)
-  rejected_elf (refusal.Partition p) h e = absurd (omega arith)
-  rejected_elf (refusal.Schedule s) h e = absurd h
-  rejected_elf (refusal.Trace fault) h e = absurd h
-  rejected_elf (refusal.Elf f) h e = (f, h.1)
-  rejected_elf (refusal.NoSuchName item) h e = absurd h
-
-  -- no link has the statuses 8 and 9
-  pub no_other_link : (r : Refusal) → IsLinkRefused elf part_name files before after r → (status_of r ≡ 8) ⊎ (status_of r ≡ 9) → ⊥
-  no_other_link refusal.NoMemory h e = omega arith
-  no_other_link (refusal.Read file) h e = omega arith
-  no_other_link (refusal.Image fault) h e = omega arith
-  no_other_link (refusal.Partition p) h e = omega arith
-  no_other_link (refusal.Schedule s) h e = h
-  no_other_link (refusal.Trace fault) h e = h
-  no_other_link (refusal.Elf f) h e = omega arith
-  no_other_link (refusal.NoSuchName item) h e = h
-
   -- the answer of both files is this refusal, or memory ran out, or a read failed
   pub link_refusal : (bytes text : List ℕ) (r : Refusal) → IsLinkRefused elf part_name files before after r → files elf ≡ Some bytes → files part_name ≡ Some text
       → IsCutShort (status_of r) ⊎ (link_text bytes text ≡ Err r)
@@ -215,3 +174,4 @@ module _ (elf part_name : List ℕ) (files : List ℕ → Option (List ℕ)) (be
   link_refusal bytes text (refusal.Trace fault) h elf_is part_is = absurd h
   link_refusal bytes text (refusal.Elf f) h elf_is part_is = inr (h.0 bytes text elf_is part_is)
   link_refusal bytes text (refusal.NoSuchName item) h elf_is part_is = absurd h
+  link_refusal bytes text (refusal.Violation v) h elf_is part_is = absurd h

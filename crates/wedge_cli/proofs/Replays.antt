@@ -56,6 +56,7 @@ image_refused make m n (refusal.Schedule s) h = absurd h
 image_refused make m n (refusal.Trace fault) h = absurd h
 image_refused make m n (refusal.Elf fault) h = absurd h
 image_refused make m n (refusal.NoSuchName item) h = absurd h
+image_refused make m n (refusal.Violation v) h = absurd h
 
 pub names_refused : (make : Making) (m : Result Image Refusal) (i : Image) (n : Result (List (List ℕ)) Refusal) (r : Refusal) → m ≡ Ok i → IsRefusalIn n r → IsRefusalIn (text_of_read make m n) r
 names_refused make m i n refusal.NoMemory is h = tt
@@ -66,6 +67,7 @@ names_refused make m i n (refusal.Schedule s) is h = ap (λ x. text_of_read make
 names_refused make m i n (refusal.Trace fault) is h = absurd h
 names_refused make m i n (refusal.Elf fault) is h = ap (λ x. text_of_read make x n) is ∙ ap (λ x. text_of_read make (Ok i) x) h
 names_refused make m i n (refusal.NoSuchName item) is h = absurd h
+names_refused make m i n (refusal.Violation v) is h = absurd h
 
 -- ---- which refusals come of the image
 
@@ -103,6 +105,7 @@ first_unread make image schedule files before after (refusal.Schedule s) h = let
 first_unread make image schedule files before after (refusal.Trace fault) h = let e = h.is in absurd cc
 first_unread make image schedule files before after (refusal.Elf fault) h = let e = h.is in absurd cc
 first_unread make image schedule files before after (refusal.NoSuchName item) h = absurd h
+first_unread make image schedule files before after (refusal.Violation v) h = absurd h
 
 -- the schedule's was not, after the image's
 pub second_unread : (make : Making) (image schedule : List ℕ) (files : List ℕ → Option (List ℕ)) (before after : List ℕ → ℕ) (middle : ℕ) (bytes : List ℕ) (r : Refusal)
@@ -119,6 +122,7 @@ second_unread make image schedule files before after middle bytes (refusal.Sched
 second_unread make image schedule files before after middle bytes (refusal.Trace fault) low same within h = let e = h.is in absurd cc
 second_unread make image schedule files before after middle bytes (refusal.Elf fault) low same within h = let e = h.is in absurd cc
 second_unread make image schedule files before after middle bytes (refusal.NoSuchName item) low same within h = absurd h
+second_unread make image schedule files before after middle bytes (refusal.Violation v) low same within h = absurd h
 
 -- both were read
 answered : (make : Making) (image schedule : List ℕ) (files : List ℕ → Option (List ℕ)) (bytes names : List ℕ) (answer : Result (List ℕ) Refusal)
@@ -150,3 +154,4 @@ both_read make image schedule files before after bytes names (refusal.Trace faul
 both_read make image schedule files before after bytes names (refusal.Elf fault) same same_names within within_names h =
     no_elf_by (reading bytes) fault (image_cause make (image_from_bytes bytes) (names_in names) (refusal.Elf fault) (λ s e. cc) (sym (text_within make bytes names within within_names) ∙ h))
 both_read make image schedule files before after bytes names (refusal.NoSuchName item) same same_names within within_names h = absurd h
+both_read make image schedule files before after bytes names (refusal.Violation v) same same_names within within_names h = absurd h

@@ -171,6 +171,7 @@ run_refusal name bytes content before after (refusal.Schedule s) h exposed = abs
 run_refusal name bytes content before after (refusal.Trace fault) h exposed = absurd h
 run_refusal name bytes content before after (refusal.Elf fault) h exposed = absurd h
 run_refusal name bytes content before after (refusal.NoSuchName item) h exposed = absurd h
+run_refusal name bytes content before after (refusal.Violation v) h exposed = absurd h
 
 pub run_ended : (image bytes : List ℕ) (flag : RunFlag) (ended : Ended) (before after : Outside) → IsEither (Run image flag) ended before after
     → before.files image ≡ Some bytes → IsCutShort ended.status ⊎ IsRunEnd (image_from_bytes bytes) ended.status before.sinks after.sinks

@@ -1,7 +1,6 @@
 -- Which cause each status has.
 use Rattle.std.proofs.Common.{◌≡◌, ◌⊎◌, inl, inr, ℕ, ◌<◌, List, refl, sym, ap, subst, ◌∙◌, arith}
 use Rattle.std.specs.Prelude.{Option, Some, None, Result, Ok, Err, IsErr, IsSome}
-use Rattle.host_io.specs.Exposed.{WhereExposed}
 use Rattle.wedge_base.specs.Images.{Image}
 use Rattle.wedge_cli.specs.declared.status.Ended.{Ended}
 use Rattle.cli_inputs.specs.declared.refusal.Refusal.{Refusal}
@@ -10,21 +9,28 @@ use Rattle.audited_run.specs.declared.run.Differs.{Differs}
 use Rattle.wedge_cli.specs.declared.writing.KeptRun.{KeptRun}
 use Rattle.wedge_cli.specs.declared.writing.Text.{Text}
 use Rattle.wedge_cli.specs.Lines.{line, usage_line, refusal_text, status_of}
-use Rattle.cli_inputs.specs.Loading.{image_from_bytes, built_of, IsRefusedBy}
+use Rattle.cli_inputs.specs.Loading.{image_from_bytes, built_of}
+use Rattle.cli_inputs.specs.declared.refusal.PartRefusal.{PartRefusal}
 use Rattle.cli_inputs.specs.declared.refusal.ScheduleRefusal.{ScheduleRefusal}
+use Rattle.image_form.specs.declared.fault.Fault.{Fault}
+use Rattle.elf_in.specs.declared.fault.Fault.{Fault as ElfFault}
+use Rattle.trace_form.specs.declared.fault.TraceFault.{TraceFault}
+use Rattle.sheet_enforce.specs.declared.violations.Violation.{Violation}
 use Rattle.cli_inputs.specs.Replaying.{Making, report_made, trace_made, text_of_replay, replay_text, log_text}
 use Rattle.cli_inputs.specs.Linking.{link_text, IsLinkedImage}
-use Rattle.cli_inputs.specs.Words.{Asked, Run, Show, Build, Link, Replay, Log, Derive, Analyze, Gen}
+use Rattle.cli_inputs.specs.Enforcing.{Check, emulated, enforced, text_of_check, emulate_text, enforce_text, IsOwnTrace}
+use Rattle.cli_inputs.proofs.OwnTraces.{own_permits}
+use Rattle.cli_inputs.specs.Words.{Asked, Run, Show, Build, Link, Replay, Log, Emulate, Enforce, Derive, Analyze, Gen}
 use Rattle.wedge_cli.specs.Outside.{Device, Sinks, Outside, Rises, Takes}
 use Rattle.trace_form.specs.Records.{records_of}
 use Rattle.cb_analyze.specs.Sheets.{sheets_of}
 use Rattle.cb_analyze.specs.Texts.{sheets_text}
-use Rattle.wedge_cli.specs.Ended.{AreTaken, IsPairAnswer, IsTraceAnswer, IsWritten, IsSaid, IsLinkDone, IsCutShort, IsAnswerEnd, done_status, no_run}
+use Rattle.wedge_cli.specs.Ended.{AreTaken, IsPairAnswer, IsTripleAnswer, IsTraceAnswer, IsWritten, IsSaid, IsLinkDone, IsCutShort, IsAnswerEnd, done_status, no_run}
 use Rattle.cli_inputs.specs.declared.words.Query.{Query}
-use Rattle.cli_inputs.specs.Traces.{derive_text, analyze_text, query_lines, answer_to, unless_fault, IsUnknownIn, IsTraceRefused, IsQueryRefused}
-use Rattle.wedge_cli.specs.Causes.{IsReplayAnswer, IsReplayRefused, IsRefused, IsUnfit, IsRejected, IsTraceRejected, IsElfRejected, IsUnknown, IsUnreadable, SaysRefusal, IsRefusal, IsCommandDone, IsUsage, IsCommandAnswer}
+use Rattle.cli_inputs.specs.Traces.{derive_text, analyze_text, query_lines, answer_to, unless_fault, IsTraceRefused, IsQueryRefused}
+use Rattle.wedge_cli.specs.Causes.{IsReplayRefused, IsCheckRefused, IsEnforceRefused, IsThreeFault, IsRefused, IsUnfit, IsRejected, IsElfRejected, IsUnknown, IsViolated, IsUnreadable, SaysRefusal, IsRefusal, IsCommandDone, IsUsage, IsCommandAnswer}
 use Rattle.wedge_cli.proofs.Written.{Rise, written_status, said_status, said_nothing, took_out, took_err}
-use Rattle.wedge_cli.proofs.Links.{unfit_link, unread_link, rejected_elf, no_other_link, link_refusal}
+use Rattle.wedge_cli.proofs.Links.{unjoined, link_refusal}
 
 -- what was done with a command: it was refused, or its texts were written
 abbrev pub IsEither : Asked → Ended → Outside → Outside → Type 0
@@ -84,10 +90,75 @@ other_than (refusal.Schedule s) n h e = absurd (omega arith)
 other_than (refusal.Trace fault) n h e = absurd (omega arith)
 other_than (refusal.Elf fault) n h e = absurd (omega arith)
 other_than (refusal.NoSuchName item) n h e = absurd (omega arith)
+other_than (refusal.Violation v) n h e = absurd (omega arith)
 
--- out of memory has the status 6 alone
-only_6 : (r : Refusal) (n : ℕ) → r ≡ refusal.NoMemory → (6 ≡ n → ⊥) → status_of r ≡ n → ⊥
-only_6 r n h other e = other (sym (ap status_of h) ∙ e)
+-- ---- which refusals have a status
+
+of_3 : (r : Refusal) → status_of r ≡ 3 → ((f : Fault) × (r ≡ refusal.Image f)) ⊎ ((p : PartRefusal) × (r ≡ refusal.Partition p))
+of_3 refusal.NoMemory e = absurd (omega arith)
+of_3 (refusal.Read file) e = absurd (omega arith)
+of_3 (refusal.Image fault) e = inl (fault, refl)
+of_3 (refusal.Partition p) e = inr (p, refl)
+of_3 (refusal.Schedule s) e = absurd (omega arith)
+of_3 (refusal.Trace fault) e = absurd (omega arith)
+of_3 (refusal.Elf fault) e = absurd (omega arith)
+of_3 (refusal.NoSuchName item) e = absurd (omega arith)
+of_3 (refusal.Violation v) e = absurd (omega arith)
+
+of_4 : (r : Refusal) → status_of r ≡ 4 → (file : List ℕ) × (r ≡ refusal.Read file)
+of_4 refusal.NoMemory e = absurd (omega arith)
+of_4 (refusal.Read file) e = (file, refl)
+of_4 (refusal.Image fault) e = absurd (omega arith)
+of_4 (refusal.Partition p) e = absurd (omega arith)
+of_4 (refusal.Schedule s) e = absurd (omega arith)
+of_4 (refusal.Trace fault) e = absurd (omega arith)
+of_4 (refusal.Elf fault) e = absurd (omega arith)
+of_4 (refusal.NoSuchName item) e = absurd (omega arith)
+of_4 (refusal.Violation v) e = absurd (omega arith)
+
+of_8 : (r : Refusal) → status_of r ≡ 8 → ((s : ScheduleRefusal) × (r ≡ refusal.Schedule s)) ⊎ ((f : TraceFault) × (r ≡ refusal.Trace f))
+of_8 refusal.NoMemory e = absurd (omega arith)
+of_8 (refusal.Read file) e = absurd (omega arith)
+of_8 (refusal.Image fault) e = absurd (omega arith)
+of_8 (refusal.Partition p) e = absurd (omega arith)
+of_8 (refusal.Schedule s) e = inl (s, refl)
+of_8 (refusal.Trace fault) e = inr (fault, refl)
+of_8 (refusal.Elf fault) e = absurd (omega arith)
+of_8 (refusal.NoSuchName item) e = absurd (omega arith)
+of_8 (refusal.Violation v) e = absurd (omega arith)
+
+of_9 : (r : Refusal) → status_of r ≡ 9 → (name : List ℕ) × (r ≡ refusal.NoSuchName name)
+of_9 refusal.NoMemory e = absurd (omega arith)
+of_9 (refusal.Read file) e = absurd (omega arith)
+of_9 (refusal.Image fault) e = absurd (omega arith)
+of_9 (refusal.Partition p) e = absurd (omega arith)
+of_9 (refusal.Schedule s) e = absurd (omega arith)
+of_9 (refusal.Trace fault) e = absurd (omega arith)
+of_9 (refusal.Elf fault) e = absurd (omega arith)
+of_9 (refusal.NoSuchName item) e = (item, refl)
+of_9 (refusal.Violation v) e = absurd (omega arith)
+
+of_10 : (r : Refusal) → status_of r ≡ 10 → (f : ElfFault) × (r ≡ refusal.Elf f)
+of_10 refusal.NoMemory e = absurd (omega arith)
+of_10 (refusal.Read file) e = absurd (omega arith)
+of_10 (refusal.Image fault) e = absurd (omega arith)
+of_10 (refusal.Partition p) e = absurd (omega arith)
+of_10 (refusal.Schedule s) e = absurd (omega arith)
+of_10 (refusal.Trace fault) e = absurd (omega arith)
+of_10 (refusal.Elf fault) e = (fault, refl)
+of_10 (refusal.NoSuchName item) e = absurd (omega arith)
+of_10 (refusal.Violation v) e = absurd (omega arith)
+
+of_11 : (r : Refusal) → status_of r ≡ 11 → (v : Violation) × (r ≡ refusal.Violation v)
+of_11 refusal.NoMemory e = absurd (omega arith)
+of_11 (refusal.Read file) e = absurd (omega arith)
+of_11 (refusal.Image fault) e = absurd (omega arith)
+of_11 (refusal.Partition p) e = absurd (omega arith)
+of_11 (refusal.Schedule s) e = absurd (omega arith)
+of_11 (refusal.Trace fault) e = absurd (omega arith)
+of_11 (refusal.Elf fault) e = absurd (omega arith)
+of_11 (refusal.NoSuchName item) e = absurd (omega arith)
+of_11 (refusal.Violation v) e = (v, refl)
 
 -- ---- 3
 
@@ -95,311 +166,168 @@ is_err_of : (meant : Result Image Refusal) (r : Refusal) → meant ≡ Err r →
 is_err_of (Ok i) r e = absurd cc
 is_err_of (Err q) r e = refl
 
-unfit_by : (meant : List ℕ → Result Image Refusal) (name : List ℕ) (content : Option (List ℕ)) (before after : ℕ) (r : Refusal)
-    → IsRefusedBy meant name content before after r → status_of r ≡ 3 → WhereExposed content (λ bytes. IsErr (meant bytes))
-unfit_by meant name content before after refusal.NoMemory h e = absurd (omega arith)
-unfit_by meant name content before after (refusal.Read file) h e = absurd (omega arith)
-unfit_by meant name content before after (refusal.Image fault) h e = λ bytes exposed. is_err_of (meant bytes) (refusal.Image fault) (h bytes exposed)
-unfit_by meant name content before after (refusal.Partition p) h e = λ bytes exposed. is_err_of (meant bytes) (refusal.Partition p) (h bytes exposed)
-unfit_by meant name content before after (refusal.Schedule s) h e = absurd h
-unfit_by meant name content before after (refusal.Trace fault) h e = absurd h
-unfit_by meant name content before after (refusal.Elf fault) h e = absurd h
-unfit_by meant name content before after (refusal.NoSuchName item) h e = absurd h
+unfit_image : (a : Asked) (files : List ℕ → Option (List ℕ)) (before after : List ℕ → ℕ) (f : Fault)
+    → IsRefused a files before after (refusal.Image f) → IsUnfit a files
+unfit_image (Run image flag) files before after f h = λ bytes exposed. is_err_of (image_from_bytes bytes) (refusal.Image f) (h bytes exposed)
+unfit_image (Show image) files before after f h = λ bytes exposed. is_err_of (image_from_bytes bytes) (refusal.Image f) (h bytes exposed)
+unfit_image (Build part) files before after f h = λ bytes exposed. is_err_of (built_of bytes) (refusal.Image f) (h bytes exposed)
+unfit_image (Link elf part) files before after f h = λ bytes text elf_is part_is. unjoined bytes text (refusal.Image f) (λ g e. cc) (h bytes text elf_is part_is)
+unfit_image (Replay image schedule) files before after f h = λ bytes exposed. is_err_of (image_from_bytes bytes) (refusal.Image f) (h.1 bytes exposed)
+unfit_image (Log image schedule) files before after f h = λ bytes exposed. is_err_of (image_from_bytes bytes) (refusal.Image f) (h.1 bytes exposed)
+unfit_image (Emulate image schedule trace) files before after f h = λ bytes exposed. is_err_of (image_from_bytes bytes) (refusal.Image f) (h.1 bytes exposed)
+unfit_image (Enforce image schedule trace) files before after f h = λ bytes exposed. is_err_of (image_from_bytes bytes) (refusal.Image f) (h.1 bytes exposed)
+unfit_image (Derive trace) files before after f h = absurd h
+unfit_image (Analyze trace query name) files before after f h = absurd h
+unfit_image (Gen workers) files before after f h = absurd cc
 
-unfit_replay : (make : Making) (image schedule : List ℕ) (files : List ℕ → Option (List ℕ)) (before after : List ℕ → ℕ) (r : Refusal)
-    → IsReplayRefused make image schedule files before after r → status_of r ≡ 3 → WhereExposed (files image) (λ bytes. IsErr (image_from_bytes bytes))
-unfit_replay make image schedule files before after refusal.NoMemory h e = absurd (omega arith)
-unfit_replay make image schedule files before after (refusal.Read file) h e = absurd (omega arith)
-unfit_replay make image schedule files before after (refusal.Image fault) h e = λ bytes exposed. is_err_of (image_from_bytes bytes) (refusal.Image fault) (h.1 bytes exposed)
-unfit_replay make image schedule files before after (refusal.Partition p) h e = absurd h
-unfit_replay make image schedule files before after (refusal.Schedule s) h e = absurd (omega arith)
-unfit_replay make image schedule files before after (refusal.Trace fault) h e = absurd h
-unfit_replay make image schedule files before after (refusal.Elf fault) h e = absurd h
-unfit_replay make image schedule files before after (refusal.NoSuchName item) h e = absurd h
-
-unfit_trace : (trace : List ℕ) (content : Option (List ℕ)) (before after : ℕ) (r : Refusal)
-    → IsTraceRefused trace content before after r → status_of r ≡ 3 → ⊥
-unfit_trace trace content before after refusal.NoMemory h e = absurd (omega arith)
-unfit_trace trace content before after (refusal.Read file) h e = absurd (omega arith)
-unfit_trace trace content before after (refusal.Image fault) h e = absurd h
-unfit_trace trace content before after (refusal.Partition p) h e = absurd h
-unfit_trace trace content before after (refusal.Schedule s) h e = absurd h
-unfit_trace trace content before after (refusal.Trace fault) h e = absurd (omega arith)
-unfit_trace trace content before after (refusal.Elf fault) h e = absurd h
-unfit_trace trace content before after (refusal.NoSuchName item) h e = absurd h
-
-unfit_query : (query : Query) (name trace : List ℕ) (content : Option (List ℕ)) (before after : ℕ) (r : Refusal)
-    → IsQueryRefused query name trace content before after r → status_of r ≡ 3 → ⊥
-unfit_query query name trace content before after refusal.NoMemory h e = absurd (omega arith)
-unfit_query query name trace content before after (refusal.Read file) h e = absurd (omega arith)
-unfit_query query name trace content before after (refusal.Image fault) h e = absurd h
-unfit_query query name trace content before after (refusal.Partition p) h e = absurd h
-unfit_query query name trace content before after (refusal.Schedule s) h e = absurd h
-unfit_query query name trace content before after (refusal.Trace fault) h e = absurd (omega arith)
-unfit_query query name trace content before after (refusal.Elf fault) h e = absurd h
-unfit_query query name trace content before after (refusal.NoSuchName item) h e = absurd (omega arith)
-
-unfit : (a : Asked) (files : List ℕ → Option (List ℕ)) (before after : List ℕ → ℕ) (r : Refusal) → IsRefused a files before after r → status_of r ≡ 3 → IsUnfit a files
-unfit (Run image flag) files before after r h e = unfit_by image_from_bytes image (files image) (before image) (after image) r h e
-unfit (Show image) files before after r h e = unfit_by image_from_bytes image (files image) (before image) (after image) r h e
-unfit (Build part) files before after r h e = unfit_by built_of part (files part) (before part) (after part) r h e
-unfit (Link elf part) files before after r h e = unfit_link elf part files before after r h e
-unfit (Replay image schedule) files before after r h e = unfit_replay report_made image schedule files before after r h e
-unfit (Log image schedule) files before after r h e = unfit_replay trace_made image schedule files before after r h e
-unfit (Derive trace) files before after r h e = unfit_trace trace (files trace) (before trace) (after trace) r h e
-unfit (Analyze trace query name) files before after r h e = unfit_query query name trace (files trace) (before trace) (after trace) r h e
-unfit (Gen workers) files before after r h e = only_6 r 3 h (λ six. omega (arith, six)) e
+unfit_partition : (a : Asked) (files : List ℕ → Option (List ℕ)) (before after : List ℕ → ℕ) (p : PartRefusal)
+    → IsRefused a files before after (refusal.Partition p) → IsUnfit a files
+unfit_partition (Run image flag) files before after p h = λ bytes exposed. is_err_of (image_from_bytes bytes) (refusal.Partition p) (h bytes exposed)
+unfit_partition (Show image) files before after p h = λ bytes exposed. is_err_of (image_from_bytes bytes) (refusal.Partition p) (h bytes exposed)
+unfit_partition (Build part) files before after p h = λ bytes exposed. is_err_of (built_of bytes) (refusal.Partition p) (h bytes exposed)
+unfit_partition (Link elf part) files before after p h = λ bytes text elf_is part_is. unjoined bytes text (refusal.Partition p) (λ g e. cc) (h bytes text elf_is part_is)
+unfit_partition (Replay image schedule) files before after p h = absurd h
+unfit_partition (Log image schedule) files before after p h = absurd h
+unfit_partition (Emulate image schedule trace) files before after p h = absurd h
+unfit_partition (Enforce image schedule trace) files before after p h = absurd h
+unfit_partition (Derive trace) files before after p h = absurd h
+unfit_partition (Analyze trace query name) files before after p h = absurd h
+unfit_partition (Gen workers) files before after p h = absurd cc
 
 pub image_only : (a : Asked) (ended : Ended) (before after : Outside) → IsEither a ended before after → ended.status ≡ 3 → IsUnfit a before.files
 image_only a ended before after either is =
-    by_refusal a ended before after (λ e. omega (arith, e)) (λ e. omega (arith, e)) (λ e. omega (arith, e)) (λ e. omega (arith, e)) either is (unfit a before.files before.reads after.reads)
+    by_refusal a ended before after (λ e. omega (arith, e)) (λ e. omega (arith, e)) (λ e. omega (arith, e)) (λ e. omega (arith, e)) either is (λ r h e. elim (of_3 r e) [
+      | inl i ↦ unfit_image a before.files before.reads after.reads i.0 (subst (IsRefused a before.files before.reads after.reads) i.1 h)
+      | inr p ↦ unfit_partition a before.files before.reads after.reads p.0 (subst (IsRefused a before.files before.reads after.reads) p.1 h)
+    ])
 
 -- ---- 4
 
-unread_by : (meant : List ℕ → Result Image Refusal) (name : List ℕ) (content : Option (List ℕ)) (before after : ℕ) (r : Refusal)
-    → IsRefusedBy meant name content before after r → status_of r ≡ 4 → before < after
-unread_by meant name content before after refusal.NoMemory h e = absurd (omega arith)
-unread_by meant name content before after (refusal.Read file) h e = h.rose
-unread_by meant name content before after (refusal.Image fault) h e = absurd (omega arith)
-unread_by meant name content before after (refusal.Partition p) h e = absurd (omega arith)
-unread_by meant name content before after (refusal.Schedule s) h e = absurd h
-unread_by meant name content before after (refusal.Trace fault) h e = absurd h
-unread_by meant name content before after (refusal.Elf fault) h e = absurd h
-unread_by meant name content before after (refusal.NoSuchName item) h e = absurd h
+three_unread : (image schedule trace : List ℕ) (files : List ℕ → Option (List ℕ)) (before after : List ℕ → ℕ) (file : List ℕ)
+    → IsThreeFault image schedule trace files before after file
+    → (before image < after image) ⊎ (before schedule < after schedule) ⊎ (before trace < after trace)
+three_unread image schedule trace files before after file (inl (inl h)) = inl h.rose
+three_unread image schedule trace files before after file (inl (inr h)) = inr (inl h.0.rose)
+three_unread image schedule trace files before after file (inr h) = inr (inr h.0.rose)
 
-unread_replay : (make : Making) (image schedule : List ℕ) (files : List ℕ → Option (List ℕ)) (before after : List ℕ → ℕ) (r : Refusal)
-    → IsReplayRefused make image schedule files before after r → status_of r ≡ 4 → (before image < after image) ⊎ (before schedule < after schedule)
-unread_replay make image schedule files before after refusal.NoMemory h e = absurd (omega arith)
-unread_replay make image schedule files before after (refusal.Read file) (inl h) e = inl h.rose
-unread_replay make image schedule files before after (refusal.Read file) (inr h) e = inr h.0.rose
-unread_replay make image schedule files before after (refusal.Image fault) h e = absurd (omega arith)
-unread_replay make image schedule files before after (refusal.Partition p) h e = absurd (omega arith)
-unread_replay make image schedule files before after (refusal.Schedule s) h e = absurd (omega arith)
-unread_replay make image schedule files before after (refusal.Trace fault) h e = absurd h
-unread_replay make image schedule files before after (refusal.Elf fault) h e = absurd h
-unread_replay make image schedule files before after (refusal.NoSuchName item) h e = absurd h
-
-unread_trace : (trace : List ℕ) (content : Option (List ℕ)) (before after : ℕ) (r : Refusal)
-    → IsTraceRefused trace content before after r → status_of r ≡ 4 → before < after
-unread_trace trace content before after refusal.NoMemory h e = absurd (omega arith)
-unread_trace trace content before after (refusal.Read file) h e = h.rose
-unread_trace trace content before after (refusal.Image fault) h e = absurd h
-unread_trace trace content before after (refusal.Partition p) h e = absurd h
-unread_trace trace content before after (refusal.Schedule s) h e = absurd h
-unread_trace trace content before after (refusal.Trace fault) h e = absurd (omega arith)
-unread_trace trace content before after (refusal.Elf fault) h e = absurd h
-unread_trace trace content before after (refusal.NoSuchName item) h e = absurd h
-
-unread_query : (query : Query) (name trace : List ℕ) (content : Option (List ℕ)) (before after : ℕ) (r : Refusal)
-    → IsQueryRefused query name trace content before after r → status_of r ≡ 4 → before < after
-unread_query query name trace content before after refusal.NoMemory h e = absurd (omega arith)
-unread_query query name trace content before after (refusal.Read file) h e = h.rose
-unread_query query name trace content before after (refusal.Image fault) h e = absurd h
-unread_query query name trace content before after (refusal.Partition p) h e = absurd h
-unread_query query name trace content before after (refusal.Schedule s) h e = absurd h
-unread_query query name trace content before after (refusal.Trace fault) h e = absurd (omega arith)
-unread_query query name trace content before after (refusal.Elf fault) h e = absurd h
-unread_query query name trace content before after (refusal.NoSuchName item) h e = absurd (omega arith)
-
-unread : (a : Asked) (files : List ℕ → Option (List ℕ)) (before after : List ℕ → ℕ) (r : Refusal) → IsRefused a files before after r → status_of r ≡ 4 → IsUnreadable a before after
-unread (Run image flag) files before after r h e = unread_by image_from_bytes image (files image) (before image) (after image) r h e
-unread (Show image) files before after r h e = unread_by image_from_bytes image (files image) (before image) (after image) r h e
-unread (Build part) files before after r h e = unread_by built_of part (files part) (before part) (after part) r h e
-unread (Link elf part) files before after r h e = unread_link elf part files before after r h e
-unread (Replay image schedule) files before after r h e = unread_replay report_made image schedule files before after r h e
-unread (Log image schedule) files before after r h e = unread_replay trace_made image schedule files before after r h e
-unread (Derive trace) files before after r h e = unread_trace trace (files trace) (before trace) (after trace) r h e
-unread (Analyze trace query name) files before after r h e = unread_query query name trace (files trace) (before trace) (after trace) r h e
-unread (Gen workers) files before after r h e = only_6 r 4 h (λ six. omega (arith, six)) e
+unread : (a : Asked) (files : List ℕ → Option (List ℕ)) (before after : List ℕ → ℕ) (file : List ℕ)
+    → IsRefused a files before after (refusal.Read file) → IsUnreadable a before after
+unread (Run image flag) files before after file h = h.rose
+unread (Show image) files before after file h = h.rose
+unread (Build part) files before after file h = h.rose
+unread (Link elf part) files before after file h = elim h [ inl x ↦ inl x.rose | inr x ↦ inr x.0.rose ]
+unread (Replay image schedule) files before after file h = elim h [ inl x ↦ inl x.rose | inr x ↦ inr x.0.rose ]
+unread (Log image schedule) files before after file h = elim h [ inl x ↦ inl x.rose | inr x ↦ inr x.0.rose ]
+unread (Emulate image schedule trace) files before after file h = three_unread image schedule trace files before after file h
+unread (Enforce image schedule trace) files before after file h = three_unread image schedule trace files before after file h
+unread (Derive trace) files before after file h = h.rose
+unread (Analyze trace query name) files before after file h = h.rose
+unread (Gen workers) files before after file h = absurd cc
 
 pub read_only : (a : Asked) (ended : Ended) (before after : Outside) → IsEither a ended before after → ended.status ≡ 4 → IsUnreadable a before.reads after.reads
 read_only a ended before after either is =
-    by_refusal a ended before after (λ e. omega (arith, e)) (λ e. omega (arith, e)) (λ e. omega (arith, e)) (λ e. omega (arith, e)) either is (unread a before.files before.reads after.reads)
+    by_refusal a ended before after (λ e. omega (arith, e)) (λ e. omega (arith, e)) (λ e. omega (arith, e)) (λ e. omega (arith, e)) either is (λ r h e.
+    let x = of_4 r e in unread a before.files before.reads after.reads x.0 (subst (IsRefused a before.files before.reads after.reads) x.1 h))
 
 -- ---- 8
 
-rejected_by : (meant : List ℕ → Result Image Refusal) (name : List ℕ) (content : Option (List ℕ)) (before after : ℕ) (r : Refusal)
-    → IsRefusedBy meant name content before after r → status_of r ≡ 8 → ⊥
-rejected_by meant name content before after refusal.NoMemory h e = omega arith
-rejected_by meant name content before after (refusal.Read file) h e = omega arith
-rejected_by meant name content before after (refusal.Image fault) h e = omega arith
-rejected_by meant name content before after (refusal.Partition p) h e = omega arith
-rejected_by meant name content before after (refusal.Schedule s) h e = h
-rejected_by meant name content before after (refusal.Trace fault) h e = h
-rejected_by meant name content before after (refusal.Elf fault) h e = h
-rejected_by meant name content before after (refusal.NoSuchName item) h e = h
+rejected_schedule : (a : Asked) (files : List ℕ → Option (List ℕ)) (before after : List ℕ → ℕ) (s : ScheduleRefusal)
+    → IsRefused a files before after (refusal.Schedule s) → IsRejected a files
+rejected_schedule (Run image flag) files before after s h = absurd h
+rejected_schedule (Show image) files before after s h = absurd h
+rejected_schedule (Build part) files before after s h = absurd h
+rejected_schedule (Link elf part) files before after s h = absurd h
+rejected_schedule (Replay image schedule) files before after s h = (s, h)
+rejected_schedule (Log image schedule) files before after s h = (s, h)
+rejected_schedule (Emulate image schedule trace) files before after s h = inl (s, h)
+rejected_schedule (Enforce image schedule trace) files before after s h = inl (s, h)
+rejected_schedule (Derive trace) files before after s h = absurd h
+rejected_schedule (Analyze trace query name) files before after s h = absurd h
+rejected_schedule (Gen workers) files before after s h = absurd cc
 
-rejected_replay : (make : Making) (image schedule : List ℕ) (files : List ℕ → Option (List ℕ)) (before after : List ℕ → ℕ) (r : Refusal)
-    → IsReplayRefused make image schedule files before after r → status_of r ≡ 8 → (s : ScheduleRefusal) × IsReplayAnswer make image schedule files (Err (refusal.Schedule s))
-rejected_replay make image schedule files before after refusal.NoMemory h e = absurd (omega arith)
-rejected_replay make image schedule files before after (refusal.Read file) h e = absurd (omega arith)
-rejected_replay make image schedule files before after (refusal.Image fault) h e = absurd (omega arith)
-rejected_replay make image schedule files before after (refusal.Partition p) h e = absurd h
-rejected_replay make image schedule files before after (refusal.Schedule s) h e = (s, h)
-rejected_replay make image schedule files before after (refusal.Trace fault) h e = absurd h
-rejected_replay make image schedule files before after (refusal.Elf fault) h e = absurd h
-rejected_replay make image schedule files before after (refusal.NoSuchName item) h e = absurd h
-
-rejected_trace : (trace : List ℕ) (content : Option (List ℕ)) (before after : ℕ) (r : Refusal)
-    → IsTraceRefused trace content before after r → status_of r ≡ 8 → IsTraceRejected content
-rejected_trace trace content before after refusal.NoMemory h e = absurd (omega arith)
-rejected_trace trace content before after (refusal.Read file) h e = absurd (omega arith)
-rejected_trace trace content before after (refusal.Image fault) h e = absurd h
-rejected_trace trace content before after (refusal.Partition p) h e = absurd h
-rejected_trace trace content before after (refusal.Schedule s) h e = absurd h
-rejected_trace trace content before after (refusal.Trace fault) h e = (fault, h)
-rejected_trace trace content before after (refusal.Elf fault) h e = absurd h
-rejected_trace trace content before after (refusal.NoSuchName item) h e = absurd h
-
-rejected_query : (query : Query) (name trace : List ℕ) (content : Option (List ℕ)) (before after : ℕ) (r : Refusal)
-    → IsQueryRefused query name trace content before after r → status_of r ≡ 8 → IsTraceRejected content
-rejected_query query name trace content before after refusal.NoMemory h e = absurd (omega arith)
-rejected_query query name trace content before after (refusal.Read file) h e = absurd (omega arith)
-rejected_query query name trace content before after (refusal.Image fault) h e = absurd h
-rejected_query query name trace content before after (refusal.Partition p) h e = absurd h
-rejected_query query name trace content before after (refusal.Schedule s) h e = absurd h
-rejected_query query name trace content before after (refusal.Trace fault) h e = (fault, h)
-rejected_query query name trace content before after (refusal.Elf fault) h e = absurd h
-rejected_query query name trace content before after (refusal.NoSuchName item) h e = absurd (omega arith)
-
-rejected : (a : Asked) (files : List ℕ → Option (List ℕ)) (before after : List ℕ → ℕ) (r : Refusal) → IsRefused a files before after r → status_of r ≡ 8 → IsRejected a files
-rejected (Run image flag) files before after r h e = rejected_by image_from_bytes image (files image) (before image) (after image) r h e
-rejected (Show image) files before after r h e = rejected_by image_from_bytes image (files image) (before image) (after image) r h e
-rejected (Build part) files before after r h e = rejected_by built_of part (files part) (before part) (after part) r h e
-rejected (Link elf part) files before after r h e = no_other_link elf part files before after r h (inl e)
-rejected (Replay image schedule) files before after r h e = rejected_replay report_made image schedule files before after r h e
-rejected (Log image schedule) files before after r h e = rejected_replay trace_made image schedule files before after r h e
-rejected (Derive trace) files before after r h e = rejected_trace trace (files trace) (before trace) (after trace) r h e
-rejected (Analyze trace query name) files before after r h e = rejected_query query name trace (files trace) (before trace) (after trace) r h e
-rejected (Gen workers) files before after r h e = only_6 r 8 h (λ six. omega (arith, six)) e
+rejected_trace : (a : Asked) (files : List ℕ → Option (List ℕ)) (before after : List ℕ → ℕ) (f : TraceFault)
+    → IsRefused a files before after (refusal.Trace f) → IsRejected a files
+rejected_trace (Run image flag) files before after f h = absurd h
+rejected_trace (Show image) files before after f h = absurd h
+rejected_trace (Build part) files before after f h = absurd h
+rejected_trace (Link elf part) files before after f h = absurd h
+rejected_trace (Replay image schedule) files before after f h = absurd h
+rejected_trace (Log image schedule) files before after f h = absurd h
+rejected_trace (Emulate image schedule trace) files before after f h = inr (f, h)
+rejected_trace (Enforce image schedule trace) files before after f h = inr (f, h)
+rejected_trace (Derive trace) files before after f h = (f, h)
+rejected_trace (Analyze trace query name) files before after f h = (f, h)
+rejected_trace (Gen workers) files before after f h = absurd cc
 
 pub rejected_only : (a : Asked) (ended : Ended) (before after : Outside) → IsEither a ended before after → ended.status ≡ 8 → IsRejected a before.files
 rejected_only a ended before after either is =
-    by_refusal a ended before after (λ e. omega (arith, e)) (λ e. omega (arith, e)) (λ e. omega (arith, e)) (λ e. omega (arith, e)) either is (rejected a before.files before.reads after.reads)
+    by_refusal a ended before after (λ e. omega (arith, e)) (λ e. omega (arith, e)) (λ e. omega (arith, e)) (λ e. omega (arith, e)) either is (λ r h e. elim (of_8 r e) [
+      | inl s ↦ rejected_schedule a before.files before.reads after.reads s.0 (subst (IsRefused a before.files before.reads after.reads) s.1 h)
+      | inr t ↦ rejected_trace a before.files before.reads after.reads t.0 (subst (IsRefused a before.files before.reads after.reads) t.1 h)
+    ])
 
 -- ---- 9
 
--- no image and no partition has it
-known_by : (meant : List ℕ → Result Image Refusal) (name : List ℕ) (content : Option (List ℕ)) (before after : ℕ) (r : Refusal)
-    → IsRefusedBy meant name content before after r → status_of r ≡ 9 → ⊥
-known_by meant name content before after refusal.NoMemory h e = omega arith
-known_by meant name content before after (refusal.Read file) h e = omega arith
-known_by meant name content before after (refusal.Image fault) h e = omega arith
-known_by meant name content before after (refusal.Partition p) h e = omega arith
-known_by meant name content before after (refusal.Schedule s) h e = h
-known_by meant name content before after (refusal.Trace fault) h e = h
-known_by meant name content before after (refusal.Elf fault) h e = h
-known_by meant name content before after (refusal.NoSuchName item) h e = h
-
-known_replay : (make : Making) (image schedule : List ℕ) (files : List ℕ → Option (List ℕ)) (before after : List ℕ → ℕ) (r : Refusal)
-    → IsReplayRefused make image schedule files before after r → status_of r ≡ 9 → ⊥
-known_replay make image schedule files before after refusal.NoMemory h e = omega arith
-known_replay make image schedule files before after (refusal.Read file) h e = omega arith
-known_replay make image schedule files before after (refusal.Image fault) h e = omega arith
-known_replay make image schedule files before after (refusal.Partition p) h e = h
-known_replay make image schedule files before after (refusal.Schedule s) h e = omega arith
-known_replay make image schedule files before after (refusal.Trace fault) h e = h
-known_replay make image schedule files before after (refusal.Elf fault) h e = h
-known_replay make image schedule files before after (refusal.NoSuchName item) h e = h
-
-known_trace : (trace : List ℕ) (content : Option (List ℕ)) (before after : ℕ) (r : Refusal)
-    → IsTraceRefused trace content before after r → status_of r ≡ 9 → ⊥
-known_trace trace content before after refusal.NoMemory h e = omega arith
-known_trace trace content before after (refusal.Read file) h e = omega arith
-known_trace trace content before after (refusal.Image fault) h e = h
-known_trace trace content before after (refusal.Partition p) h e = h
-known_trace trace content before after (refusal.Schedule s) h e = h
-known_trace trace content before after (refusal.Trace fault) h e = omega arith
-known_trace trace content before after (refusal.Elf fault) h e = h
-known_trace trace content before after (refusal.NoSuchName item) h e = h
-
-unknown_query : (query : Query) (name trace : List ℕ) (content : Option (List ℕ)) (before after : ℕ) (r : Refusal)
-    → IsQueryRefused query name trace content before after r → status_of r ≡ 9 → WhereExposed content (IsUnknownIn query name)
-unknown_query query name trace content before after refusal.NoMemory h e = absurd (omega arith)
-unknown_query query name trace content before after (refusal.Read file) h e = absurd (omega arith)
-unknown_query query name trace content before after (refusal.Image fault) h e = absurd h
-unknown_query query name trace content before after (refusal.Partition p) h e = absurd h
-unknown_query query name trace content before after (refusal.Schedule s) h e = absurd h
-unknown_query query name trace content before after (refusal.Trace fault) h e = absurd (omega arith)
-unknown_query query name trace content before after (refusal.Elf fault) h e = absurd h
-unknown_query query name trace content before after (refusal.NoSuchName item) h e = h.1
-
-unknown : (a : Asked) (files : List ℕ → Option (List ℕ)) (before after : List ℕ → ℕ) (r : Refusal) → IsRefused a files before after r → status_of r ≡ 9 → IsUnknown a files
-unknown (Run image flag) files before after r h e = known_by image_from_bytes image (files image) (before image) (after image) r h e
-unknown (Show image) files before after r h e = known_by image_from_bytes image (files image) (before image) (after image) r h e
-unknown (Build part) files before after r h e = known_by built_of part (files part) (before part) (after part) r h e
-unknown (Link elf part) files before after r h e = no_other_link elf part files before after r h (inr e)
-unknown (Replay image schedule) files before after r h e = known_replay report_made image schedule files before after r h e
-unknown (Log image schedule) files before after r h e = known_replay trace_made image schedule files before after r h e
-unknown (Derive trace) files before after r h e = known_trace trace (files trace) (before trace) (after trace) r h e
-unknown (Analyze trace query name) files before after r h e = unknown_query query name trace (files trace) (before trace) (after trace) r h e
-unknown (Gen workers) files before after r h e = only_6 r 9 h (λ six. omega (arith, six)) e
+unknown : (a : Asked) (files : List ℕ → Option (List ℕ)) (before after : List ℕ → ℕ) (item : List ℕ)
+    → IsRefused a files before after (refusal.NoSuchName item) → IsUnknown a files
+unknown (Run image flag) files before after item h = absurd h
+unknown (Show image) files before after item h = absurd h
+unknown (Build part) files before after item h = absurd h
+unknown (Link elf part) files before after item h = absurd h
+unknown (Replay image schedule) files before after item h = absurd h
+unknown (Log image schedule) files before after item h = absurd h
+unknown (Emulate image schedule trace) files before after item h = absurd h
+unknown (Enforce image schedule trace) files before after item h = absurd h
+unknown (Derive trace) files before after item h = absurd h
+unknown (Analyze trace query name) files before after item h = h.1
+unknown (Gen workers) files before after item h = absurd cc
 
 pub name_only : (a : Asked) (ended : Ended) (before after : Outside) → IsEither a ended before after → ended.status ≡ 9 → IsUnknown a before.files
 name_only a ended before after either is =
-    by_refusal a ended before after (λ e. omega (arith, e)) (λ e. omega (arith, e)) (λ e. omega (arith, e)) (λ e. omega (arith, e)) either is (unknown a before.files before.reads after.reads)
+    by_refusal a ended before after (λ e. omega (arith, e)) (λ e. omega (arith, e)) (λ e. omega (arith, e)) (λ e. omega (arith, e)) either is (λ r h e.
+    let x = of_9 r e in unknown a before.files before.reads after.reads x.0 (subst (IsRefused a before.files before.reads after.reads) x.1 h))
 
 -- ---- 10
 
--- no image and no partition by itself has it
-not_elf : (meant : List ℕ → Result Image Refusal) (name : List ℕ) (content : Option (List ℕ)) (before after : ℕ) (r : Refusal)
-    → IsRefusedBy meant name content before after r → status_of r ≡ 10 → ⊥
-not_elf meant name content before after refusal.NoMemory h e = omega arith
-not_elf meant name content before after (refusal.Read file) h e = omega arith
-not_elf meant name content before after (refusal.Image fault) h e = omega arith
-not_elf meant name content before after (refusal.Partition p) h e = omega arith
-not_elf meant name content before after (refusal.Schedule s) h e = h
-not_elf meant name content before after (refusal.Trace fault) h e = h
-not_elf meant name content before after (refusal.Elf fault) h e = h
-not_elf meant name content before after (refusal.NoSuchName item) h e = h
-
-not_elf_replay : (make : Making) (image schedule : List ℕ) (files : List ℕ → Option (List ℕ)) (before after : List ℕ → ℕ) (r : Refusal)
-    → IsReplayRefused make image schedule files before after r → status_of r ≡ 10 → ⊥
-not_elf_replay make image schedule files before after refusal.NoMemory h e = omega arith
-not_elf_replay make image schedule files before after (refusal.Read file) h e = omega arith
-not_elf_replay make image schedule files before after (refusal.Image fault) h e = omega arith
-not_elf_replay make image schedule files before after (refusal.Partition p) h e = h
-not_elf_replay make image schedule files before after (refusal.Schedule s) h e = omega arith
-not_elf_replay make image schedule files before after (refusal.Trace fault) h e = h
-not_elf_replay make image schedule files before after (refusal.Elf fault) h e = h
-not_elf_replay make image schedule files before after (refusal.NoSuchName item) h e = h
-
-not_elf_trace : (trace : List ℕ) (content : Option (List ℕ)) (before after : ℕ) (r : Refusal)
-    → IsTraceRefused trace content before after r → status_of r ≡ 10 → ⊥
-not_elf_trace trace content before after refusal.NoMemory h e = omega arith
-not_elf_trace trace content before after (refusal.Read file) h e = omega arith
-not_elf_trace trace content before after (refusal.Image fault) h e = h
-not_elf_trace trace content before after (refusal.Partition p) h e = h
-not_elf_trace trace content before after (refusal.Schedule s) h e = h
-not_elf_trace trace content before after (refusal.Trace fault) h e = omega arith
-not_elf_trace trace content before after (refusal.Elf fault) h e = h
-not_elf_trace trace content before after (refusal.NoSuchName item) h e = h
-
-not_elf_query : (query : Query) (name trace : List ℕ) (content : Option (List ℕ)) (before after : ℕ) (r : Refusal)
-    → IsQueryRefused query name trace content before after r → status_of r ≡ 10 → ⊥
-not_elf_query query name trace content before after refusal.NoMemory h e = omega arith
-not_elf_query query name trace content before after (refusal.Read file) h e = omega arith
-not_elf_query query name trace content before after (refusal.Image fault) h e = h
-not_elf_query query name trace content before after (refusal.Partition p) h e = h
-not_elf_query query name trace content before after (refusal.Schedule s) h e = h
-not_elf_query query name trace content before after (refusal.Trace fault) h e = omega arith
-not_elf_query query name trace content before after (refusal.Elf fault) h e = h
-not_elf_query query name trace content before after (refusal.NoSuchName item) h e = omega arith
-
-elf_rejected : (a : Asked) (files : List ℕ → Option (List ℕ)) (before after : List ℕ → ℕ) (r : Refusal) → IsRefused a files before after r → status_of r ≡ 10 → IsElfRejected a files
-elf_rejected (Run image flag) files before after r h e = not_elf image_from_bytes image (files image) (before image) (after image) r h e
-elf_rejected (Show image) files before after r h e = not_elf image_from_bytes image (files image) (before image) (after image) r h e
-elf_rejected (Build part) files before after r h e = not_elf built_of part (files part) (before part) (after part) r h e
-elf_rejected (Link elf part) files before after r h e = rejected_elf elf part files before after r h e
-elf_rejected (Replay image schedule) files before after r h e = not_elf_replay report_made image schedule files before after r h e
-elf_rejected (Log image schedule) files before after r h e = not_elf_replay trace_made image schedule files before after r h e
-elf_rejected (Derive trace) files before after r h e = not_elf_trace trace (files trace) (before trace) (after trace) r h e
-elf_rejected (Analyze trace query name) files before after r h e = not_elf_query query name trace (files trace) (before trace) (after trace) r h e
-elf_rejected (Gen workers) files before after r h e = only_6 r 10 h (λ six. omega (arith, six)) e
+elf_rejected : (a : Asked) (files : List ℕ → Option (List ℕ)) (before after : List ℕ → ℕ) (f : ElfFault)
+    → IsRefused a files before after (refusal.Elf f) → IsElfRejected a files
+elf_rejected (Run image flag) files before after f h = absurd h
+elf_rejected (Show image) files before after f h = absurd h
+elf_rejected (Build part) files before after f h = absurd h
+elf_rejected (Link elf part) files before after f h = (f, h.1)
+elf_rejected (Replay image schedule) files before after f h = absurd h
+elf_rejected (Log image schedule) files before after f h = absurd h
+elf_rejected (Emulate image schedule trace) files before after f h = absurd h
+elf_rejected (Enforce image schedule trace) files before after f h = absurd h
+elf_rejected (Derive trace) files before after f h = absurd h
+elf_rejected (Analyze trace query name) files before after f h = absurd h
+elf_rejected (Gen workers) files before after f h = absurd cc
 
 pub elf_only : (a : Asked) (ended : Ended) (before after : Outside) → IsEither a ended before after → ended.status ≡ 10 → IsElfRejected a before.files
 elf_only a ended before after either is =
-    by_refusal a ended before after (λ e. omega (arith, e)) (λ e. omega (arith, e)) (λ e. omega (arith, e)) (λ e. omega (arith, e)) either is (elf_rejected a before.files before.reads after.reads)
+    by_refusal a ended before after (λ e. omega (arith, e)) (λ e. omega (arith, e)) (λ e. omega (arith, e)) (λ e. omega (arith, e)) either is (λ r h e.
+    let x = of_10 r e in elf_rejected a before.files before.reads after.reads x.0 (subst (IsRefused a before.files before.reads after.reads) x.1 h))
+
+-- ---- 11
+
+violated : (a : Asked) (files : List ℕ → Option (List ℕ)) (before after : List ℕ → ℕ) (v : Violation)
+    → IsRefused a files before after (refusal.Violation v) → IsViolated a files
+violated (Run image flag) files before after v h = absurd h
+violated (Show image) files before after v h = absurd h
+violated (Build part) files before after v h = absurd h
+violated (Link elf part) files before after v h = absurd h
+violated (Replay image schedule) files before after v h = absurd h
+violated (Log image schedule) files before after v h = absurd h
+violated (Emulate image schedule trace) files before after v h = absurd h
+violated (Enforce image schedule trace) files before after v h = (v, h)
+violated (Derive trace) files before after v h = absurd h
+violated (Analyze trace query name) files before after v h = absurd h
+violated (Gen workers) files before after v h = absurd cc
+
+pub enforced_only : (a : Asked) (ended : Ended) (before after : Outside) → IsEither a ended before after → ended.status ≡ 11 → IsViolated a before.files
+enforced_only a ended before after either is =
+    by_refusal a ended before after (λ e. omega (arith, e)) (λ e. omega (arith, e)) (λ e. omega (arith, e)) (λ e. omega (arith, e)) either is (λ r h e.
+    let x = of_11 r e in violated a before.files before.reads after.reads x.0 (subst (IsRefused a before.files before.reads after.reads) x.1 h))
 
 -- ---- 2
 
@@ -556,6 +484,7 @@ replay_refusal make image schedule bytes names files before after (refusal.Sched
 replay_refusal make image schedule bytes names files before after (refusal.Trace fault) h image_is schedule_is = absurd h
 replay_refusal make image schedule bytes names files before after (refusal.Elf fault) h image_is schedule_is = absurd h
 replay_refusal make image schedule bytes names files before after (refusal.NoSuchName item) h image_is schedule_is = absurd h
+replay_refusal make image schedule bytes names files before after (refusal.Violation v) h image_is schedule_is = absurd h
 
 -- a line that was said with its status, or the status of a write that failed
 said_line : (status : ℕ) (text : List ℕ) (ended : Ended) (e f : Device) → IsSaid status text ended e f
@@ -647,6 +576,76 @@ log_done image schedule bytes names ended before after (inl r) image_is schedule
 log_done image schedule bytes names ended before after (inr d) image_is schedule_is =
     pair_done log_text (before.files image) (before.files schedule) bytes names d.kept d.texts ended before.sinks after.sinks d.made image_is schedule_is d.written
 
+-- ---- checks
+
+-- the answer of the three files is this refusal, or memory ran out, or a read failed
+check_refusal : (check : Check) (image schedule trace bytes names records : List ℕ) (files : List ℕ → Option (List ℕ)) (before after : List ℕ → ℕ) (r : Refusal)
+    → IsCheckRefused check image schedule trace files before after r → files image ≡ Some bytes → files schedule ≡ Some names → files trace ≡ Some records
+    → IsCutShort (status_of r) ⊎ (text_of_check check bytes names records ≡ Err r)
+check_refusal check image schedule trace bytes names records files before after refusal.NoMemory h image_is schedule_is trace_is = inl (inr (inr refl))
+check_refusal check image schedule trace bytes names records files before after (refusal.Read file) h image_is schedule_is trace_is = inl (inl refl)
+check_refusal check image schedule trace bytes names records files before after (refusal.Image fault) h image_is schedule_is trace_is = inr (h.0 bytes names records image_is schedule_is trace_is)
+check_refusal check image schedule trace bytes names records files before after (refusal.Partition p) h image_is schedule_is trace_is = absurd h
+check_refusal check image schedule trace bytes names records files before after (refusal.Schedule s) h image_is schedule_is trace_is = inr (h bytes names records image_is schedule_is trace_is)
+check_refusal check image schedule trace bytes names records files before after (refusal.Trace fault) h image_is schedule_is trace_is = inr (h bytes names records image_is schedule_is trace_is)
+check_refusal check image schedule trace bytes names records files before after (refusal.Elf fault) h image_is schedule_is trace_is = absurd h
+check_refusal check image schedule trace bytes names records files before after (refusal.NoSuchName item) h image_is schedule_is trace_is = absurd h
+check_refusal check image schedule trace bytes names records files before after (refusal.Violation v) h image_is schedule_is trace_is = absurd h
+
+enforce_refusal : (image schedule trace bytes names records : List ℕ) (files : List ℕ → Option (List ℕ)) (before after : List ℕ → ℕ) (r : Refusal)
+    → IsEnforceRefused image schedule trace files before after r → files image ≡ Some bytes → files schedule ≡ Some names → files trace ≡ Some records
+    → IsCutShort (status_of r) ⊎ (enforce_text bytes names records ≡ Err r)
+enforce_refusal image schedule trace bytes names records files before after refusal.NoMemory h image_is schedule_is trace_is = check_refusal enforced image schedule trace bytes names records files before after refusal.NoMemory h image_is schedule_is trace_is
+enforce_refusal image schedule trace bytes names records files before after (refusal.Read file) h image_is schedule_is trace_is = check_refusal enforced image schedule trace bytes names records files before after (refusal.Read file) h image_is schedule_is trace_is
+enforce_refusal image schedule trace bytes names records files before after (refusal.Image fault) h image_is schedule_is trace_is = check_refusal enforced image schedule trace bytes names records files before after (refusal.Image fault) h image_is schedule_is trace_is
+enforce_refusal image schedule trace bytes names records files before after (refusal.Partition p) h image_is schedule_is trace_is = check_refusal enforced image schedule trace bytes names records files before after (refusal.Partition p) h image_is schedule_is trace_is
+enforce_refusal image schedule trace bytes names records files before after (refusal.Schedule s) h image_is schedule_is trace_is = check_refusal enforced image schedule trace bytes names records files before after (refusal.Schedule s) h image_is schedule_is trace_is
+enforce_refusal image schedule trace bytes names records files before after (refusal.Trace fault) h image_is schedule_is trace_is = check_refusal enforced image schedule trace bytes names records files before after (refusal.Trace fault) h image_is schedule_is trace_is
+enforce_refusal image schedule trace bytes names records files before after (refusal.Elf fault) h image_is schedule_is trace_is = check_refusal enforced image schedule trace bytes names records files before after (refusal.Elf fault) h image_is schedule_is trace_is
+enforce_refusal image schedule trace bytes names records files before after (refusal.NoSuchName item) h image_is schedule_is trace_is = check_refusal enforced image schedule trace bytes names records files before after (refusal.NoSuchName item) h image_is schedule_is trace_is
+enforce_refusal image schedule trace bytes names records files before after (refusal.Violation v) h image_is schedule_is trace_is = inr (h bytes names records image_is schedule_is trace_is)
+
+-- one that is done, if its text is the answer of three files
+triple_done : (meaning : List ℕ → List ℕ → List ℕ → Result (List ℕ) Refusal) (one other third : Option (List ℕ)) (first second last : List ℕ) (kept : KeptRun) (texts : List Text) (ended : Ended) (s u : Sinks)
+    → IsTripleAnswer meaning one other third kept texts → one ≡ Some first → other ≡ Some second → third ≡ Some last → IsWritten (done_status kept.differs) kept texts ended s u
+    → IsCutShort ended.status ⊎ IsAnswerEnd (meaning first second last) ended.status s u
+triple_done meaning one other third first second last kept texts ended s u made one_is other_is third_is written =
+    let same : meaning first second last ≡ Ok made.text =
+    ap (λ b. meaning b second last) (sym (made.first_is first one_is)) ∙ ap (λ n. meaning made.first n last) (sym (made.second_is second other_is))
+    ∙ ap (λ n. meaning made.first made.second n) (sym (made.last_is last third_is)) ∙ made.meant in
+    elim written.cases [
+      | inl done ↦
+          let took : Takes made.text s.out u.out × (u.err ≡ s.err) = took_out made.text s u (subst (λ ts. AreTaken ts s u) made.are done.0) in
+          inr (subst (λ m. IsAnswerEnd m ended.status s u) (sym same) (done.1 ∙ ran_nothing kept made.kept_is, took.0, took.1))
+      | inr fault ↦ inl (inr (inl fault.1))
+    ]
+
+pub emulate_done : (image schedule trace bytes names records : List ℕ) (ended : Ended) (before after : Outside) → IsEither (Emulate image schedule trace) ended before after
+    → before.files image ≡ Some bytes → before.files schedule ≡ Some names → before.files trace ≡ Some records
+    → IsCutShort ended.status ⊎ IsAnswerEnd (emulate_text bytes names records) ended.status before.sinks after.sinks
+emulate_done image schedule trace bytes names records ended before after (inl r) image_is schedule_is trace_is =
+    answer_refused (emulate_text bytes names records) (Emulate image schedule trace) ended before after r
+    (check_refusal emulated image schedule trace bytes names records before.files before.reads after.reads r.why r.cause image_is schedule_is trace_is)
+emulate_done image schedule trace bytes names records ended before after (inr d) image_is schedule_is trace_is =
+    triple_done emulate_text (before.files image) (before.files schedule) (before.files trace) bytes names records d.kept d.texts ended before.sinks after.sinks d.made image_is schedule_is trace_is d.written
+
+pub enforce_done : (image schedule trace bytes names records : List ℕ) (ended : Ended) (before after : Outside) → IsEither (Enforce image schedule trace) ended before after
+    → before.files image ≡ Some bytes → before.files schedule ≡ Some names → before.files trace ≡ Some records
+    → IsCutShort ended.status ⊎ IsAnswerEnd (enforce_text bytes names records) ended.status before.sinks after.sinks
+enforce_done image schedule trace bytes names records ended before after (inl r) image_is schedule_is trace_is =
+    answer_refused (enforce_text bytes names records) (Enforce image schedule trace) ended before after r
+    (enforce_refusal image schedule trace bytes names records before.files before.reads after.reads r.why r.cause image_is schedule_is trace_is)
+enforce_done image schedule trace bytes names records ended before after (inr d) image_is schedule_is trace_is =
+    triple_done enforce_text (before.files image) (before.files schedule) (before.files trace) bytes names records d.kept d.texts ended before.sinks after.sinks d.made image_is schedule_is trace_is d.written
+
+-- by the run's own trace
+pub own_done : (image schedule trace bytes names records : List ℕ) (ended : Ended) (before after : Outside) → IsEither (Enforce image schedule trace) ended before after
+    → before.files image ≡ Some bytes → before.files schedule ≡ Some names → before.files trace ≡ Some records → IsOwnTrace bytes names records
+    → IsCutShort ended.status ⊎ IsAnswerEnd (replay_text bytes names) ended.status before.sinks after.sinks
+own_done image schedule trace bytes names records ended before after either image_is schedule_is trace_is own =
+    subst (λ m. IsCutShort ended.status ⊎ IsAnswerEnd m ended.status before.sinks after.sinks) (own_permits bytes names records own)
+    (enforce_done image schedule trace bytes names records ended before after either image_is schedule_is trace_is)
+
 -- ---- a link
 
 pub link_answered : (elf part bytes text : List ℕ) (ended : Ended) (before after : Outside) → IsEither (Link elf part) ended before after
@@ -688,6 +687,7 @@ derive_refusal trace bytes content before after (refusal.Trace fault) h exposed 
     inr (ap (λ f. unless_fault f (Ok (sheets_text (sheets_of (records_of bytes))))) (h bytes exposed))
 derive_refusal trace bytes content before after (refusal.Elf fault) h exposed = absurd h
 derive_refusal trace bytes content before after (refusal.NoSuchName item) h exposed = absurd h
+derive_refusal trace bytes content before after (refusal.Violation v) h exposed = absurd h
 
 pub derive_done : (trace bytes : List ℕ) (ended : Ended) (before after : Outside) → IsEither (Derive trace) ended before after
     → before.files trace ≡ Some bytes → IsCutShort ended.status ⊎ IsAnswerEnd (derive_text bytes) ended.status before.sinks after.sinks
@@ -714,6 +714,7 @@ query_refusal query name trace bytes content before after (refusal.NoSuchName it
     ∙ ap (λ lines. answer_to name lines) unknown.no_answer
     ∙ ap (λ n. Err (refusal.NoSuchName n)) (sym h.0)
     )
+query_refusal query name trace bytes content before after (refusal.Violation v) h exposed = absurd h
 
 pub analyze_done : (query : Query) (name trace bytes : List ℕ) (ended : Ended) (before after : Outside) → IsEither (Analyze trace query name) ended before after
     → before.files trace ≡ Some bytes → IsCutShort ended.status ⊎ IsAnswerEnd (analyze_text query name bytes) ended.status before.sinks after.sinks

@@ -13,11 +13,13 @@ use Rattle.cli_inputs.specs.declared.refusal.ScheduleRefusal.{ScheduleRefusal}
 use Rattle.cli_inputs.specs.Loading.{image_from_bytes, built_of, most_of, IsReadFault, IsRefusedBy}
 use Rattle.trace_form.specs.declared.fault.TraceFault.{TraceFault}
 use Rattle.cli_inputs.specs.Replaying.{Making, report_made, trace_made, text_of_replay}
+use Rattle.cli_inputs.specs.Enforcing.{Check, emulated, enforced, text_of_check}
+use Rattle.sheet_enforce.specs.declared.violations.Violation.{Violation}
 use Rattle.elf_in.specs.declared.fault.Fault.{Fault as ElfFault}
 use Rattle.elf_in.specs.Reading.{elf_program as elf_reading}
 use Rattle.cli_inputs.specs.Linking.{link_text, IsUnjoined}
 use Rattle.cli_inputs.specs.Traces.{trace_fault, IsUnknownIn, IsTraceRefused, IsQueryRefused}
-use Rattle.cli_inputs.specs.Words.{Asked, Run, Show, Build, Link, Replay, Log, Derive, Analyze, Gen}
+use Rattle.cli_inputs.specs.Words.{Asked, Run, Show, Build, Link, Replay, Log, Emulate, Enforce, Derive, Analyze, Gen}
 use Rattle.wedge_cli.specs.Ended.{IsCommandOutput, IsWritten, IsSaid, done_status}
 
 -- a read of one of the two files failed; where it is the second, the first is not too long
@@ -43,6 +45,7 @@ IsReplayRefused make image schedule files before after (refusal.Schedule s) = Is
 IsReplayRefused make image schedule files before after (refusal.Trace fault) = ⊥
 IsReplayRefused make image schedule files before after (refusal.Elf fault) = ⊥
 IsReplayRefused make image schedule files before after (refusal.NoSuchName item) = ⊥
+IsReplayRefused make image schedule files before after (refusal.Violation v) = ⊥
 
 -- a read of one of the two files failed; where it is the second, the first is not too long
 abbrev pub IsLinkFault : List ℕ → List ℕ → (List ℕ → Option (List ℕ)) → (List ℕ → ℕ) → (List ℕ → ℕ) → List ℕ → Type 0
@@ -70,6 +73,54 @@ IsLinkRefused elf part files before after (refusal.Trace fault) = ⊥
 IsLinkRefused elf part files before after (refusal.Elf fault) =
     IsLinkAnswer elf part files (Err (refusal.Elf fault)) × IsElfFault (files elf) fault
 IsLinkRefused elf part files before after (refusal.NoSuchName item) = ⊥
+IsLinkRefused elf part files before after (refusal.Violation v) = ⊥
+
+-- a read of one of three files failed; those before it are not too long
+abbrev pub IsThirdFault :
+    List ℕ → List ℕ → List ℕ → (List ℕ → Option (List ℕ)) → (List ℕ → ℕ) → (List ℕ → ℕ) → List ℕ → Type 0
+IsThirdFault image schedule trace files before after file =
+    IsReadFault trace (before trace) (after trace) file
+    × WhereExposed (files image) (λ bytes. length bytes ≤ most_of kind.Image)
+    × WhereExposed (files schedule) (λ bytes. length bytes ≤ most_of kind.Schedule)
+
+abbrev pub IsThreeFault :
+    List ℕ → List ℕ → List ℕ → (List ℕ → Option (List ℕ)) → (List ℕ → ℕ) → (List ℕ → ℕ) → List ℕ → Type 0
+IsThreeFault image schedule trace files before after file =
+    IsReplayFault image schedule files before after file
+    ⊎ IsThirdFault image schedule trace files before after file
+
+-- where the three files are exposed, that is the answer
+abbrev pub IsCheckAnswer :
+    Check → List ℕ → List ℕ → List ℕ → (List ℕ → Option (List ℕ)) → Result (List ℕ) Refusal → Type 0
+IsCheckAnswer check image schedule trace files answer =
+    (bytes names records : List ℕ) → files image ≡ Some bytes → files schedule ≡ Some names
+    → files trace ≡ Some records → text_of_check check bytes names records ≡ answer
+
+-- why there is no replay that is checked
+abbrev pub IsCheckRefused :
+    Check → List ℕ → List ℕ → List ℕ → (List ℕ → Option (List ℕ)) → (List ℕ → ℕ) → (List ℕ → ℕ) → Refusal → Type 0
+IsCheckRefused check image schedule trace files before after refusal.NoMemory = Unit {0}
+IsCheckRefused check image schedule trace files before after (refusal.Read file) =
+    IsThreeFault image schedule trace files before after file
+IsCheckRefused check image schedule trace files before after (refusal.Image fault) =
+    IsCheckAnswer check image schedule trace files (Err (refusal.Image fault))
+    × WhereExposed (files image) (λ bytes. image_from_bytes bytes ≡ Err (refusal.Image fault))
+IsCheckRefused check image schedule trace files before after (refusal.Partition p) = ⊥
+IsCheckRefused check image schedule trace files before after (refusal.Schedule s) =
+    IsCheckAnswer check image schedule trace files (Err (refusal.Schedule s))
+IsCheckRefused check image schedule trace files before after (refusal.Trace fault) =
+    IsCheckAnswer check image schedule trace files (Err (refusal.Trace fault))
+IsCheckRefused check image schedule trace files before after (refusal.Elf fault) = ⊥
+IsCheckRefused check image schedule trace files before after (refusal.NoSuchName item) = ⊥
+IsCheckRefused check image schedule trace files before after (refusal.Violation v) = ⊥
+
+-- and none that is enforced
+abbrev pub IsEnforceRefused :
+    List ℕ → List ℕ → List ℕ → (List ℕ → Option (List ℕ)) → (List ℕ → ℕ) → (List ℕ → ℕ) → Refusal → Type 0
+IsEnforceRefused image schedule trace files before after (refusal.Violation v) =
+    IsCheckAnswer enforced image schedule trace files (Err (refusal.Violation v))
+IsEnforceRefused image schedule trace files before after other =
+    IsCheckRefused enforced image schedule trace files before after other
 
 -- why a command is not done, of the files and of their counts of failed reads before and after
 abbrev pub IsRefused : Asked → (List ℕ → Option (List ℕ)) → (List ℕ → ℕ) → (List ℕ → ℕ) → Refusal → Type 0
@@ -79,6 +130,8 @@ IsRefused (Build part) files before after why = IsRefusedBy built_of part (files
 IsRefused (Link elf part) files before after why = IsLinkRefused elf part files before after why
 IsRefused (Replay image schedule) files before after why = IsReplayRefused report_made image schedule files before after why
 IsRefused (Log image schedule) files before after why = IsReplayRefused trace_made image schedule files before after why
+IsRefused (Emulate image schedule trace) files before after why = IsCheckRefused emulated image schedule trace files before after why
+IsRefused (Enforce image schedule trace) files before after why = IsEnforceRefused image schedule trace files before after why
 IsRefused (Derive trace) files before after why = IsTraceRefused trace (files trace) (before trace) (after trace) why
 IsRefused (Analyze trace query name) files before after why = IsQueryRefused query name trace (files trace) (before trace) (after trace) why
 IsRefused (Gen workers) files before after why = why ≡ refusal.NoMemory
@@ -91,6 +144,8 @@ IsUnfit (Build part) files = WhereExposed (files part) (λ bytes. IsErr (built_o
 IsUnfit (Link elf part) files = (bytes text : List ℕ) → files elf ≡ Some bytes → files part ≡ Some text → IsUnjoined bytes text
 IsUnfit (Replay image schedule) files = WhereExposed (files image) (λ bytes. IsErr (image_from_bytes bytes))
 IsUnfit (Log image schedule) files = WhereExposed (files image) (λ bytes. IsErr (image_from_bytes bytes))
+IsUnfit (Emulate image schedule trace) files = WhereExposed (files image) (λ bytes. IsErr (image_from_bytes bytes))
+IsUnfit (Enforce image schedule trace) files = WhereExposed (files image) (λ bytes. IsErr (image_from_bytes bytes))
 IsUnfit (Derive trace) files = ⊥
 IsUnfit (Analyze trace query name) files = ⊥
 IsUnfit (Gen workers) files = ⊥
@@ -98,6 +153,12 @@ IsUnfit (Gen workers) files = ⊥
 -- its trace is too long or malformed
 abbrev pub IsTraceRejected : Option (List ℕ) → Type 0
 IsTraceRejected content = (fault : TraceFault) × WhereExposed content (λ bytes. trace_fault bytes ≡ Some fault)
+
+-- its schedule or its trace is rejected, as a check of both says
+abbrev pub IsCheckRejected : Check → List ℕ → List ℕ → List ℕ → (List ℕ → Option (List ℕ)) → Type 0
+IsCheckRejected check image schedule trace files =
+    ((s : ScheduleRefusal) × IsCheckAnswer check image schedule trace files (Err (refusal.Schedule s)))
+    ⊎ ((fault : TraceFault) × IsCheckAnswer check image schedule trace files (Err (refusal.Trace fault)))
 
 -- its schedule or its trace is rejected
 abbrev pub IsRejected : Asked → (List ℕ → Option (List ℕ)) → Type 0
@@ -107,6 +168,8 @@ IsRejected (Build part) files = ⊥
 IsRejected (Link elf part) files = ⊥
 IsRejected (Replay image schedule) files = (s : ScheduleRefusal) × IsReplayAnswer report_made image schedule files (Err (refusal.Schedule s))
 IsRejected (Log image schedule) files = (s : ScheduleRefusal) × IsReplayAnswer trace_made image schedule files (Err (refusal.Schedule s))
+IsRejected (Emulate image schedule trace) files = IsCheckRejected emulated image schedule trace files
+IsRejected (Enforce image schedule trace) files = IsCheckRejected enforced image schedule trace files
 IsRejected (Derive trace) files = IsTraceRejected (files trace)
 IsRejected (Analyze trace query name) files = IsTraceRejected (files trace)
 IsRejected (Gen workers) files = ⊥
@@ -119,6 +182,8 @@ IsUnknown (Build part) files = ⊥
 IsUnknown (Link elf part) files = ⊥
 IsUnknown (Replay image schedule) files = ⊥
 IsUnknown (Log image schedule) files = ⊥
+IsUnknown (Emulate image schedule trace) files = ⊥
+IsUnknown (Enforce image schedule trace) files = ⊥
 IsUnknown (Derive trace) files = ⊥
 IsUnknown (Analyze trace query name) files = WhereExposed (files trace) (IsUnknownIn query name)
 IsUnknown (Gen workers) files = ⊥
@@ -128,6 +193,12 @@ abbrev pub IsElfRejected : Asked → (List ℕ → Option (List ℕ)) → Type 0
 IsElfRejected (Link elf part) files = (fault : ElfFault) × IsElfFault (files elf) fault
 IsElfRejected other files = ⊥
 
+-- the sheets of its trace do not permit an access of its run
+abbrev pub IsViolated : Asked → (List ℕ → Option (List ℕ)) → Type 0
+IsViolated (Enforce image schedule trace) files =
+    (v : Violation) × IsCheckAnswer enforced image schedule trace files (Err (refusal.Violation v))
+IsViolated other files = ⊥
+
 -- the count of failed reads of a file of it rose
 abbrev pub IsUnreadable : Asked → (List ℕ → ℕ) → (List ℕ → ℕ) → Type 0
 IsUnreadable (Run image flag) before after = before image < after image
@@ -136,6 +207,10 @@ IsUnreadable (Build part) before after = before part < after part
 IsUnreadable (Link elf part) before after = (before elf < after elf) ⊎ (before part < after part)
 IsUnreadable (Replay image schedule) before after = (before image < after image) ⊎ (before schedule < after schedule)
 IsUnreadable (Log image schedule) before after = (before image < after image) ⊎ (before schedule < after schedule)
+IsUnreadable (Emulate image schedule trace) before after =
+    (before image < after image) ⊎ (before schedule < after schedule) ⊎ (before trace < after trace)
+IsUnreadable (Enforce image schedule trace) before after =
+    (before image < after image) ⊎ (before schedule < after schedule) ⊎ (before trace < after trace)
 IsUnreadable (Derive trace) before after = before trace < after trace
 IsUnreadable (Analyze trace query name) before after = before trace < after trace
 IsUnreadable (Gen workers) before after = ⊥

@@ -31,9 +31,10 @@ use Rattle.wedge_cli.specs.Lines.{line, write_fault_line, refusal_text, status_o
 use Rattle.cli_inputs.specs.Listing.{listing}
 use Rattle.cli_inputs.specs.Loading.{image_from_bytes, built_of, most_of}
 use Rattle.cli_inputs.specs.Replaying.{replay_text, log_text}
+use Rattle.cli_inputs.specs.Enforcing.{emulate_text, enforce_text}
 use Rattle.cli_inputs.specs.Linking.{link_text, IsLinkedImage}
 use Rattle.cli_inputs.specs.Traces.{derive_text, analyze_text}
-use Rattle.cli_inputs.specs.Words.{Asked, Run, Show, Build, Link, Replay, Log, Derive, Analyze, Gen}
+use Rattle.cli_inputs.specs.Words.{Asked, Run, Show, Build, Link, Replay, Log, Emulate, Enforce, Derive, Analyze, Gen}
 use Rattle.workload.specs.Workload.{workload}
 
 -- ---- what a command makes of its files
@@ -147,6 +148,19 @@ pub record IsPairAnswer (meaning : List ℕ → List ℕ → Result (List ℕ) R
   pub meant : meaning first second ≡ Ok text
   pub are : texts ≡ on_out text
 
+-- three files are answered
+pub record IsTripleAnswer (meaning : List ℕ → List ℕ → List ℕ → Result (List ℕ) Refusal) (one other third : Option (List ℕ)) (kept : KeptRun) (texts : List Text) : Type 0 where
+  pub first : List ℕ
+  pub second : List ℕ
+  pub last : List ℕ
+  pub first_is : WhereExposed one (λ exposed. first ≡ exposed)
+  pub second_is : WhereExposed other (λ exposed. second ≡ exposed)
+  pub last_is : WhereExposed third (λ exposed. last ≡ exposed)
+  pub kept_is : kept ≡ no_run
+  pub text : List ℕ
+  pub meant : meaning first second last ≡ Ok text
+  pub are : texts ≡ on_out text
+
 -- an ELF file is linked with a partition
 pub record IsLinked (elf part : Option (List ℕ)) (kept : KeptRun) (texts : List Text) : Type 0 where
   pub answer : IsPairAnswer link_text elf part kept texts
@@ -170,6 +184,10 @@ IsCommandOutput (Build part) files kept texts = IsBuilt (files part) kept texts
 IsCommandOutput (Link elf part) files kept texts = IsLinked (files elf) (files part) kept texts
 IsCommandOutput (Replay image schedule) files kept texts = IsPairAnswer replay_text (files image) (files schedule) kept texts
 IsCommandOutput (Log image schedule) files kept texts = IsPairAnswer log_text (files image) (files schedule) kept texts
+IsCommandOutput (Emulate image schedule trace) files kept texts =
+    IsTripleAnswer emulate_text (files image) (files schedule) (files trace) kept texts
+IsCommandOutput (Enforce image schedule trace) files kept texts =
+    IsTripleAnswer enforce_text (files image) (files schedule) (files trace) kept texts
 IsCommandOutput (Derive trace) files kept texts = IsTraceAnswer derive_text (files trace) kept texts
 IsCommandOutput (Analyze trace query name) files kept texts = IsTraceAnswer (analyze_text query name) (files trace) kept texts
 IsCommandOutput (Gen workers) files kept texts = IsSummed workers kept texts

@@ -7,6 +7,7 @@ use Rattle.image_form.specs.Words as image
 use Rattle.rv_asm.specs.Words as asm
 use Rattle.trace_form.specs.declared.fault.TraceFault.{TraceFault}
 use Rattle.trace_form.specs.Fault as trace
+use Rattle.sheet_enforce.specs.Texts.{enforced_text}
 use Rattle.cli_inputs.specs.declared.refusal.PartRefusal.{PartRefusal}
 use Rattle.cli_inputs.specs.declared.refusal.PartRefusal.TheVariants as part
 use Rattle.world_turns.specs.declared.error.Why.{Why}
@@ -74,6 +75,7 @@ refusal_text (refusal.Schedule s) = schedule_text s
 refusal_text (refusal.Trace fault) = trace_fault_text fault
 refusal_text (refusal.Elf fault) = elf_text fault
 refusal_text (refusal.NoSuchName name) = codes "no such name: " ++ name
+refusal_text (refusal.Violation v) = enforced_text v
 
 abbrev pub status_of : Refusal → ℕ
 status_of refusal.NoMemory = 6
@@ -84,3 +86,4 @@ status_of (refusal.Schedule s) = 8
 status_of (refusal.Trace fault) = 8
 status_of (refusal.Elf fault) = 10
 status_of (refusal.NoSuchName name) = 9
+status_of (refusal.Violation v) = 11

@@ -9,6 +9,7 @@ ghost use Rattle.cli_inputs.specs.Replaying as replays;
 ghost use Rattle.cli_inputs.specs.Replaying.{report_made, trace_made};
 ghost use Rattle.cli_inputs.specs.Traces.{derive_text, analyze_text, IsTraceRefused, IsQueryRefused};
 
+use crate::checks::{emulate, enforce};
 use crate::lines::difference_line;
 use crate::workloads::run_workload;
 use crate::writing::{KeptRun, Ready, SinkName, Text};
@@ -53,6 +54,16 @@ pub(crate) fn prepare<R: Threads + Wait + Sync, F: Files, P: Pace + Sync>(
         Command::Link { elf, part } => link(alloc, files, elf, part),
         Command::Replay { image, schedule } => replay(alloc, files, image, schedule),
         Command::Log { image, schedule } => log(alloc, files, image, schedule),
+        Command::Emulate {
+            image,
+            schedule,
+            trace,
+        } => emulate(alloc, files, image, schedule, trace),
+        Command::Enforce {
+            image,
+            schedule,
+            trace,
+        } => enforce(alloc, files, image, schedule, trace),
         Command::Derive { trace } => derive(alloc, files, trace),
         Command::Analyze { trace, query, name } => analyze(alloc, files, trace, query, name),
         Command::Gen { workers } => {
@@ -310,7 +321,7 @@ fn analyze<F: Files>(
 }
 
 /// One text, on the output, of a command that runs nothing.
-fn on_out(alloc: Global, bytes: Vec<u8>) -> Result<Ready, NoMemory>
+pub(crate) fn on_out(alloc: Global, bytes: Vec<u8>) -> Result<Ready, NoMemory>
     ensures kept { IfOk result (λ r. r.kept ≡ no_run) }
     ensures texts { IfOk result (λ r. r.texts.items ≡ on_out bytes.items) }
 {

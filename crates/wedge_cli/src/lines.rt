@@ -4,10 +4,12 @@ ghost use Rattle.std.specs.Prelude.{◌≡◌, ◌++◌, codes, IfOk, OnOk};
 ghost use Rattle.std.specs.Fmt.{decimal};
 ghost use Rattle.wedge_cli.specs.Lines as lines;
 ghost use Rattle.audited_run.specs.Texts.{difference_text};
+ghost use Rattle.sheet_enforce.specs.Texts.{enforced_text};
 
 use audited_run::write_difference;
 use cli_inputs::{PartRefusal, Refusal, ScheduleRefusal};
 use run_audit::Difference;
+use sheet_enforce::{Violation, write_enforced};
 use std::alloc::{AllocError, Global};
 use trace_form::TraceFault;
 use wedge_base::NoMemory;
@@ -57,6 +59,7 @@ pub(crate) fn refusal_line(alloc: Global, refusal: &Refusal) -> Result<Vec<u8>, 
         Refusal::Schedule(fault) => schedule_line(alloc, *fault),
         Refusal::Trace(fault) => trace_line(alloc, *fault),
         Refusal::NoSuchName { name } => no_such_name_line(alloc, name.as_slice()),
+        Refusal::Violation(violation) => violation_line(alloc, violation),
     }
 }
 
@@ -132,6 +135,18 @@ fn no_such_name_line(alloc: Global, name: &[u8]) -> Result<Vec<u8>, AllocError>
 {
     let mut line = Vec::from_slice(alloc, b"wedge: no such name: ")?;
     line.extend_from_slice(name)?;
+    line.push(b'\n')?;
+    Ok(line)
+}
+
+/// The line of an access that is not permitted.
+fn violation_line(alloc: Global, violation: &Violation) -> Result<Vec<u8>, AllocError>
+    ensures { IfOk result (λ v. v.items ≡ lines.line (enforced_text violation.now)) }
+{
+    let mut line = Vec::from_slice(alloc, b"wedge: ")?;
+    if let Err(NoMemory) = write_enforced(&mut line, violation) {
+        return Err(AllocError);
+    }
     line.push(b'\n')?;
     Ok(line)
 }

@@ -21,9 +21,10 @@ pub(crate) const DISAGREED: u8 = 7;
 pub(crate) const REJECTED: u8 = 8;
 /// The status of a query of a trace that has no such name.
 pub(crate) const NO_SUCH_NAME: u8 = 9;
-
 /// The status of an ELF file that is refused.
 pub(crate) const ELF_REFUSED: u8 = 10;
+/// The status of a run with an access that the sheets of a trace do not permit.
+pub(crate) const ENFORCED: u8 = 11;
 
 /// What the program ends with.
 #[derive(Debug, Drop)]

@@ -8,14 +8,15 @@ ghost use Rattle.wedge_cli.specs.Lines as lines;
 ghost use Rattle.wedge_cli.specs.Ended.{IsSaid, IsRunDone, IsScheduleDone, IsStatsDone, IsMadeAgain, IsRunEnd, IsLinkDone, IsGenDone, IsGenMadeAgain, IsGenEnd, IsCutShort, IsAnswerEnd, HasEnd};
 ghost use Rattle.cli_inputs.specs.Loading.{image_from_bytes};
 ghost use Rattle.cli_inputs.specs.Linking.{link_text};
+ghost use Rattle.cli_inputs.specs.Enforcing.{emulate_text, enforce_text, IsOwnTrace};
 ghost use Rattle.cli_inputs.specs.Replaying.{log_text, replay_text};
 ghost use Rattle.cli_inputs.specs.Traces.{derive_text, analyze_text};
-ghost use Rattle.wedge_cli.specs.Causes.{IsUnfit, IsRejected, IsElfRejected, IsUnknown, IsUnreadable, SaysRefusal, IsCommandAnswer};
+ghost use Rattle.wedge_cli.specs.Causes.{IsUnfit, IsRejected, IsElfRejected, IsUnknown, IsViolated, IsUnreadable, SaysRefusal, IsCommandAnswer};
 
 use crate::commands::prepare;
 use crate::lines::{no_memory_line, refusal_line, usage_line};
 use crate::status::{
-    ELF_REFUSED, Ended, NO_MEMORY, NO_SUCH_NAME, READ_FAULT, REFUSED, REJECTED, USAGE,
+    ELF_REFUSED, ENFORCED, Ended, NO_MEMORY, NO_SUCH_NAME, READ_FAULT, REFUSED, REJECTED, USAGE,
 };
 use crate::writing::{finish, say};
 use cli_inputs::{Query, Refusal, RunFlag, WordsFault, read_words};
@@ -29,6 +30,8 @@ use std::thread::Threads;
 /// does so with the program of an ELF file in place of the partition's text.
 /// `run IMAGE --schedule` writes the schedule of the run on `out` and its report on `err`;
 /// `replay IMAGE SCHEDULE` takes the turns of a schedule and writes the report of the run that they make.
+/// `log IMAGE SCHEDULE` writes the trace of that run. `emulate IMAGE SCHEDULE TRACE` writes its report and each access
+/// that the sheets derived from a trace do not permit, and `enforce IMAGE SCHEDULE TRACE` its report if there is none.
 /// `derive TRACE` writes the sheets that a trace needs, and `analyze TRACE accessed PROC`,
 /// `analyze TRACE users ITEM` and `analyze TRACE written PROC` write the lines that answer a query of it.
 /// `gen N` runs the workload of N workers on threads and writes the line that sums the run up on `out`; it reads no file.
@@ -40,7 +43,8 @@ use std::thread::Threads;
 /// The status is 0 where that was written; 2 where the arguments are no command; 3 where a file's bytes
 /// encode no image, or no partition; 4 where a read failed; 5 where a write failed; 6 where memory ran
 /// out; 8 where a file is no schedule of a complete run of the image, or no trace; 9 where a trace has no
-/// procedure or no item of the name that is asked for; 10 where a file is no ELF file of a program. A refusal leaves
+/// procedure or no item of the name that is asked for; 10 where a file is no ELF file of a program; 11 where a run that is to
+/// be enforced has an access that is not permitted. A refusal leaves
 /// `out` alone and writes one line on `err`. A write that
 /// fails leaves a prefix of its text, and is reported once on `err`.
 pub fn wedge<R: Threads + Wait + Sync, F: Files, O: Sink, E: Sink, P: Pace + Sync>(
@@ -152,6 +156,34 @@ pub fn wedge<R: Threads + Wait + Sync, F: Files, O: Sink, E: Sink, P: Pace + Syn
         (sinks (O.written out.old) (O.faults out.old) (E.written err.old) (E.faults err.old))
         (sinks (O.written out.new) (O.faults out.new) (E.written err.new) (E.faults err.new)) }
 
+    // Of `emulate IMAGE SCHEDULE TRACE`, where no read or write failed and memory did not run out: what the bytes of the
+    // three files say.
+    ensures emulate { (image schedule trace bytes names records : List ℕ)
+        → command_of (texts words.now) ≡ Some (asking.Emulate image schedule trace)
+        → F.content files.old image ≡ Some bytes → F.content files.old schedule ≡ Some names
+        → F.content files.old trace ≡ Some records
+        → IsCutShort result.status ⊎ IsAnswerEnd (emulate_text bytes names records) result.status
+        (sinks (O.written out.old) (O.faults out.old) (E.written err.old) (E.faults err.old))
+        (sinks (O.written out.new) (O.faults out.new) (E.written err.new) (E.faults err.new)) }
+
+    // Of `enforce IMAGE SCHEDULE TRACE`: the same.
+    ensures enforce { (image schedule trace bytes names records : List ℕ)
+        → command_of (texts words.now) ≡ Some (asking.Enforce image schedule trace)
+        → F.content files.old image ≡ Some bytes → F.content files.old schedule ≡ Some names
+        → F.content files.old trace ≡ Some records
+        → IsCutShort result.status ⊎ IsAnswerEnd (enforce_text bytes names records) result.status
+        (sinks (O.written out.old) (O.faults out.old) (E.written err.old) (E.faults err.old))
+        (sinks (O.written out.new) (O.faults out.new) (E.written err.new) (E.faults err.new)) }
+
+    // Where the trace is the run's own, all is permitted, and `enforce` ends as `replay` does.
+    ensures own_trace { (image schedule trace bytes names records : List ℕ)
+        → command_of (texts words.now) ≡ Some (asking.Enforce image schedule trace)
+        → F.content files.old image ≡ Some bytes → F.content files.old schedule ≡ Some names
+        → F.content files.old trace ≡ Some records → IsOwnTrace bytes names records
+        → IsCutShort result.status ⊎ IsAnswerEnd (replay_text bytes names) result.status
+        (sinks (O.written out.old) (O.faults out.old) (E.written err.old) (E.faults err.old))
+        (sinks (O.written out.new) (O.faults out.new) (E.written err.new) (E.faults err.new)) }
+
     // Of `derive TRACE`, where no read or write failed and memory did not run out: what the bytes of the
     // file say.
     ensures derive { (trace bytes : List ℕ)
@@ -193,6 +225,9 @@ pub fn wedge<R: Threads + Wait + Sync, F: Files, O: Sink, E: Sink, P: Pace + Syn
     ensures name_only { (a : Asked) → command_of (texts words.now) ≡ Some a
         → result.status ≡ 9
         → IsUnknown a (F.content files.old) }
+    ensures enforced_only { (a : Asked) → command_of (texts words.now) ≡ Some a
+        → result.status ≡ 11
+        → IsViolated a (F.content files.old) }
     ensures read_only { (a : Asked) → command_of (texts words.now) ≡ Some a
         → result.status ≡ 4
         → IsUnreadable a (F.faults files.old) (F.faults files.new) }
@@ -283,6 +318,27 @@ pub fn exit_status<R: Threads + Wait + Sync, F: Files, O: Sink, E: Sink, P: Pace
         → IsCutShort result ⊎ IsAnswerEnd (log_text bytes names) result
         (sinks (O.written out.old) (O.faults out.old) (E.written err.old) (E.faults err.old))
         (sinks (O.written out.new) (O.faults out.new) (E.written err.new) (E.faults err.new)) }
+    ensures emulate { (image schedule trace bytes names records : List ℕ)
+        → command_of (texts words.now) ≡ Some (asking.Emulate image schedule trace)
+        → F.content files.old image ≡ Some bytes → F.content files.old schedule ≡ Some names
+        → F.content files.old trace ≡ Some records
+        → IsCutShort result ⊎ IsAnswerEnd (emulate_text bytes names records) result
+        (sinks (O.written out.old) (O.faults out.old) (E.written err.old) (E.faults err.old))
+        (sinks (O.written out.new) (O.faults out.new) (E.written err.new) (E.faults err.new)) }
+    ensures enforce { (image schedule trace bytes names records : List ℕ)
+        → command_of (texts words.now) ≡ Some (asking.Enforce image schedule trace)
+        → F.content files.old image ≡ Some bytes → F.content files.old schedule ≡ Some names
+        → F.content files.old trace ≡ Some records
+        → IsCutShort result ⊎ IsAnswerEnd (enforce_text bytes names records) result
+        (sinks (O.written out.old) (O.faults out.old) (E.written err.old) (E.faults err.old))
+        (sinks (O.written out.new) (O.faults out.new) (E.written err.new) (E.faults err.new)) }
+    ensures own_trace { (image schedule trace bytes names records : List ℕ)
+        → command_of (texts words.now) ≡ Some (asking.Enforce image schedule trace)
+        → F.content files.old image ≡ Some bytes → F.content files.old schedule ≡ Some names
+        → F.content files.old trace ≡ Some records → IsOwnTrace bytes names records
+        → IsCutShort result ⊎ IsAnswerEnd (replay_text bytes names) result
+        (sinks (O.written out.old) (O.faults out.old) (E.written err.old) (E.faults err.old))
+        (sinks (O.written out.new) (O.faults out.new) (E.written err.new) (E.faults err.new)) }
     ensures derive { (trace bytes : List ℕ)
         → command_of (texts words.now) ≡ Some (asking.Derive trace)
         → F.content files.old trace ≡ Some bytes
@@ -312,6 +368,8 @@ pub fn exit_status<R: Threads + Wait + Sync, F: Files, O: Sink, E: Sink, P: Pace
         → IsElfRejected a (F.content files.old) }
     ensures name_only { (a : Asked) → command_of (texts words.now) ≡ Some a → result ≡ 9
         → IsUnknown a (F.content files.old) }
+    ensures enforced_only { (a : Asked) → command_of (texts words.now) ≡ Some a → result ≡ 11
+        → IsViolated a (F.content files.old) }
     ensures read_only { (a : Asked) → command_of (texts words.now) ≡ Some a → result ≡ 4
         → IsUnreadable a (F.faults files.old) (F.faults files.new) }
     ensures write_only { result ≡ 5
@@ -385,5 +443,6 @@ fn status_of(refusal: &Refusal) -> u8
         Refusal::Schedule(_) | Refusal::Trace(_) => REJECTED,
         Refusal::Elf(_) => ELF_REFUSED,
         Refusal::NoSuchName { .. } => NO_SUCH_NAME,
+        Refusal::Violation(_) => ENFORCED,
     }
 }

@@ -1,6 +1,6 @@
 use Rattle.wedge_cli.proofs.GenEnds.{gen_done, gen_again, gen_ended}
 use Rattle.wedge_cli.proofs.RunEnds.{run_done, schedule_done, stats_done, run_again, run_ended}
-use Rattle.wedge_cli.proofs.Statuses.{replay_done, log_done, link_answered, link_done, derive_done, analyze_done, rejected_only, name_only, elf_only, usage_only, image_only, read_only, write_only, unwritten, differs_only, differs_7}
+use Rattle.wedge_cli.proofs.Statuses.{replay_done, log_done, emulate_done, enforce_done, own_done, enforced_only, link_answered, link_done, derive_done, analyze_done, rejected_only, name_only, elf_only, usage_only, image_only, read_only, write_only, unwritten, differs_only, differs_7}
 use Rattle.wedge_cli.proofs.top.wedge.Goals as goal
 
 pub returns-clause-run : goal.returns-clause-run
@@ -74,3 +74,18 @@ returns-clause-workload_again g c = λ workers asked is. gen_again workers _ _ _
 
 pub returns-clause-workload_ends : goal.returns-clause-workload_ends
 returns-clause-workload_ends g c = λ workers asked. gen_ended workers _ _ _ (c.does.ensures.answer.command _ asked)
+
+pub returns-clause-emulate : goal.returns-clause-emulate
+returns-clause-emulate g c = λ image schedule trace bytes names records asked image_is schedule_is trace_is.
+    emulate_done image schedule trace bytes names records _ _ _ (c.does.ensures.answer.command _ asked) image_is schedule_is trace_is
+
+pub returns-clause-enforce : goal.returns-clause-enforce
+returns-clause-enforce g c = λ image schedule trace bytes names records asked image_is schedule_is trace_is.
+    enforce_done image schedule trace bytes names records _ _ _ (c.does.ensures.answer.command _ asked) image_is schedule_is trace_is
+
+pub returns-clause-own_trace : goal.returns-clause-own_trace
+returns-clause-own_trace g c = λ image schedule trace bytes names records asked image_is schedule_is trace_is own.
+    own_done image schedule trace bytes names records _ _ _ (c.does.ensures.answer.command _ asked) image_is schedule_is trace_is own
+
+pub returns-clause-enforced_only : goal.returns-clause-enforced_only
+returns-clause-enforced_only g c = λ a asked is. enforced_only a _ _ _ (c.does.ensures.answer.command a asked) is

@@ -1,0 +1,2 @@
+-- An actor at rest, and what it is at.
+mod AtRest

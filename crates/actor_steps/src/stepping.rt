@@ -1,0 +1,187 @@
+//! What an actor comes to, and the events that it does alone.
+
+ghost use Rattle.std.specs.Prelude.{◌≡◌, false, IfOk, OnOk};
+ghost use Rattle.wedge_events.specs.declared.events.SlotWant.{SlotWant as ASlotWant};
+ghost use Rattle.wedge_events.specs.declared.events.Want.{Want as AWant};
+ghost use Rattle.machine.specs.Local.{is_running};
+ghost use Rattle.run_cells.specs.Entries.{IsOfCell};
+ghost use Rattle.machine.specs.declared.next.Next.TheVariants as next;
+ghost use Rattle.actor_task.specs.Steps.{IsStep, IsAtRest, IsJoint, WantsNone};
+ghost use Rattle.actor_task.specs.Tasks.{TaskState, IsSame};
+
+use actor_task::{ActorTask, GateEntry, Last, Step};
+use host_io::Pace;
+use journal_cell::RunOf;
+use machine::{Next, Phase};
+use ready_text::Program;
+use run_cells::{RunCells, is_of_cell};
+use std::sync::Wait;
+use wedge_base::{NoMemory, Slot};
+use wedge_events::{GateAsk, SlotWant, Want};
+
+/// Makes the actor's local events, and then its next shared event, if no other actor has part in that. Loads and stores of a
+/// slot, which are the most, are found by the actor's phase: what it wants is not copied for them.
+#[inline(always)]
+pub fn step<I: RunOf, R: Wait, P: Pace>(
+    task: &mut ActorTask<I>,
+    rt: &R,
+    program: &Program<'_>,
+    cells: &RunCells<I>,
+    pace: &P,
+) -> Result<Step, NoMemory>
+    requires { program.now ≡ I.image }
+    ensures same { OnOk result (IsSame task.old.progress task.new.progress) }
+    ensures step { IfOk result (IsStep task.new) }
+{
+    task.rest(program)?;
+    task.run.wants_fit();
+    if let Phase::Within(Want::Slot { slot, want }) = task.run.phase() {
+        match want {
+            SlotWant::Load { offset, width } => {
+                let (slot, offset, width) = (*slot, *offset, *width);
+                load(task, rt, program, cells, pace, slot, offset, width)?;
+                return Ok(Step::Went);
+            }
+            SlotWant::Store {
+                offset,
+                width,
+                value,
+            } => {
+                let (slot, offset, width, value) = (*slot, *offset, *width, *value);
+                store(task, rt, program, cells, pace, slot, offset, width, value)?;
+                return Ok(Step::Went);
+            }
+            _ => {}
+        }
+    }
+    step_next(task, rt, program, cells, pace)
+}
+
+/// Makes the next shared event of an actor at rest, if no other actor has part in that.
+#[inline(never)]
+fn step_next<I: RunOf, R: Wait, P: Pace>(
+    task: &mut ActorTask<I>,
+    rt: &R,
+    program: &Program<'_>,
+    cells: &RunCells<I>,
+    pace: &P,
+) -> Result<Step, NoMemory>
+    requires image { program.now ≡ I.image }
+    requires still { is_running task.old.progress.state.phase ≡ false }
+    requires going { task.old.stopped ≡ false }
+    ensures same { OnOk result (IsSame task.old.progress task.new.progress) }
+    ensures step { IfOk result (IsStep task.new) }
+{
+    match task.next()? {
+        Next::Shared(want) => {
+            if is_of_cell(&want) {
+                do_event(task, rt, program, cells, pace, want)?;
+                return Ok(Step::Went);
+            }
+            Ok(step_of_want(want))
+        }
+        next => Ok(step_at(&next)),
+    }
+}
+
+/// A load. Out of line, and with the kind of what is wanted known: so the compiler leaves out of the most frequent events
+/// what only others need.
+#[inline(never)]
+fn load<I: RunOf, R: Wait, P: Pace>(
+    task: &mut ActorTask<I>,
+    rt: &R,
+    program: &Program<'_>,
+    cells: &RunCells<I>,
+    pace: &P,
+    slot: Slot,
+    offset: u32,
+    width: u8,
+) -> Result<(), NoMemory>
+    requires image { program.now ≡ I.image }
+    requires rest { IsAtRest task.old
+        (next.Shared (AWant.Slot slot (ASlotWant.Load offset width))) }
+    ensures { OnOk result (IsSame task.old.progress task.new.progress) }
+{
+    let want = SlotWant::Load { offset, width };
+    do_event(task, rt, program, cells, pace, Want::Slot { slot, want })
+}
+
+/// A store, out of line for the same reason.
+#[inline(never)]
+fn store<I: RunOf, R: Wait, P: Pace>(
+    task: &mut ActorTask<I>,
+    rt: &R,
+    program: &Program<'_>,
+    cells: &RunCells<I>,
+    pace: &P,
+    slot: Slot,
+    offset: u32,
+    width: u8,
+    value: u32,
+) -> Result<(), NoMemory>
+    requires image { program.now ≡ I.image }
+    requires rest { IsAtRest task.old
+        (next.Shared (AWant.Slot slot (ASlotWant.Store offset width value))) }
+    ensures { OnOk result (IsSame task.old.progress task.new.progress) }
+{
+    let want = SlotWant::Store {
+        offset,
+        width,
+        value,
+    };
+    do_event(task, rt, program, cells, pace, Want::Slot { slot, want })
+}
+
+/// The event that the actor wants, done and logged.
+#[inline(always)]
+fn do_event<I: RunOf, R: Wait, P: Pace>(
+    task: &mut ActorTask<I>,
+    rt: &R,
+    program: &Program<'_>,
+    cells: &RunCells<I>,
+    pace: &P,
+    want: Want,
+) -> Result<(), NoMemory>
+    requires image { program.now ≡ I.image }
+    requires rest { IsAtRest task.old (next.Shared want) }
+    requires of_cell { IsOfCell want }
+    ensures { OnOk result (IsSame task.old.progress task.new.progress) }
+{
+    pace.before(task.run.name());
+    let entry = cells.enter(rt, &task.run, want)?;
+    task.take_plain(program, entry)
+}
+
+/// Returns what an actor at rest came to that wants nothing.
+fn step_at(next: &Next) -> Step
+    requires { WantsNone next.now }
+    ensures { (k : TaskState) → IsAtRest k next.now → IsStep k result }
+{
+    match next {
+        Next::Ended(_) => Step::AtEnd(Last::Ended),
+        Next::Waiting { run } => Step::Waits { number: *run },
+        Next::Shared(_) => unreachable!(),
+    }
+}
+
+/// Returns what an actor came to that wants an event of no cell alone.
+fn step_of_want(want: Want) -> Step
+    requires { IsJoint want }
+    ensures { (k : TaskState) → IsAtRest k (next.Shared want) → IsStep k result }
+{
+    match want {
+        Want::Start { child } => Step::Start { child },
+        Want::Join { child } => Step::Join { number: child },
+        Want::Enter { run } => Step::Enter { run },
+        Want::Leave { end } => Step::AtEnd(Last::Leave { end }),
+        Want::Gate { gate, ask } => match ask {
+            GateAsk::Enter { run, memory } => Step::EnterRecycled(GateEntry { gate, run, memory }),
+            GateAsk::Leave { end, memory } => {
+                Step::AtEnd(Last::LeaveRecycled { gate, end, memory })
+            }
+        },
+        Want::Slot { .. } | Want::Fd { .. } | Want::Lives(_) | Want::Slots(_) | Want::Fds(_) => {
+            unreachable!()
+        }
+    }
+}

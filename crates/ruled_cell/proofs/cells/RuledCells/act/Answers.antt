@@ -1,0 +1,15 @@
+use Rattle.std.proofs.Common.{rules, ap, sym, ◌∙◌, subst, ◌≡◌, ◌∷◌, []}
+use Rattle.atomic_table.specs.Table.{rest}
+use Rattle.journal_cell.specs.Histories.{entry_at}
+use Rattle.ruled_cell.proofs.Lists.{ok_two}
+use Rattle.ruled_cell.proofs.cells.RuledCells.act.Goals as goal
+
+pub slot_mut-inside-requires : goal.slot_mut-inside-requires
+slot_mut-inside-requires g c = let t = c.requires.has_cell in (search rules, (t.0, t.1 ∙ ap (λ l. (c.args.cell, t.0) ∷ rest l) (sym t.1)))
+
+pub returns-clause-ok : goal.returns-clause-ok
+returns-clause-ok g c = let k = c.slot_mut-inside.result.now in let bare : rest c.args.seat.now.me.1 ≡ [] = ap rest c.requires.has_cell.1 in
+    let carried = c.slot_mut-inside.ensures.value ∙ ap (λ l. (c.args.cell, k) ∷ l) bare in let state = c.state.ensures in
+    let finds = subst (g.M.AskMaker.finds c.args.maker.now) state c.ask-ask.ensures.finds in
+    let asked = c.ask-ask.ensures.makes ∙ ap (g.M.AskMaker.makes c.args.maker.now) state in
+    ok_two _ _ _ c.enter.result (λ e a b. (k, carried, finds, a ∙ ap (entry_at g.O.Object.reply k c.args.actor.now) asked, λ i. (c.args.cell, b i) ∷ bare i)) c.enter.ensures.entry c.enter.ensures.kept

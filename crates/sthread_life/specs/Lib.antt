@@ -1,0 +1,2 @@
+-- What an actor at a shared event wants.
+pub mod Within
