@@ -1,2 +1,0 @@
--- The event that a step does and logs.
-pub mod Logged
