@@ -517,6 +517,7 @@ OTHERS = [
             ("actor_task/Tasks", "`KeepsTask` is `IsProgress` with the cells of the gates that are known."),
             ("actor_task/Steps", ""),
             ("actor_task/States", ""),
+            ("actor_steps/Logged", "Where a step went, the progress is that after one entry more."),
             ("gate_runner/Endings", ""),
         ],
     ),

@@ -8,6 +8,9 @@ ghost use Rattle.run_cells.specs.Entries.{IsOfCell};
 ghost use Rattle.machine.specs.declared.next.Next.TheVariants as next;
 ghost use Rattle.actor_task.specs.Steps.{IsStep, IsAtRest, IsJoint, WantsNone};
 ghost use Rattle.actor_task.specs.Tasks.{TaskState, IsSame};
+ghost use Rattle.thread_laws.specs.ActorProgresses.{ActorProgress, after_rest};
+ghost use Rattle.wedge_base.specs.Images.{Image};
+ghost use Rattle.actor_steps.specs.Logged.{HasLogged, IsLoggedBy};
 
 use actor_task::{ActorTask, GateEntry, Last, Step};
 use host_io::Pace;
@@ -32,6 +35,8 @@ pub fn step<I: RunOf, R: Wait, P: Pace>(
     requires { program.now ≡ I.image }
     ensures same { OnOk result (IsSame task.old.progress task.new.progress) }
     ensures step { IfOk result (IsStep task.new) }
+    ensures logged { IfOk result (λ s. IsLoggedBy s I.image
+        (after_rest I.image task.old.progress) task.new.progress) }
 {
     task.rest(program)?;
     task.run.wants_fit();
@@ -71,6 +76,8 @@ fn step_next<I: RunOf, R: Wait, P: Pace>(
     requires going { task.old.stopped ≡ false }
     ensures same { OnOk result (IsSame task.old.progress task.new.progress) }
     ensures step { IfOk result (IsStep task.new) }
+    ensures logged { IfOk result (λ s. IsLoggedBy s I.image
+        task.old.progress task.new.progress) }
 {
     match task.next()? {
         Next::Shared(want) => {
@@ -100,7 +107,9 @@ fn load<I: RunOf, R: Wait, P: Pace>(
     requires image { program.now ≡ I.image }
     requires rest { IsAtRest task.old
         (next.Shared (AWant.Slot slot (ASlotWant.Load offset width))) }
-    ensures { OnOk result (IsSame task.old.progress task.new.progress) }
+    ensures same { OnOk result (IsSame task.old.progress task.new.progress) }
+    ensures logged { OnOk result
+        (HasLogged I.image task.old.progress task.new.progress) }
 {
     let want = SlotWant::Load { offset, width };
     do_event(task, rt, program, cells, pace, Want::Slot { slot, want })
@@ -122,7 +131,9 @@ fn store<I: RunOf, R: Wait, P: Pace>(
     requires image { program.now ≡ I.image }
     requires rest { IsAtRest task.old
         (next.Shared (AWant.Slot slot (ASlotWant.Store offset width value))) }
-    ensures { OnOk result (IsSame task.old.progress task.new.progress) }
+    ensures same { OnOk result (IsSame task.old.progress task.new.progress) }
+    ensures logged { OnOk result
+        (HasLogged I.image task.old.progress task.new.progress) }
 {
     let want = SlotWant::Store {
         offset,
@@ -145,7 +156,9 @@ fn do_event<I: RunOf, R: Wait, P: Pace>(
     requires image { program.now ≡ I.image }
     requires rest { IsAtRest task.old (next.Shared want) }
     requires of_cell { IsOfCell want }
-    ensures { OnOk result (IsSame task.old.progress task.new.progress) }
+    ensures same { OnOk result (IsSame task.old.progress task.new.progress) }
+    ensures logged { OnOk result
+        (HasLogged I.image task.old.progress task.new.progress) }
 {
     pace.before(task.run.name());
     let entry = cells.enter(rt, &task.run, want)?;
@@ -155,7 +168,8 @@ fn do_event<I: RunOf, R: Wait, P: Pace>(
 /// Returns what an actor at rest came to that wants nothing.
 fn step_at(next: &Next) -> Step
     requires { WantsNone next.now }
-    ensures { (k : TaskState) → IsAtRest k next.now → IsStep k result }
+    ensures step { (k : TaskState) → IsAtRest k next.now → IsStep k result }
+    ensures logged { (i : Image) (old new : ActorProgress) → IsLoggedBy result i old new }
 {
     match next {
         Next::Ended(_) => Step::AtEnd(Last::Ended),
@@ -167,7 +181,8 @@ fn step_at(next: &Next) -> Step
 /// Returns what an actor came to that wants an event of no cell alone.
 fn step_of_want(want: Want) -> Step
     requires { IsJoint want }
-    ensures { (k : TaskState) → IsAtRest k (next.Shared want) → IsStep k result }
+    ensures step { (k : TaskState) → IsAtRest k (next.Shared want) → IsStep k result }
+    ensures logged { (i : Image) (old new : ActorProgress) → IsLoggedBy result i old new }
 {
     match want {
         Want::Start { child } => Step::Start { child },

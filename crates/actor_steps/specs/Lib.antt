@@ -1,0 +1,2 @@
+-- The event that a step does and logs.
+pub mod Logged
