@@ -3,12 +3,13 @@
 ghost use Rattle.std.specs.Prelude.{◌≡◌, ◌<◌, ◌+◌, IfOk, OnOk, OnErr, true, false, length};
 ghost use Rattle.machine.specs.Children.{is_child};
 ghost use Rattle.wedge_events.specs.declared.events.Want.{Want as AWant};
-ghost use Rattle.actor_task.specs.Tasks.{IsSame, Wants, Waits, IsIndexed, HasLearned, HasLearnedOf, IsJoinEntry, IsJoinOf};
+ghost use Rattle.actor_task.specs.Tasks.{IsBesideSlots, Wants, Waits, IsIndexed, HasLearned, HasLearnedOf, IsJoinEntry, IsJoinOf};
 
 use actor_run::ActorRun;
 use actor_task::{ActorTask, Created};
 use journal_cell::RunOf;
 use ready_text::Program;
+use run_cells::TableOf;
 use std::thread::Threads;
 use thread_laws::ActorEnd;
 use wedge_base::{NoMemory, Stamp};
@@ -16,15 +17,15 @@ use wedge_events::{Event, LogEntry};
 
 /// Waits for the end of a child of the actor, its start of this number, and makes the actor's join of it. Fails where the
 /// child, or an actor that it created, ran out of memory, where this one does, and where no stamp is left.
-pub fn join_child<I: RunOf, R: Threads>(
-    task: &mut ActorTask<I>,
+pub fn join_child<I: RunOf, T: TableOf, R: Threads>(
+    task: &mut ActorTask<I, T>,
     rt: &R,
     program: &Program<'_>,
     number: u32,
 ) -> Result<(), NoMemory>
     requires image { program.now ≡ I.image }
     requires wants { Wants task.old (AWant.Join number) }
-    ensures { OnOk result (IsSame task.old.progress task.new.progress) }
+    ensures { OnOk result (IsBesideSlots task.old.progress task.new.progress) }
 {
     let end = learn_child(task, rt, number)?;
     let entry = join_entry(&task.run, number, end)?;
@@ -32,8 +33,8 @@ pub fn join_child<I: RunOf, R: Threads>(
 }
 
 /// Waits for the end of one that the actor has not joined, and returns how it ended.
-fn learn_child<I: RunOf, R: Threads>(
-    task: &mut ActorTask<I>,
+fn learn_child<I: RunOf, T: TableOf, R: Threads>(
+    task: &mut ActorTask<I, T>,
     rt: &R,
     number: u32,
 ) -> Result<ActorEnd, NoMemory>
@@ -48,8 +49,8 @@ fn learn_child<I: RunOf, R: Threads>(
 }
 
 /// The actor's part of the join of a child whose end it has learned.
-fn take_join<I: RunOf>(
-    task: &mut ActorTask<I>,
+fn take_join<I: RunOf, T: TableOf>(
+    task: &mut ActorTask<I, T>,
     program: &Program<'_>,
     number: u32,
     entry: LogEntry,
@@ -57,20 +58,20 @@ fn take_join<I: RunOf>(
     requires image { program.now ≡ I.image }
     requires wants { Wants task.old (AWant.Join number) }
     requires joins { IsJoinOf task.old number entry }
-    ensures { OnOk result (IsSame task.old.progress task.new.progress) }
+    ensures { OnOk result (IsBesideSlots task.old.progress task.new.progress) }
 {
     task.run.take_alone(program, entry)
 }
 
 /// The actor goes on from the run of a gate for which it waits, its start of this number. Fails where that run, or an
 /// actor that it created, ran out of memory.
-pub fn resume<I: RunOf, R: Threads>(
-    task: ActorTask<I>,
+pub fn resume<I: RunOf, T: TableOf, R: Threads>(
+    task: ActorTask<I, T>,
     rt: &R,
     number: u32,
-) -> Result<ActorTask<I>, NoMemory>
+) -> Result<ActorTask<I, T>, NoMemory>
     requires { Waits task number }
-    ensures { IfOk result (λ k. IsSame task.progress k.progress) }
+    ensures { IfOk result (λ k. IsBesideSlots task.progress k.progress) }
 {
     let ActorTask {
         alloc,
@@ -90,7 +91,7 @@ pub fn resume<I: RunOf, R: Threads>(
 }
 
 /// Returns the index of the one with a number, counted from 1.
-fn index_of<I: RunOf>(created: &[Created<I>], number: u32) -> usize
+fn index_of<I: RunOf, T: TableOf>(created: &[Created<I, T>], number: u32) -> usize
     requires { IsIndexed (length created.now) number }
     ensures is { number ≡ result + 1 }
     ensures below { result < length created.now }
@@ -99,9 +100,9 @@ fn index_of<I: RunOf>(created: &[Created<I>], number: u32) -> usize
 }
 
 /// Waits for the end of the one at an index, and returns how it ended.
-fn learn<I: RunOf, R: Threads>(
+fn learn<I: RunOf, T: TableOf, R: Threads>(
     rt: &R,
-    created: &mut Vec<Created<I>>,
+    created: &mut Vec<Created<I, T>>,
     index: usize,
 ) -> Result<ActorEnd, NoMemory>
     requires { index < length created.old.items }

@@ -7,7 +7,7 @@ ghost use Rattle.machine.specs.Local.{is_running};
 ghost use Rattle.run_cells.specs.Entries.{IsOfCell};
 ghost use Rattle.machine.specs.declared.next.Next.TheVariants as next;
 ghost use Rattle.actor_task.specs.Steps.{IsStep, IsAtRest, IsJoint, WantsNone};
-ghost use Rattle.actor_task.specs.Tasks.{TaskState, IsSame};
+ghost use Rattle.actor_task.specs.Tasks.{TaskState, IsSame, IsTracked};
 ghost use Rattle.thread_laws.specs.ActorProgresses.{ActorProgress, after_rest};
 ghost use Rattle.wedge_base.specs.Images.{Image};
 ghost use Rattle.actor_steps.specs.Logged.{HasLogged, IsLoggedBy};
@@ -17,7 +17,7 @@ use host_io::Pace;
 use journal_cell::RunOf;
 use machine::{Next, Phase};
 use ready_text::Program;
-use run_cells::{RunCells, is_of_cell};
+use run_cells::{RunCells, TableOf, TagPass, is_of_cell};
 use std::sync::Wait;
 use wedge_base::{NoMemory, Slot};
 use wedge_events::{GateAsk, SlotWant, Want};
@@ -25,15 +25,18 @@ use wedge_events::{GateAsk, SlotWant, Want};
 /// Makes the actor's local events, and then its next shared event, if no other actor has part in that. Loads and stores of a
 /// slot, which are the most, are found by the actor's phase: what it wants is not copied for them.
 #[inline(always)]
-pub fn step<I: RunOf, R: Wait, P: Pace>(
-    task: &mut ActorTask<I>,
+pub fn step<I: RunOf, T: TableOf, R: Wait, P: Pace>(
+    task: &mut ActorTask<I, T>,
+    pass: &mut TagPass<I, T>,
     rt: &R,
     program: &Program<'_>,
-    cells: &RunCells<I>,
+    cells: &RunCells<I, T>,
     pace: &P,
 ) -> Result<Step, NoMemory>
-    requires { program.now ≡ I.image }
+    requires image { program.now ≡ I.image }
+    requires tracked { IsTracked T.table.slots pass.old task.old.progress }
     ensures same { OnOk result (IsSame task.old.progress task.new.progress) }
+    ensures tracked { OnOk result (IsTracked T.table.slots pass.new task.new.progress) }
     ensures step { IfOk result (IsStep task.new) }
     ensures logged { IfOk result (λ s. IsLoggedBy s I.image
         (after_rest I.image task.old.progress) task.new.progress) }
@@ -44,7 +47,7 @@ pub fn step<I: RunOf, R: Wait, P: Pace>(
         match want {
             SlotWant::Load { offset, width } => {
                 let (slot, offset, width) = (*slot, *offset, *width);
-                load(task, rt, program, cells, pace, slot, offset, width)?;
+                load(task, pass, rt, program, cells, pace, slot, offset, width)?;
                 return Ok(Step::Went);
             }
             SlotWant::Store {
@@ -53,28 +56,33 @@ pub fn step<I: RunOf, R: Wait, P: Pace>(
                 value,
             } => {
                 let (slot, offset, width, value) = (*slot, *offset, *width, *value);
-                store(task, rt, program, cells, pace, slot, offset, width, value)?;
+                store(
+                    task, pass, rt, program, cells, pace, slot, offset, width, value,
+                )?;
                 return Ok(Step::Went);
             }
             _ => {}
         }
     }
-    step_next(task, rt, program, cells, pace)
+    step_next(task, pass, rt, program, cells, pace)
 }
 
 /// Makes the next shared event of an actor at rest, if no other actor has part in that.
 #[inline(never)]
-fn step_next<I: RunOf, R: Wait, P: Pace>(
-    task: &mut ActorTask<I>,
+fn step_next<I: RunOf, T: TableOf, R: Wait, P: Pace>(
+    task: &mut ActorTask<I, T>,
+    pass: &mut TagPass<I, T>,
     rt: &R,
     program: &Program<'_>,
-    cells: &RunCells<I>,
+    cells: &RunCells<I, T>,
     pace: &P,
 ) -> Result<Step, NoMemory>
     requires image { program.now ≡ I.image }
     requires still { is_running task.old.progress.state.phase ≡ false }
     requires going { task.old.stopped ≡ false }
+    requires tracked { IsTracked T.table.slots pass.old task.old.progress }
     ensures same { OnOk result (IsSame task.old.progress task.new.progress) }
+    ensures tracked { OnOk result (IsTracked T.table.slots pass.new task.new.progress) }
     ensures step { IfOk result (IsStep task.new) }
     ensures logged { IfOk result (λ s. IsLoggedBy s I.image
         task.old.progress task.new.progress) }
@@ -82,7 +90,7 @@ fn step_next<I: RunOf, R: Wait, P: Pace>(
     match task.next()? {
         Next::Shared(want) => {
             if is_of_cell(&want) {
-                do_event(task, rt, program, cells, pace, want)?;
+                do_event(task, pass, rt, program, cells, pace, want)?;
                 return Ok(Step::Went);
             }
             Ok(step_of_want(want))
@@ -94,11 +102,12 @@ fn step_next<I: RunOf, R: Wait, P: Pace>(
 /// A load. Out of line, and with the kind of what is wanted known: so the compiler leaves out of the most frequent events
 /// what only others need.
 #[inline(never)]
-fn load<I: RunOf, R: Wait, P: Pace>(
-    task: &mut ActorTask<I>,
+fn load<I: RunOf, T: TableOf, R: Wait, P: Pace>(
+    task: &mut ActorTask<I, T>,
+    pass: &mut TagPass<I, T>,
     rt: &R,
     program: &Program<'_>,
-    cells: &RunCells<I>,
+    cells: &RunCells<I, T>,
     pace: &P,
     slot: Slot,
     offset: u32,
@@ -107,21 +116,32 @@ fn load<I: RunOf, R: Wait, P: Pace>(
     requires image { program.now ≡ I.image }
     requires rest { IsAtRest task.old
         (next.Shared (AWant.Slot slot (ASlotWant.Load offset width))) }
+    requires tracked { IsTracked T.table.slots pass.old task.old.progress }
     ensures same { OnOk result (IsSame task.old.progress task.new.progress) }
+    ensures tracked { OnOk result (IsTracked T.table.slots pass.new task.new.progress) }
     ensures logged { OnOk result
         (HasLogged I.image task.old.progress task.new.progress) }
 {
     let want = SlotWant::Load { offset, width };
-    do_event(task, rt, program, cells, pace, Want::Slot { slot, want })
+    do_event(
+        task,
+        pass,
+        rt,
+        program,
+        cells,
+        pace,
+        Want::Slot { slot, want },
+    )
 }
 
 /// A store, out of line for the same reason.
 #[inline(never)]
-fn store<I: RunOf, R: Wait, P: Pace>(
-    task: &mut ActorTask<I>,
+fn store<I: RunOf, T: TableOf, R: Wait, P: Pace>(
+    task: &mut ActorTask<I, T>,
+    pass: &mut TagPass<I, T>,
     rt: &R,
     program: &Program<'_>,
-    cells: &RunCells<I>,
+    cells: &RunCells<I, T>,
     pace: &P,
     slot: Slot,
     offset: u32,
@@ -131,7 +151,9 @@ fn store<I: RunOf, R: Wait, P: Pace>(
     requires image { program.now ≡ I.image }
     requires rest { IsAtRest task.old
         (next.Shared (AWant.Slot slot (ASlotWant.Store offset width value))) }
+    requires tracked { IsTracked T.table.slots pass.old task.old.progress }
     ensures same { OnOk result (IsSame task.old.progress task.new.progress) }
+    ensures tracked { OnOk result (IsTracked T.table.slots pass.new task.new.progress) }
     ensures logged { OnOk result
         (HasLogged I.image task.old.progress task.new.progress) }
 {
@@ -140,28 +162,39 @@ fn store<I: RunOf, R: Wait, P: Pace>(
         width,
         value,
     };
-    do_event(task, rt, program, cells, pace, Want::Slot { slot, want })
+    do_event(
+        task,
+        pass,
+        rt,
+        program,
+        cells,
+        pace,
+        Want::Slot { slot, want },
+    )
 }
 
 /// The event that the actor wants, done and logged.
 #[inline(always)]
-fn do_event<I: RunOf, R: Wait, P: Pace>(
-    task: &mut ActorTask<I>,
+fn do_event<I: RunOf, T: TableOf, R: Wait, P: Pace>(
+    task: &mut ActorTask<I, T>,
+    pass: &mut TagPass<I, T>,
     rt: &R,
     program: &Program<'_>,
-    cells: &RunCells<I>,
+    cells: &RunCells<I, T>,
     pace: &P,
     want: Want,
 ) -> Result<(), NoMemory>
     requires image { program.now ≡ I.image }
     requires rest { IsAtRest task.old (next.Shared want) }
     requires of_cell { IsOfCell want }
+    requires tracked { IsTracked T.table.slots pass.old task.old.progress }
     ensures same { OnOk result (IsSame task.old.progress task.new.progress) }
+    ensures tracked { OnOk result (IsTracked T.table.slots pass.new task.new.progress) }
     ensures logged { OnOk result
         (HasLogged I.image task.old.progress task.new.progress) }
 {
     pace.before(task.run.name());
-    let entry = cells.enter(rt, &task.run, want)?;
+    let entry = cells.enter(rt, &task.run, pass, want)?;
     task.take_plain(program, entry)
 }
 

@@ -6,3 +6,5 @@ pub mod EntriesFit
 pub mod CreatedLists
 -- The cells of the recycled gates that an actor knows.
 pub mod GateCellsKnown
+-- Its pass has entered its entries on the slots of declared tags.
+pub mod Tracking

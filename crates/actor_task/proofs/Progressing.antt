@@ -30,9 +30,13 @@ use Rattle.run_cells.specs.RecycledGates.{GateCellsState}
 use Rattle.run_cells.specs.Entries.{IsPlainEntry, IsCreatingEntry, IsNextActor}
 use Rattle.thread_laws.specs.Replaying.{IsKept}
 use Rattle.actor_task.specs.declared.created.Returned.{Returned}
+use Rattle.tag_laws.specs.DeclaredTags.{entries_on_declared}
+use Rattle.run_cells.specs.TagPasses.{all_entered}
+use Rattle.run_cells.proofs.OnDeclared.{none_more, creating_on_no_slot}
+use Rattle.thread_laws.specs.Joining.{all_logged}
 use Rattle.actor_task.specs.Returning.{IsReturned}
 use Rattle.run_cells.specs.RecycledGates.{HasCells}
-use Rattle.actor_task.specs.Tasks.{HasFamilies, IsNew, IsPairOf, IsTask, KeepsTask, TaskState, CreatingState, HasCreated, HasLearned, HasLearnedOf, IsIndexed, IsJoinEntry}
+use Rattle.actor_task.specs.Tasks.{HasFamilies, IsNew, IsPairOf, IsBesideSlots, IsTask, KeepsTask, TaskState, CreatingState, HasCreated, HasLearned, HasLearnedOf, IsIndexed, IsJoinEntry}
 use Rattle.actor_task.proofs.GateCellsKnown.{begun_gates, cells_more}
 use Rattle.actor_task.proofs.CreatedLists.{there_last, set_last, there_set, below_there}
 
@@ -299,7 +303,10 @@ born_longer i r created cells e born h creates begun_ =
 pub pair_of : (i : Image) (r : ActorProgress) (created : List CreatedActor) (cells : GateCellsState) (e : LogEntry) (born : ActorState) (k : TaskState) (c : CreatingState) → KeepsTask i r created cells → IsCreatingEntry i r e → actor_begun i r.state e.event ≡ Some born
     → r ≡ k.progress → c.progress ≡ after_entry i r e → c.born ≡ born → c.stamp ≡ e.stamp → IsPairOf k c born e.stamp
 pair_of i r created cells e born k c h creates begun_ same now_ born_is stamp_is = record {
-  same = record { began = ap (λ (x : ActorProgress). x.began) now_ ∙ ap (λ (x : ActorProgress). x.began) same; low = ap (λ (x : ActorProgress). x.low) now_ ∙ ap (λ (x : ActorProgress). x.low) same };
+  beside = record {
+    same = record { began = ap (λ (x : ActorProgress). x.began) now_ ∙ ap (λ (x : ActorProgress). x.began) same; low = ap (λ (x : ActorProgress). x.low) now_ ∙ ap (λ (x : ActorProgress). x.low) same };
+    entries_ = λ n. ap (λ (x : ActorProgress). entries_on_declared n x.entries) now_ ∙ (none_more n r.entries e (creating_on_no_slot i r e creates) ∙ ap (λ (x : ActorProgress). entries_on_declared n x.entries) same);
+  };
   born_ = born_is;
   stamp_ = stamp_is;
   longer = born_longer i r created cells e born h creates begun_ ∙ ap (λ (x : ActorProgress). length x.began.name + 1) same;
@@ -312,9 +319,9 @@ if_ok P Q (Err e) f h = tt
 
 -- ---- what an actor that has ended returns
 
-pub returned_so : (i : Image) (way : ActorProgress) (created : List CreatedActor) (r : Returned) → IsTask i way created → HasFamilies i way r.others.items → r.log.entries ≡ way.entries → IsEndOf way.state r.log
-    → r.end ≡ record { how = r.log.end; fuel = r.log.fuel; last = way.clock } → All (IsKept i) r.gates.items → IsReturned i way.began way.low r
-returned_so i way created r h families entries log end_is kept =
+pub returned_so : {I T : Type 0} (i : Image) (n : ℕ) (way : ActorProgress) (created : List CreatedActor) (r : Returned I T) → IsTask i way created → HasFamilies i way r.others.items → r.log.entries ≡ way.entries → IsEndOf way.state r.log
+    → r.end ≡ record { how = r.log.end; fuel = r.log.fuel; last = way.clock } → All (IsKept i) r.gates.items → all_entered r.passes.items ≡ entries_on_declared n (all_logged (r.log ∷ r.others.items)) → IsReturned i n way.began way.low r
+returned_so i n way created r h families entries log end_is kept entered =
     let left : IsLeft i (created_actor way.began way.low (Some r.end)) way r.log r.end = record {
       began = refl;
       low = refl;
@@ -331,4 +338,5 @@ returned_so i way created r h families entries log end_is kept =
       fuel_ = within.fuel_;
       later = within.later;
       kept = kept;
+      entered = entered;
     }

@@ -8,14 +8,14 @@ use Rattle.actor_task.specs.declared.created.State.{State}
 use Rattle.actor_task.specs.declared.created.State.TheVariants as state
 
 -- how it ended, once that is known
-abbrev pub learned_in : {I : Type 0} → State I → Option ActorEnd
+abbrev pub learned_in : {I T : Type 0} → State I T → Option ActorEnd
 learned_in (state.Running handle) = None
 learned_in (state.Ended returned) = Some returned.end
 learned_in state.OutOfMemory = None
 
 -- the thread promised to return what is of this actor, and what it returned is
-abbrev pub IsStateOf : {I : Type 0} → Image → ActorState → ℕ → State I → Type 0
-IsStateOf i a low (state.Running handle) =
+abbrev pub IsStateOf : {I T : Type 0} → Image → ℕ → ActorState → ℕ → State I T → Type 0
+IsStateOf i n a low (state.Running handle) =
     (handle.promise.began.value ≡ a) × (handle.promise.stamp ≡ low)
-IsStateOf i a low (state.Ended returned) = IsReturned i a low returned
-IsStateOf i a low state.OutOfMemory = Unit {0}
+IsStateOf i n a low (state.Ended returned) = IsReturned i n a low returned
+IsStateOf i n a low state.OutOfMemory = Unit {0}

@@ -19,6 +19,7 @@ use Rattle.thread_laws.specs.ActorProgresses.{ActorProgress, after_entry, Create
 use Rattle.actor_task.specs.declared.step.GateEntry.{GateEntry}
 use Rattle.thread_laws.specs.declared.gathered.ActorEnd.{ActorEnd}
 use Rattle.thread_laws.specs.declared.gathered.ActorLog.{ActorLog}
+use Rattle.tag_laws.specs.DeclaredTags.{entries_on_declared}
 use Rattle.run_cells.specs.Entries.{IsCreatingEntry}
 use Rattle.run_cells.specs.RecycledGates.{GateCellsState, HasCells}
 use Rattle.actor_task.specs.Returning.{FitsCreated}
@@ -47,6 +48,15 @@ pub record IsTask (i : Image) (r : ActorProgress) (created : List CreatedActor) 
 pub record IsSame (old new : ActorProgress) : Type 0 where
   pub began : new.began ≡ old.began
   pub low : new.low ≡ old.low
+
+-- and what it did since is on no slot
+pub record IsBesideSlots (old new : ActorProgress) : Type 0 where
+  pub same : IsSame old new
+  pub entries_ : (n : ℕ) → entries_on_declared n new.entries ≡ entries_on_declared n old.entries
+
+-- what it entered by its pass are its entries on the first n slots
+abbrev pub IsTracked : ℕ → List LogEntry → ActorProgress → Type 0
+IsTracked n entered r = entered ≡ entries_on_declared n r.entries
 
 -- an actor at rest that wants this
 pub record Wants (k : TaskState) (q : Want) : Type 0 where
@@ -130,7 +140,7 @@ pub record HasCreated (i : Image) (k : CreatingState) : Type 0 where
 
 -- an actor and one that it created: as it begins, at the stamp of the entry
 pub record IsPairOf (k : TaskState) (c : CreatingState) (born : ActorState) (stamp : ℕ) : Type 0 where
-  pub same : IsSame k.progress c.progress
+  pub beside : IsBesideSlots k.progress c.progress
   pub born_ : c.born ≡ born
   pub stamp_ : c.stamp ≡ stamp
   pub longer : length born.name ≡ length k.progress.began.name + 1

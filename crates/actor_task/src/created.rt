@@ -6,6 +6,7 @@ ghost use Rattle.actor_task.specs.Returning.{IsReturned, HasWaited, IsReturnedOf
 
 use journal_cell::RunOf;
 use machine::Resident;
+use run_cells::{TableOf, TagPass};
 use std::marker::{Model, PhantomData};
 use std::mem;
 use std::snapshot::Snapshot;
@@ -14,38 +15,43 @@ use thread_laws::{ActorEnd, ActorLog, CellHistory};
 use wedge_base::{NoMemory, Stamp};
 
 /// What the run of an actor returns once the actor has ended: its log and how it ended, the logs of all that it
-/// created and that these created, and the histories of the recycled gates that they made.
-#[derive(Debug, Drop)]
-pub struct Returned {
+/// created and that these created, the histories of the recycled gates that they made, and the passes with which they
+/// came to the slots of declared tags.
+#[derive(Drop)]
+pub struct Returned<I: RunOf, T: TableOf> {
     pub log: ActorLog,
     pub end: ActorEnd,
     pub others: Vec<ActorLog>,
     pub gates: Vec<CellHistory>,
+    /// One for each log, in the order of the logs.
+    pub passes: Vec<TagPass<I, T>>,
 }
 
 /// The promise of a thread: what it returns is of the actor that it was given.
 #[derive(Drop)]
-pub struct ReturnsFamily<I: RunOf> {
+pub struct ReturnsFamily<I: RunOf, T: TableOf> {
     pub began: Snapshot<Resident>,
     /// The stamp of the event that created the actor.
     pub stamp: Stamp,
     pub run: PhantomData<I>,
+    pub table: PhantomData<T>,
 }
 
-impl<I: RunOf> Promise<Result<Returned, NoMemory>> for ReturnsFamily<I> {
+impl<I: RunOf, T: TableOf> Promise<Result<Returned<I, T>, NoMemory>> for ReturnsFamily<I, T> {
     ghost use Rattle.std.specs.Prelude.{IfOk};
     ghost use Rattle.actor_task.specs.Returning.{IsReturned};
 
-    ghost kept_by = { λ p r. IfOk r (IsReturned I.image p.began.value p.stamp) };
+    ghost kept_by = { λ p r.
+        IfOk r (IsReturned I.image T.table.slots p.began.value p.stamp) };
 }
 
 /// Where a created actor is.
 #[derive(Drop)]
-enum State<I: RunOf> {
+enum State<I: RunOf, T: TableOf> {
     /// On its thread.
-    Running(PromisedHandle<Result<Returned, NoMemory>, ReturnsFamily<I>>),
+    Running(PromisedHandle<Result<Returned<I, T>, NoMemory>, ReturnsFamily<I, T>>),
     /// It has ended.
-    Ended(Returned),
+    Ended(Returned<I, T>),
     /// It, or an actor that it created, ran out of memory.
     OutOfMemory,
 }
@@ -53,13 +59,13 @@ enum State<I: RunOf> {
 /// A child that an actor started, or the run of a gate that it entered. Contracts see how that began, at which
 /// stamp, and how it ended, once the actor has waited for it.
 #[derive(Drop)]
-pub struct Created<I: RunOf> {
+pub struct Created<I: RunOf, T: TableOf> {
     began: Snapshot<Resident>,
     stamp: Stamp,
-    state: State<I>,
+    state: State<I, T>,
 }
 
-impl<I: RunOf> Model for Created<I> {
+impl<I: RunOf, T: TableOf> Model for Created<I, T> {
     ghost use Rattle.thread_laws.specs.ActorProgresses.{CreatedActor};
     ghost use Rattle.actor_task.specs.States.{learned_in, IsStateOf};
 
@@ -71,16 +77,17 @@ impl<I: RunOf> Model for Created<I> {
       learned = learned_in c.state;
     } };
 
-    ghost invariant = { λ c. IsStateOf I.image c.began.value c.stamp c.state };
+    ghost invariant = { λ c.
+        IsStateOf I.image T.table.slots c.began.value c.stamp c.state };
 }
 
-impl<I: RunOf> Created<I> {
+impl<I: RunOf, T: TableOf> Created<I, T> {
     /// Returns one that runs on a thread.
     pub fn running(
         began: Snapshot<Resident>,
         stamp: Stamp,
-        handle: PromisedHandle<Result<Returned, NoMemory>, ReturnsFamily<I>>,
-    ) -> Created<I>
+        handle: PromisedHandle<Result<Returned<I, T>, NoMemory>, ReturnsFamily<I, T>>,
+    ) -> Created<I, T>
         requires began { handle.promise.began.value ≡ began.value }
         requires stamp { handle.promise.stamp ≡ stamp }
         ensures { result ≡ created_actor began.value stamp None }
@@ -93,8 +100,8 @@ impl<I: RunOf> Created<I> {
     }
 
     /// Returns one that has ended.
-    pub fn ended(began: Snapshot<Resident>, stamp: Stamp, returned: Returned) -> Created<I>
-        requires { IsReturned I.image began.value stamp returned }
+    pub fn ended(began: Snapshot<Resident>, stamp: Stamp, returned: Returned<I, T>) -> Created<I, T>
+        requires { IsReturned I.image T.table.slots began.value stamp returned }
         ensures { result ≡ created_actor began.value stamp (Some returned.end) }
     {
         Created {
@@ -123,8 +130,8 @@ impl<I: RunOf> Created<I> {
     }
 
     /// Consumes it, waits for its end, and returns what it returned. Fails as `wait` does.
-    pub fn into_returned<R: Threads>(self, rt: &R) -> Result<Returned, NoMemory>
-        ensures { IfOk result (IsReturnedOf I.image self) }
+    pub fn into_returned<R: Threads>(self, rt: &R) -> Result<Returned<I, T>, NoMemory>
+        ensures { IfOk result (IsReturnedOf I.image T.table.slots self) }
     {
         let Created { state, .. } = self;
         match state {

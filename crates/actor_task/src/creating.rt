@@ -1,6 +1,6 @@
 //! Starts, and entries of gates.
 
-ghost use Rattle.std.specs.Prelude.{◌≡◌, ◌<◌, ◌+◌, ◌++◌, ◌∷◌, [], IfOk, OnOk, Some, None, true, false, length};
+ghost use Rattle.std.specs.Prelude.{◌≡◌, ◌<◌, ◌+◌, ◌++◌, ◌∷◌, [], IfOk, IsErr, OnOk, Some, None, true, false, length};
 ghost use Rattle.wedge_events.specs.declared.events.Want.{Want as AWant};
 ghost use Rattle.run_cells.specs.Entries.{IsCreatingEntry};
 ghost use Rattle.thread_laws.specs.ActorProgresses.{created_actor};
@@ -17,7 +17,7 @@ use journal_cell::RunOf;
 use machine::Resident;
 use ready_text::Program;
 use recycled_gate::Kept;
-use run_cells::{GateCells, LockedCell, enter_gate};
+use run_cells::{GateCells, LockedCell, TableOf, enter_gate};
 use std::alloc::Global;
 use std::marker::Model;
 use std::snapshot::Snapshot;
@@ -39,16 +39,16 @@ pub struct NewActor<I: RunOf> {
 /// What the thread of an actor has in hand that has just created another, which is not yet among those that it
 /// created.
 #[derive(Drop)]
-pub struct Creating<I: RunOf> {
+pub struct Creating<I: RunOf, T: TableOf> {
     alloc: Global,
     run: ActorRun<I>,
-    created: Vec<Created<I>>,
+    created: Vec<Created<I, T>>,
     gates: GateCells<I>,
     born: Snapshot<Resident>,
     stamp: Stamp,
 }
 
-impl<I: RunOf> Model for Creating<I> {
+impl<I: RunOf, T: TableOf> Model for Creating<I, T> {
     ghost use Rattle.std.specs.Prelude.{◌≡◌, false};
     ghost use Rattle.run_cells.specs.RecycledGates.{HasCells};
     ghost use Rattle.actor_task.specs.Tasks.{CreatingState, HasCreated};
@@ -74,9 +74,9 @@ impl<I: RunOf> Model for Creating<I> {
     } };
 }
 
-impl<I: RunOf> Creating<I> {
+impl<I: RunOf, T: TableOf> Creating<I, T> {
     /// Puts the actor that it created among those that it created, on its thread.
-    pub fn adopt(self, one: Created<I>) -> Result<ActorTask<I>, NoMemory>
+    pub fn adopt(self, one: Created<I, T>) -> Result<ActorTask<I, T>, NoMemory>
         requires { one ≡ created_actor self.born self.stamp None }
         ensures { IfOk result (λ k. k ≡ going_on self.progress (self.created ++ one ∷ [])) }
     {
@@ -97,8 +97,8 @@ impl<I: RunOf> Creating<I> {
     }
 
     /// Puts the actor that it created among those that it created, which has ended.
-    pub fn adopt_ended(self, returned: Returned) -> Result<ActorTask<I>, NoMemory>
-        requires { IsReturned I.image self.born self.stamp returned }
+    pub fn adopt_ended(self, returned: Returned<I, T>) -> Result<ActorTask<I, T>, NoMemory>
+        requires { IsReturned I.image T.table.slots self.born self.stamp returned }
         ensures { IfOk result (λ k. k ≡ going_on self.progress
             (self.created ++ created_actor self.born self.stamp (Some returned.end) ∷ [])) }
     {
@@ -120,13 +120,13 @@ impl<I: RunOf> Creating<I> {
     }
 }
 
-impl<I: RunOf> ActorTask<I> {
+impl<I: RunOf, T: TableOf> ActorTask<I, T> {
     /// The actor starts a child.
     pub fn start(
         self,
         program: &Program<'_>,
         child: ActorName,
-    ) -> Result<(Creating<I>, NewActor<I>), NoMemory>
+    ) -> Result<(Creating<I, T>, NewActor<I>), NoMemory>
         requires image { program.now ≡ I.image }
         requires wants { Wants self (AWant.Start child) }
         ensures pair { IfOk result (λ p. IsPairOf self p.0 p.1.resident p.1.stamp) }
@@ -141,7 +141,7 @@ impl<I: RunOf> ActorTask<I> {
         self,
         program: &Program<'_>,
         run: ActorName,
-    ) -> Result<(Creating<I>, NewActor<I>), NoMemory>
+    ) -> Result<(Creating<I, T>, NewActor<I>), NoMemory>
         requires image { program.now ≡ I.image }
         requires wants { Wants self (AWant.Enter run) }
         ensures pair { IfOk result (λ p. IsPairOf self p.0 p.1.resident p.1.stamp) }
@@ -159,11 +159,12 @@ impl<I: RunOf> ActorTask<I> {
         program: &Program<'_>,
         locked: &mut LockedCell<Kept, I>,
         entry: GateEntry,
-    ) -> Result<(Creating<I>, NewActor<I>), NoMemory>
+    ) -> Result<(Creating<I, T>, NewActor<I>), NoMemory>
         requires image { program.now ≡ I.image }
         requires wants { WantsEntry self entry }
         ensures pair { IfOk result (λ p. IsPairOf self p.0 p.1.resident p.1.stamp) }
         ensures entered { OnOk result (locked.new.state.entered ≡ true) }
+        ensures closed { locked.old.state.entered ≡ true → IsErr result }
     {
         if locked.state().entered() {
             return Err(NoMemory);
@@ -178,7 +179,7 @@ impl<I: RunOf> ActorTask<I> {
         self,
         program: &Program<'_>,
         entry: LogEntry,
-    ) -> Result<(Creating<I>, NewActor<I>), NoMemory>
+    ) -> Result<(Creating<I, T>, NewActor<I>), NoMemory>
         requires image { program.now ≡ I.image }
         requires going { self.stopped ≡ false }
         requires creates { IsCreatingEntry I.image self.progress entry }
@@ -207,7 +208,7 @@ impl<I: RunOf> ActorTask<I> {
         program: &Program<'_>,
         entry: LogEntry,
         cells: GateCells<I>,
-    ) -> Result<(Creating<I>, NewActor<I>), NoMemory>
+    ) -> Result<(Creating<I, T>, NewActor<I>), NoMemory>
         requires image { program.now ≡ I.image }
         requires going { self.stopped ≡ false }
         requires creates { IsCreatingEntry I.image self.progress entry }

@@ -15,7 +15,7 @@ use journal_cell::RunOf;
 use machine::Next;
 use ready_text::Program;
 use recycled_gate::Kept;
-use run_cells::{GateCells, LockedCell};
+use run_cells::{GateCells, LockedCell, TableOf};
 use std::alloc::Global;
 use std::marker::Model;
 use std::sync::{Arc, Mutex};
@@ -26,14 +26,14 @@ use wedge_events::LogEntry;
 /// recycled gates that it knows. Contracts see its progress, and that of those that it created as far as it
 /// has learned it.
 #[derive(Drop)]
-pub struct ActorTask<I: RunOf> {
+pub struct ActorTask<I: RunOf, T: TableOf> {
     pub alloc: Global,
     pub run: ActorRun<I>,
-    pub created: Vec<Created<I>>,
+    pub created: Vec<Created<I, T>>,
     pub gates: GateCells<I>,
 }
 
-impl<I: RunOf> Model for ActorTask<I> {
+impl<I: RunOf, T: TableOf> Model for ActorTask<I, T> {
     ghost use Rattle.std.specs.Prelude.{◌≡◌, false};
     ghost use Rattle.actor_task.specs.Tasks.{TaskState, KeepsTask};
 
@@ -49,9 +49,9 @@ impl<I: RunOf> Model for ActorTask<I> {
         → KeepsTask I.image k.run.progress k.created.items k.gates };
 }
 
-impl<I: RunOf> ActorTask<I> {
+impl<I: RunOf, T: TableOf> ActorTask<I, T> {
     /// Returns an actor as it is created.
-    pub fn new(alloc: Global, new: NewActor<I>) -> Result<ActorTask<I>, NoMemory>
+    pub fn new(alloc: Global, new: NewActor<I>) -> Result<ActorTask<I, T>, NoMemory>
         ensures progress { IfOk result (λ k. k.progress ≡ at_creation new.resident new.stamp) }
         ensures created { IfOk result (λ k. k.created ≡ []) }
     {

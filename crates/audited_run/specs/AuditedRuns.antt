@@ -1,5 +1,5 @@
 -- A run of an image: on threads, or, where what these left differs, made again on one.
-use Rattle.std.specs.Prelude.{◌≡◌, List, [], Option, Some, None}
+use Rattle.std.specs.Prelude.{◌≡◌, List, [], length, Option, Some, None}
 use Rattle.wedge_base.specs.Images.{Image}
 use Rattle.wedge_base.specs.declared.outcome.ActorLine.{ActorLine}
 use Rattle.wedge_base.specs.declared.outcome.Outcome.{Outcome}
@@ -15,6 +15,7 @@ use Rattle.thread_laws.specs.LookUps.{AreCountsOf}
 use Rattle.thread_laws.specs.Merging.{IsRising}
 use Rattle.thread_laws.specs.Replaying.{AreKept, Legal}
 use Rattle.thread_laws.specs.declared.gathered.Gathered.{Gathered}
+use Rattle.run_audit.specs.ComparedCells.{IsUndeclared}
 use Rattle.run_audit.specs.Differences.{IsFirstDifference}
 use Rattle.audited_run.specs.declared.run.AuditedRun.{AuditedRun}
 use Rattle.audited_run.specs.declared.run.Differs.{Differs}
@@ -33,11 +34,12 @@ pub record IsThreaded (i : Image) (entries : List LogEntry) (outcome : Outcome) 
 
 -- The history of a cell that threads left differs from the entries of that cell that they logged: the logs are those
 -- of whole executions and the histories legal, the cell is the first of which this holds, and the entries are the
--- first of its that differ.
+-- first of its that differ. It is not the slot of a declared tag.
 pub record IsDiffering (i : Image) (d : Differs) : Type 0 where
   pub walked : AreWalked i d.gathered.logs
   pub legal : Legal i d.gathered.cells
   pub first : IsFirstDifference (journal_of d.gathered.logs) d.gathered.cells d.disagree
+  pub undeclared : IsUndeclared (length i.tags) d.disagree.cell
 
 -- Each turn was that of the actor that was started last and had not ended; the stamp of an entry is its index, from 1.
 pub record IsInSerialOrder (i : Image) (entries : List LogEntry) : Type 0 where

@@ -1,2 +1,6 @@
 -- The root as a run begins.
 pub mod Roots
+-- The histories of the slots of declared tags.
+pub mod RuledSlots
+-- What an actor does with others is on no slot.
+pub mod BesideSlots

@@ -1,12 +1,13 @@
 //! The threads of a run.
 
-ghost use Rattle.std.specs.Prelude.{◌≡◌, IfOk, true};
+ghost use Rattle.std.specs.Prelude.{◌≡◌, IfOk, true, length};
+ghost use Rattle.ruled_cell.specs.Passes.{first_view};
 ghost use Rattle.wedge_events.specs.declared.events.Want.{Want as AWant};
 ghost use Rattle.gate_runner.specs.Gathering.{IsGathered};
 ghost use Rattle.actor_task.specs.Returning.{IsReturned};
 ghost use Rattle.gate_runner.specs.Endings.{IsAtEnd};
 ghost use Rattle.actor_task.specs.Steps.{IsStep, IsJointStep};
-ghost use Rattle.actor_task.specs.Tasks.{IsSame, IsUnlocked, Wants, WantsEntry};
+ghost use Rattle.actor_task.specs.Tasks.{IsBesideSlots, IsUnlocked, Wants, WantsEntry};
 
 use crate::gather::gathered;
 use actor_ends::{finish_locked, finish_unlocked, join_child, resume};
@@ -20,65 +21,94 @@ use journal_cell::RunOf;
 use machine::{Actor, Resident};
 use ready_text::Program;
 use recycled_gate::Kept;
-use run_cells::{GateCells, LockedCell, RunCells};
+use ruled_cell::{RuledCells, RuledPass};
+use run_cells::{GateCells, LockedCell, RunCells, TableOf, TagCells, TagPass, open_tags};
 use std::alloc::Global;
 use std::marker::{Brand, PhantomData};
 use std::snapshot::Snapshot;
 use std::sync::{Arc, Mutex, Wait};
 use std::thread;
 use std::thread::{Scope, Threads};
+use tag_segment::SlotState;
 use thread_laws::Gathered;
 use wedge_base::{ActorName, NoMemory, Stamp};
 
+/// The program of the image of a run.
+#[derive(Drop)]
+pub(crate) struct RunProgram<'e, I: RunOf> {
+    pub ready: &'e Program<'e>,
+    pub run: PhantomData<I>,
+    pub ghost of_image: { ready.now ≡ I.image },
+}
+
 /// What all threads of a run share.
 #[derive(Drop)]
-pub(crate) struct Shared<'e, I: RunOf, R, P> {
+pub(crate) struct Shared<'e, I: RunOf, T: TableOf, R, P> {
     pub rt: &'e R,
     pub alloc: Global,
-    pub program: &'e Program<'e>,
-    pub cells: &'e RunCells<I>,
+    pub program: &'e RunProgram<'e, I>,
+    pub cells: &'e RunCells<I, T>,
     pub pace: &'e P,
-    pub ghost of_image: { program.now ≡ I.image },
 }
 
 /// An actor that has come to its end, and what is left to do of it.
 #[derive(Drop)]
-pub(crate) struct AtEnd<I: RunOf> {
-    pub task: ActorTask<I>,
+pub(crate) struct AtEnd<I: RunOf, T: TableOf> {
+    pub task: ActorTask<I, T>,
+    pub pass: TagPass<I, T>,
     pub last: Last,
 }
 
 /// Runs an actor until it has ended or is to leave its gate, in a scope for the threads of its children.
 #[cycle(run)]
-fn run_to_end<'e, I: RunOf + Send + Sync, R: Threads + Wait + Sync, P: Pace + Sync>(
-    all: &'e Shared<'e, I, R, P>,
-    new: NewActor<I>,
-) -> Result<AtEnd<I>, NoMemory>
-    ensures { IfOk result (IsAtEnd new.resident new.stamp) }
+fn run_to_end<
+    'e,
+    I: RunOf + Send + Sync,
+    T: TableOf + Send + Sync,
+    R: Threads + Wait + Sync,
+    P: Pace + Sync,
+>(all: &'e Shared<'e, I, T, R, P>, new: NewActor<I>) -> Result<AtEnd<I, T>, NoMemory>
+    ensures { IfOk result (IsAtEnd T.table.slots new.resident new.stamp) }
 {
     thread::scope(
         thread::scope_env(),
         all.rt,
-        move |scope| -> Result<AtEnd<I>, NoMemory>
-            ensures { IfOk result (IsAtEnd new.resident new.stamp) }
+        move |scope| -> Result<AtEnd<I, T>, NoMemory>
+            ensures { IfOk result (IsAtEnd T.table.slots new.resident new.stamp) }
         { act(scope, all, new) },
     )
 }
 
 /// Does all that an actor does until it has ended or is to leave its gate.
 #[cycle(run)]
-fn act<'s, 'e, I: RunOf + Send + Sync, R: Threads + Wait + Sync, P: Pace + Sync>(
+#[tactic(auto, using(crate::proofs::BesideSlots::beside_then, crate::proofs::BesideSlots::beside_same, crate::proofs::BesideSlots::tracked_beside))]
+fn act<
+    's,
+    'e,
+    I: RunOf + Send + Sync,
+    T: TableOf + Send + Sync,
+    R: Threads + Wait + Sync,
+    P: Pace + Sync,
+>(
     scope: &'s Scope<'s, &'e ()>,
-    all: &'e Shared<'e, I, R, P>,
+    all: &'e Shared<'e, I, T, R, P>,
     new: NewActor<I>,
-) -> Result<AtEnd<I>, NoMemory>
-    ensures { IfOk result (IsAtEnd new.resident new.stamp) }
+) -> Result<AtEnd<I, T>, NoMemory>
+    ensures { IfOk result (IsAtEnd T.table.slots new.resident new.stamp) }
 {
     let mut task = ActorTask::new(all.alloc, new)?;
+    let mut pass = all.cells.pass(all.rt)?;
     for _ in all.rt.forever() {
-        match step(&mut task, all.rt, all.program, all.cells, all.pace)? {
+        match step(
+            &mut task,
+            &mut pass,
+            all.rt,
+            all.program.ready,
+            all.cells,
+            all.pace,
+        )? {
             Step::Went => {}
-            Step::AtEnd(last) => return Ok(AtEnd { task, last }),
+            Step::AtEnd(last) => return Ok(AtEnd { task, pass, last }),
             step => task = do_joint(scope, all, task, step)?,
         }
     }
@@ -87,15 +117,22 @@ fn act<'s, 'e, I: RunOf + Send + Sync, R: Threads + Wait + Sync, P: Pace + Sync>
 
 /// An event of an actor in which another has part.
 #[cycle(run)]
-fn do_joint<'s, 'e, I: RunOf + Send + Sync, R: Threads + Wait + Sync, P: Pace + Sync>(
+fn do_joint<
+    's,
+    'e,
+    I: RunOf + Send + Sync,
+    T: TableOf + Send + Sync,
+    R: Threads + Wait + Sync,
+    P: Pace + Sync,
+>(
     scope: &'s Scope<'s, &'e ()>,
-    all: &'e Shared<'e, I, R, P>,
-    task: ActorTask<I>,
+    all: &'e Shared<'e, I, T, R, P>,
+    task: ActorTask<I, T>,
     step: Step,
-) -> Result<ActorTask<I>, NoMemory>
+) -> Result<ActorTask<I, T>, NoMemory>
     requires step { IsStep task step }
     requires joint { IsJointStep step }
-    ensures { IfOk result (λ k. IsSame task.progress k.progress) }
+    ensures { IfOk result (λ k. IsBesideSlots task.progress k.progress) }
 {
     match step {
         Step::Waits { number } => resume(task, all.rt, number),
@@ -108,59 +145,76 @@ fn do_joint<'s, 'e, I: RunOf + Send + Sync, R: Threads + Wait + Sync, P: Pace + 
 }
 
 /// The join of a child.
-fn join<'e, I: RunOf, R: Threads, P: Pace>(
-    all: &'e Shared<'e, I, R, P>,
-    task: ActorTask<I>,
+fn join<'e, I: RunOf, T: TableOf, R: Threads, P: Pace>(
+    all: &'e Shared<'e, I, T, R, P>,
+    task: ActorTask<I, T>,
     number: u32,
-) -> Result<ActorTask<I>, NoMemory>
+) -> Result<ActorTask<I, T>, NoMemory>
     requires { Wants task (AWant.Join number) }
-    ensures { IfOk result (λ k. IsSame task.progress k.progress) }
+    ensures { IfOk result (λ k. IsBesideSlots task.progress k.progress) }
 {
     let mut task = task;
     all.pace.before(task.name());
-    join_child(&mut task, all.rt, all.program, number)?;
+    join_child(&mut task, all.rt, all.program.ready, number)?;
     Ok(task)
 }
 
 /// The start of a child.
 #[cycle(run)]
-fn start<'s, 'e, I: RunOf + Send + Sync, R: Threads + Wait + Sync, P: Pace + Sync>(
+#[tactic(auto, using(crate::proofs::BesideSlots::beside_then, crate::proofs::BesideSlots::beside_same, crate::proofs::BesideSlots::tracked_beside))]
+fn start<
+    's,
+    'e,
+    I: RunOf + Send + Sync,
+    T: TableOf + Send + Sync,
+    R: Threads + Wait + Sync,
+    P: Pace + Sync,
+>(
     scope: &'s Scope<'s, &'e ()>,
-    all: &'e Shared<'e, I, R, P>,
-    task: ActorTask<I>,
+    all: &'e Shared<'e, I, T, R, P>,
+    task: ActorTask<I, T>,
     child: ActorName,
-) -> Result<ActorTask<I>, NoMemory>
+) -> Result<ActorTask<I, T>, NoMemory>
     requires { Wants task (AWant.Start child) }
-    ensures { IfOk result (λ k. IsSame task.progress k.progress) }
+    ensures { IfOk result (λ k. IsBesideSlots task.progress k.progress) }
 {
     all.pace.before(task.name());
-    let (creating, new) = task.start(all.program, child)?;
+    let (creating, new) = task.start(all.program.ready, child)?;
     launch(scope, all, creating, new)
 }
 
 /// Runs a child on a thread of its own; where none can be made, here.
 #[cycle(run)]
-fn launch<'s, 'e, I: RunOf + Send + Sync, R: Threads + Wait + Sync, P: Pace + Sync>(
+#[tactic(auto, using(crate::proofs::BesideSlots::beside_then, crate::proofs::BesideSlots::beside_same, crate::proofs::BesideSlots::tracked_beside))]
+fn launch<
+    's,
+    'e,
+    I: RunOf + Send + Sync,
+    T: TableOf + Send + Sync,
+    R: Threads + Wait + Sync,
+    P: Pace + Sync,
+>(
     scope: &'s Scope<'s, &'e ()>,
-    all: &'e Shared<'e, I, R, P>,
-    creating: Creating<I>,
+    all: &'e Shared<'e, I, T, R, P>,
+    creating: Creating<I, T>,
     new: NewActor<I>,
-) -> Result<ActorTask<I>, NoMemory>
+) -> Result<ActorTask<I, T>, NoMemory>
     requires born { creating.born ≡ new.resident }
     requires stamp { creating.stamp ≡ new.stamp }
     requires unlocked { IsUnlocked new.resident }
-    ensures { IfOk result (λ k. IsSame creating.progress k.progress) }
+    ensures { IfOk result (λ k. IsBesideSlots creating.progress k.progress) }
 {
     let stamp = new.stamp;
     let began = Snapshot::of(&new.resident);
-    let promise: ReturnsFamily<I> = ReturnsFamily {
+    let promise: ReturnsFamily<I, T> = ReturnsFamily {
         began: Snapshot::of(&new.resident),
         stamp,
         run: PhantomData,
+        table: PhantomData,
     };
-    let job = move || -> Result<Returned, NoMemory>
+    let job = move || -> Result<Returned<I, T>, NoMemory>
         requires { IsUnlocked new.resident }
-        ensures { IfOk result (IsReturned I.image new.resident new.stamp) }
+        ensures { IfOk result (IsReturned I.image T.table.slots new.resident new.stamp) }
     { run_whole(all, new) };
     match scope.spawn_with(promise, job) {
         Ok(handle) => creating.adopt(Created::running(began, stamp, handle)),
@@ -170,42 +224,58 @@ fn launch<'s, 'e, I: RunOf + Send + Sync, R: Threads + Wait + Sync, P: Pace + Sy
 
 /// Runs an actor to its end that is the run of no recycled gate.
 #[cycle(run)]
-fn run_whole<'e, I: RunOf + Send + Sync, R: Threads + Wait + Sync, P: Pace + Sync>(
-    all: &'e Shared<'e, I, R, P>,
-    new: NewActor<I>,
-) -> Result<Returned, NoMemory>
+fn run_whole<
+    'e,
+    I: RunOf + Send + Sync,
+    T: TableOf + Send + Sync,
+    R: Threads + Wait + Sync,
+    P: Pace + Sync,
+>(all: &'e Shared<'e, I, T, R, P>, new: NewActor<I>) -> Result<Returned<I, T>, NoMemory>
     requires { IsUnlocked new.resident }
-    ensures { IfOk result (IsReturned I.image new.resident new.stamp) }
+    ensures { IfOk result (IsReturned I.image T.table.slots new.resident new.stamp) }
 {
-    let AtEnd { task, last } = run_to_end(all, new)?;
-    finish_unlocked(task, all.rt, all.program, all.pace, last)
+    let AtEnd { task, pass, last } = run_to_end(all, new)?;
+    finish_unlocked(task, pass, all.rt, all.program.ready, all.pace, last)
 }
 
 /// The entry of a fresh gate, and its run on this thread.
 #[cycle(run)]
-fn enter_fresh<'e, I: RunOf + Send + Sync, R: Threads + Wait + Sync, P: Pace + Sync>(
-    all: &'e Shared<'e, I, R, P>,
-    task: ActorTask<I>,
+#[tactic(auto, using(crate::proofs::BesideSlots::beside_then, crate::proofs::BesideSlots::beside_same, crate::proofs::BesideSlots::tracked_beside))]
+fn enter_fresh<
+    'e,
+    I: RunOf + Send + Sync,
+    T: TableOf + Send + Sync,
+    R: Threads + Wait + Sync,
+    P: Pace + Sync,
+>(
+    all: &'e Shared<'e, I, T, R, P>,
+    task: ActorTask<I, T>,
     run: ActorName,
-) -> Result<ActorTask<I>, NoMemory>
+) -> Result<ActorTask<I, T>, NoMemory>
     requires { Wants task (AWant.Enter run) }
-    ensures { IfOk result (λ k. IsSame task.progress k.progress) }
+    ensures { IfOk result (λ k. IsBesideSlots task.progress k.progress) }
 {
     all.pace.before(task.name());
-    let (creating, new) = task.enter_fresh(all.program, run)?;
+    let (creating, new) = task.enter_fresh(all.program.ready, run)?;
     let returned = run_whole(all, new)?;
     creating.adopt_ended(returned)
 }
 
 /// The entry of a recycled gate, and its run on this thread.
 #[cycle(run)]
-fn enter_recycled<'e, I: RunOf + Send + Sync, R: Threads + Wait + Sync, P: Pace + Sync>(
-    all: &'e Shared<'e, I, R, P>,
-    task: ActorTask<I>,
+fn enter_recycled<
+    'e,
+    I: RunOf + Send + Sync,
+    T: TableOf + Send + Sync,
+    R: Threads + Wait + Sync,
+    P: Pace + Sync,
+>(
+    all: &'e Shared<'e, I, T, R, P>,
+    task: ActorTask<I, T>,
     entry: GateEntry,
-) -> Result<ActorTask<I>, NoMemory>
+) -> Result<ActorTask<I, T>, NoMemory>
     requires { WantsEntry task entry }
-    ensures { IfOk result (λ k. IsSame task.progress k.progress) }
+    ensures { IfOk result (λ k. IsBesideSlots task.progress k.progress) }
 {
     let (task, cell) = with_cell(all, task, &entry)?;
     run_locked(all, task, cell, entry)
@@ -213,14 +283,20 @@ fn enter_recycled<'e, I: RunOf + Send + Sync, R: Threads + Wait + Sync, P: Pace 
 
 /// The same, where this is the gate's cell. Its lock is held from the entry to the leave.
 #[cycle(run)]
-fn run_locked<'e, I: RunOf + Send + Sync, R: Threads + Wait + Sync, P: Pace + Sync>(
-    all: &'e Shared<'e, I, R, P>,
-    task: ActorTask<I>,
+fn run_locked<
+    'e,
+    I: RunOf + Send + Sync,
+    T: TableOf + Send + Sync,
+    R: Threads + Wait + Sync,
+    P: Pace + Sync,
+>(
+    all: &'e Shared<'e, I, T, R, P>,
+    task: ActorTask<I, T>,
     cell: Arc<Mutex<LockedCell<Kept, I>>>,
     entry: GateEntry,
-) -> Result<ActorTask<I>, NoMemory>
+) -> Result<ActorTask<I, T>, NoMemory>
     requires { WantsEntry task entry }
-    ensures { IfOk result (λ k. IsSame task.progress k.progress) }
+    ensures { IfOk result (λ k. IsBesideSlots task.progress k.progress) }
 {
     let mut guard = cell.lock(all.rt);
     run_inside(all, task, &mut *guard, entry)
@@ -228,26 +304,33 @@ fn run_locked<'e, I: RunOf + Send + Sync, R: Threads + Wait + Sync, P: Pace + Sy
 
 /// The same, while the lock is held.
 #[cycle(run)]
-fn run_inside<'e, I: RunOf + Send + Sync, R: Threads + Wait + Sync, P: Pace + Sync>(
-    all: &'e Shared<'e, I, R, P>,
-    task: ActorTask<I>,
+#[tactic(auto, using(crate::proofs::BesideSlots::beside_then, crate::proofs::BesideSlots::beside_same, crate::proofs::BesideSlots::tracked_beside))]
+fn run_inside<
+    'e,
+    I: RunOf + Send + Sync,
+    T: TableOf + Send + Sync,
+    R: Threads + Wait + Sync,
+    P: Pace + Sync,
+>(
+    all: &'e Shared<'e, I, T, R, P>,
+    task: ActorTask<I, T>,
     locked: &mut LockedCell<Kept, I>,
     entry: GateEntry,
-) -> Result<ActorTask<I>, NoMemory>
+) -> Result<ActorTask<I, T>, NoMemory>
     requires { WantsEntry task entry }
-    ensures { IfOk result (λ k. IsSame task.progress k.progress) }
+    ensures { IfOk result (λ k. IsBesideSlots task.progress k.progress) }
 {
-    let (creating, new) = task.enter_recycled(all.program, locked, entry)?;
+    let (creating, new) = task.enter_recycled(all.program.ready, locked, entry)?;
     let at_end = run_to_end(all, new)?;
     leave_inside(all, locked, creating, at_end)
 }
 
 /// Returns the cell of the recycled gate that an actor is about to enter.
-fn with_cell<'e, I: RunOf, R, P: Pace>(
-    all: &'e Shared<'e, I, R, P>,
-    task: ActorTask<I>,
+fn with_cell<'e, I: RunOf, T: TableOf, R, P: Pace>(
+    all: &'e Shared<'e, I, T, R, P>,
+    task: ActorTask<I, T>,
     entry: &GateEntry,
-) -> Result<(ActorTask<I>, Arc<Mutex<LockedCell<Kept, I>>>), NoMemory>
+) -> Result<(ActorTask<I, T>, Arc<Mutex<LockedCell<Kept, I>>>), NoMemory>
     requires { WantsEntry task entry.now }
     ensures { IfOk result (λ p. p.0 ≡ task) }
 {
@@ -258,18 +341,27 @@ fn with_cell<'e, I: RunOf, R, P: Pace>(
 }
 
 /// The leave of a recycled gate whose lock is held, and what it leaves for the caller.
-fn leave_inside<'e, I: RunOf, R: Threads, P: Pace>(
-    all: &'e Shared<'e, I, R, P>,
+#[tactic(auto, using(crate::proofs::BesideSlots::beside_then, crate::proofs::BesideSlots::beside_same, crate::proofs::BesideSlots::tracked_beside))]
+fn leave_inside<'e, I: RunOf, T: TableOf, R: Threads, P: Pace>(
+    all: &'e Shared<'e, I, T, R, P>,
     locked: &mut LockedCell<Kept, I>,
-    creating: Creating<I>,
-    at_end: AtEnd<I>,
-) -> Result<ActorTask<I>, NoMemory>
+    creating: Creating<I, T>,
+    at_end: AtEnd<I, T>,
+) -> Result<ActorTask<I, T>, NoMemory>
     requires entered { locked.old.state.entered ≡ true }
-    requires at_end { IsAtEnd creating.born creating.stamp at_end }
-    ensures { IfOk result (λ k. IsSame creating.progress k.progress) }
+    requires at_end { IsAtEnd T.table.slots creating.born creating.stamp at_end }
+    ensures { IfOk result (λ k. IsBesideSlots creating.progress k.progress) }
 {
-    let AtEnd { task, last } = at_end;
-    let returned = finish_locked(task, all.rt, all.program, all.pace, last, locked)?;
+    let AtEnd { task, pass, last } = at_end;
+    let returned = finish_locked(
+        task,
+        pass,
+        all.rt,
+        all.program.ready,
+        all.pace,
+        last,
+        locked,
+    )?;
     creating.adopt_ended(returned)
 }
 
@@ -283,8 +375,37 @@ fn run_of<'x, I: RunOf + Send + Sync, R: Threads + Wait + Sync, P: Pace + Sync>(
     requires { image.now ≡ I.image }
     ensures { IfOk result (IsGathered image.now) }
 {
-    let program = Program::new(alloc, image)?;
-    let cells: RunCells<I> = RunCells::new(alloc, image)?;
+    let (cells, first) = open_tags::<I>(alloc, image)?;
+    run_over::<I, Brand, R, P>(rt, alloc, image, pace, cells, first)
+}
+
+/// The same, over these slots of its declared tags.
+fn run_over<
+    'x,
+    I: RunOf + Send + Sync,
+    T: TableOf + Send + Sync,
+    R: Threads + Wait + Sync,
+    P: Pace + Sync,
+>(
+    rt: &'x R,
+    alloc: Global,
+    image: &'x Image,
+    pace: &'x P,
+    tags: RuledCells<SlotState, I>,
+    first: RuledPass<SlotState, I>,
+) -> Result<Gathered, NoMemory>
+    requires image { image.now ≡ I.image }
+    requires table { (tags ≡ T.table) × (first.table ≡ T.table) }
+    requires first { first.view ≡ first_view }
+    requires count { tags.slots ≡ length image.now.tags }
+    ensures { IfOk result (IsGathered image.now) }
+{
+    let ready = Program::new(alloc, image)?;
+    let cells: RunCells<I, T> = RunCells::new(alloc, image, TagCells::new(tags, first))?;
+    let program = RunProgram {
+        ready: &ready,
+        run: PhantomData,
+    };
     let all = Shared {
         rt,
         alloc,
@@ -292,7 +413,7 @@ fn run_of<'x, I: RunOf + Send + Sync, R: Threads + Wait + Sync, P: Pace + Sync>(
         cells: &cells,
         pace,
     };
-    let (actor, memory) = Actor::root(alloc, &program)?;
+    let (actor, memory) = Actor::root(alloc, &ready)?;
     let root = NewActor {
         resident: Resident { actor, memory },
         stamp: Stamp(0),
@@ -304,8 +425,8 @@ fn run_of<'x, I: RunOf + Send + Sync, R: Threads + Wait + Sync, P: Pace + Sync>(
 
 /// Runs an image on threads: the root and each child on a thread of its own, each run of a gate on the thread of its
 /// caller. Where no thread can be made, the creator runs the child to its end before it goes on. Returns the logs of
-/// all actors, that of the root first, each followed by those of all that it created, and the histories of all
-/// cells in which something happened.
+/// all actors, that of the root first, each followed by those of all that it created, and the histories of the slots
+/// of declared tags and of all other cells in which something happened.
 ///
 /// `pace` is called before each shared event. Fails only where out of memory or of stamps, after all threads have
 /// ended.

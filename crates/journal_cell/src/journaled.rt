@@ -66,9 +66,13 @@ impl<O: Object, I: RunOf> Journaled<O, I> {
         }
     }
 
-    /// Returns a reference to the state.
+    /// Returns a reference to the state. It is the one to which the history leads, which is legal.
     pub fn state(&self) -> &O
-        ensures { result.now ≡ self.now.state }
+        ensures state { result.now ≡ self.now.state }
+        ensures legal { IsHistory (O.fits I.image) O.reply O.next (O.opening I.image self.now.name) 0
+            self.now.history }
+        ensures leads { self.now.state
+            ≡ state_after O.next (O.opening I.image self.now.name) self.now.history }
     {
         &self.state
     }

@@ -1,24 +1,18 @@
 //! The run to which a cell belongs.
 
 ghost use Rattle.wedge_base.specs.Images.{Image};
-ghost use Rattle.atomic_table.specs.Seated.{TableId};
 
 use std::marker::Brand;
 
-/// Stands for a run, so that the type of a locked value can speak of its image, and of the table that
-/// orders the entries of its declared tags, where there is one. It has no call; who starts a run picks
-/// both.
+/// Stands for a run, so that the type of a locked value can speak of its image. It has no call; who starts a run
+/// picks the image.
 pub trait RunOf {
     ghost image: { Image };
-
-    ghost table: { TableId };
 }
 
 impl RunOf for Brand {
     ghost use Rattle.std.specs.Prelude.{[]};
     ghost use Rattle.wedge_base.specs.Images.{Image};
-    ghost use Rattle.atomic_table.specs.Seated.{TableId};
-    ghost use Rattle.journal_cell.specs.Runs.{no_table};
 
     ghost image = { record {
       fuel = 0;
@@ -33,6 +27,4 @@ impl RunOf for Brand {
       user = 0;
       root = [];
     } };
-
-    ghost table = { no_table };
 }

@@ -1,10 +1,11 @@
 -- What an audit returns.
-use Rattle.std.specs.Prelude.{◌≡◌, List}
+use Rattle.std.specs.Prelude.{◌≡◌, List, length}
 use Rattle.wedge_base.specs.Images.{Image}
 use Rattle.thread_laws.specs.CacheLines.{counts_in}
-use Rattle.thread_laws.specs.Joining.{journal_of, Agrees, outcome_gathered}
+use Rattle.thread_laws.specs.Joining.{journal_of, AgreeOn, Agrees, outcome_gathered}
 use Rattle.thread_laws.specs.declared.gathered.ActorLog.{ActorLog}
 use Rattle.thread_laws.specs.declared.gathered.CellHistory.{CellHistory}
+use Rattle.run_audit.specs.ComparedCells.{IsUndeclared}
 use Rattle.run_audit.specs.IndexedEntries.{indexed_journal}
 use Rattle.run_audit.specs.Rooms.{IsRoomFor}
 use Rattle.run_audit.specs.declared.auditing.Audited.{Audited}
@@ -19,12 +20,12 @@ pub record IsAudit (i : Image) (logs : List ActorLog) (cells : List CellHistory)
   pub outcome : a.outcome ≡ outcome_gathered i logs cells
   pub caches : a.caches ≡ counts_in i logs
 
--- logs and histories agree for every cell, the outcome is the one that is read off both, the counts
--- of caches are those of the logs, and there is all that it takes to make the journal of the entries
--- of the logs
+-- logs and histories agree for every cell that is compared, the outcome is the one that is read off
+-- both, the counts of caches are those of the logs, and there is all that it takes to make the
+-- journal of the entries of the logs
 pub record IsCompared (i : Image) (logs : List ActorLog) (cells : List CellHistory) (c : Compared)
     : Type 0 where
-  pub agrees : Agrees logs cells
+  pub agree : AgreeOn (IsUndeclared (length i.tags)) logs cells
   pub outcome : c.outcome ≡ outcome_gathered i logs cells
   pub caches : c.caches ≡ counts_in i logs
   pub room : IsRoomFor (indexed_journal logs) c.room

@@ -2,6 +2,8 @@
 pub mod CellOrder
 -- The entries of histories, as entries of the journal.
 pub mod KeptEntries
+-- The cells that an audit compares: all but the slots of declared tags.
+pub mod ComparedCells
 -- The first difference between what cells kept and what actors logged.
 pub mod Differences
 -- That cells, and what is of them, are in an order.

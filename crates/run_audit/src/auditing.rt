@@ -1,12 +1,14 @@
 //! The audit.
 
-ghost use Rattle.std.specs.Prelude.{◌≡◌, IfOk};
+ghost use Rattle.std.specs.Prelude.{◌≡◌, IfErr, IfOk};
 ghost use Rattle.std.specs.Result.{MatchResult};
 ghost use Rattle.thread_laws.specs.Joining.{AreWalked, IsRun};
 ghost use Rattle.thread_laws.specs.Joining as joining;
 ghost use Rattle.thread_laws.specs.LookUps.{AreCountsOf};
 ghost use Rattle.thread_laws.specs.Replaying.{Legal};
 ghost use Rattle.run_audit.specs.Audits.{IsAudit, IsCompared};
+ghost use Rattle.run_audit.specs.ComparedCells.{compared_entries, compared_histories};
+ghost use Rattle.run_audit.specs.ComparedCells.{DeclaredAgree, IsAtCompared};
 ghost use Rattle.run_audit.specs.Differences.{IsComparison, IsFault};
 ghost use Rattle.run_audit.specs.IndexedEntries.{indexed_journal};
 ghost use Rattle.run_audit.specs.Rooms.{IsRoomFor};
@@ -67,35 +69,42 @@ fn journal_order<'a>(
     Ok((journal, room))
 }
 
-/// Returns the first difference between histories and a journal, or none where all cells agree.
+/// Returns the first difference between histories and a journal, or none where all cells agree that
+/// are compared: all but the first `declared` slots.
 #[tactic(auto, using(crate::proofs::Comparing::kept_ordered, crate::proofs::Comparing::sorted_ordered))]
 fn compare_cells(
     alloc: Global,
+    declared: usize,
     journal: &[JournalEntry<'_>],
     cells: &[CellHistory],
 ) -> Result<Option<Difference>, NoMemory>
-    ensures { IfOk result (λ r. IsComparison cells.now journal.now r) }
+    ensures { IfOk result (λ r. IsComparison (compared_histories declared cells.now)
+        (compared_entries declared journal.now) r) }
 {
-    let histories = histories_by_cell(alloc, cells)?;
+    let histories = histories_by_cell(alloc, declared, cells)?;
     let kept = kept_of_histories(alloc, histories.as_slice())?;
-    let logged = logged_by_cell(alloc, journal)?;
+    let logged = logged_by_cell(alloc, declared, journal)?;
     first_difference(alloc, kept.as_slice(), logged.as_slice())
 }
 
-/// Returns the outcome of logs with which the histories of all cells agree, the counts of their
-/// caches, and what it takes to make the journal of their entries.
+/// Returns the outcome of logs with which the histories of all cells agree that are compared, all
+/// but the slots of declared tags. With it come the counts of their caches, and what it takes to
+/// make the journal of their entries.
 fn compare_gathered(
     alloc: Global,
     image: &Image,
     gathered: &Gathered,
 ) -> Result<Compared, AuditFault>
-    ensures { MatchResult result
+    ensures found { MatchResult result
         (λ c. IsCompared image.now gathered.now.logs gathered.now.cells c)
-        (λ f. IsFault gathered.now.logs gathered.now.cells f) }
+        (λ f. DeclaredAgree image.now gathered.now.logs gathered.now.cells
+        → IsFault gathered.now.logs gathered.now.cells f) }
+    ensures cell { IfErr result (λ f. IsAtCompared image.now f) }
 {
     let (journal, room) = journal_order(alloc, gathered.logs.as_slice())?;
     let entries = journal.as_slice();
-    if let Some(difference) = compare_cells(alloc, entries, gathered.cells.as_slice())? {
+    let declared = image.tags().len();
+    if let Some(difference) = compare_cells(alloc, declared, entries, gathered.cells.as_slice())? {
         return Err(AuditFault::Disagree(difference));
     }
     let outcome = outcome_gathered(alloc, image, entries, gathered)?;
@@ -109,18 +118,26 @@ fn compare_gathered(
 
 /// Returns the journal and the outcome of what a run on threads left: the journal is all logged
 /// entries in the order of their stamps, those of one stamp by the names of their actors, and the
-/// outcome is read off logs and histories, as are the counts of the caches. Fails with `Disagree` exactly where the history of a
-/// cell differs from the logged entries of that cell, at the first difference in the order of
-/// cells, and hands back what it was given.
+/// outcome is read off logs and histories, as are the counts of the caches. Fails with `Disagree`
+/// exactly where the history of a cell that is compared differs from the logged entries of that
+/// cell, at the first such difference in the order of cells, and hands back what it was given.
 ///
-/// Where the logs are those of whole executions and the histories are legal, Ok says that the
-/// journal is a complete run of the image, with this outcome, and that there are counts for each
-/// actor of the outcome, which are those for its entries in the journal.
+/// The slots of the image's declared tags are not compared: the histories that their locks keep
+/// need no audit. Where these agree with the logs, which the caller has to know, Ok says that all
+/// cells do, and `Disagree` is the first difference of all cells.
+///
+/// Where moreover the logs are those of whole executions and the histories are legal, Ok says that
+/// the journal is a complete run of the image, with this outcome. Of logs of whole executions it
+/// says that there are counts for each actor of the outcome, which are those for its entries in the
+/// journal.
 pub fn audit(alloc: Global, image: &Image, gathered: Gathered) -> Result<Audited, AuditRefusal>
-    ensures result { MatchResult result
+    ensures result { DeclaredAgree image.now gathered.logs gathered.cells → MatchResult result
         (λ a. IsAudit image.now gathered.logs gathered.cells a)
         (λ r. (r.gathered ≡ gathered) × IsFault gathered.logs gathered.cells r.fault) }
+    ensures given { IfErr result (λ r. r.gathered ≡ gathered) }
+    ensures cell { IfErr result (λ r. IsAtCompared image.now r.fault) }
     ensures run { AreWalked image.now gathered.logs → Legal image.now gathered.cells
+        → DeclaredAgree image.now gathered.logs gathered.cells
         → IfOk result (λ a. IsRun image.now a.journal.entries a.outcome) }
     ensures caches { AreWalked image.now gathered.logs
         → IfOk result (λ a. AreCountsOf a.journal.entries a.outcome.actors a.caches) }

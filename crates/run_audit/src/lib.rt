@@ -5,6 +5,7 @@ mod actor_lines;
 mod auditing;
 mod caches;
 mod comparison;
+mod declared_slots;
 mod equality;
 mod fault;
 mod kept;

@@ -4,9 +4,11 @@ ghost use Rattle.std.specs.Prelude.{◌≡◌, ◌++◌, length, map, OnOk, IfOk
 ghost use Rattle.std.specs.List.Sorted.{IsSortedBy, IsStableBy};
 ghost use Rattle.std.specs.Option.{option_copied};
 ghost use Rattle.run_audit.specs.CellOrder.{by_cell};
+ghost use Rattle.run_audit.specs.ComparedCells.{compared_entries, compared_histories};
 ghost use Rattle.run_audit.specs.IndexedEntries.{entries_of};
 ghost use Rattle.run_audit.specs.KeptEntries.{entries_kept, history_first, kept_as, new_after};
 
+use crate::declared_slots::{is_of_declared, is_on_declared};
 use crate::kept::{KeptEntry, add_history};
 use crate::keys::{CellKey, event_key, history_key, key_order};
 use crate::merging::ByStamp;
@@ -116,59 +118,72 @@ pub(crate) fn journal_references<'a>(
     Ok(all)
 }
 
-/// Returns references to entries, in their order.
+/// Returns references to the entries that are not on the first `declared` slots, in their order.
+#[tactic(auto, using(crate::proofs::ComparedCells::entries_more, crate::proofs::ComparedCells::entries_over))]
 fn entry_references<'a>(
     alloc: Global,
+    declared: usize,
     entries: &[JournalEntry<'a>],
 ) -> Result<Vec<ByCell<'a>>, NoMemory>
-    ensures { IfOk result (λ v. v.items ≡ entries.now) }
+    ensures { IfOk result (λ v. v.items ≡ compared_entries declared entries.now) }
 {
     let mut all = Vec::with_capacity(alloc, entries.len())?;
     for item in entries {
-        all.push(ByCell {
-            key: event_key(&item.entry.event),
-            entry: item.entry,
-        })?;
+        if !is_on_declared(declared, &item.entry.event) {
+            all.push(ByCell {
+                key: event_key(&item.entry.event),
+                entry: item.entry,
+            })?;
+        }
     }
     Ok(all)
 }
 
-/// Returns references to histories, in their order.
+/// Returns references to the histories but those of the first `declared` slots, in their order.
+#[tactic(auto, using(crate::proofs::ComparedCells::histories_more, crate::proofs::ComparedCells::histories_over))]
 fn history_references<'a>(
     alloc: Global,
+    declared: usize,
     cells: &'a [CellHistory],
 ) -> Result<Vec<HistoryByCell<'a>>, NoMemory>
-    ensures { IfOk result (λ v. v.items ≡ cells.now) }
+    ensures { IfOk result (λ v. v.items ≡ compared_histories declared cells.now) }
 {
     let mut all = Vec::new(alloc);
     for history in cells {
-        all.push(HistoryByCell { history })?;
+        if !is_of_declared(declared, history) {
+            all.push(HistoryByCell { history })?;
+        }
     }
     Ok(all)
 }
 
-/// Returns entries in the order of their cells: those of each cell stay in their order.
+/// Returns the entries that are not on the first `declared` slots, in the order of their cells:
+/// those of each cell stay in their order.
 pub(crate) fn logged_by_cell<'a>(
     alloc: Global,
+    declared: usize,
     entries: &[JournalEntry<'a>],
 ) -> Result<Vec<ByCell<'a>>, NoMemory>
     ensures sorted { IfOk result (λ v. IsSortedBy by_cell v.items) }
-    ensures stable { IfOk result (λ v. IsStableBy by_cell entries.now v.items) }
+    ensures stable { IfOk result
+        (λ v. IsStableBy by_cell (compared_entries declared entries.now) v.items) }
 {
-    let mut all = entry_references(alloc, entries)?;
+    let mut all = entry_references(alloc, declared, entries)?;
     sort_stably(&mut all)?;
     Ok(all)
 }
 
-/// Returns histories in the order of their cells.
+/// Returns the histories but those of the first `declared` slots, in the order of their cells.
 pub(crate) fn histories_by_cell<'a>(
     alloc: Global,
+    declared: usize,
     cells: &'a [CellHistory],
 ) -> Result<Vec<HistoryByCell<'a>>, NoMemory>
     ensures sorted { IfOk result (λ v. IsSortedBy history_first v.items) }
-    ensures stable { IfOk result (λ v. IsStableBy history_first cells.now v.items) }
+    ensures stable { IfOk result
+        (λ v. IsStableBy history_first (compared_histories declared cells.now) v.items) }
 {
-    let mut all = history_references(alloc, cells)?;
+    let mut all = history_references(alloc, declared, cells)?;
     sort_stably(&mut all)?;
     Ok(all)
 }

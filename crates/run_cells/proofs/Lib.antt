@@ -1,4 +1,6 @@
--- Entries that cells keep, the gates that an actor knows, and histories.
+-- Entries that cells keep, the gates that an actor knows, histories, and entries on the slots of declared tags.
 pub mod EntriesFit
 pub mod Kept
 pub mod LookingAt
+pub mod OnDeclared
+pub mod TagPasses

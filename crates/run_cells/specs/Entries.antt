@@ -1,5 +1,5 @@
 -- Entries of an actor at rest.
-use Rattle.std.specs.Prelude.{◌≡◌, ℕ, ◌≤◌, None, IsSomeAnd}
+use Rattle.std.specs.Prelude.{◌≡◌, ℕ, ◌≤◌, Some, None, IsSomeAnd}
 use Rattle.wedge_base.specs.Images.{Image}
 use Rattle.wedge_base.specs.declared.grants.GateId.{GateId}
 use Rattle.wedge_events.specs.Journals.{cell_of}
@@ -13,6 +13,7 @@ use Rattle.wedge_events.specs.declared.cells.SlotAsk.{SlotAsk}
 use Rattle.wedge_events.specs.declared.cells.SlotReply.{SlotReply}
 use Rattle.wedge_events.specs.declared.cells.StreamAsk.{StreamAsk}
 use Rattle.wedge_events.specs.declared.cells.StreamReply.{StreamReply}
+use Rattle.wedge_events.specs.declared.events.CellName.TheVariants as cell
 use Rattle.wedge_events.specs.declared.events.Event.TheVariants as event
 use Rattle.wedge_events.specs.declared.events.LogEntry.{LogEntry}
 use Rattle.wedge_events.specs.declared.events.Want.{Want}
@@ -34,6 +35,18 @@ IsOfCell (want.Enter run) = ⊥
 IsOfCell (want.Leave e) = ⊥
 IsOfCell (want.Gate id q) = ⊥
 IsOfCell q = Unit {0}
+
+-- a want of no slot
+abbrev pub IsNoSlot : Want → Type 0
+IsNoSlot (want.Slot slot q) = ⊥
+IsNoSlot q = Unit {0}
+
+-- an entry on a slot, and one on no slot
+abbrev pub IsOnSlot : ℕ → LogEntry → Type 0
+IsOnSlot slot e = cell_of e.event ≡ Some (cell.Slot slot)
+
+abbrev pub IsOnNoSlot : LogEntry → Type 0
+IsOnNoSlot e = (slot : ℕ) → IsOnSlot slot e → ⊥
 
 -- an entry of an actor at rest that creates no actor and joins none
 pub record IsPlainEntry (i : Image) (r : ActorProgress) (e : LogEntry) : Type 0 where

@@ -1,4 +1,5 @@
--- The cells of a run: names, entries, the recycled gates that an actor knows.
+-- The cells of a run: names, entries, the recycled gates that an actor knows, passes of declared tags.
 pub mod Entries
 pub mod Names
 pub mod RecycledGates
+pub mod TagPasses

@@ -1,6 +1,6 @@
 //! One event of an actor on its cell.
 
-ghost use Rattle.std.specs.Prelude.{◌≡◌, ◌<◌, ◌↔◌, IfOk, Some, true};
+ghost use Rattle.std.specs.Prelude.{◌≡◌, ◌<◌, ◌++◌, ◌∷◌, ◌↔◌, [], IfOk, OnErr, Some, true};
 ghost use Rattle.wedge_base.specs.Images.{slots as most_slots};
 ghost use Rattle.wedge_events.specs.Directories.{directory_reply};
 ghost use Rattle.wedge_events.specs.Slots.{SlotFits, slot_reply};
@@ -8,13 +8,15 @@ ghost use Rattle.wedge_events.specs.declared.events.Event.{Event as AnEvent};
 ghost use Rattle.wedge_events.specs.declared.events.Want.{Want as AWant};
 ghost use Rattle.machine.specs.Between.{IsInBounds, WantFits};
 ghost use Rattle.machine.specs.Take.{current_want};
-ghost use Rattle.run_cells.specs.Entries.{IsPlainEntry, IsOfCell};
+ghost use Rattle.tag_laws.specs.DeclaredTags.{entries_on_declared};
+ghost use Rattle.run_cells.specs.Entries.{IsPlainEntry, IsOfCell, IsNoSlot, IsOnSlot, IsOnNoSlot};
 
 use crate::entries::{
     fd_directory_entry, lives_entry, slot_directory_entry, slot_entry, stream_entry,
 };
 use crate::locked_cell::LockedCell;
 use crate::opening::RunCells;
+use crate::tag_cells::{TableOf, TagPass};
 use actor_run::ActorRun;
 use fd_table::Stream;
 use journal_cell::{Pass, RunOf};
@@ -25,32 +27,58 @@ use tag_segment::SlotState;
 use wedge_base::{FdNo, NoMemory, Slot};
 use wedge_events::{DirectoryAsk, LivesAsk, LogEntry, SlotAsk, SlotWant, StreamAsk, Want};
 
-impl<I: RunOf> RunCells<I> {
+impl<I: RunOf, T: TableOf> RunCells<I, T> {
     /// Asks the cell of what an actor at rest wants, and returns the entry that the cell keeps of it. The cell is
-    /// locked while it is asked. Fails only where out of memory, or where no stamp is left; then the cell is as
-    /// before.
+    /// locked while it is asked; the slot of a declared tag is entered by the actor's pass, which then has one entry
+    /// more. Fails only where out of memory, or where no stamp is left; then the cell is as before.
     #[inline(always)]
     pub fn enter<R: Wait>(
         &self,
         rt: &R,
         run: &ActorRun<I>,
+        pass: &mut TagPass<I, T>,
         want: Want,
     ) -> Result<LogEntry, NoMemory>
         requires wants { current_want run.now.progress.state ≡ Some want }
         requires fits { WantFits run.now.progress.state want }
         requires of_cell { IsOfCell want }
-        ensures { IfOk result (IsPlainEntry I.image run.now.progress) }
+        ensures plain { IfOk result (IsPlainEntry I.image run.now.progress) }
+        ensures entered { IfOk result (λ e.
+            pass.new ≡ pass.old ++ entries_on_declared T.table.slots (e ∷ [])) }
+        ensures err { OnErr result (pass.new ≡ pass.old) }
     {
         match want {
-            Want::Slot { slot, want } => {
-                let cell = &self.slots[slot.0 as usize];
-                enter_slot(rt, cell, run, slot, want)
-            }
+            Want::Slot { slot, want } => self.enter_slot(rt, run, pass, slot, want),
             _ => self.enter_other(rt, run, want),
         }
     }
 
-    /// The same of any cell: kept out of line, as slots are entered most often.
+    /// The same of a slot.
+    #[inline(always)]
+    fn enter_slot<R: Wait>(
+        &self,
+        rt: &R,
+        run: &ActorRun<I>,
+        pass: &mut TagPass<I, T>,
+        slot: Slot,
+        want: SlotWant,
+    ) -> Result<LogEntry, NoMemory>
+        requires wants { current_want run.now.progress.state ≡ Some (AWant.Slot slot want) }
+        requires fits { WantFits run.now.progress.state (AWant.Slot slot want) }
+        ensures plain { IfOk result (IsPlainEntry I.image run.now.progress) }
+        ensures entered { IfOk result (λ e.
+            pass.new ≡ pass.old ++ entries_on_declared T.table.slots (e ∷ [])) }
+        ensures err { OnErr result (pass.new ≡ pass.old) }
+    {
+        let index = slot.0 as usize;
+        let declared = self.tags.count();
+        if index < declared {
+            return self.tags.enter(rt, pass, run, slot, want);
+        }
+        enter_locked_slot(rt, &self.slots[index - declared], run, slot, want)
+    }
+
+    /// The same of a cell that is no slot: kept out of line, as slots are entered most often.
     #[inline(never)]
     fn enter_other<R: Wait>(
         &self,
@@ -61,13 +89,11 @@ impl<I: RunOf> RunCells<I> {
         requires wants { current_want run.now.progress.state ≡ Some want }
         requires fits { WantFits run.now.progress.state want }
         requires of_cell { IsOfCell want }
-        ensures { IfOk result (IsPlainEntry I.image run.now.progress) }
+        requires no_slot { IsNoSlot want }
+        ensures plain { IfOk result (IsPlainEntry I.image run.now.progress) }
+        ensures no_slot { IfOk result IsOnNoSlot }
     {
         match want {
-            Want::Slot { slot, want } => {
-                let cell = &self.slots[slot.0 as usize];
-                enter_slot(rt, cell, run, slot, want)
-            }
             Want::Fd { fd, ask } => {
                 let cell = &self.streams[fd.0 as usize];
                 enter_stream(rt, cell, run, fd, ask)
@@ -75,7 +101,8 @@ impl<I: RunOf> RunCells<I> {
             Want::Lives(ask) => enter_lives(rt, &self.lives, run, ask),
             Want::Slots(ask) => enter_slot_directory(rt, &self.slot_directory, run, ask),
             Want::Fds(ask) => enter_fd_directory(rt, &self.fd_directory, run, ask),
-            Want::Gate { .. }
+            Want::Slot { .. }
+            | Want::Gate { .. }
             | Want::Start { .. }
             | Want::Join { .. }
             | Want::Enter { .. }
@@ -112,10 +139,10 @@ pub(crate) fn pass_of<I: RunOf>(run: &ActorRun<I>) -> Pass<'_>
     }
 }
 
-/// An event on a slot. A load, a store or a free is checked against the tag that lives there while the lock is
-/// held.
+/// An event on a slot of no declared tag. A load, a store or a free is checked against the tag that lives there while
+/// the lock is held.
 #[inline(always)]
-fn enter_slot<I: RunOf, R: Wait>(
+fn enter_locked_slot<I: RunOf, R: Wait>(
     rt: &R,
     cell: &Mutex<LockedCell<SlotState, I>>,
     run: &ActorRun<I>,
@@ -124,7 +151,8 @@ fn enter_slot<I: RunOf, R: Wait>(
 ) -> Result<LogEntry, NoMemory>
     requires wants { current_want run.now.progress.state ≡ Some (AWant.Slot slot want) }
     requires fits { WantFits run.now.progress.state (AWant.Slot slot want) }
-    ensures { IfOk result (IsPlainEntry I.image run.now.progress) }
+    ensures plain { IfOk result (IsPlainEntry I.image run.now.progress) }
+    ensures slot { IfOk result (IsOnSlot slot) }
 {
     let mut pass = pass_of(run);
     let mut guard = cell.lock(rt);
@@ -140,7 +168,7 @@ fn enter_slot<I: RunOf, R: Wait>(
 /// pages as a tag may have.
 #[tactic(auto, using(run_laws::proofs::Placing::others_inside))]
 #[inline(always)]
-fn is_in_bounds(state: &SlotState, slot: Slot, ask: &SlotAsk)
+pub(crate) fn is_in_bounds(state: &SlotState, slot: Slot, ask: &SlotAsk)
     requires inside { slot < most_slots }
     requires fits { SlotFits state.now ask.now }
     ensures { IsInBounds (AnEvent.Slot slot ask.now (slot_reply state.now ask.now)) }
@@ -168,7 +196,8 @@ fn enter_stream<I: RunOf, R: Wait>(
 ) -> Result<LogEntry, NoMemory>
     requires wants { current_want run.now.progress.state ≡ Some (AWant.Fd fd ask) }
     requires fits { WantFits run.now.progress.state (AWant.Fd fd ask) }
-    ensures { IfOk result (IsPlainEntry I.image run.now.progress) }
+    ensures plain { IfOk result (IsPlainEntry I.image run.now.progress) }
+    ensures no_slot { IfOk result IsOnNoSlot }
 {
     let mut pass = pass_of(run);
     let mut guard = cell.lock(rt);
@@ -186,7 +215,8 @@ fn enter_lives<I: RunOf, R: Wait>(
 ) -> Result<LogEntry, NoMemory>
     requires wants { current_want run.now.progress.state ≡ Some (AWant.Lives ask) }
     requires fits { WantFits run.now.progress.state (AWant.Lives ask) }
-    ensures { IfOk result (IsPlainEntry I.image run.now.progress) }
+    ensures plain { IfOk result (IsPlainEntry I.image run.now.progress) }
+    ensures no_slot { IfOk result IsOnNoSlot }
 {
     let mut pass = pass_of(run);
     let mut guard = cell.lock(rt);
@@ -204,7 +234,8 @@ fn enter_slot_directory<I: RunOf, R: Wait>(
 ) -> Result<LogEntry, NoMemory>
     requires wants { current_want run.now.progress.state ≡ Some (AWant.Slots ask) }
     requires fits { WantFits run.now.progress.state (AWant.Slots ask) }
-    ensures { IfOk result (IsPlainEntry I.image run.now.progress) }
+    ensures plain { IfOk result (IsPlainEntry I.image run.now.progress) }
+    ensures no_slot { IfOk result IsOnNoSlot }
 {
     let mut pass = pass_of(run);
     let mut guard = cell.lock(rt);
@@ -232,7 +263,8 @@ fn enter_fd_directory<I: RunOf, R: Wait>(
 ) -> Result<LogEntry, NoMemory>
     requires wants { current_want run.now.progress.state ≡ Some (AWant.Fds ask) }
     requires fits { WantFits run.now.progress.state (AWant.Fds ask) }
-    ensures { IfOk result (IsPlainEntry I.image run.now.progress) }
+    ensures plain { IfOk result (IsPlainEntry I.image run.now.progress) }
+    ensures no_slot { IfOk result IsOnNoSlot }
 {
     let mut pass = pass_of(run);
     let mut guard = cell.lock(rt);

@@ -1,44 +1,98 @@
 //! The histories of the cells of a run, once all its threads are done.
 
-ghost use Rattle.std.specs.Prelude.{All, IfOk, OnOk};
+ghost use Rattle.std.specs.Prelude.{◌≡◌, ◌<◌, ◌≤◌, ◌++◌, ◌∷◌, [], All, IfOk, OnOk, length};
+ghost use Rattle.wedge_base.specs.Images.{slots as most_slots};
+ghost use Rattle.wedge_events.specs.declared.events.CellName.TheVariants.{Slot as SlotName};
 ghost use Rattle.thread_laws.specs.Replaying.{AreKept, IsKept};
+ghost use Rattle.thread_laws.specs.declared.gathered.CellHistory.TheVariants as AHistory;
+ghost use Rattle.tag_laws.specs.DeclaredTags.{AreRuled};
+ghost use Rattle.run_cells.specs.TagPasses.{all_entered, AreNamedFrom, slot_histories};
 
 use crate::locked_cell::LockedCell;
 use crate::opening::RunCells;
+use crate::tag_cells::{TableOf, TagPass};
 use fd_table::Stream;
-use journal_cell::{JournalParts, RunOf};
+use journal_cell::{JournalParts, Journaled, RunOf};
 use machine::Lives;
+use std::alloc::Global;
 use std::sync::Mutex;
 use tag_directory::{FdDirectory, SlotDirectory};
 use tag_segment::SlotState;
 use thread_laws::CellHistory;
-use wedge_base::{Items, NoMemory};
+use wedge_base::{Items, NoMemory, Slot};
 use wedge_events::CellName;
 
-impl<I: RunOf> RunCells<I> {
-    /// Consumes the cells, and returns the histories of those in which something happened, each as its cell kept it,
-    /// behind these of recycled gates.
-    #[tactic(auto, using(crate::proofs::Kept::all_are_kept))]
-    pub fn into_histories(self, gates: Vec<CellHistory>) -> Result<Items<CellHistory>, NoMemory>
+impl<I: RunOf, T: TableOf> RunCells<I, T> {
+    /// Consumes the cells, and returns the histories of the slots of declared tags, and then of all other cells in which
+    /// something happened, these of recycled gates among them: each as its cell kept it. Those of declared tags have
+    /// just what these passes entered. Fails only where out of memory, and where a pass is missing.
+    pub fn into_histories(
+        self,
+        alloc: Global,
+        gates: Vec<CellHistory>,
+        passes: Vec<TagPass<I, T>>,
+    ) -> Result<Items<CellHistory>, NoMemory>
         requires { All (IsKept I.image) gates.items }
-        ensures { IfOk result (AreKept I.image) }
+        ensures kept { IfOk result (AreKept I.image) }
+        ensures ruled { IfOk result (AreRuled T.table.slots (all_entered passes.items)) }
     {
         let RunCells {
             slot_directory,
+            tags,
             slots,
             fd_directory,
             streams,
             lives,
             ..
         } = self;
-        let mut cells = gates;
-        add_slot_directory(&mut cells, slot_directory)?;
-        add_slots(&mut cells, slots)?;
-        add_fd_directory(&mut cells, fd_directory)?;
-        add_streams(&mut cells, streams)?;
-        add_lives(&mut cells, lives)?;
+        let mut others = gates;
+        add_slot_directory(&mut others, slot_directory)?;
+        add_slots(&mut others, slots)?;
+        add_fd_directory(&mut others, fd_directory)?;
+        add_streams(&mut others, streams)?;
+        add_lives(&mut others, lives)?;
+        let mut cells = tag_histories(alloc, tags.close(passes)?)?;
+        cells.append(&mut others)?;
         Ok(Items::new(cells))
     }
+}
+
+/// Returns the histories of the slots of declared tags, each under its number.
+fn tag_histories<I: RunOf>(
+    alloc: Global,
+    cells: Vec<Journaled<SlotState, I>>,
+) -> Result<Vec<CellHistory>, NoMemory>
+    requires few { length cells.items ≤ most_slots }
+    requires named { AreNamedFrom 0 cells.items }
+    ensures histories { IfOk result (λ v. v.items ≡ slot_histories 0 cells.items) }
+    ensures kept { IfOk result (λ v. All (IsKept I.image) v.items) }
+{
+    let mut all = Vec::with_capacity(alloc, cells.len())?;
+    for cell in cells {
+        add_tag(&mut all, cell)?;
+    }
+    Ok(all)
+}
+
+/// Adds the history of the slot of a declared tag, behind those before it.
+fn add_tag<I: RunOf>(
+    all: &mut Vec<CellHistory>,
+    cell: Journaled<SlotState, I>,
+) -> Result<(), NoMemory>
+    requires inside { length all.old.items < most_slots }
+    requires named { cell.name ≡ SlotName (length all.old.items) }
+    requires kept { All (IsKept I.image) all.old.items }
+    ensures history { OnOk result (all.new.items ≡ all.old.items
+        ++ AHistory.Slot (length all.old.items) cell.history ∷ []) }
+    ensures kept { OnOk result (All (IsKept I.image) all.new.items) }
+{
+    let slot = Slot(all.len() as u32);
+    let JournalParts { history, .. } = cell.into_parts();
+    all.push(CellHistory::Slot {
+        slot,
+        entries: Items::new(history),
+    })?;
+    Ok(())
 }
 
 /// Adds the history of the directory of slots.

@@ -8,9 +8,12 @@ mod gates;
 mod histories;
 mod locked_cell;
 mod opening;
+mod slot_maker;
+mod tag_cells;
 
 pub use enter::is_of_cell;
 pub use gate_cells::GateCells;
 pub use gates::{enter_gate, leave_gate};
 pub use locked_cell::{LockedCell, Named};
-pub use opening::RunCells;
+pub use opening::{RunCells, open_tags};
+pub use tag_cells::{TableOf, TagCells, TagPass};

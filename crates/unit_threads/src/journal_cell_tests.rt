@@ -28,7 +28,6 @@ pub(crate) struct Bare;
 impl RunOf for Bare {
     ghost use Rattle.std.specs.Prelude.{[]};
     ghost use Rattle.wedge_base.specs.Images.{Image};
-    ghost use Rattle.journal_cell.specs.Runs.{no_table};
 
     ghost image = { record {
       fuel = 0;
@@ -43,8 +42,6 @@ impl RunOf for Bare {
       user = 0;
       root = [];
     } };
-
-    ghost table = { no_table };
 }
 
 /// The count of live sthreads, with its history.

@@ -2,6 +2,8 @@
 #![tactic(auto)]
 
 #[cfg(test)]
+mod declared_slot_tests;
+#[cfg(test)]
 mod journal_cell_tests;
 #[cfg(test)]
 mod ruled_cell_tests;

@@ -1,6 +1,9 @@
-use Rattle.std.proofs.Common.{rules, sym, subst, length}
+use Rattle.std.proofs.Common.{rules, sym, subst, ap, length}
 use Rattle.actor_task.specs.Tasks.{Waits, IsIndexed}
 use Rattle.actor_task.proofs.Progressing.{kept_resumes, child_indexed, learned_within, waits_so}
+use Rattle.actor_run.specs.Runs.{RunState}
+use Rattle.actor_task.specs.Tasks.{IsBesideSlots}
+use Rattle.actor_task.proofs.Tracking.{beside_run}
 use Rattle.actor_ends.proofs.joining.resume.Goals as goal
 
 pub index_of-index-requires : goal.index_of-index-requires
@@ -23,3 +26,6 @@ invariant_of-result g c = λ going.
     let w = subst (λ k. Waits k c.args.number) (sym c.task.view_is) c.requires in
     kept_resumes g.I.RunOf.image c.task.inside.run.progress _ c.task.inside.created.items _ _ c.args.number c.index_of-index.result c.in_ok-end.end (c.task.invariant w.going) w.child c.index_of-index.ensures.is c.in_ok-end.ensures.learned
     (waits_so c.task.inside.run.progress.state.phase c.args.number w.waits) (search rules)
+
+pub returns : goal.returns
+returns g c = subst (λ k. IsBesideSlots k.progress c.resume.new.self.progress) c.task.view_is (beside_run c.task.inside.run.progress c.resume.new.self.progress c.args.number c.in_ok-end.end (ap (λ (x : RunState). x.progress) c.resume.ensures))

@@ -1,4 +1,5 @@
 use Rattle.std.proofs.Common.{◌≡◌, ◌+◌, ◌-◌, ◌*◌, length}
+use Rattle.actor_task.specs.Tasks.{IsTracked}
 use Rattle.gate_runner.proofs.runner.+run.Given as goal
 
 abbrev pub decreases-run_to_end : goal.decreases-run_to_end
@@ -41,3 +42,4 @@ abbrev pub invariant-act-loop : goal.invariant-act-loop
 invariant-act-loop g l =
     (goal.iterator-act-loop g).can_next l.iterator' × (goal.iterator-act-loop g).is_finite l.iterator'
     × (l.task.progress.began ≡ l.fn.new.resident) × (l.task.progress.low ≡ l.fn.new.stamp)
+    × IsTracked g.T.TableOf.table.slots l.pass l.task.progress

@@ -1,6 +1,5 @@
-use Rattle.journal_cell.specs.Runs.{no_table}
 use Rattle.gate_runner.proofs.runner.run_image.Given as goal
 
--- the run is of this image, and no table orders entries of it
+-- the run is of this image
 abbrev pub ghosts-run_of : goal.ghosts-run_of
-ghosts-run_of g a = record { image = a.image.now; table = no_table }
+ghosts-run_of g a = record { image = a.image.now }

@@ -9,7 +9,7 @@ slot_mut-inside-requires g c = let t = c.requires.has_cell in (search rules, (t.
 
 pub returns-clause-ok : goal.returns-clause-ok
 returns-clause-ok g c = let k = c.slot_mut-inside.result.now in let bare : rest c.args.seat.now.me.1 ≡ [] = ap rest c.requires.has_cell.1 in
-    let carried = c.slot_mut-inside.ensures.value ∙ ap (λ l. (c.args.cell, k) ∷ l) bare in let state = c.state.ensures in
+    let carried = c.slot_mut-inside.ensures.value ∙ ap (λ l. (c.args.cell, k) ∷ l) bare in let state = c.state.ensures.state in
     let finds = subst (g.M.AskMaker.finds c.args.maker.now) state c.ask-ask.ensures.finds in
     let asked = c.ask-ask.ensures.makes ∙ ap (g.M.AskMaker.makes c.args.maker.now) state in
     ok_two _ _ _ c.enter.result (λ e a b. (k, carried, finds, a ∙ ap (entry_at g.O.Object.reply k c.args.actor.now) asked, λ i. (c.args.cell, b i) ∷ bare i)) c.enter.ensures.entry c.enter.ensures.kept

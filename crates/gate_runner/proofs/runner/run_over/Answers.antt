@@ -4,7 +4,7 @@ use Rattle.machine.specs.Between.{RunsIn}
 use Rattle.run_cells.specs.RecycledGates.{HasCells}
 use Rattle.actor_task.specs.Tasks.{IsNew}
 use Rattle.gate_runner.proofs.Roots.{none_seen, root_new, root_name_short, root_unlocked, short}
-use Rattle.gate_runner.proofs.runner.run_of.Goals as goal
+use Rattle.gate_runner.proofs.runner.run_over.Goals as goal
 
 pub invariant_of-root : goal.invariant_of-root
 invariant_of-root g c = record {

@@ -1,0 +1,38 @@
+-- The cells that an audit compares: all but the slots of declared tags, which are the first ones.
+use Rattle.std.specs.Prelude.{ℕ, nat_lt, Bool, false, not, List, length}
+use Rattle.std.specs.List.{filter}
+use Rattle.wedge_base.specs.Images.{Image}
+use Rattle.wedge_events.specs.declared.events.CellName.{CellName}
+use Rattle.wedge_events.specs.declared.events.LogEntry.{LogEntry}
+use Rattle.thread_laws.specs.Joining.{AgreeOn}
+use Rattle.thread_laws.specs.declared.gathered.ActorLog.{ActorLog}
+use Rattle.thread_laws.specs.declared.gathered.CellHistory.{CellHistory}
+use Rattle.thread_laws.specs.declared.gathered.CellHistory.TheVariants as history
+use Rattle.tag_laws.specs.DeclaredTags.{IsDeclared, is_on_declared}
+use Rattle.run_audit.specs.declared.fault.AuditFault.{AuditFault}
+use Rattle.run_audit.specs.declared.fault.AuditFault.TheVariants as fault
+
+-- whether a history is that of one of the first n slots
+abbrev pub is_of_declared : ℕ → CellHistory → Bool
+is_of_declared n (history.Slot slot es) = nat_lt slot n
+is_of_declared n h = false
+
+-- the histories of the other cells, and the entries on them, in their order
+abbrev pub compared_histories : ℕ → List CellHistory → List CellHistory
+compared_histories n hs = filter (λ (h : CellHistory). not (is_of_declared n h)) hs
+
+abbrev pub compared_entries : ℕ → List LogEntry → List LogEntry
+compared_entries n es = filter (λ (e : LogEntry). not (is_on_declared n e.event)) es
+
+-- a cell is none of the first n slots
+abbrev pub IsUndeclared : ℕ → CellName → Type 0
+IsUndeclared n name = IsDeclared n name → ⊥
+
+-- each slot of a declared tag has the history that the journal has
+abbrev pub DeclaredAgree : Image → List ActorLog → List CellHistory → Type 0
+DeclaredAgree i logs cells = AgreeOn (IsDeclared (length i.tags)) logs cells
+
+-- a difference is at a cell that is compared
+abbrev pub IsAtCompared : Image → AuditFault → Type 0
+IsAtCompared i fault.NoMemory = Unit {0}
+IsAtCompared i (fault.Disagree d) = IsUndeclared (length i.tags) d.cell

@@ -1,0 +1,2 @@
+-- What is asked carries the tag that lives in the slot.
+pub mod Pairs

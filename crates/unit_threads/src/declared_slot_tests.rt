@@ -1,0 +1,175 @@
+//! Tests of ruled_cell: the slot of a declared tag, which passes store to and load from.
+
+ghost use Rattle.std.specs.Prelude.{◌≡◌, [], IfOk, Some, option_map};
+ghost use Rattle.wedge_events.specs.declared.events.CellName.TheVariants.{Slot as SlotName};
+
+use crate::journal_cell_tests::{SlotEntry, entry_of, has_entries, is_same};
+use journal_cell::{Journaled, Pass, RunOf};
+use ruled_cell::{AskMaker, RuledCells};
+use std::alloc::Global;
+use std::test::Fail;
+use tag_segment::SlotState;
+use wedge_base::{ActorName, NoMemory, Right, Slot, Stamp, TagNo};
+use wedge_events::{CellName, Live, SlotAsk, SlotReply};
+
+/// A run of an image that declares a tag of one page, all bytes zero.
+struct OneTag;
+
+impl RunOf for OneTag {
+    ghost use Rattle.std.specs.Prelude.{[], ◌∷◌, None};
+    ghost use Rattle.wedge_base.specs.Images.{Image};
+
+    ghost image = { record {
+      fuel = 0;
+      base = 0;
+      words = [];
+      procedures = [];
+      entry = 0;
+      ranges = [];
+      tags = record { name = []; pages = 1; right = None; content = [] } ∷ [];
+      fds = [];
+      files = [];
+      user = 0;
+      root = [];
+    } };
+}
+
+/// Stores a word at offset 0, with this right on the tag that lives there.
+#[derive(Drop)]
+struct StoreWord {
+    right: Right,
+    value: u32,
+}
+
+impl AskMaker<SlotState> for StoreWord {
+    ghost use Rattle.std.specs.Prelude.{Some, option_map};
+    ghost use Rattle.wedge_events.specs.Slots.{SlotFits};
+    ghost use Rattle.wedge_events.specs.declared.cells.SlotAsk.TheVariants as ask;
+
+    ghost makes = { λ m s. ask.Store 4 0 m.value
+        (option_map (λ g. record { tag = g.tag; right = Some m.right }) s) };
+
+    ghost finds = { λ m s. SlotFits s (ask.Store 4 0 m.value
+        (option_map (λ g. record { tag = g.tag; right = Some m.right }) s)) };
+
+    #[tactic(auto, using(crate::proofs::Pairs::pair_with))]
+    fn ask(&self, state: &SlotState) -> SlotAsk {
+        SlotAsk::Store {
+            offset: 0,
+            width: 4,
+            value: self.value,
+            live: live_in(state, self.right),
+        }
+    }
+}
+
+/// Loads the word at offset 0, with this right on the tag that lives there.
+#[derive(Drop)]
+struct LoadWord {
+    right: Right,
+}
+
+impl AskMaker<SlotState> for LoadWord {
+    ghost use Rattle.std.specs.Prelude.{Some, option_map};
+    ghost use Rattle.wedge_events.specs.Slots.{SlotFits};
+    ghost use Rattle.wedge_events.specs.declared.cells.SlotAsk.TheVariants as ask;
+
+    ghost makes = { λ m s. ask.Load 4 0
+        (option_map (λ g. record { tag = g.tag; right = Some m.right }) s) };
+
+    ghost finds = { λ m s. SlotFits s (ask.Load 4 0
+        (option_map (λ g. record { tag = g.tag; right = Some m.right }) s)) };
+
+    #[tactic(auto, using(crate::proofs::Pairs::pair_with))]
+    fn ask(&self, state: &SlotState) -> SlotAsk {
+        SlotAsk::Load {
+            offset: 0,
+            width: 4,
+            live: live_in(state, self.right),
+        }
+    }
+}
+
+/// Returns the tag that lives in a slot, with this right on it.
+fn live_in(state: &SlotState, right: Right) -> Option<Live>
+    ensures { result ≡ option_map (λ g. record { tag = g.tag; right = Some right }) state.now }
+{
+    let tag = state.live()?;
+    Some(Live {
+        tag,
+        right: Some(right),
+    })
+}
+
+/// Returns the slot of the tag as a run begins.
+fn declared_slot(alloc: Global) -> Result<Journaled<SlotState, OneTag>, NoMemory>
+    ensures { IfOk result (λ c. (c.history ≡ []) × (c.name ≡ SlotName 0)) }
+{
+    let state = SlotState::declared(alloc, TagNo(0), &[], 1)?;
+    Ok(Journaled::new(alloc, CellName::Slot { slot: Slot(0) }, state))
+}
+
+/// Returns the tag, with a right on it.
+fn tag_with(right: Right) -> Option<Live> {
+    Some(Live {
+        tag: TagNo(0),
+        right: Some(right),
+    })
+}
+
+/// Returns the entry of the root that stores 5, with the stamp 1.
+fn store_entry(root: &ActorName) -> Result<SlotEntry, NoMemory> {
+    let ask = SlotAsk::Store {
+        offset: 0,
+        width: 4,
+        value: 5,
+        live: tag_with(Right::ReadWrite),
+    };
+    entry_of(root, 1, ask, SlotReply::Stored)
+}
+
+/// Returns the entry of a child that loads 5, with the stamp 2.
+fn load_entry(child: &ActorName) -> Result<SlotEntry, NoMemory> {
+    let ask = SlotAsk::Load {
+        offset: 0,
+        width: 4,
+        live: tag_with(Right::Read),
+    };
+    entry_of(child, 2, ask, SlotReply::Loaded { value: 5 })
+}
+
+/// One pass stores, and one that is split from it loads: the history has both, with the stamps 1 and 2.
+#[test]
+fn passes_store_and_load(rt: HostRuntime) -> Result<(), Fail> {
+    let alloc = rt.alloc();
+    let root = ActorName::root(alloc)?;
+    let child = root.child(alloc, 1)?;
+    let wanted = [store_entry(&root)?, load_entry(&child)?];
+    let mut slots = Vec::new(alloc);
+    slots.push(declared_slot(alloc)?)?;
+    let (cells, mut pass) = RuledCells::new(alloc, slots)?;
+    let mut other = cells.split(&mut pass)?;
+    let store = StoreWord {
+        right: Right::ReadWrite,
+        value: 5,
+    };
+    let mut actor = Pass {
+        name: &root,
+        clock: Stamp(0),
+    };
+    let entry = cells.enter(&rt, &mut pass, 0, &mut actor, &store)?;
+    assert!(rt; is_same(&entry, &wanted[0]));
+    let load = LoadWord { right: Right::Read };
+    let mut actor = Pass {
+        name: &child,
+        clock: Stamp(0),
+    };
+    let entry = cells.enter(&rt, &mut other, 0, &mut actor, &load)?;
+    assert!(rt; is_same(&entry, &wanted[1]));
+    cells.join(&mut pass, other);
+    let mut closed = cells.close(pass).into_iter();
+    let parts = closed.next().expect(&rt, "slot 0").into_parts();
+    assert!(rt; has_entries(&parts.history, &wanted));
+    assert!(rt; closed.next().is_none());
+    Ok(())
+}
