@@ -47,7 +47,7 @@ module _ (S Q R : Type 0) where
   abbrev tickets : List ℕ → ℕ → ℕ
   tickets ws c = slice_index ws (16 * c)
 
-  pub begins : (ws : List ℕ) (xs : List K) → length ws ≡ 16 * length xs + 16 → ((i : ℕ) → get_or ws i 0 ≡ 0) → ((c : ℕ) (k : K) → get_elem? xs c ≡ some k → (k.history ≡ []) × (k.name ≡ Slot c))
+  pub begins : (ws : List ℕ) (xs : List K) → length ws ≡ 16 * length xs + 528 → ((i : ℕ) → get_or ws i 0 ≡ 0) → ((c : ℕ) (k : K) → get_elem? xs c ≡ some k → (k.history ≡ []) × (k.name ≡ Slot c))
       → IsTicketOrder (opening ws xs first_view)
   begins ws xs wide zeros bare = record {
     log = [];

@@ -55,6 +55,34 @@ module _ (S Q R : Type 0) where
   same_rule : (s : St) (r : IsTicketOrder s) (i id : ℕ) (v : V) (cs : List (ℕ × K)) → get_elem? s.views id ≡ some v → IsTicketOrder (stepped s i (get_or s.words i 0) id cs v keeps)
   same_rule s r i id v cs at = subst (λ (z : List ℕ × List V). IsTicketOrder record { words = z.0; homes = s.homes; views = z.1 }) (λ k. (sym (set-get_or s.words i 0) k, sym (set_again s.views id v at) k)) r
 
+  -- a word on which waiters park has changed: an odd one
+  pub rings : (slots id i k : ℕ) (me : M) (f : ℕ → ℕ) → i ≡ 2 * k + 1 → Allows IsTicketOrder slots id me i f (λ n m. m ≡ me)
+  rings slots id i k me f odd s r deep at fits =
+      let y : ℕ = f (get_or s.words i 0) in let ws : List ℕ = set s.words i y in
+      let same : (c : ℕ) → get_or ws (16 * c) 0 ≡ get_or s.words (16 * c) 0 = λ c. get_or-set_other s.words i (16 * c) y 0 (λ z. omega (arith, odd, z)) in (
+        me.0,
+        keeps,
+        tt,
+        subst (λ (vs : List V). IsTicketOrder record { words = ws; homes = s.homes; views = vs }) (sym (set_again s.views id me.0 at)) record {
+          log = r.log;
+          cells = r.cells;
+          owner = r.owner;
+          lent = r.lent;
+          holder = r.holder;
+          wide = length-set s.words i y ∙ r.wide;
+          deep = r.deep;
+          each_cell = λ a h. let ok = r.each_cell a h in record {
+            serving = get_or-set_other s.words i (16 * a + 8) y 0 (λ z. omega (arith, odd, z)) ∙ ok.serving;
+            drawn = subst (λ n. tickets_served a r.log ≤ n) (sym (same a)) ok.drawn;
+            home = ok.home;
+            away = ok.away;
+          };
+          each_seat = λ j u e. subst (λ (T : ℕ → ℕ). FitsSeat r.log T r.owner r.lent r.cells s.views r.holder j u) (λ x c. sym (same c) x) (r.each_seat j u e);
+          each_served = r.each_served;
+        },
+        refl,
+      )
+
   pub draws : (slots id : ℕ) (me : M) (c n : ℕ) → me.0.turn ≡ Idle → is_unspent me.0.origin ≡ true → c < slots
       → Allows IsTicketOrder slots id me (16 * c) (λ x. either (eqb x n) (n + 1) x) (DrawsTicket (step slots (16 * c) n (n + 1) none) me)
   draws slots id me c n idle live small s r deep at fits = let i : ℕ = 16 * c in let x : ℕ = get_or s.words i 0 in let wide = r.wide in let d = r.deep in let near : c < r.cells = omega arith in

@@ -1,5 +1,5 @@
 -- For the proof alone: the parts of one turn at a cell.
-use Rattle.std.specs.Prelude.{◌≡◌, ℕ, ◌<◌, [], ◌∷◌, ◌++◌, Option, true}
+use Rattle.std.specs.Prelude.{◌≡◌, ℕ, ◌+◌, ◌*◌, ◌<◌, [], ◌∷◌, ◌++◌, Option, true}
 use Rattle.wedge_events.specs.declared.events.CellName.TheVariants.{Slot}
 use Rattle.journal_cell.specs.declared.entry.Entry.{Entry}
 use Rattle.journal_cell.specs.declared.entry.Pass.{Pass}
@@ -12,6 +12,10 @@ use Rattle.ruled_cell.specs.Order.{CellSeat}
 -- 2^64 - 1, which is drawn by none
 abbrev pub highest_ticket : ℕ
 highest_ticket = 18446744073709551615
+
+-- an odd number
+abbrev pub IsOdd : ℕ → Type 0
+IsOdd n = (k : ℕ) × (n ≡ 2 * k + 1)
 
 module _ {S Q R : Type 0} where
   -- the seat has a ticket, and no cell

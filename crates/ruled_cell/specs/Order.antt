@@ -120,7 +120,7 @@ pub record IsTicketOrder {S Q R : Type 0}
   pub owner : ℕ → ℕ → ℕ
   pub lent : ℕ → Bool
   pub holder : ℕ → ℕ
-  pub wide : length s.words ≡ 16 * cells + 16
+  pub wide : length s.words ≡ 16 * cells + 528
   pub deep : length s.homes ≡ cells
   pub each_cell : (c : ℕ) → c < cells → FitsCell log owner lent s c
   pub each_seat : (j : ℕ) (v : PassView Q R) → get_elem? s.views j ≡ some v
@@ -161,6 +161,10 @@ module _ {S Q R : Type 0} where
   abbrev pub PassesOn : Step (CellState S Q R) → CellSeat S Q R → ℕ → CellSeat S Q R → Type 0
   PassesOn st m n m' = (k : CellState S Q R) (x : Option (Entry Q R)) → m.1 ≡ (m.0.cell, k) ∷ []
       → k.history ≡ cell_history m.0.cell m.0.seen ++ entry_list x → HasPassedOn m.0.cell x m m'
+
+  -- the seat is as before
+  abbrev pub LeavesSeat : Step (CellState S Q R) → CellSeat S Q R → ℕ → CellSeat S Q R → Type 0
+  LeavesSeat st m n m' = m' ≡ m
 
   -- the seat knows its number
   abbrev pub LearnsNumber : Step (CellState S Q R) → CellSeat S Q R → ℕ → CellSeat S Q R → Type 0

@@ -24,7 +24,7 @@ use wedge_events::Object;
 #[derive(Drop)]
 pub struct RuledCells<O: Object, I: RunOf> {
     pub(crate) table: CellTable<O, I>,
-    count: usize,
+    pub(crate) count: usize,
     // Has room for the cells at the end, so that closing takes no memory.
     spare: Vec<Journaled<O, I>>,
 }
@@ -39,7 +39,7 @@ impl<O: Object, I: RunOf> Model for RuledCells<O, I> {
     ghost view = { λ c. c.table.shared.table_id };
 
     ghost invariant = { λ c.
-        (c.table.shared.table_id.words ≡ 16 * c.table.shared.table_id.slots + 16)
+        (c.table.shared.table_id.words ≡ 16 * c.table.shared.table_id.slots + 528)
         × (c.table.shared.table_id.slots ≤ most_slots) × (c.count ≡ c.table.shared.table_id.slots)
         × (c.spare.items ≡ []) × (c.table.shared.table_id.slots ≤ vec_capacity c.spare) };
 }
@@ -59,7 +59,7 @@ impl<O: Object, I: RunOf> RuledCells<O, I> {
     {
         let count = cells.len();
         let mut words = Vec::new(alloc);
-        for _ in 0..16 * count + 16 {
+        for _ in 0..16 * count + 528 {
             words.push(0)?;
         }
         let spare = Vec::with_capacity(alloc, count)?;

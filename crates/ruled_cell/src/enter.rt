@@ -4,11 +4,11 @@ ghost use Rattle.std.specs.Prelude.{◌≡◌, ◌<◌, ◌+◌, ◌∷◌, [], 
 ghost use Rattle.journal_cell.specs.Histories.{CellState, entry_at, cell_after, pass_after};
 ghost use Rattle.journal_cell.specs.declared.entry.Entry.{Entry as AnEntry};
 ghost use Rattle.ruled_cell.specs.Passes.{IsIdle, IsVisit, IsNewEntry};
-ghost use Rattle.ruled_cell.specs.Enter.{highest_ticket, HasTicket, IsCellAsked, HoldsCell};
+ghost use Rattle.ruled_cell.specs.Enter.{highest_ticket, HasTicket, IsCellAsked, HoldsCell, IsOdd};
 ghost use Rattle.ruled_cell.specs.Order.{with_ticket, IsServed, HasPassedOn};
 
 use crate::cells::RuledCells;
-use crate::order::{Draw, Look, PassOn};
+use crate::order::{Draw, Look, PassOn, Ring};
 use crate::passes::{PassSeat, RuledPass};
 use journal_cell::{Entry, Pass, RunOf};
 use std::hint::spin_loop;
@@ -19,6 +19,10 @@ use wedge_events::Object;
 /// How often a waiter looks before it parks. Most turns are shorter than the two system calls by which a thread
 /// parks and another wakes it.
 const LOOKS: u32 = 100;
+
+/// How many words waiters park on. Each parks on that of its ticket, so that whoever passes its turn on wakes the one
+/// that is next, and hardly any other.
+const BELLS: u64 = 256;
 
 /// What makes the ask of an entry from the state of the cell, once it is the turn of the pass.
 pub trait AskMaker<O: Object> {
@@ -41,6 +45,7 @@ impl<O: Object, I: RunOf> RuledCells<O, I> {
     /// Fails only where out of memory, where no stamp is left, or where 2^64 - 1 tickets of the cell were drawn.
     /// The actor is then as before. The pass is as before where no ticket was drawn; otherwise it waited for its
     /// turn and passed it on, so it has seen what was entered up to there, and entered nothing.
+    #[inline(always)]
     pub fn enter<R: Wait, M: AskMaker<O>>(
         &self,
         rt: &R,
@@ -70,6 +75,7 @@ impl<O: Object, I: RunOf> RuledCells<O, I> {
 
     /// Draws a ticket for a cell, and returns it, unless none is left. The count is raised only where it is still
     /// what was read, so that it never wraps.
+    #[inline(always)]
     fn draw<R: Wait>(&self, rt: &R, seat: &mut PassSeat<O, I>, cell: usize) -> Option<u64>
         requires table { (seat.old.table_id ≡ self.now) × (cell < seat.old.table_id.slots) }
         requires idle { IsIdle seat.old.me.0 }
@@ -92,16 +98,34 @@ impl<O: Object, I: RunOf> RuledCells<O, I> {
         unreachable!()
     }
 
-    /// Waits until the ticket is served: looks a number of times, and parks then.
+    /// Waits until the ticket is served.
+    #[inline(always)]
     fn wait<R: Wait>(&self, rt: &R, seat: &mut PassSeat<O, I>, cell: usize, ticket: u64)
         requires table { (seat.old.table_id ≡ self.now) × (cell < seat.old.table_id.slots) }
         requires ticket { HasTicket cell ticket seat.old.me }
         ensures same { (seat.new.table_id ≡ seat.old.table_id) × (seat.new.id ≡ seat.old.id) }
         ensures served { IsServed seat.old.me seat.new.me }
     {
+        let found = self.table.shared.load::<Look>(seat, 16 * cell + 8);
+        if found != ticket {
+            self.wait_on(rt, seat, cell, ticket);
+        }
+    }
+
+    /// The same of a ticket that was not served when it was looked: looks a number of times, and parks then.
+    #[inline(never)]
+    fn wait_on<R: Wait>(&self, rt: &R, seat: &mut PassSeat<O, I>, cell: usize, ticket: u64)
+        requires table { (seat.old.table_id ≡ self.now) × (cell < seat.old.table_id.slots) }
+        requires ticket { HasTicket cell ticket seat.old.me }
+        ensures same { (seat.new.table_id ≡ seat.old.table_id) × (seat.new.id ≡ seat.old.id) }
+        ensures served { IsServed seat.old.me seat.new.me }
+    {
         let shared = &self.table.shared;
+        let bell = self.bell(ticket);
         let mut looks = 0;
         for _ in rt.forever() {
+            // The bell is read before the look, so that one that rings between them is not missed.
+            let rung = shared.peek(bell);
             let found = shared.load::<Look>(seat, 16 * cell + 8);
             if found == ticket {
                 return;
@@ -110,13 +134,36 @@ impl<O: Object, I: RunOf> RuledCells<O, I> {
                 looks += 1;
                 spin_loop();
             } else {
-                shared.park(rt, 16 * cell + 8, (found % 4294967296) as u32);
+                shared.park(rt, bell, (rung % 4294967296) as u32);
             }
         }
         unreachable!()
     }
 
+    /// Returns the word on which who has a ticket parks: an odd one, of which the rule says nothing.
+    fn bell(&self, ticket: u64) -> usize
+        ensures below { result < self.now.words }
+        ensures odd { IsOdd result }
+    {
+        let bell = (ticket % BELLS) as usize;
+        16 * self.count + 17 + 2 * bell
+    }
+
+    /// Wakes who waits with a ticket.
+    #[inline(never)]
+    fn ring(&self, seat: &mut PassSeat<O, I>, ticket: u64)
+        requires { seat.old.table_id ≡ self.now }
+        ensures same { (seat.new.table_id ≡ seat.old.table_id) × (seat.new.id ≡ seat.old.id) }
+        ensures me { seat.new.me ≡ seat.old.me }
+    {
+        let shared = &self.table.shared;
+        let bell = self.bell(ticket);
+        shared.fetch_add::<Ring>(seat, bell, 1);
+        shared.wake_all(bell);
+    }
+
     /// Asks the cell that the seat has.
+    #[inline(always)]
     fn act<M: AskMaker<O>>(
         &self,
         seat: &mut PassSeat<O, I>,
@@ -143,6 +190,7 @@ impl<O: Object, I: RunOf> RuledCells<O, I> {
     }
 
     /// Returns the cell and serves the next ticket. Who waits for it is woken.
+    #[inline(always)]
     fn pass_on(&self, seat: &mut PassSeat<O, I>, cell: usize, ticket: u64)
         requires table { (seat.old.table_id ≡ self.now) × (cell < seat.old.table_id.slots) }
         requires turn { (k : CellState O O.Ask O.Reply) × (x : Option (AnEntry O.Ask O.Reply))
@@ -154,11 +202,12 @@ impl<O: Object, I: RunOf> RuledCells<O, I> {
         let shared = &self.table.shared;
         shared.store::<PassOn>(seat, 16 * cell + 8, ticket + 1);
         if shared.peek(16 * cell) > ticket + 1 {
-            shared.wake_all(16 * cell + 8);
+            self.ring(seat, ticket + 1);
         }
     }
 
     /// Waits until the ticket is served, asks the cell, and passes the turn on.
+    #[inline(always)]
     fn take_turn<R: Wait, M: AskMaker<O>>(
         &self,
         rt: &R,

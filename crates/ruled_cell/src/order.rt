@@ -1,8 +1,8 @@
 //! The rule of the table of the cells, and what each step on it does.
 //!
 //! Word 16 c counts the tickets of the cell c that were drawn, and word 16 c + 8 those that were served, so that
-//! no two of these words share a cache line. Slot c holds the cell. There are 16 words more, so that there is a
-//! word where there is no cell.
+//! no two of these words share a cache line. Slot c holds the cell. There are 528 words more. Waiters park on the odd
+//! ones among them, of which the rule says nothing.
 
 use crate::passes::PassView;
 use atomic_table::{Join, Play, Split, Table, TableRule};
@@ -57,6 +57,15 @@ impl<O: Object, I: RunOf> Play<Journaled<O, I>, PassView<O::Ask, O::Reply>> for 
     ghost use Rattle.ruled_cell.specs.Order.{PassesOn};
 
     ghost then = { PassesOn };
+}
+
+/// Changes a word on which waiters park.
+pub(crate) struct Ring;
+
+impl<O: Object, I: RunOf> Play<Journaled<O, I>, PassView<O::Ask, O::Reply>> for Ring {
+    ghost use Rattle.ruled_cell.specs.Order.{LeavesSeat};
+
+    ghost then = { LeavesSeat };
 }
 
 /// Learns the number of its own seat.

@@ -5,5 +5,5 @@ use Rattle.ruled_cell.proofs.PassSteps.{begins}
 use Rattle.ruled_cell.proofs.cells.RuledCells.new.Goals as goal
 
 pub new-requires : goal.new-requires
-new-requires g c = let n : c.loop.counter ≡ 16 * length c.args.cells.items + 16 = search rules in let zero : ℕ = 0 in let words : c.as_slice.result.now ≡ replicate (16 * length c.args.cells.items + 16) zero = c.as_slice.ensures.value ∙ (c.loop.invariant ∙ ap (λ k. replicate k zero) n) in
-    begins _ _ _ _ _ (ap length words ∙ length-replicate (16 * length c.args.cells.items + 16) zero) (λ i. ap (λ l. get_or l i zero) words ∙ zeros (16 * length c.args.cells.items + 16) i) c.requires.initial
+new-requires g c = let n : c.loop.counter ≡ 16 * length c.args.cells.items + 528 = search rules in let zero : ℕ = 0 in let words : c.as_slice.result.now ≡ replicate (16 * length c.args.cells.items + 528) zero = c.as_slice.ensures.value ∙ (c.loop.invariant ∙ ap (λ k. replicate k zero) n) in
+    begins _ _ _ _ _ (ap length words ∙ length-replicate (16 * length c.args.cells.items + 528) zero) (λ i. ap (λ l. get_or l i zero) words ∙ zeros (16 * length c.args.cells.items + 528) i) c.requires.initial
