@@ -55,7 +55,7 @@ module _ (S Q R : Type 0) where
   same_rule : (s : St) (r : IsTicketOrder s) (i id : ℕ) (v : V) (cs : List (ℕ × K)) → get_elem? s.views id ≡ some v → IsTicketOrder (stepped s i (get_or s.words i 0) id cs v keeps)
   same_rule s r i id v cs at = subst (λ (z : List ℕ × List V). IsTicketOrder record { words = z.0; homes = s.homes; views = z.1 }) (λ k. (sym (set-get_or s.words i 0) k, sym (set_again s.views id v at) k)) r
 
-  -- a word on which waiters park has changed: an odd one
+  -- a word has changed of which the rule says nothing: an odd one
   pub rings : (slots id i k : ℕ) (me : M) (f : ℕ → ℕ) → i ≡ 2 * k + 1 → Allows IsTicketOrder slots id me i f (λ n m. m ≡ me)
   rings slots id i k me f odd s r deep at fits =
       let y : ℕ = f (get_or s.words i 0) in let ws : List ℕ = set s.words i y in

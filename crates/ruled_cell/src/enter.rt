@@ -4,11 +4,11 @@ ghost use Rattle.std.specs.Prelude.{◌≡◌, ◌<◌, ◌+◌, ◌∷◌, [], 
 ghost use Rattle.journal_cell.specs.Histories.{CellState, entry_at, cell_after, pass_after};
 ghost use Rattle.journal_cell.specs.declared.entry.Entry.{Entry as AnEntry};
 ghost use Rattle.ruled_cell.specs.Passes.{IsIdle, IsVisit, IsNewEntry};
-ghost use Rattle.ruled_cell.specs.Enter.{highest_ticket, HasTicket, IsCellAsked, HoldsCell, IsOdd};
+ghost use Rattle.ruled_cell.specs.Enter.{highest_ticket, HasTicket, IsCellAsked, HoldsCell};
 ghost use Rattle.ruled_cell.specs.Order.{with_ticket, IsServed, HasPassedOn};
 
 use crate::cells::RuledCells;
-use crate::order::{Draw, Look, PassOn, Ring};
+use crate::order::{Draw, Look, PassOn};
 use crate::passes::{PassSeat, RuledPass};
 use journal_cell::{Entry, Pass, RunOf};
 use std::hint::spin_loop;
@@ -19,10 +19,6 @@ use wedge_events::Object;
 /// How often a waiter looks before it parks. Most turns are shorter than the two system calls by which a thread
 /// parks and another wakes it.
 const LOOKS: u32 = 100;
-
-/// How many words waiters park on. Each parks on that of its ticket, so that whoever passes its turn on wakes the one
-/// that is next, and hardly any other.
-const BELLS: u64 = 256;
 
 /// What makes the ask of an entry from the state of the cell, once it is the turn of the pass.
 pub trait AskMaker<O: Object> {
@@ -83,6 +79,7 @@ impl<O: Object, I: RunOf> RuledCells<O, I> {
         ensures ticket { MatchOption result (seat.new.me ≡ seat.old.me)
             (λ n. (seat.new.me ≡ with_ticket cell n seat.old.me) × (n < highest_ticket)) }
     {
+        self.come_in(rt, seat, cell);
         let shared = &self.table.shared;
         let mut next = shared.peek(16 * cell);
         for _ in rt.forever() {
@@ -123,9 +120,8 @@ impl<O: Object, I: RunOf> RuledCells<O, I> {
         let shared = &self.table.shared;
         let bell = self.bell(ticket);
         let mut looks = 0;
+        let mut hung = 0;
         for _ in rt.forever() {
-            // The bell is read before the look, so that one that rings between them is not missed.
-            let rung = shared.peek(bell);
             let found = shared.load::<Look>(seat, 16 * cell + 8);
             if found == ticket {
                 return;
@@ -133,33 +129,16 @@ impl<O: Object, I: RunOf> RuledCells<O, I> {
             if looks < LOOKS {
                 looks += 1;
                 spin_loop();
+            } else if looks == LOOKS {
+                // It looks once more before it parks, so that a turn that came meanwhile is not missed.
+                hung = self.hang(seat, bell);
+                looks = LOOKS + 1;
             } else {
-                shared.park(rt, bell, (rung % 4294967296) as u32);
+                shared.park(rt, bell, hung);
+                looks = LOOKS;
             }
         }
         unreachable!()
-    }
-
-    /// Returns the word on which who has a ticket parks: an odd one, of which the rule says nothing.
-    fn bell(&self, ticket: u64) -> usize
-        ensures below { result < self.now.words }
-        ensures odd { IsOdd result }
-    {
-        let bell = (ticket % BELLS) as usize;
-        16 * self.count + 17 + 2 * bell
-    }
-
-    /// Wakes who waits with a ticket.
-    #[inline(never)]
-    fn ring(&self, seat: &mut PassSeat<O, I>, ticket: u64)
-        requires { seat.old.table_id ≡ self.now }
-        ensures same { (seat.new.table_id ≡ seat.old.table_id) × (seat.new.id ≡ seat.old.id) }
-        ensures me { seat.new.me ≡ seat.old.me }
-    {
-        let shared = &self.table.shared;
-        let bell = self.bell(ticket);
-        shared.fetch_add::<Ring>(seat, bell, 1);
-        shared.wake_all(bell);
     }
 
     /// Asks the cell that the seat has.
@@ -201,9 +180,7 @@ impl<O: Object, I: RunOf> RuledCells<O, I> {
     {
         let shared = &self.table.shared;
         shared.store::<PassOn>(seat, 16 * cell + 8, ticket + 1);
-        if shared.peek(16 * cell) > ticket + 1 {
-            self.ring(seat, ticket + 1);
-        }
+        self.call_next(seat, cell, ticket + 1);
     }
 
     /// Waits until the ticket is served, asks the cell, and passes the turn on.

@@ -2,6 +2,7 @@
 //! seen and entered, so that the history of each cell is known at the end, and needs no audit.
 #![tactic(auto)]
 
+mod bells;
 mod cells;
 mod enter;
 mod order;

@@ -1,8 +1,8 @@
 //! The rule of the table of the cells, and what each step on it does.
 //!
 //! Word 16 c counts the tickets of the cell c that were drawn, and word 16 c + 8 those that were served, so that
-//! no two of these words share a cache line. Slot c holds the cell. There are 528 words more. Waiters park on the odd
-//! ones among them, of which the rule says nothing.
+//! no two of these words share a cache line. Slot c holds the cell. There are 528 words more. The rule says nothing of
+//! the odd ones: threads park on these.
 
 use crate::passes::PassView;
 use atomic_table::{Join, Play, Split, Table, TableRule};
@@ -59,7 +59,7 @@ impl<O: Object, I: RunOf> Play<Journaled<O, I>, PassView<O::Ask, O::Reply>> for 
     ghost then = { PassesOn };
 }
 
-/// Changes a word on which waiters park.
+/// Changes a word of which the rule says nothing.
 pub(crate) struct Ring;
 
 impl<O: Object, I: RunOf> Play<Journaled<O, I>, PassView<O::Ask, O::Reply>> for Ring {

@@ -13,11 +13,7 @@ store-requires g c = let t = c.requires.turn in let k = t.0 in let x = t.1 in le
       (at.6 ∙ ap (λ n. (n, k) ∷ []) (sym at.1)) (at.7 ∙ ap (λ n. cell_history n c.args.seat.now.me.0.seen ++ entry_list x) (sym at.1)) (at.8 ∙ ap (λ n. Slot n) (sym at.1)),
 )
 
-pub returns-then-peek-ticket-clause-visit : goal.returns-then-peek-ticket-clause-visit
-returns-then-peek-ticket-clause-visit g c = λ k x at. subst (λ m. HasPassedOn c.args.cell x c.args.seat.now.me m) (sym c.ring.ensures.me)
+pub returns-clause-visit : goal.returns-clause-visit
+returns-clause-visit g c = λ k x at. subst (λ m. HasPassedOn c.args.cell x c.args.seat.now.me m) (sym c.call_next.ensures.me)
     (subst (λ n. HasPassedOn n x c.args.seat.now.me c.store.new.seat.me) at.1
     (c.store.ensures.2 k x (at.6 ∙ ap (λ n. (n, k) ∷ []) (sym at.1)) (at.7 ∙ ap (λ n. cell_history n c.args.seat.now.me.0.seen ++ entry_list x) (sym at.1))))
-
-pub returns-else-peek-ticket-clause-visit : goal.returns-else-peek-ticket-clause-visit
-returns-else-peek-ticket-clause-visit g c = λ k x at. subst (λ n. HasPassedOn n x c.args.seat.now.me c.store.new.seat.me) at.1
-    (c.store.ensures.2 k x (at.6 ∙ ap (λ n. (n, k) ∷ []) (sym at.1)) (at.7 ∙ ap (λ n. cell_history n c.args.seat.now.me.0.seen ++ entry_list x) (sym at.1)))

@@ -1,4 +1,4 @@
-use Rattle.std.proofs.Common.{rules, ap, sym, subst, ◌∙◌}
+use Rattle.std.proofs.Common.{rules, subst, ◌∙◌}
 use Rattle.ruled_cell.specs.Order.{IsServed}
 use Rattle.ruled_cell.proofs.TicketSteps.{looks}
 use Rattle.ruled_cell.proofs.cells.RuledCells.wait.Goals as goal
