@@ -428,8 +428,8 @@ fn run_over<
 /// all actors, that of the root first, each followed by those of all that it created, and the histories of the slots
 /// of declared tags and of all other cells in which something happened.
 ///
-/// `pace` is called before each shared event. Fails only where out of memory or of stamps, after all threads have
-/// ended.
+/// `pace` is called before each shared event. Fails only where out of memory or of stamps, or where the pass of an actor
+/// is missing at the end, after all threads have ended.
 pub fn run_image<R: Threads + Wait + Sync, P: Pace + Sync>(
     rt: &R,
     alloc: Global,

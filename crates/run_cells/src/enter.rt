@@ -5,6 +5,7 @@ ghost use Rattle.wedge_base.specs.Images.{slots as most_slots};
 ghost use Rattle.wedge_events.specs.Directories.{directory_reply};
 ghost use Rattle.wedge_events.specs.Slots.{SlotFits, slot_reply};
 ghost use Rattle.wedge_events.specs.declared.events.Event.{Event as AnEvent};
+ghost use Rattle.wedge_events.specs.declared.events.SlotWant.{SlotWant as ASlotWant};
 ghost use Rattle.wedge_events.specs.declared.events.Want.{Want as AWant};
 ghost use Rattle.machine.specs.Between.{IsInBounds, WantFits};
 ghost use Rattle.machine.specs.Take.{current_want};
@@ -30,7 +31,8 @@ use wedge_events::{DirectoryAsk, LivesAsk, LogEntry, SlotAsk, SlotWant, StreamAs
 impl<I: RunOf, T: TableOf> RunCells<I, T> {
     /// Asks the cell of what an actor at rest wants, and returns the entry that the cell keeps of it. The cell is
     /// locked while it is asked; the slot of a declared tag is entered by the actor's pass, which then has one entry
-    /// more. Fails only where out of memory, or where no stamp is left; then the cell is as before.
+    /// more, and which `into_histories` asks for at the end. Fails only where out of memory, or where no stamp is left;
+    /// then nothing is entered.
     #[inline(always)]
     pub fn enter<R: Wait>(
         &self,
@@ -139,10 +141,98 @@ pub(crate) fn pass_of<I: RunOf>(run: &ActorRun<I>) -> Pass<'_>
     }
 }
 
-/// An event on a slot of no declared tag. A load, a store or a free is checked against the tag that lives there while
-/// the lock is held.
+/// An event on a slot of no declared tag. A load and a store, which are the most, have functions of their own, in which
+/// the compiler knows what is asked.
 #[inline(always)]
 fn enter_locked_slot<I: RunOf, R: Wait>(
+    rt: &R,
+    cell: &Mutex<LockedCell<SlotState, I>>,
+    run: &ActorRun<I>,
+    slot: Slot,
+    want: SlotWant,
+) -> Result<LogEntry, NoMemory>
+    requires wants { current_want run.now.progress.state ≡ Some (AWant.Slot slot want) }
+    requires fits { WantFits run.now.progress.state (AWant.Slot slot want) }
+    ensures plain { IfOk result (IsPlainEntry I.image run.now.progress) }
+    ensures slot { IfOk result (IsOnSlot slot) }
+{
+    match want {
+        SlotWant::Load { offset, width } => load_locked(rt, cell, run, slot, offset, width),
+        SlotWant::Store {
+            offset,
+            width,
+            value,
+        } => store_locked(rt, cell, run, slot, offset, width, value),
+        _ => ask_locked(rt, cell, run, slot, want),
+    }
+}
+
+/// A load.
+#[inline(never)]
+fn load_locked<I: RunOf, R: Wait>(
+    rt: &R,
+    cell: &Mutex<LockedCell<SlotState, I>>,
+    run: &ActorRun<I>,
+    slot: Slot,
+    offset: u32,
+    width: u8,
+) -> Result<LogEntry, NoMemory>
+    requires wants { current_want run.now.progress.state
+        ≡ Some (AWant.Slot slot (ASlotWant.Load offset width)) }
+    requires fits { WantFits run.now.progress.state
+        (AWant.Slot slot (ASlotWant.Load offset width)) }
+    ensures plain { IfOk result (IsPlainEntry I.image run.now.progress) }
+    ensures slot { IfOk result (IsOnSlot slot) }
+{
+    enter_locked(rt, cell, run, slot, SlotWant::Load { offset, width })
+}
+
+/// A store.
+#[inline(never)]
+fn store_locked<I: RunOf, R: Wait>(
+    rt: &R,
+    cell: &Mutex<LockedCell<SlotState, I>>,
+    run: &ActorRun<I>,
+    slot: Slot,
+    offset: u32,
+    width: u8,
+    value: u32,
+) -> Result<LogEntry, NoMemory>
+    requires wants { current_want run.now.progress.state
+        ≡ Some (AWant.Slot slot (ASlotWant.Store offset width value)) }
+    requires fits { WantFits run.now.progress.state
+        (AWant.Slot slot (ASlotWant.Store offset width value)) }
+    ensures plain { IfOk result (IsPlainEntry I.image run.now.progress) }
+    ensures slot { IfOk result (IsOnSlot slot) }
+{
+    let want = SlotWant::Store {
+        offset,
+        width,
+        value,
+    };
+    enter_locked(rt, cell, run, slot, want)
+}
+
+/// Any event.
+#[inline(never)]
+fn ask_locked<I: RunOf, R: Wait>(
+    rt: &R,
+    cell: &Mutex<LockedCell<SlotState, I>>,
+    run: &ActorRun<I>,
+    slot: Slot,
+    want: SlotWant,
+) -> Result<LogEntry, NoMemory>
+    requires wants { current_want run.now.progress.state ≡ Some (AWant.Slot slot want) }
+    requires fits { WantFits run.now.progress.state (AWant.Slot slot want) }
+    ensures plain { IfOk result (IsPlainEntry I.image run.now.progress) }
+    ensures slot { IfOk result (IsOnSlot slot) }
+{
+    enter_locked(rt, cell, run, slot, want)
+}
+
+/// Asks the slot. A load, a store or a free is checked against the tag that lives there while the lock is held.
+#[inline(always)]
+fn enter_locked<I: RunOf, R: Wait>(
     rt: &R,
     cell: &Mutex<LockedCell<SlotState, I>>,
     run: &ActorRun<I>,

@@ -62,7 +62,8 @@ impl<I: RunOf, T: TableOf> RunCells<I, T> {
         })
     }
 
-    /// Returns a pass for an actor, which has entered nothing. Fails only where 2^64 - 1 were returned.
+    /// Returns a pass for an actor, which has entered nothing. It is to be given back to `into_histories`, which fails
+    /// where one is missing. Fails only where 2^64 - 1 were returned.
     pub fn pass<R: Wait>(&self, rt: &R) -> Result<TagPass<I, T>, NoMemory>
         ensures { IfOk result (λ p. p ≡ []) }
     {

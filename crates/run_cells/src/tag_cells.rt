@@ -103,7 +103,8 @@ impl<I: RunOf, T: TableOf> TagCells<I, T> {
         self.cells.count()
     }
 
-    /// Returns a pass for an actor, which has entered nothing. Fails only where 2^64 - 1 were returned.
+    /// Returns a pass for an actor, which has entered nothing, and which `close` asks for. Fails only where 2^64 - 1
+    /// were returned.
     pub fn pass<R: Wait>(&self, rt: &R) -> Result<TagPass<I, T>, NoMemory>
         ensures { IfOk result (λ p. p ≡ []) }
     {

@@ -4,7 +4,7 @@ use Rattle.wedge_events.specs.Slots.{SlotFits}
 use Rattle.wedge_events.specs.Wants.{slot_ask_with}
 use Rattle.machine.specs.Take.{pair}
 use Rattle.run_cells.proofs.EntriesFit.{slot_fits}
-use Rattle.run_cells.proofs.enter.enter_locked_slot.Goals as goal
+use Rattle.run_cells.proofs.enter.enter_locked.Goals as goal
 
 pub enter-requires : goal.enter-requires
 enter-requires g c =
