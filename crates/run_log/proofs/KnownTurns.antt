@@ -56,7 +56,7 @@ use Rattle.run_log.proofs.Suiting.{asked_suits}
 -- ---- what an event makes
 
 -- no stream is opened
-abbrev OpensNoStream : Event → Type 0
+abbrev pub OpensNoStream : Event → Type 0
 OpensNoStream (event.Fd fd (stream_ask.Open k bytes) r) = ⊥
 OpensNoStream e = Unit {0}
 
@@ -166,12 +166,12 @@ still_there {X = X} m k v n there = by_key (n == k) refl
     by_key false is = (there.0, with_other m k v n (λ same_key. true≢false (sym (itself n) ∙ (ap (λ j. n == j) same_key ∙ is))) ∙ there.1)
 
 -- what is known stays known
-keeps_made : (i : Image) (b : ActorState) (m : Makings) (e : Event) (n : Makings) (tag : ℕ) → Makes i b m e n → IsMade m tag → IsMade n tag
+pub keeps_made : (i : Image) (b : ActorState) (m : Makings) (e : Event) (n : Makings) (tag : ℕ) → Makes i b m e n → IsMade m tag → IsMade n tag
 keeps_made i b m e n tag (MakesNone is none quiet) made = subst (λ x. IsMade x tag) (sym is) made
 keeps_made i b m e n tag (MakesTag slot t pages at_ quiet is_event is) made = subst (λ x. IsMade x tag) (sym is) (still_there m.tags t (record { compartment = b.compartment; pc = b.hart.pc }) tag made)
 keeps_made i b m e n tag (MakesFile fd o at_ file is_event is) made = subst (λ x. IsMade x tag) (sym is) made
 
-keeps_path : (i : Image) (b : ActorState) (m : Makings) (e : Event) (n : Makings) (fd : ℕ) → Makes i b m e n → HasPath m fd → HasPath n fd
+pub keeps_path : (i : Image) (b : ActorState) (m : Makings) (e : Event) (n : Makings) (fd : ℕ) → Makes i b m e n → HasPath m fd → HasPath n fd
 keeps_path i b m e n fd (MakesNone is none quiet) has_path = subst (λ x. HasPath x fd) (sym is) has_path
 keeps_path i b m e n fd (MakesTag slot t pages at_ quiet is_event is) has_path = subst (λ x. HasPath x fd) (sym is) has_path
 keeps_path i b m e n fd (MakesFile f o at_ file is_event is) has_path = subst (λ x. HasPath x fd) (sym is) (still_there m.files f o.path fd has_path)

@@ -55,6 +55,7 @@ noted_there w l name e new t c = noted_rest w.image l.makings (ready w.actors t.
 -- its index and its chain; the actors after the turn, and the log
 pub record LogsTurn (w : WorldState) (l : Log) (name : List ℕ) (e : Event) (new : WorldState) (t : Turned w name e new) : Type 0 where
   pub index : ℕ
+  pub indexed : index_in w.actors name ≡ Some index
   pub found : IsFirstNamed w.actors name index t.actor
   pub chain : CallChain
   pub at : slice_get l.chains index ≡ Some chain
@@ -88,6 +89,7 @@ logs_turn w l name e new t was =
     let same_length : length (slice_set l.chains k n.chain) ≡ length (slice_set w.actors k x) = set_length l.chains k n.chain ∙ (was ∙ sym (set_length w.actors k x)) in
     record {
       index = k;
+      indexed = f.at;
       found = f.found;
       chain = chain.0;
       at = chain.1;

@@ -28,7 +28,7 @@ use Rattle.run_notes.specs.Notes.{Noted, note_by, with_note, copy_note, copy_in_
 use Rattle.run_notes.specs.declared.chain.CallChain.{CallChain}
 use Rattle.run_notes.specs.declared.items.Makings.{Makings}
 use Rattle.run_notes.specs.declared.note.Note.{Note}
-use Rattle.run_log.specs.NoteLaws.{CopyAccess, slot_of_target, copy_access_at, copy_access_of, copy_access_by, copy_access_with, copy_access, grants_copy_of, IsCopyNote, BeginWith, AreCopyNotes}
+use Rattle.run_log.specs.NoteLaws.{chain_past_instr, chain_past_with, chain_past, chain_past_local, chain_at_rest, CopyAccess, slot_of_target, copy_access_at, copy_access_of, copy_access_by, copy_access_with, copy_access, grants_copy_of, IsCopyNote, BeginWith, AreCopyNotes}
 use Rattle.run_log.proofs.CopiesKept.{step_granted}
 use Rattle.run_log.proofs.KnownItems.{max_is}
 use Rattle.run_log.proofs.NotedItems.{tag_item_is}
@@ -159,30 +159,30 @@ reached_is i a address width = by_tests (address % width == 0) (in_text i addres
     by_tests true false = by_range (range_at a.memory.ranges address width)
 
 -- whether an access is noted, and by what
-abbrev IsNotedAs : Image → Makings → ActorState → Option CopyAccess → Option Note → Type 0
-IsNotedAs i m a None o = o ≡ None
-IsNotedAs i m a (Some x) o = (n : Note) × (o ≡ Some n) × IsCopyNote i m a x n
+abbrev IsNotedAs : Image → Makings → ActorState → CallChain → Option CopyAccess → Option Note → Type 0
+IsNotedAs i m a ch None o = o ≡ None
+IsNotedAs i m a ch (Some x) o = (n : Note) × (o ≡ Some n) × IsCopyNote i m a ch x n
 
 copy_noted : (i : Image) (m : Makings) (a : ActorState) (ch : CallChain) (k : Kind) (o : Option ℕ) → ((slot : ℕ) → o ≡ Some slot → grants_copy a.sheet.tags slot ≡ true)
-    → IsNotedAs i m a (option_map (copy_access_at k) o) (copy_note i m a ch k o)
+    → IsNotedAs i m a ch (option_map (copy_access_at k) o) (copy_note i m a ch k o)
 copy_noted i m a ch k None granted = refl
 copy_noted i m a ch k (Some slot) granted = by_tag (greatest_copy slot None a.sheet.tags) refl (granted_some slot a.sheet.tags None (granted slot refl))
   where
     by_tag : (t : Option ℕ) → greatest_copy slot None a.sheet.tags ≡ t → is_some (greatest_copy slot None a.sheet.tags) ≡ true
-        → (n : Note) × (option_map (note_by (doer_of a) ch k mode.Private) (option_map (tag_item i m) t) ≡ Some n) × IsCopyNote i m a (record { kind = k; slot = slot }) n
+        → (n : Note) × (option_map (note_by (doer_of a) ch k mode.Private) (option_map (tag_item i m) t) ≡ Some n) × IsCopyNote i m a ch (record { kind = k; slot = slot }) n
     by_tag None e there = let f : false ≡ true = ap is_some (sym e) ∙ there in absurd cc
     by_tag (Some tag) e there =
         let g = greatest_is slot a.sheet.tags None tag e in
         let own : grants_copy_of a.sheet.tags slot tag ≡ true = elim g.is [ inl none ↦ absurd (let f : None ≡ Some tag = none in cc) | inr here ↦ here ] in
-        (note_by (doer_of a) ch k mode.Private (tag_item i m tag), refl, record { of = record { actor = refl; pc = refl; compartment = refl; kind = refl; mode = refl }; tag = tag; granted = own; greatest = g.others; item = tag_item_is i m tag })
+        (note_by (doer_of a) ch k mode.Private (tag_item i m tag), refl, record { of = record { actor = refl; pc = refl; compartment = refl; chain = refl; kind = refl; mode = refl }; tag = tag; granted = own; greatest = g.others; item = tag_item_is i m tag })
 
 reached_noted : (i : Image) (m : Makings) (a : ActorState) (ch : CallChain) (k : Kind) (address width : ℕ) → AreOwnCopiesGranted a
-    → IsNotedAs i m a (option_map (copy_access_at k) (slot_of_target (target_of i a address width))) (copy_note i m a ch k (copy_reached i a.memory address width))
+    → IsNotedAs i m a ch (option_map (copy_access_at k) (slot_of_target (target_of i a address width))) (copy_note i m a ch k (copy_reached i a.memory address width))
 reached_noted i m a ch k address width own =
     let reached = copy_reached i a.memory address width in
-    subst (λ o. IsNotedAs i m a (option_map (copy_access_at k) o) (copy_note i m a ch k reached)) (reached_is i a address width) (copy_noted i m a ch k reached (λ slot is. own slot (reached_there i a.memory address width slot is)))
+    subst (λ o. IsNotedAs i m a ch (option_map (copy_access_at k) o) (copy_note i m a ch k reached)) (reached_is i a address width) (copy_noted i m a ch k reached (λ slot is. own slot (reached_there i a.memory address width slot is)))
 
-need_noted : (i : Image) (m : Makings) (a : ActorState) (ch : CallChain) (n : Need) → AreOwnCopiesGranted a → IsNotedAs i m a (copy_access_of i a n) (note_of_need i m a ch n)
+need_noted : (i : Image) (m : Makings) (a : ActorState) (ch : CallChain) (n : Need) → AreOwnCopiesGranted a → IsNotedAs i m a ch (copy_access_of i a n) (note_of_need i m a ch n)
 need_noted i m a ch (need.Load address width s) own = reached_noted i m a ch kind.Load address width own
 need_noted i m a ch (need.Store address width value) own = reached_noted i m a ch kind.Store address width own
 need_noted i m a ch need.Done own = refl
@@ -192,22 +192,30 @@ need_noted i m a ch need.JumpMisaligned own = refl
 
 -- ---- instructions
 
--- one instruction adds its note, if it has one
+-- one instruction adds its note, if it has one, and the chain goes on
 record StepNotes (i : Image) (m : Makings) (a : ActorState) (l : Noted) : Type 0 where
   note : Option Note
   notes : (noted_step i m a l).notes ≡ with_note l.notes note
-  is : IsNotedAs i m a (copy_access i a) note
+  chain : (noted_step i m a l).chain ≡ chain_past i a l.chain
+  is : IsNotedAs i m a l.chain (copy_access i a) note
 
--- the access is that of the instruction for which there is fuel
+-- the access is that of the instruction for which there is fuel, and so is the chain
+is_some_fuel : (n : ℕ) → (suc n == 0) ≡ false
+is_some_fuel n = grind arith
+
 access_is : (i : Image) (a : ActorState) → copy_access_by i a (instr_at i a) ≡ copy_access i a
 access_is i a = by_fuel a.fuel
   where
-    is_some_fuel : (n : ℕ) → (suc n == 0) ≡ false
-    is_some_fuel n = grind arith
-
     by_fuel : (n : ℕ) → copy_access_by i a (if n == 0 then None else option_and_then decode (fetch i a.hart.pc)) ≡ copy_access_with i a n
     by_fuel zero = refl
     by_fuel (suc n) = ap (λ t. copy_access_by i a (if t then None else option_and_then decode (fetch i a.hart.pc))) (is_some_fuel n)
+
+chain_is : (i : Image) (a : ActorState) (ch : CallChain) → chain_past_instr i a (instr_at i a) ch ≡ chain_past i a ch
+chain_is i a ch = by_fuel a.fuel
+  where
+    by_fuel : (n : ℕ) → chain_past_instr i a (if n == 0 then None else option_and_then decode (fetch i a.hart.pc)) ch ≡ chain_past_with i a n ch
+    by_fuel zero = refl
+    by_fuel (suc n) = ap (λ t. chain_past_instr i a (if t then None else option_and_then decode (fetch i a.hart.pc)) ch) (is_some_fuel n)
 
 step_notes : (i : Image) (m : Makings) (a : ActorState) (l : Noted) → AreOwnCopiesGranted a → StepNotes i m a l
 step_notes i m a l own = by_instr (instr_at i a) refl
@@ -216,53 +224,65 @@ step_notes i m a l own = by_instr (instr_at i a) refl
     by_instr None e = record {
       note = None;
       notes = ap (λ q. (noted_instr i m a l q).notes) e;
-      is = subst (λ x. IsNotedAs i m a x None) (ap (copy_access_by i a) (sym e) ∙ access_is i a) refl;
+      chain = ap (λ q. (noted_instr i m a l q).chain) e ∙ (ap (λ q. chain_past_instr i a q l.chain) (sym e) ∙ chain_is i a l.chain);
+      is = subst (λ x. IsNotedAs i m a l.chain x None) (ap (copy_access_by i a) (sym e) ∙ access_is i a) refl;
     }
     by_instr (Some ins) e = record {
       note = note_of_need i m a l.chain (local ins a.hart).need;
       notes = ap (λ q. (noted_instr i m a l q).notes) e;
-      is = subst (λ x. IsNotedAs i m a x (note_of_need i m a l.chain (local ins a.hart).need)) (ap (copy_access_by i a) (sym e) ∙ access_is i a) (need_noted i m a l.chain (local ins a.hart).need own);
+      chain = ap (λ q. (noted_instr i m a l q).chain) e ∙ (ap (λ q. chain_past_instr i a q l.chain) (sym e) ∙ chain_is i a l.chain);
+      is = subst (λ x. IsNotedAs i m a l.chain x (note_of_need i m a l.chain (local ins a.hart).need)) (ap (copy_access_by i a) (sym e) ∙ access_is i a) (need_noted i m a l.chain (local ins a.hart).need own);
     }
 
--- the notes of instructions
-record LocalNotes (i : Image) (m : Makings) (n : ℕ) (a : ActorState) (l : Noted) (after : List Note) : Type 0 where
+-- the notes of instructions, and the chain after them
+record LocalNotes (i : Image) (m : Makings) (n : ℕ) (a : ActorState) (ch : CallChain) (old : List Note) (after : Noted) : Type 0 where
   own : List Note
-  notes : after ≡ l.notes ++ own
-  are : AreCopyNotes i m n a own
+  notes : after.notes ≡ old ++ own
+  are : AreCopyNotes i m n a ch own
+  chain : after.chain ≡ chain_past_local i n a ch
 
-behind_step : (i : Image) (m : Makings) (n : ℕ) (a : ActorState) (l : Noted) (after : List Note) → StepNotes i m a l → LocalNotes i m n (step i a) (noted_step i m a l) after
-    → (own : List Note) × (after ≡ l.notes ++ own) × BeginWith i m a (copy_access i a) (AreCopyNotes i m n (step i a)) own
+behind_step : (i : Image) (m : Makings) (n : ℕ) (a : ActorState) (l : Noted) (after : Noted) → StepNotes i m a l → LocalNotes i m n (step i a) (chain_past i a l.chain) (noted_step i m a l).notes after
+    → (own : List Note) × (after.notes ≡ l.notes ++ own) × BeginWith i m a l.chain (copy_access i a) (AreCopyNotes i m n (step i a) (chain_past i a l.chain)) own
 behind_step i m n a l after s more = by_access (copy_access i a) s.note s.notes s.is
   where
-    by_access : (x : Option CopyAccess) (o : Option Note) → (noted_step i m a l).notes ≡ with_note l.notes o → IsNotedAs i m a x o
-        → (own : List Note) × (after ≡ l.notes ++ own) × BeginWith i m a x (AreCopyNotes i m n (step i a)) own
+    by_access : (x : Option CopyAccess) (o : Option Note) → (noted_step i m a l).notes ≡ with_note l.notes o → IsNotedAs i m a l.chain x o
+        → (own : List Note) × (after.notes ≡ l.notes ++ own) × BeginWith i m a l.chain x (AreCopyNotes i m n (step i a) (chain_past i a l.chain)) own
     by_access None o notes is =
         (more.own, more.notes ∙ ap (λ ns. ns ++ more.own) (notes ∙ ap (with_note l.notes) is), more.are)
     by_access (Some x) o notes is =
         let first = is.0 in
         (first ∷ more.own, more.notes ∙ (ap (λ ns. ns ++ more.own) (notes ∙ ap (with_note l.notes) is.1) ∙ append_assoc l.notes (first ∷ []) more.own), (is.2, more.are))
 
-abbrev AreFrom : Image → Makings → ℕ → ActorState → Bool → List Note → Type 0
-AreFrom i m n a t own = elim t [ true ↦ BeginWith i m a (copy_access i a) (AreCopyNotes i m n (step i a)) own | false ↦ own ≡ [] ]
+abbrev AreFrom : Image → Makings → ℕ → ActorState → CallChain → Bool → List Note → Type 0
+AreFrom i m n a ch t own = elim t [ true ↦ BeginWith i m a ch (copy_access i a) (AreCopyNotes i m n (step i a) (chain_past i a ch)) own | false ↦ own ≡ [] ]
 
-local_notes : (i : Image) (m : Makings) (n : ℕ) (a : ActorState) (l : Noted) → AreOwnCopiesGranted a → LocalNotes i m n a l (noted_local i m n a l).notes
+abbrev chain_from : Image → ℕ → ActorState → CallChain → Bool → CallChain
+chain_from i n a ch t = elim t [ true ↦ chain_past_local i n (step i a) (chain_past i a ch) | false ↦ ch ]
+
+local_notes : (i : Image) (m : Makings) (n : ℕ) (a : ActorState) (l : Noted) → AreOwnCopiesGranted a → LocalNotes i m n a l.chain l.notes (noted_local i m n a l)
 unfolding noted_local
-local_notes i m zero a l own = record { own = []; notes = sym (append-nil l.notes); are = refl }
+local_notes i m zero a l own = record { own = []; notes = sym (append-nil l.notes); are = refl; chain = refl }
 local_notes i m (suc n) a l own =
-    let so = by_running (is_running a.phase) (behind_step i m n a l (noted_local i m n (step i a) (noted_step i m a l)).notes (step_notes i m a l own) (local_notes i m n (step i a) (noted_step i m a l) (step_granted i a own))) in
-    record { own = so.0; notes = so.1; are = so.2 }
+    let s = step_notes i m a l own in
+    let more = local_notes i m n (step i a) (noted_step i m a l) (step_granted i a own) in
+    let later : LocalNotes i m n (step i a) (chain_past i a l.chain) (noted_step i m a l).notes (noted_local i m n (step i a) (noted_step i m a l)) =
+    subst (λ ch. LocalNotes i m n (step i a) ch (noted_step i m a l).notes (noted_local i m n (step i a) (noted_step i m a l))) s.chain more in
+    let so = by_running (is_running a.phase) (behind_step i m n a l (noted_local i m n (step i a) (noted_step i m a l)) s later) later.chain in
+    record { own = so.0; notes = so.1; are = so.2; chain = so.3 }
   where
-    by_running : (t : Bool) → (own : List Note) × ((noted_local i m n (step i a) (noted_step i m a l)).notes ≡ l.notes ++ own) × BeginWith i m a (copy_access i a) (AreCopyNotes i m n (step i a)) own
+    by_running : (t : Bool) → (own : List Note) × ((noted_local i m n (step i a) (noted_step i m a l)).notes ≡ l.notes ++ own) × BeginWith i m a l.chain (copy_access i a) (AreCopyNotes i m n (step i a) (chain_past i a l.chain)) own
+        → (noted_local i m n (step i a) (noted_step i m a l)).chain ≡ chain_past_local i n (step i a) (chain_past i a l.chain)
         → (let after : Noted = elim t [ true ↦ noted_local i m n (step i a) (noted_step i m a l) | false ↦ l ] in
-        (own : List Note) × (after.notes ≡ l.notes ++ own) × AreFrom i m n a t own)
-    by_running true more = more
-    by_running false more = ([], sym (append-nil l.notes), refl)
+        (own : List Note) × (after.notes ≡ l.notes ++ own) × AreFrom i m n a l.chain t own × (after.chain ≡ chain_from i n a l.chain t))
+    by_running true more goes = (more.0, more.1, more.2, goes)
+    by_running false more goes = ([], sym (append-nil l.notes), refl, refl)
 
 pub record RestNotes (i : Image) (m : Makings) (a : ActorState) (l : Noted) : Type 0 where
   pub own : List Note
   pub notes : (noted_rest i m a l).notes ≡ l.notes ++ own
-  pub are : AreCopyNotes i m (a.fuel + 1) a own
+  pub are : AreCopyNotes i m (a.fuel + 1) a l.chain own
+  pub chain : (noted_rest i m a l).chain ≡ chain_at_rest i a l.chain
 
 pub rest_notes : (i : Image) (m : Makings) (a : ActorState) (l : Noted) → AreOwnCopiesGranted a → RestNotes i m a l
 unfolding noted_rest
-rest_notes i m a l own = (let n = local_notes i m (a.fuel + 1) a l own in record { own = n.own; notes = n.notes; are = n.are })
+rest_notes i m a l own = (let n = local_notes i m (a.fuel + 1) a l own in record { own = n.own; notes = n.notes; are = n.are; chain = n.chain })

@@ -44,7 +44,7 @@ use Rattle.run_log.proofs.NotedItems.{tag_item_is, fd_item_is}
 module _ (i : Image) (c : Cells) (m : Makings) (b : ActorState) (ch : CallChain) where
   -- the note of an event
   abbrev Noted : Event → Type 0
-  Noted e = IsEventNote i c m b e (event_note i m (doer_of b) ch e)
+  Noted e = IsEventNote i c m b ch e (event_note i m (doer_of b) ch e)
 
   -- ---- loads and stores
 
@@ -59,7 +59,7 @@ module _ (i : Image) (c : Cells) (m : Makings) (b : ActorState) (ch : CallChain)
       by_tests value true false e = record { exactly = refl; within = tt }
       by_tests value true true e = record {
         exactly = refl;
-        within = (record { actor = refl; pc = refl; compartment = refl; kind = refl; mode = refl }, record { tag = g.tag; lives = ap (option_map (λ (x : Segment). x.tag)) there; permitted = e; item = tag_item_is i m g.tag });
+        within = (record { actor = refl; pc = refl; compartment = refl; chain = refl; kind = refl; mode = refl }, record { tag = g.tag; lives = ap (option_map (λ (x : Segment). x.tag)) there; permitted = e; item = tag_item_is i m g.tag });
       }
 
   store_noted : (slot offset width value : ℕ) (o : Option Segment) → slot_in c slot ≡ o
@@ -73,7 +73,7 @@ module _ (i : Image) (c : Cells) (m : Makings) (b : ActorState) (ch : CallChain)
       by_tests true false e = record { exactly = refl; within = tt }
       by_tests true true e = record {
         exactly = refl;
-        within = (record { actor = refl; pc = refl; compartment = refl; kind = refl; mode = refl }, record { tag = g.tag; lives = ap (option_map (λ (x : Segment). x.tag)) there; permitted = e; item = tag_item_is i m g.tag });
+        within = (record { actor = refl; pc = refl; compartment = refl; chain = refl; kind = refl; mode = refl }, record { tag = g.tag; lives = ap (option_map (λ (x : Segment). x.tag)) there; permitted = e; item = tag_item_is i m g.tag });
       }
 
   -- ---- reads and appends
@@ -88,7 +88,7 @@ module _ (i : Image) (c : Cells) (m : Makings) (b : ActorState) (ch : CallChain)
       by_tests true true e stream_kind.Append = record { exactly = refl; within = tt }
       by_tests true true e stream_kind.Source = record {
         exactly = refl;
-        within = (record { actor = refl; pc = refl; compartment = refl; kind = refl; mode = refl }, fd_item_is i m fd, sym (ap (λ (y : FdBits). y.read) own) ∙ e);
+        within = (record { actor = refl; pc = refl; compartment = refl; chain = refl; kind = refl; mode = refl }, fd_item_is i m fd, sym (ap (λ (y : FdBits). y.read) own) ∙ e);
       }
 
   append_noted : (fd : ℕ) (bits : FdBits) (bytes : List ℕ) (s : Option Stream) → bits ≡ bits_of b fd → Noted (event.Fd fd (stream_ask.Append bits bytes) (stream_reply_of s (stream_ask.Append bits bytes)))
@@ -101,7 +101,7 @@ module _ (i : Image) (c : Cells) (m : Makings) (b : ActorState) (ch : CallChain)
       by_tests true true e stream_kind.Source = record { exactly = refl; within = tt }
       by_tests true true e stream_kind.Append = record {
         exactly = refl;
-        within = (record { actor = refl; pc = refl; compartment = refl; kind = refl; mode = refl }, fd_item_is i m fd, sym (ap (λ (y : FdBits). y.append) own) ∙ e);
+        within = (record { actor = refl; pc = refl; compartment = refl; chain = refl; kind = refl; mode = refl }, fd_item_is i m fd, sym (ap (λ (y : FdBits). y.append) own) ∙ e);
       }
 
   stream_noted : (fd : ℕ) (q : StreamAsk) → IsStreamRequest b fd q → Noted (event.Fd fd q (stream_reply_of (stream_in c fd) q))
@@ -125,28 +125,28 @@ module _ (i : Image) (c : Cells) (m : Makings) (b : ActorState) (ch : CallChain)
 
   entered_noted : (x : Entrance) (run : List ℕ) → b.phase ≡ phase.Entering x → IsEnterable b x → Noted (event.Enter run)
   entered_noted x run at_ may =
-      subst (λ p. IsEventNote i c m b (event.Enter run) (entry_note (doer_of b) ch (entry_of p))) (sym at_)
-      (record { exactly = refl; within = record { of = record { actor = refl; pc = refl; compartment = refl; kind = refl; mode = refl }; gate = x.gate; held = may.held; item = refl } })
+      subst (λ p. IsEventNote i c m b ch (event.Enter run) (entry_note (doer_of b) ch (entry_of p))) (sym at_)
+      (record { exactly = refl; within = record { of = record { actor = refl; pc = refl; compartment = refl; chain = refl; kind = refl; mode = refl }; gate = x.gate; held = may.held; item = refl } })
 
   recycled_noted : (x : Entrance) (id : GateId) (run : List ℕ) (first memory : PrivateMemory) → b.phase ≡ phase.Entering x → IsEnterable b x → Noted (event.Gate id (gate_ask.Enter run first) (gate_reply.Entered memory))
   recycled_noted x id run first memory at_ may =
-      subst (λ p. IsEventNote i c m b (event.Gate id (gate_ask.Enter run first) (gate_reply.Entered memory)) (entry_note (doer_of b) ch (entry_of p))) (sym at_)
-      (record { exactly = refl; within = record { of = record { actor = refl; pc = refl; compartment = refl; kind = refl; mode = refl }; gate = x.gate; held = may.held; item = refl } })
+      subst (λ p. IsEventNote i c m b ch (event.Gate id (gate_ask.Enter run first) (gate_reply.Entered memory)) (entry_note (doer_of b) ch (entry_of p))) (sym at_)
+      (record { exactly = refl; within = record { of = record { actor = refl; pc = refl; compartment = refl; chain = refl; kind = refl; mode = refl }; gate = x.gate; held = may.held; item = refl } })
 
 -- the event to which an actor comes
-pub event_noted : (w : WorldState) (m : Makings) (b : ActorState) (ch : CallChain) (e : Event) → Happens w b e → IsEventNote w.image w.cells m b e (event_note w.image m (doer_of b) ch e)
-event_noted w m b ch e (Requested r) = subst (λ y. IsEventNote w.image w.cells m b y (event_note w.image m (doer_of b) ch y)) (sym r.is) (request_noted w.image w.cells m b ch (LoadsAt w.image b.hart r.rd r.is_signed) r.want r.own)
-event_noted w m b ch e (Joined j) = subst (λ y. IsEventNote w.image w.cells m b y (event_note w.image m (doer_of b) ch y)) (sym j.join.is) (record { exactly = refl; within = tt })
-event_noted w m b ch e (Snaps s) = subst (λ y. IsEventNote w.image w.cells m b y (event_note w.image m (doer_of b) ch y)) (sym s.is) (record { exactly = refl; within = tt })
-event_noted w m b ch e (GateSnaps s) = subst (λ y. IsEventNote w.image w.cells m b y (event_note w.image m (doer_of b) ch y)) (sym s.is) (record { exactly = refl; within = tt })
-event_noted w m b ch e (Started s) = subst (λ y. IsEventNote w.image w.cells m b y (event_note w.image m (doer_of b) ch y)) (sym s.is) (record { exactly = refl; within = tt })
-event_noted w m b ch e (Opens o) = subst (λ y. IsEventNote w.image w.cells m b y (event_note w.image m (doer_of b) ch y)) (sym o.is) (record { exactly = refl; within = tt })
-event_noted w m b ch e (Releases r) = subst (λ y. IsEventNote w.image w.cells m b y (event_note w.image m (doer_of b) ch y)) (sym r.is) (record { exactly = refl; within = tt })
-event_noted w m b ch e (Numbers n) = subst (λ y. IsEventNote w.image w.cells m b y (event_note w.image m (doer_of b) ch y)) (sym n.is) (record { exactly = refl; within = tt })
-event_noted w m b ch e (OpensFile f) = subst (λ y. IsEventNote w.image w.cells m b y (event_note w.image m (doer_of b) ch y)) (sym f.is) (record { exactly = refl; within = tt })
-event_noted w m b ch e (LastJoined j) = subst (λ y. IsEventNote w.image w.cells m b y (event_note w.image m (doer_of b) ch y)) (sym j.join.is) (record { exactly = refl; within = tt })
-event_noted w m b ch e (Ended x) = subst (λ y. IsEventNote w.image w.cells m b y (event_note w.image m (doer_of b) ch y)) (sym x.is) (record { exactly = refl; within = tt })
-event_noted w m b ch e (LeavesGate l) = subst (λ y. IsEventNote w.image w.cells m b y (event_note w.image m (doer_of b) ch y)) (sym l.is) (record { exactly = refl; within = tt })
-event_noted w m b ch e (LeavesRecycled l) = subst (λ y. IsEventNote w.image w.cells m b y (event_note w.image m (doer_of b) ch y)) (sym l.is) (record { exactly = refl; within = tt })
-event_noted w m b ch e (EntersGate x) = subst (λ y. IsEventNote w.image w.cells m b y (event_note w.image m (doer_of b) ch y)) (sym x.is) (entered_noted w.image w.cells m b ch x.entrance _ x.at x.may)
-event_noted w m b ch e (EntersRecycled x) = subst (λ y. IsEventNote w.image w.cells m b y (event_note w.image m (doer_of b) ch y)) (sym x.is) (recycled_noted w.image w.cells m b ch x.entrance _ _ _ _ x.at x.may)
+pub event_noted : (w : WorldState) (m : Makings) (b : ActorState) (ch : CallChain) (e : Event) → Happens w b e → IsEventNote w.image w.cells m b ch e (event_note w.image m (doer_of b) ch e)
+event_noted w m b ch e (Requested r) = subst (λ y. IsEventNote w.image w.cells m b ch y (event_note w.image m (doer_of b) ch y)) (sym r.is) (request_noted w.image w.cells m b ch (LoadsAt w.image b.hart r.rd r.is_signed) r.want r.own)
+event_noted w m b ch e (Joined j) = subst (λ y. IsEventNote w.image w.cells m b ch y (event_note w.image m (doer_of b) ch y)) (sym j.join.is) (record { exactly = refl; within = tt })
+event_noted w m b ch e (Snaps s) = subst (λ y. IsEventNote w.image w.cells m b ch y (event_note w.image m (doer_of b) ch y)) (sym s.is) (record { exactly = refl; within = tt })
+event_noted w m b ch e (GateSnaps s) = subst (λ y. IsEventNote w.image w.cells m b ch y (event_note w.image m (doer_of b) ch y)) (sym s.is) (record { exactly = refl; within = tt })
+event_noted w m b ch e (Started s) = subst (λ y. IsEventNote w.image w.cells m b ch y (event_note w.image m (doer_of b) ch y)) (sym s.is) (record { exactly = refl; within = tt })
+event_noted w m b ch e (Opens o) = subst (λ y. IsEventNote w.image w.cells m b ch y (event_note w.image m (doer_of b) ch y)) (sym o.is) (record { exactly = refl; within = tt })
+event_noted w m b ch e (Releases r) = subst (λ y. IsEventNote w.image w.cells m b ch y (event_note w.image m (doer_of b) ch y)) (sym r.is) (record { exactly = refl; within = tt })
+event_noted w m b ch e (Numbers n) = subst (λ y. IsEventNote w.image w.cells m b ch y (event_note w.image m (doer_of b) ch y)) (sym n.is) (record { exactly = refl; within = tt })
+event_noted w m b ch e (OpensFile f) = subst (λ y. IsEventNote w.image w.cells m b ch y (event_note w.image m (doer_of b) ch y)) (sym f.is) (record { exactly = refl; within = tt })
+event_noted w m b ch e (LastJoined j) = subst (λ y. IsEventNote w.image w.cells m b ch y (event_note w.image m (doer_of b) ch y)) (sym j.join.is) (record { exactly = refl; within = tt })
+event_noted w m b ch e (Ended x) = subst (λ y. IsEventNote w.image w.cells m b ch y (event_note w.image m (doer_of b) ch y)) (sym x.is) (record { exactly = refl; within = tt })
+event_noted w m b ch e (LeavesGate l) = subst (λ y. IsEventNote w.image w.cells m b ch y (event_note w.image m (doer_of b) ch y)) (sym l.is) (record { exactly = refl; within = tt })
+event_noted w m b ch e (LeavesRecycled l) = subst (λ y. IsEventNote w.image w.cells m b ch y (event_note w.image m (doer_of b) ch y)) (sym l.is) (record { exactly = refl; within = tt })
+event_noted w m b ch e (EntersGate x) = subst (λ y. IsEventNote w.image w.cells m b ch y (event_note w.image m (doer_of b) ch y)) (sym x.is) (entered_noted w.image w.cells m b ch x.entrance _ x.at x.may)
+event_noted w m b ch e (EntersRecycled x) = subst (λ y. IsEventNote w.image w.cells m b ch y (event_note w.image m (doer_of b) ch y)) (sym x.is) (recycled_noted w.image w.cells m b ch x.entrance _ _ _ _ x.at x.may)

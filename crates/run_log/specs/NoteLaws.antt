@@ -1,6 +1,6 @@
 -- What a turn adds to the notes: one for each access that succeeded, which the sheet of its actor
--- permits, and none else.
-use Rattle.std.specs.Prelude.{◌≡◌, ℕ, zero, suc, ◌+◌, ◌<◌, ◌≤◌, ◌==◌, Bool, true, false, ◌&&◌, ◌||◌, List, [], ◌∷◌, ◌++◌, length, map, Option, Some, None, is_some, IfSome, option_map, option_and_then}
+-- permits, with the chain of calls which the actor then has, and none else.
+use Rattle.std.specs.Prelude.{◌≡◌, ℕ, zero, suc, ◌+◌, ◌<◌, ◌≤◌, ◌==◌, Bool, true, false, ◌&&◌, ◌||◌, List, [], ◌∷◌, ◌++◌, length, map, slice_get, slice_set, Option, Some, None, is_some, IfSome, option_map, option_and_then}
 use Rattle.wedge_base.specs.Images.{Image, fetch}
 use Rattle.wedge_base.specs.Maps.{Map, at}
 use Rattle.wedge_base.specs.Sheets.{is_copy}
@@ -25,6 +25,7 @@ use Rattle.callgate.specs.declared.gate.Gate.{Gate}
 use Rattle.machine.specs.Actors.{ActorState, bits_of}
 use Rattle.machine.specs.Cells.{Cells, tag_in}
 use Rattle.machine.specs.Local.{step, is_running}
+use Rattle.machine.specs.Take.{actor_begun}
 use Rattle.machine.specs.Worlds.{WorldState, initial_state, actor_named, ready, at_rest, turn_of, Runs}
 use Rattle.run_laws.specs.Allowed.{may_use}
 use Rattle.run_laws.specs.Holding.{gate_for}
@@ -33,7 +34,9 @@ use Rattle.trace_form.specs.declared.words.Kind.{Kind}
 use Rattle.trace_form.specs.declared.words.Kind.TheVariants as kind
 use Rattle.trace_form.specs.declared.words.Mode.{Mode}
 use Rattle.trace_form.specs.declared.words.Mode.TheVariants as mode
+use Rattle.run_notes.specs.Chains.{opening_chain, chain_by}
 use Rattle.run_notes.specs.Notes.{with_note}
+use Rattle.run_notes.specs.declared.chain.CallChain.{CallChain}
 use Rattle.run_notes.specs.declared.items.Makings.{Makings}
 use Rattle.run_notes.specs.declared.items.NoteItem.{NoteItem}
 use Rattle.run_notes.specs.declared.items.NoteItem.TheVariants as item
@@ -41,12 +44,16 @@ use Rattle.run_notes.specs.declared.items.Origin.{Origin}
 use Rattle.run_notes.specs.declared.note.Note.{Note}
 use Rattle.run_log.specs.Logging.{log_of}
 use Rattle.run_log.specs.Logs.{Log}
+use Rattle.world_turns.specs.Indices.{index_in}
 
--- a note of an actor as it is: of an access of this kind and mode by the instruction at hand
-pub record IsNoteOf (a : ActorState) (k : Kind) (how : Mode) (n : Note) : Type 0 where
+-- a note of an actor as it is, with this chain: of an access of this kind and mode by the
+-- instruction at hand
+pub record IsNoteOf (a : ActorState) (ch : CallChain) (k : Kind) (how : Mode) (n : Note)
+    : Type 0 where
   pub actor : n.actor ≡ a.name
   pub pc : n.pc ≡ a.hart.pc
   pub compartment : n.compartment ≡ a.compartment
+  pub chain : n.chain ≡ ch.frames
   pub kind : n.kind ≡ k
   pub mode : n.mode ≡ how
 
@@ -61,6 +68,35 @@ pub record IsItemOfFd (i : Image) (m : Makings) (fd : ℕ) (it : NoteItem) : Typ
   pub declared : fd < length i.fds → it ≡ item.Fd fd
   pub opened : (path : List ℕ)
       → length i.fds ≤ fd → at m.files fd ≡ Some path → it ≡ item.File path
+
+-- ---- the chain of calls of an actor, once it has made instructions
+
+-- past one instruction
+abbrev pub chain_past_instr : Image → ActorState → Option Instr → CallChain → CallChain
+chain_past_instr i a None ch = ch
+chain_past_instr i a (Some ins) ch =
+    chain_by i ins (local ins a.hart).need (local ins a.hart).hart.pc ch
+
+-- past the one that it is about to make, if there is one and fuel for it
+abbrev pub chain_past_with : Image → ActorState → ℕ → CallChain → CallChain
+chain_past_with i a zero ch = ch
+chain_past_with i a (suc n) ch =
+    chain_past_instr i a (option_and_then decode (fetch i a.hart.pc)) ch
+
+abbrev pub chain_past : Image → ActorState → CallChain → CallChain
+chain_past i a ch = chain_past_with i a a.fuel ch
+
+-- past at most so many, while it runs
+abbrev pub chain_past_local : Image → ℕ → ActorState → CallChain → CallChain
+chain_past_local i zero a ch = ch
+chain_past_local i (suc n) a ch = elim (is_running a.phase) [
+  | true ↦ chain_past_local i n (step i a) (chain_past i a ch)
+  | false ↦ ch
+]
+
+-- past all up to its next shared event
+abbrev pub chain_at_rest : Image → ActorState → CallChain → CallChain
+chain_at_rest i a ch = chain_past_local i (a.fuel + 1) a ch
 
 -- ---- instructions: loads and stores of private copies
 
@@ -104,25 +140,27 @@ grants_copy_of (e ∷ es) slot tag =
 
 -- its note: of a tag of which the actor's sheet grants a copy in that slot, the one with the
 -- greatest number
-pub record IsCopyNote (i : Image) (m : Makings) (a : ActorState) (x : CopyAccess) (n : Note)
-    : Type 0 where
-  pub of : IsNoteOf a x.kind mode.Private n
+pub record IsCopyNote (i : Image) (m : Makings) (a : ActorState) (ch : CallChain) (x : CopyAccess)
+    (n : Note) : Type 0 where
+  pub of : IsNoteOf a ch x.kind mode.Private n
   pub tag : ℕ
   pub granted : grants_copy_of a.sheet.tags x.slot tag ≡ true
   pub greatest : (t : ℕ) → grants_copy_of a.sheet.tags x.slot t ≡ true → t ≤ tag
   pub item : IsItemOfTag i m tag n.item
 
-abbrev pub BeginWith :
-    Image → Makings → ActorState → Option CopyAccess → (List Note → Type 0) → List Note → Type 0
-BeginWith i m a None Later ns = Later ns
-BeginWith i m a (Some x) Later [] = ⊥
-BeginWith i m a (Some x) Later (n ∷ ns) = IsCopyNote i m a x n × Later ns
+abbrev pub BeginWith : Image → Makings → ActorState → CallChain → Option CopyAccess
+    → (List Note → Type 0) → List Note → Type 0
+BeginWith i m a ch None Later ns = Later ns
+BeginWith i m a ch (Some x) Later [] = ⊥
+BeginWith i m a ch (Some x) Later (n ∷ ns) = IsCopyNote i m a ch x n × Later ns
 
--- the notes of at most so many instructions, while the actor runs: one for each such access
-abbrev pub AreCopyNotes : Image → Makings → ℕ → ActorState → List Note → Type 0
-AreCopyNotes i m zero a ns = ns ≡ []
-AreCopyNotes i m (suc k) a ns = elim (is_running a.phase) [
-  | true ↦ BeginWith i m a (copy_access i a) (AreCopyNotes i m k (step i a)) ns
+-- the notes of at most so many instructions, while the actor runs: one for each such access, with
+-- the chain that the actor has before that instruction
+abbrev pub AreCopyNotes : Image → Makings → ℕ → ActorState → CallChain → List Note → Type 0
+AreCopyNotes i m zero a ch ns = ns ≡ []
+AreCopyNotes i m (suc k) a ch ns = elim (is_running a.phase) [
+  | true ↦ BeginWith i m a ch (copy_access i a)
+      (AreCopyNotes i m k (step i a) (chain_past i a ch)) ns
   | false ↦ ns ≡ []
 ]
 
@@ -138,57 +176,80 @@ has_succeeded (event.Gate id (gate_ask.Enter run first) (gate_reply.Entered memo
 has_succeeded e = false
 
 -- of the tag that lives in a slot, on which the actor has this right
-pub record IsTagNote (i : Image) (c : Cells) (m : Makings) (a : ActorState) (slot : ℕ) (wants : Right)
-    (n : Note) : Type 0 where
+pub record IsTagNote (i : Image) (c : Cells) (m : Makings) (a : ActorState) (slot : ℕ)
+    (wants : Right) (n : Note) : Type 0 where
   pub tag : ℕ
   pub lives : tag_in c slot ≡ Some tag
   pub permitted : may_use a tag wants ≡ true
   pub item : IsItemOfTag i m tag n.item
 
 -- of the gate that the actor holds at the entry that its call names
-pub record IsCallNote (a : ActorState) (n : Note) : Type 0 where
-  pub of : IsNoteOf a kind.Call mode.Shared n
+pub record IsCallNote (a : ActorState) (ch : CallChain) (n : Note) : Type 0 where
+  pub of : IsNoteOf a ch kind.Call mode.Shared n
   pub gate : Gate
   pub held : gate_for a (reg a.hart.regs 10) ≡ Some gate
   pub item : n.item ≡ item.Gate gate.entry
 
-abbrev pub IsAccessNote : Image → Cells → Makings → ActorState → Event → Note → Type 0
-IsAccessNote i c m a (event.Slot slot (slot_ask.Load width offset live) r) n =
-    IsNoteOf a kind.Load mode.Shared n × IsTagNote i c m a slot right.Read n
-IsAccessNote i c m a (event.Slot slot (slot_ask.Store width offset value live) r) n =
-    IsNoteOf a kind.Store mode.Shared n × IsTagNote i c m a slot right.ReadWrite n
-IsAccessNote i c m a (event.Fd fd (stream_ask.Read bits count) r) n =
-    IsNoteOf a kind.Read mode.Shared n × IsItemOfFd i m fd n.item × ((bits_of a fd).read ≡ true)
-IsAccessNote i c m a (event.Fd fd (stream_ask.Append bits bytes) r) n =
-    IsNoteOf a kind.Append mode.Shared n × IsItemOfFd i m fd n.item × ((bits_of a fd).append ≡ true)
-IsAccessNote i c m a (event.Enter run) n = IsCallNote a n
-IsAccessNote i c m a (event.Gate id (gate_ask.Enter run first) r) n = IsCallNote a n
-IsAccessNote i c m a e n = ⊥
+abbrev pub IsAccessNote : Image → Cells → Makings → ActorState → CallChain → Event → Note → Type 0
+IsAccessNote i c m a ch (event.Slot slot (slot_ask.Load width offset live) r) n =
+    IsNoteOf a ch kind.Load mode.Shared n × IsTagNote i c m a slot right.Read n
+IsAccessNote i c m a ch (event.Slot slot (slot_ask.Store width offset value live) r) n =
+    IsNoteOf a ch kind.Store mode.Shared n × IsTagNote i c m a slot right.ReadWrite n
+IsAccessNote i c m a ch (event.Fd fd (stream_ask.Read bits count) r) n =
+    IsNoteOf a ch kind.Read mode.Shared n × IsItemOfFd i m fd n.item × ((bits_of a fd).read ≡ true)
+IsAccessNote i c m a ch (event.Fd fd (stream_ask.Append bits bytes) r) n =
+    IsNoteOf a ch kind.Append mode.Shared n × IsItemOfFd i m fd n.item
+    × ((bits_of a fd).append ≡ true)
+IsAccessNote i c m a ch (event.Enter run) n = IsCallNote a ch n
+IsAccessNote i c m a ch (event.Gate id (gate_ask.Enter run first) r) n = IsCallNote a ch n
+IsAccessNote i c m a ch e n = ⊥
 
 -- one note, or none, as the event succeeded or not
-pub record IsEventNote (i : Image) (c : Cells) (m : Makings) (a : ActorState) (e : Event)
-    (o : Option Note) : Type 0 where
+pub record IsEventNote (i : Image) (c : Cells) (m : Makings) (a : ActorState) (ch : CallChain)
+    (e : Event) (o : Option Note) : Type 0 where
   pub exactly : is_some o ≡ has_succeeded e
-  pub within : IfSome o (IsAccessNote i c m a e)
+  pub within : IfSome o (IsAccessNote i c m a ch e)
 
 -- ---- a turn: its actor goes on and comes to rest, and its event takes place
 
-pub record AreTurnNotes (w : WorldState) (m : Makings) (t : Turn) (old new : List Note) : Type 0 where
+-- an actor that an event begins has the chain of its compartment alone
+abbrev pub chain_begun : Option ActorState → List CallChain
+chain_begun None = []
+chain_begun (Some a) = opening_chain a.compartment ∷ []
+
+-- the notes that a turn adds, and the chains after it: its actor has the chain that the log keeps
+-- at its index, and goes on from there
+pub record AreTurnNotes (w : WorldState) (l : Log) (t : Turn) (new : Log) : Type 0 where
   pub actor : ActorState
   pub named : actor_named w.actors t.actor ≡ Some actor
+  pub index : ℕ
+  pub at : index_in w.actors t.actor ≡ Some index
+  pub chain : CallChain
+  pub kept : slice_get l.chains index ≡ Some chain
   pub own : List Note
   pub last : Option Note
-  pub notes : new ≡ with_note (old ++ own) last
-  pub copies : AreCopyNotes w.image m ((ready w.actors actor).fuel + 1) (ready w.actors actor) own
-  pub event : IsEventNote w.image w.cells m (at_rest w actor) t.event last
+  pub notes : new.notes ≡ with_note (l.notes ++ own) last
+  pub copies : AreCopyNotes w.image l.makings ((ready w.actors actor).fuel + 1)
+      (ready w.actors actor) chain own
+  pub event : IsEventNote w.image w.cells l.makings (at_rest w actor)
+      (chain_at_rest w.image (ready w.actors actor) chain) t.event last
+  pub chains : new.chains
+      ≡ slice_set l.chains index (chain_at_rest w.image (ready w.actors actor) chain)
+      ++ chain_begun (actor_begun w.image (at_rest w actor) t.event)
 
 -- the log of a run so far
 abbrev pub log_so_far : Image → List Turn → Log
 log_so_far i turns = log_of i (map (λ t. t.actor) turns)
 
+-- before the first turn there is no note, and the root has the chain of its compartment alone
+pub record IsFirstLog (i : Image) (l : Log) : Type 0 where
+  pub notes : l.notes ≡ []
+  pub chains : l.chains ≡ map (λ a. opening_chain a.compartment) (initial_state i).actors
+
 -- in every run a turn more adds its own notes to the log, by what the run has made before
-abbrev pub NotesAreWithin : Type 0
-NotesAreWithin = (i : Image) (turns : List Turn) (w new : WorldState) (t : Turn)
-    → Runs (initial_state i) turns w → turn_of w t.actor ≡ Some (record { event = t.event; world = new })
-    → AreTurnNotes w (log_so_far i turns).makings t (log_so_far i turns).notes
-    (log_so_far i (turns ++ t ∷ [])).notes
+pub record NotesAreWithin : Type 0 where
+  pub first : (i : Image) → IsFirstLog i (log_so_far i [])
+  pub each : (i : Image) (turns : List Turn) (w new : WorldState) (t : Turn)
+      → Runs (initial_state i) turns w
+      → turn_of w t.actor ≡ Some (record { event = t.event; world = new })
+      → AreTurnNotes w (log_so_far i turns) t (log_so_far i (turns ++ t ∷ []))

@@ -34,13 +34,18 @@ pub fn notes_are_named()
 /// that slot; of the tag that lives in the slot, with Read or ReadWrite on it; of a descriptor, with the bit; of
 /// the gate that it holds at the entry. A tag or a descriptor of the image is noted by its number, a tag that the
 /// run made by who made it, and a file that it opened by its path.
+///
+/// The chain of each note is that of its actor before that instruction. An actor begins with the chain of its
+/// compartment alone. From the chain that the log keeps for the actor of a turn, each of its instructions leads to
+/// the next chain, and the log keeps the one at which the actor comes to rest; no other actor's chain changes.
 pub fn notes_are_within()
     ensures { NotesAreWithin }
 {}
 
 /// In every run what is known of a tag that the run made, and of the path of a descriptor, is so: a turn of the run
 /// opened the tag, and its actor was then in that compartment at that address; and a turn opened the file of that
-/// path as that descriptor.
+/// path as that descriptor. Each tag that a turn opened has a maker, and each descriptor that a turn opened with a
+/// file has a path.
 pub fn makers_are_of_the_run()
     ensures { MakersAreOfTheRun }
 {}
