@@ -8,9 +8,9 @@ ghost use Rattle.run_cells.specs.Entries.{IsOfCell};
 ghost use Rattle.machine.specs.declared.next.Next.TheVariants as next;
 ghost use Rattle.actor_task.specs.Steps.{IsStep, IsAtRest, IsJoint, WantsNone};
 ghost use Rattle.actor_task.specs.Tasks.{TaskState, IsSame, IsTracked};
-ghost use Rattle.thread_laws.specs.ActorProgresses.{ActorProgress, after_rest};
+ghost use Rattle.thread_laws.specs.ActorProgresses.{ActorProgress};
 ghost use Rattle.wedge_base.specs.Images.{Image};
-ghost use Rattle.actor_steps.specs.Logged.{HasLogged, IsLoggedBy};
+ghost use Rattle.actor_steps.specs.Logged.{HasLogged, HasStepped, IsLoggedBy};
 
 use actor_task::{ActorTask, GateEntry, Last, Step};
 use host_io::Pace;
@@ -22,9 +22,10 @@ use std::sync::Wait;
 use wedge_base::{NoMemory, Slot};
 use wedge_events::{GateAsk, SlotWant, Want};
 
-/// Makes the actor's local events, and then its next shared event, if no other actor has part in that. Loads and stores of a
-/// slot, which are the most, are found by the actor's phase: what it wants is not copied for them.
-#[inline(always)]
+/// Makes the actor's local events and its next shared event, if no other actor has part in that: all loads and stores of
+/// slots one after another, and then one other event, or none. Loads and stores, which are the most, are found by the
+/// actor's phase: what it wants is not copied for them. Out of line, so that what a caller holds is not in the way of them.
+#[inline(never)]
 pub fn step<I: RunOf, T: TableOf, R: Wait, P: Pace>(
     task: &mut ActorTask<I, T>,
     pass: &mut TagPass<I, T>,
@@ -38,33 +39,36 @@ pub fn step<I: RunOf, T: TableOf, R: Wait, P: Pace>(
     ensures same { OnOk result (IsSame task.old.progress task.new.progress) }
     ensures tracked { OnOk result (IsTracked T.table.slots pass.new task.new.progress) }
     ensures step { IfOk result (IsStep task.new) }
-    ensures logged { IfOk result (λ s. IsLoggedBy s I.image
-        (after_rest I.image task.old.progress) task.new.progress) }
+    ensures logged { IfOk result (λ s. HasStepped s I.image task.old.progress
+        task.new.progress) }
 {
-    task.rest(program)?;
-    task.run.wants_fit();
-    if let Phase::Within(Want::Slot { slot, want }) = task.run.phase() {
-        match want {
-            SlotWant::Load { offset, width } => {
-                let (slot, offset, width) = (*slot, *offset, *width);
-                load(task, pass, rt, program, cells, pace, slot, offset, width)?;
-                return Ok(Step::Went);
+    for _ in rt.forever() {
+        task.rest(program)?;
+        task.run.wants_fit();
+        if let Phase::Within(Want::Slot { slot, want }) = task.run.phase() {
+            match want {
+                SlotWant::Load { offset, width } => {
+                    let (slot, offset, width) = (*slot, *offset, *width);
+                    load(task, pass, rt, program, cells, pace, slot, offset, width)?;
+                    continue;
+                }
+                SlotWant::Store {
+                    offset,
+                    width,
+                    value,
+                } => {
+                    let (slot, offset, width, value) = (*slot, *offset, *width, *value);
+                    store(
+                        task, pass, rt, program, cells, pace, slot, offset, width, value,
+                    )?;
+                    continue;
+                }
+                _ => {}
             }
-            SlotWant::Store {
-                offset,
-                width,
-                value,
-            } => {
-                let (slot, offset, width, value) = (*slot, *offset, *width, *value);
-                store(
-                    task, pass, rt, program, cells, pace, slot, offset, width, value,
-                )?;
-                return Ok(Step::Went);
-            }
-            _ => {}
         }
+        return step_next(task, pass, rt, program, cells, pace);
     }
-    step_next(task, pass, rt, program, cells, pace)
+    unreachable!()
 }
 
 /// Makes the next shared event of an actor at rest, if no other actor has part in that.
