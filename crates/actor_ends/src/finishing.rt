@@ -12,7 +12,6 @@ ghost use Rattle.actor_task.specs.Tasks.{IsTask, IsTracked, IsUnlocked, Wants, H
 ghost use Rattle.tag_laws.specs.DeclaredTags.{entries_on_declared};
 ghost use Rattle.run_cells.specs.TagPasses.{all_entered};
 ghost use Rattle.thread_laws.specs.Joining.{all_logged};
-ghost use Rattle.actor_ends.specs.Leaving.{HasLeftGate, LeavesCell};
 
 use actor_task::{ActorTask, Created, Last, Returned, cellless_entry};
 use host_io::Pace;
@@ -75,9 +74,7 @@ pub fn finish_locked<I: RunOf, T: TableOf, R: Threads, P: Pace>(
     requires last { IsLast task last }
     requires entered { locked.old.state.entered ≡ true }
     requires tracked { IsTracked T.table.slots pass task.progress }
-    ensures returned { IfOk result
-        (IsReturned I.image T.table.slots task.progress.began task.progress.low) }
-    ensures left { IfOk result (λ t. LeavesCell last task.progress t.log locked.old locked.new) }
+    ensures { IfOk result (IsReturned I.image T.table.slots task.progress.began task.progress.low) }
 {
     match last {
         Last::Ended => finish(task, pass, rt),
@@ -134,10 +131,7 @@ fn leave_recycled<I: RunOf, T: TableOf, R: Threads>(
     requires wants { Wants task (AWant.Gate gate (gate_ask.Leave end memory)) }
     requires entered { locked.old.state.entered ≡ true }
     requires tracked { IsTracked T.table.slots pass task.progress }
-    ensures returned { IfOk result
-        (IsReturned I.image T.table.slots task.progress.began task.progress.low) }
-    ensures left { IfOk result (λ t.
-        HasLeftGate gate end memory task.progress t.log locked.old locked.new) }
+    ensures { IfOk result (IsReturned I.image T.table.slots task.progress.began task.progress.low) }
 {
     let mut leaving = task;
     let entry = leave_gate(leaving.alloc, locked, &leaving.run, gate, end, memory)?;
@@ -154,9 +148,7 @@ fn finish<I: RunOf, T: TableOf, R: Threads>(
     requires going { task.stopped ≡ false }
     requires ended { has_ended task.progress.state.phase ≡ true }
     requires tracked { IsTracked T.table.slots pass task.progress }
-    ensures returned { IfOk result
-        (IsReturned I.image T.table.slots task.progress.began task.progress.low) }
-    ensures log { IfOk result (λ t. t.log.entries ≡ task.progress.entries) }
+    ensures { IfOk result (IsReturned I.image T.table.slots task.progress.began task.progress.low) }
 {
     let ActorTask {
         alloc,
