@@ -3,7 +3,7 @@
 ghost use Rattle.std.specs.Prelude.{◌≡◌, ◌++◌, ◌∷◌, All, IfOk, OnOk, true, false};
 ghost use Rattle.machine.specs.Local.{has_ended};
 ghost use Rattle.thread_laws.specs.ActorProgresses.{ActorProgress};
-ghost use Rattle.thread_laws.specs.Replaying.{IsKept};
+ghost use Rattle.thread_laws.specs.Replaying.{IsLegalHistory};
 ghost use Rattle.wedge_events.specs.declared.cells.GateAsk.TheVariants as gate_ask;
 ghost use Rattle.wedge_events.specs.declared.events.Want.{Want as AWant};
 ghost use Rattle.actor_task.specs.Returning.{IsReturned};
@@ -12,6 +12,7 @@ ghost use Rattle.actor_task.specs.Tasks.{IsTask, IsTracked, IsUnlocked, Wants, H
 ghost use Rattle.tag_laws.specs.DeclaredTags.{entries_on_declared};
 ghost use Rattle.run_cells.specs.TagPasses.{all_entered};
 ghost use Rattle.thread_laws.specs.Joining.{all_logged};
+ghost use Rattle.actor_ends.specs.Leaving.{HasLeftGate, LeavesCell};
 
 use actor_task::{ActorTask, Created, Last, Returned, cellless_entry};
 use host_io::Pace;
@@ -74,7 +75,9 @@ pub fn finish_locked<I: RunOf, T: TableOf, R: Threads, P: Pace>(
     requires last { IsLast task last }
     requires entered { locked.old.state.entered ≡ true }
     requires tracked { IsTracked T.table.slots pass task.progress }
-    ensures { IfOk result (IsReturned I.image T.table.slots task.progress.began task.progress.low) }
+    ensures returned { IfOk result
+        (IsReturned I.image T.table.slots task.progress.began task.progress.low) }
+    ensures left { IfOk result (λ t. LeavesCell last task.progress t.log locked.old locked.new) }
 {
     match last {
         Last::Ended => finish(task, pass, rt),
@@ -131,7 +134,10 @@ fn leave_recycled<I: RunOf, T: TableOf, R: Threads>(
     requires wants { Wants task (AWant.Gate gate (gate_ask.Leave end memory)) }
     requires entered { locked.old.state.entered ≡ true }
     requires tracked { IsTracked T.table.slots pass task.progress }
-    ensures { IfOk result (IsReturned I.image T.table.slots task.progress.began task.progress.low) }
+    ensures returned { IfOk result
+        (IsReturned I.image T.table.slots task.progress.began task.progress.low) }
+    ensures left { IfOk result (λ t.
+        HasLeftGate gate end memory task.progress t.log locked.old locked.new) }
 {
     let mut leaving = task;
     let entry = leave_gate(leaving.alloc, locked, &leaving.run, gate, end, memory)?;
@@ -148,7 +154,9 @@ fn finish<I: RunOf, T: TableOf, R: Threads>(
     requires going { task.stopped ≡ false }
     requires ended { has_ended task.progress.state.phase ≡ true }
     requires tracked { IsTracked T.table.slots pass task.progress }
-    ensures { IfOk result (IsReturned I.image T.table.slots task.progress.began task.progress.low) }
+    ensures returned { IfOk result
+        (IsReturned I.image T.table.slots task.progress.began task.progress.low) }
+    ensures log { IfOk result (λ t. t.log.entries ≡ task.progress.entries) }
 {
     let ActorTask {
         alloc,
@@ -182,7 +190,7 @@ fn gather<I: RunOf, T: TableOf, R: Threads>(
 ) -> Result<Gathering<I, T>, NoMemory>
     ensures families { IfOk result (λ g. (r : ActorProgress) → IsTask I.image r created.items
         → HasFamilies I.image r g.others.items) }
-    ensures gates { IfOk result (λ g. All (IsKept I.image) g.gates.items) }
+    ensures gates { IfOk result (λ g. All (IsLegalHistory I.image) g.gates.items) }
     ensures passes { IfOk result (λ g. all_entered g.passes.items
         ≡ pass ++ entries_on_declared T.table.slots (all_logged g.others.items)) }
 {
@@ -203,11 +211,11 @@ fn add<I: RunOf, T: TableOf>(
     all: &mut Gathering<I, T>,
     returned: Returned<I, T>,
 ) -> Result<(), NoMemory>
-    requires old { All (IsKept I.image) all.old.gates.items }
-    requires own { All (IsKept I.image) returned.gates.items }
+    requires old { All (IsLegalHistory I.image) all.old.gates.items }
+    requires own { All (IsLegalHistory I.image) returned.gates.items }
     ensures others { OnOk result (all.new.others.items
         ≡ all.old.others.items ++ returned.log ∷ returned.others.items) }
-    ensures gates { OnOk result (All (IsKept I.image) all.new.gates.items) }
+    ensures gates { OnOk result (All (IsLegalHistory I.image) all.new.gates.items) }
     ensures passes { OnOk result (all.new.passes.items
         ≡ all.old.passes.items ++ returned.passes.items) }
 {

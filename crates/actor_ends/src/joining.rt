@@ -3,7 +3,10 @@
 ghost use Rattle.std.specs.Prelude.{◌≡◌, ◌<◌, ◌+◌, IfOk, OnOk, OnErr, true, false, length};
 ghost use Rattle.machine.specs.Children.{is_child};
 ghost use Rattle.wedge_events.specs.declared.events.Want.{Want as AWant};
+ghost use Rattle.thread_laws.specs.ActorProgresses.{after_entry};
 ghost use Rattle.actor_task.specs.Tasks.{IsBesideSlots, Wants, Waits, IsIndexed, HasLearned, HasLearnedOf, IsJoinEntry, IsJoinOf};
+ghost use Rattle.actor_task.specs.Tasks.{going_on};
+ghost use Rattle.actor_ends.specs.Joins.{HasJoined, HasResumed};
 
 use actor_run::ActorRun;
 use actor_task::{ActorTask, Created};
@@ -25,7 +28,8 @@ pub fn join_child<I: RunOf, T: TableOf, R: Threads>(
 ) -> Result<(), NoMemory>
     requires image { program.now ≡ I.image }
     requires wants { Wants task.old (AWant.Join number) }
-    ensures { OnOk result (IsBesideSlots task.old.progress task.new.progress) }
+    ensures beside { OnOk result (IsBesideSlots task.old.progress task.new.progress) }
+    ensures joined { OnOk result (HasJoined I.image number task.old task.new) }
 {
     let end = learn_child(task, rt, number)?;
     let entry = join_entry(&task.run, number, end)?;
@@ -58,7 +62,9 @@ fn take_join<I: RunOf, T: TableOf>(
     requires image { program.now ≡ I.image }
     requires wants { Wants task.old (AWant.Join number) }
     requires joins { IsJoinOf task.old number entry }
-    ensures { OnOk result (IsBesideSlots task.old.progress task.new.progress) }
+    ensures beside { OnOk result (IsBesideSlots task.old.progress task.new.progress) }
+    ensures takes { OnOk result (task.new
+        ≡ going_on (after_entry I.image task.old.progress entry) task.old.created) }
 {
     task.run.take_alone(program, entry)
 }
@@ -71,7 +77,8 @@ pub fn resume<I: RunOf, T: TableOf, R: Threads>(
     number: u32,
 ) -> Result<ActorTask<I, T>, NoMemory>
     requires { Waits task number }
-    ensures { IfOk result (λ k. IsBesideSlots task.progress k.progress) }
+    ensures beside { IfOk result (λ k. IsBesideSlots task.progress k.progress) }
+    ensures resumed { IfOk result (HasResumed number task) }
 {
     let ActorTask {
         alloc,

@@ -202,6 +202,7 @@ impl<I: RunOf> ActorRun<I> {
         ensures going { OnOk result (self.old.stopped ≡ false) }
         ensures begun { IfOk result (λ c.
             actor_begun I.image self.old.progress.state entry.event ≡ Some c) }
+        ensures err { OnErr result ((self.new ≡ self.old) ⊎ (self.new.stopped ≡ true)) }
     {
         match self.take(program, entry)? {
             Some(resident) => Ok(resident),

@@ -13,10 +13,10 @@ pub record HasLogged (i : Image) (old new : ActorProgress) : Type 0 where
   pub plain : IsPlainEntry i old entry
   pub now_ : new ≡ after_entry i old entry
 
--- so it is where a step answers that it went
+-- so it is where a step answers that it went; else the actor is as it was
 abbrev pub IsLoggedBy : Step → Image → ActorProgress → ActorProgress → Type 0
 IsLoggedBy step.Went i old new = HasLogged i old new
-IsLoggedBy s i old new = Unit {0}
+IsLoggedBy s i old new = new ≡ old
 
 -- an actor has made its local events and then one such event, so many times
 abbrev pub HasGone : ℕ → Image → ActorProgress → ActorProgress → Type 0

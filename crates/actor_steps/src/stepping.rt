@@ -206,7 +206,8 @@ fn do_event<I: RunOf, T: TableOf, R: Wait, P: Pace>(
 fn step_at(next: &Next) -> Step
     requires { WantsNone next.now }
     ensures step { (k : TaskState) → IsAtRest k next.now → IsStep k result }
-    ensures logged { (i : Image) (old new : ActorProgress) → IsLoggedBy result i old new }
+    ensures logged { (i : Image) (old new : ActorProgress) → new ≡ old
+        → IsLoggedBy result i old new }
 {
     match next {
         Next::Ended(_) => Step::AtEnd(Last::Ended),
@@ -219,7 +220,8 @@ fn step_at(next: &Next) -> Step
 fn step_of_want(want: Want) -> Step
     requires { IsJoint want }
     ensures step { (k : TaskState) → IsAtRest k (next.Shared want) → IsStep k result }
-    ensures logged { (i : Image) (old new : ActorProgress) → IsLoggedBy result i old new }
+    ensures logged { (i : Image) (old new : ActorProgress) → new ≡ old
+        → IsLoggedBy result i old new }
 {
     match want {
         Want::Start { child } => Step::Start { child },

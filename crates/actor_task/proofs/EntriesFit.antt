@@ -48,6 +48,7 @@ start_fits i r child wants fits = record {
   stamp = refl;
   fits = (tt, fits.0);
   creates = record { name_ = fits.1; fuel_ = fits.0.enough };
+  last_ = tt;
 }
 
 run_begins : (a : ActorState) (run : List ℕ) (kept : Option PrivateMemory) (p : Phase) → IsAtGate p → IsNextName a.name a.starts run
@@ -62,6 +63,7 @@ enter_fits i r run wants fits affords = record {
   stamp = refl;
   fits = (tt, tt);
   creates = run_begins r.state run None r.state.phase fits.0 fits.1 affords;
+  last_ = tt;
 }
 
 -- ---- leaves of fresh gates
@@ -74,6 +76,7 @@ leave_fits i r how wants = record {
   alone = refl;
   nameless = refl;
   no_join = tt;
+  last_ = tt;
 }
 
 -- ---- joins

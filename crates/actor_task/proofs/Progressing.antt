@@ -20,7 +20,7 @@ use Rattle.machine.specs.Take.{next_start, takes, has_joined, actor_begun, child
 use Rattle.run_laws.specs.Walks.{IsEntryOf}
 use Rattle.thread_laws.specs.declared.gathered.ActorLog.{ActorLog}
 use Rattle.thread_laws.specs.declared.gathered.ActorEnd.{ActorEnd}
-use Rattle.thread_laws.specs.ActorProgresses.{ActorProgress, at_creation, after_rest, after_entry, after_run, CreatedActor, created_actor, begun, rests, does, starts, learns, joins, resumes, IsLeft, KeepsAccount}
+use Rattle.thread_laws.specs.ActorProgresses.{ActorProgress, at_creation, after_rest, after_entry, after_run, CreatedActor, created_actor, begun, rests, does, starts, learns, joins, resumes, IsLogLeft, KeepsAccount}
 use Rattle.thread_laws.specs.Joining.{IsEndOf}
 use Rattle.thread_laws.proofs.Accounts.{progress_keeps_account}
 use Rattle.thread_laws.proofs.AwaitedRuns.{awaited, clocks_rise}
@@ -28,7 +28,7 @@ use Rattle.thread_laws.proofs.KnownGates.{rest_more, takes_more, joined_more}
 use Rattle.actor_run.specs.Runs.{RunState, going}
 use Rattle.run_cells.specs.RecycledGates.{GateCellsState}
 use Rattle.run_cells.specs.Entries.{IsPlainEntry, IsCreatingEntry, IsNextActor}
-use Rattle.thread_laws.specs.Replaying.{IsKept}
+use Rattle.thread_laws.specs.Replaying.{IsLegalHistory}
 use Rattle.actor_task.specs.declared.created.Returned.{Returned}
 use Rattle.tag_laws.specs.DeclaredTags.{entries_on_declared}
 use Rattle.run_cells.specs.TagPasses.{all_entered}
@@ -185,7 +185,7 @@ pub record IsWithin (a : ActorState) (low : ℕ) (t : ActorEnd) : Type 0 where
   pub fuel_ : t.fuel ≤ a.fuel
   pub later : low ≤ t.last
 
-pub left_within : (i : Image) (a : ActorState) (low : ℕ) (way : ActorProgress) (its : List CreatedActor) (own : ActorLog) (t : ActorEnd) → IsTask i way its → IsLeft i (created_actor a low (Some t)) way own t → IsWithin a low t
+pub left_within : (i : Image) (a : ActorState) (low : ℕ) (way : ActorProgress) (its : List CreatedActor) (own : ActorLog) (t : ActorEnd) → IsTask i way its → IsLogLeft i (created_actor a low (Some t)) way own t → IsWithin a low t
 left_within i a low way its own t h left =
     let kept = (account i way its h).fuel in
     let rises = clocks_rise i way its h.progress in
@@ -320,9 +320,9 @@ if_ok P Q (Err e) f h = tt
 -- ---- what an actor that has ended returns
 
 pub returned_so : {I T : Type 0} (i : Image) (n : ℕ) (way : ActorProgress) (created : List CreatedActor) (r : Returned I T) → IsTask i way created → HasFamilies i way r.others.items → r.log.entries ≡ way.entries → IsEndOf way.state r.log
-    → r.end ≡ record { how = r.log.end; fuel = r.log.fuel; last = way.clock } → All (IsKept i) r.gates.items → all_entered r.passes.items ≡ entries_on_declared n (all_logged (r.log ∷ r.others.items)) → IsReturned i n way.began way.low r
+    → r.end ≡ record { how = r.log.end; fuel = r.log.fuel; last = way.clock } → All (IsLegalHistory i) r.gates.items → all_entered r.passes.items ≡ entries_on_declared n (all_logged (r.log ∷ r.others.items)) → IsReturned i n way.began way.low r
 returned_so i n way created r h families entries log end_is kept entered =
-    let left : IsLeft i (created_actor way.began way.low (Some r.end)) way r.log r.end = record {
+    let left : IsLogLeft i (created_actor way.began way.low (Some r.end)) way r.log r.end = record {
       began = refl;
       low = refl;
       learned = refl;

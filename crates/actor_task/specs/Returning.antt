@@ -4,7 +4,7 @@ use Rattle.wedge_base.specs.Images.{Image}
 use Rattle.machine.specs.Actors.{ActorState}
 use Rattle.thread_laws.specs.ActorProgresses.{CreatedActor, AreReturned}
 use Rattle.thread_laws.specs.Joining.{all_logged}
-use Rattle.thread_laws.specs.Replaying.{IsKept}
+use Rattle.thread_laws.specs.Replaying.{IsLegalHistory}
 use Rattle.thread_laws.specs.declared.gathered.ActorEnd.{ActorEnd}
 use Rattle.tag_laws.specs.DeclaredTags.{entries_on_declared}
 use Rattle.run_cells.specs.TagPasses.{all_entered}
@@ -18,7 +18,7 @@ pub record IsReturned {I T : Type 0} (i : Image) (n : ℕ) (a : ActorState) (low
   pub family : AreReturned i a low r.log r.others.items r.end
   pub fuel_ : r.end.fuel ≤ a.fuel
   pub later : low ≤ r.end.last
-  pub kept : All (IsKept i) r.gates.items
+  pub kept : All (IsLegalHistory i) r.gates.items
   pub entered : all_entered r.passes.items
       ≡ entries_on_declared n (all_logged (r.log ∷ r.others.items))
 

@@ -7,8 +7,11 @@ use Rattle.wedge_events.specs.declared.events.Event.TheVariants as event
 use Rattle.wedge_events.specs.declared.events.LogEntry.{LogEntry}
 use Rattle.wedge_events.specs.declared.events.Want.{Want}
 use Rattle.wedge_events.specs.declared.events.Want.TheVariants as want
+use Rattle.wedge_events.specs.Gates.{Kept}
+use Rattle.wedge_events.specs.declared.cells.GateAsk.{GateAsk}
 use Rattle.wedge_events.specs.declared.cells.GateAsk.TheVariants as gate_ask
-use Rattle.journal_cell.specs.Histories.{greater}
+use Rattle.wedge_events.specs.declared.cells.GateReply.{GateReply}
+use Rattle.journal_cell.specs.Histories.{CellState, greater}
 use Rattle.machine.specs.declared.phase.Phase.TheVariants as phase
 use Rattle.machine.specs.Actors.{ActorState}
 use Rattle.machine.specs.Between.{WantFits, RunsIn}
@@ -20,7 +23,7 @@ use Rattle.actor_task.specs.declared.step.GateEntry.{GateEntry}
 use Rattle.thread_laws.specs.declared.gathered.ActorEnd.{ActorEnd}
 use Rattle.thread_laws.specs.declared.gathered.ActorLog.{ActorLog}
 use Rattle.tag_laws.specs.DeclaredTags.{entries_on_declared}
-use Rattle.run_cells.specs.Entries.{IsCreatingEntry}
+use Rattle.run_cells.specs.Entries.{IsCreatingEntry, IsKeptInGate}
 use Rattle.run_cells.specs.RecycledGates.{GateCellsState, HasCells}
 use Rattle.actor_task.specs.Returning.{FitsCreated}
 
@@ -137,6 +140,13 @@ pub record HasCreated (i : Image) (k : CreatingState) : Type 0 where
   pub begun : actor_begun i old.state entry.event ≡ Some k.born
   pub now_ : k.progress ≡ after_entry i old entry
   pub stamp_ : k.stamp ≡ entry.stamp
+
+-- an actor entered a recycled gate: its log has just the entry more that the gate's cell kept
+pub record HasEnteredGate (i : Image) (e : GateEntry) (old new : ActorProgress)
+    (was now_ : CellState Kept GateAsk GateReply) : Type 0 where
+  pub entry : LogEntry
+  pub kept_ : IsKeptInGate e.gate (gate_ask.Enter e.run e.memory) was now_ entry
+  pub progress_ : new ≡ after_entry i old entry
 
 -- an actor and one that it created: as it begins, at the stamp of the entry
 pub record IsPairOf (k : TaskState) (c : CreatingState) (born : ActorState) (stamp : ℕ) : Type 0 where

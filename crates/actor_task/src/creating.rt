@@ -3,11 +3,12 @@
 ghost use Rattle.std.specs.Prelude.{◌≡◌, ◌<◌, ◌+◌, ◌++◌, ◌∷◌, [], IfOk, IsErr, OnOk, Some, None, true, false, length};
 ghost use Rattle.wedge_events.specs.declared.events.Want.{Want as AWant};
 ghost use Rattle.run_cells.specs.Entries.{IsCreatingEntry};
-ghost use Rattle.thread_laws.specs.ActorProgresses.{created_actor};
+ghost use Rattle.thread_laws.specs.ActorProgresses.{created_actor, after_entry};
 ghost use Rattle.actor_task.specs.Returning.{IsReturned};
 ghost use Rattle.machine.specs.Take.{actor_begun};
 ghost use Rattle.run_cells.specs.RecycledGates.{HasCells};
 ghost use Rattle.actor_task.specs.Tasks.{IsNew, IsPairOf, IsUnlocked, Wants, WantsEntry, going_on, cellless_entry_of};
+ghost use Rattle.actor_task.specs.Tasks.{HasEnteredGate};
 
 use crate::created::{Created, Returned};
 use crate::step::GateEntry;
@@ -163,6 +164,8 @@ impl<I: RunOf, T: TableOf> ActorTask<I, T> {
         requires image { program.now ≡ I.image }
         requires wants { WantsEntry self entry }
         ensures pair { IfOk result (λ p. IsPairOf self p.0 p.1.resident p.1.stamp) }
+        ensures kept { IfOk result (λ p.
+            HasEnteredGate I.image entry self.progress p.0.progress locked.old locked.new) }
         ensures entered { OnOk result (locked.new.state.entered ≡ true) }
         ensures closed { locked.old.state.entered ≡ true → IsErr result }
     {
@@ -186,6 +189,8 @@ impl<I: RunOf, T: TableOf> ActorTask<I, T> {
         ensures pair { IfOk result (λ p. IsPairOf self p.0 p.1.resident p.1.stamp) }
         ensures begun { IfOk result (λ p.
             actor_begun I.image self.progress.state entry.event ≡ Some p.1.resident) }
+        ensures progress { IfOk result (λ p.
+            p.0.progress ≡ after_entry I.image self.progress entry) }
     {
         let mut task = self;
         let cells = task.share_cells()?;
@@ -216,6 +221,8 @@ impl<I: RunOf, T: TableOf> ActorTask<I, T> {
         ensures pair { IfOk result (λ p. IsPairOf self p.0 p.1.resident p.1.stamp) }
         ensures begun { IfOk result (λ p.
             actor_begun I.image self.progress.state entry.event ≡ Some p.1.resident) }
+        ensures progress { IfOk result (λ p.
+            p.0.progress ≡ after_entry I.image self.progress entry) }
     {
         let ActorTask {
             alloc,

@@ -6,7 +6,7 @@ use wedge_events::SavedView;
 /// What an actor came to.
 #[derive(Debug, Drop)]
 pub enum Step {
-    /// It did an event of a cell.
+    /// It did an event of a cell that no other actor has part in.
     Went,
     /// It waits for the run of a gate, its start of this number.
     Waits { number: u32 },

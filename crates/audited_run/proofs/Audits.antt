@@ -3,7 +3,7 @@ use Rattle.std.proofs.Common.{◌≡◌, sym, subst}
 use Rattle.std.specs.Prelude.{length, Some, None, Result, Ok, Err, IfOk}
 use Rattle.wedge_base.specs.declared.errors.NoMemory.{NoMemory}
 use Rattle.wedge_base.specs.Images.{Image}
-use Rattle.thread_laws.specs.Joining.{AreWalked, Agrees, IsRun, journal_of}
+use Rattle.thread_laws.specs.Joining.{AreWalked, Agrees, IsJournalOfRun, journal_of}
 use Rattle.thread_laws.specs.LookUps.{AreCountsOf}
 use Rattle.thread_laws.specs.Replaying.{Legal}
 use Rattle.thread_laws.specs.declared.gathered.Gathered.{Gathered}
@@ -27,7 +27,7 @@ declared_agree i g left = ruled_cells_agree i (length i.tags) g.logs g.cells (ke
 -- where all agree, it is a complete run
 pub agreed : (i : Image) (g : Gathered) (a : Audited) → IsGathered i g
     → IsAudit i g.logs g.cells a
-    → (AreWalked i g.logs → Legal i g.cells → DeclaredAgree i g.logs g.cells → IsRun i a.journal.entries a.outcome)
+    → (AreWalked i g.logs → Legal i g.cells → DeclaredAgree i g.logs g.cells → IsJournalOfRun i a.journal.entries a.outcome)
     → (AreWalked i g.logs → AreCountsOf a.journal.entries a.outcome.actors a.caches)
     → IsAuditedRun i (record { journal = a.journal; outcome = a.outcome; caches = a.caches; differs = None })
 agreed i g a left is run counts =
@@ -37,6 +37,7 @@ agreed i g a left is run counts =
       made = record {
         gathered = g;
         walked = left.walked;
+        of_root = left.of_root;
         kept = left.kept;
         agrees = is.agrees;
         entries_are = is.journal;
@@ -52,6 +53,7 @@ pub differing : (i : Image) (g : Gathered) (d : Difference) → IsGathered i g
     → IsDiffering i (record { gathered = g; disagree = d })
 differing i g d left first undeclared = record {
   walked = left.walked;
+  of_root = left.of_root;
   legal = kept_are_legal i g.cells left.kept;
   first = first;
   undeclared = undeclared;

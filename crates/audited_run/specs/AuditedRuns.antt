@@ -7,29 +7,31 @@ use Rattle.wedge_events.specs.Journals.{turns_of}
 use Rattle.wedge_events.specs.declared.events.LogEntry.{LogEntry}
 use Rattle.machine.specs.Worlds.{initial_state}
 use Rattle.run_laws.specs.CompleteRuns.{IsJournaledRun}
-use Rattle.world_turns.specs.Progress.{IsNumbered}
+use Rattle.world_turns.specs.Progress.{IsStampedByIndex}
 use Rattle.wedge_core.specs.Serial.{InSerialOrder}
 use Rattle.grant_cache.specs.declared.count.CacheLine.{CacheLine}
 use Rattle.thread_laws.specs.Joining.{AreWalked, Agrees, journal_of, outcome_gathered}
 use Rattle.thread_laws.specs.LookUps.{AreCountsOf}
-use Rattle.thread_laws.specs.Merging.{IsRising}
-use Rattle.thread_laws.specs.Replaying.{AreKept, Legal}
+use Rattle.thread_laws.specs.Merging.{IsNondecreasing}
+use Rattle.thread_laws.specs.Replaying.{AreLegalHistories, Legal}
 use Rattle.thread_laws.specs.declared.gathered.Gathered.{Gathered}
+use Rattle.gate_runner.specs.Gathering.{IsOfRoot}
 use Rattle.run_audit.specs.ComparedCells.{IsUndeclared}
 use Rattle.run_audit.specs.Differences.{IsFirstDifference}
 use Rattle.audited_run.specs.declared.run.AuditedRun.{AuditedRun}
 use Rattle.audited_run.specs.declared.run.Differs.{Differs}
 
--- Entries and outcome are what threads left: logs of whole executions, one for each actor and no other, and the
--- histories that locked cells kept. The entries are all that was logged, in the order of stamps and names; of each
--- cell they are its history; and the outcome is read off both.
-pub record IsThreaded (i : Image) (entries : List LogEntry) (outcome : Outcome) : Type 0 where
+-- Entries and outcome are what threads left: logs of whole executions, one for each actor and no other, with the stamps
+-- of their clocks, and the histories that locked cells kept. The entries are all that was logged, in the order of stamps
+-- and names; of each cell they are its history; and the outcome is read off both.
+pub record IsOfThreads (i : Image) (entries : List LogEntry) (outcome : Outcome) : Type 0 where
   pub gathered : Gathered
   pub walked : AreWalked i gathered.logs
-  pub kept : AreKept i gathered.cells
+  pub of_root : IsOfRoot i gathered.logs
+  pub kept : AreLegalHistories i gathered.cells
   pub agrees : Agrees gathered.logs gathered.cells
   pub entries_are : entries ≡ journal_of gathered.logs
-  pub rising : IsRising entries
+  pub rising : IsNondecreasing entries
   pub outcome_is : outcome ≡ outcome_gathered i gathered.logs gathered.cells
 
 -- The history of a cell that threads left differs from the entries of that cell that they logged: the logs are those
@@ -37,6 +39,7 @@ pub record IsThreaded (i : Image) (entries : List LogEntry) (outcome : Outcome) 
 -- first of its that differ. It is not the slot of a declared tag.
 pub record IsDiffering (i : Image) (d : Differs) : Type 0 where
   pub walked : AreWalked i d.gathered.logs
+  pub of_root : IsOfRoot i d.gathered.logs
   pub legal : Legal i d.gathered.cells
   pub first : IsFirstDifference (journal_of d.gathered.logs) d.gathered.cells d.disagree
   pub undeclared : IsUndeclared (length i.tags) d.disagree.cell
@@ -44,11 +47,11 @@ pub record IsDiffering (i : Image) (d : Differs) : Type 0 where
 -- Each turn was that of the actor that was started last and had not ended; the stamp of an entry is its index, from 1.
 pub record IsInSerialOrder (i : Image) (entries : List LogEntry) : Type 0 where
   pub order : InSerialOrder (initial_state i) (turns_of entries)
-  pub stamps : IsNumbered entries
+  pub stamps : IsStampedByIndex entries
 
 -- how the entries of a run came about, by what differed
 abbrev pub IsMadeSo : Image → Option Differs → List LogEntry → Outcome → Type 0
-IsMadeSo i None entries outcome = IsThreaded i entries outcome
+IsMadeSo i None entries outcome = IsOfThreads i entries outcome
 IsMadeSo i (Some d) entries outcome = IsDiffering i d × IsInSerialOrder i entries
 
 -- The counts of the caches of rights are those of each actor of a run on threads, for its entries in the

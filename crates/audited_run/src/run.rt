@@ -8,14 +8,13 @@ use gate_runner::run_image;
 use grant_cache::CacheLine;
 use host_io::Pace;
 use image_form::Image;
-use run_audit::{AuditFault, AuditRefusal, Audited, Difference, audit};
+use run_audit::{AuditFault, AuditRefusal, Audited, Difference, RunJournal, audit};
 use std::alloc::Global;
 use std::sync::Wait;
 use std::thread::Threads;
 use thread_laws::Gathered;
 use wedge_base::{Items, NoMemory, Outcome};
 use wedge_core::serial;
-use wedge_events::Journal;
 
 /// What a run on threads left, where the histories that its cells kept differ from the logs of its actors, and the
 /// first difference.
@@ -29,7 +28,7 @@ pub struct Differs {
 /// thread, and `differs` says what differed.
 #[derive(Debug, Drop)]
 pub struct AuditedRun {
-    pub journal: Journal,
+    pub journal: RunJournal,
     pub outcome: Outcome,
     /// The counts of the caches of rights of its actors, in the order of their names. A run on one thread has none.
     pub caches: Items<CacheLine>,
@@ -99,7 +98,7 @@ fn again(alloc: Global, image: &Image, differs: Differs) -> Result<AuditedRun, N
 {
     let (journal, outcome) = serial(alloc, image)?;
     Ok(AuditedRun {
-        journal,
+        journal: RunJournal::ordered(alloc, journal),
         outcome,
         caches: Items::new(Vec::new(alloc)),
         differs: Some(differs),

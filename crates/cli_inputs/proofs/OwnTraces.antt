@@ -2,10 +2,12 @@
 use Rattle.std.proofs.Common.{◌≡◌, ℕ, ◌<◌, ◌^◌, Bool, true, false, List, [], length, refl, sym, ap, subst, ◌∙◌, arith}
 use Rattle.std.specs.Prelude.{None, Result, Ok, Err, nat_lt, if◌then◌else◌}
 use Rattle.std.proofs.lemmas.Bool.{le-ltb}
+use mathlib.Core.List.{append-nil}
 use Rattle.wedge_base.specs.Images.{Image}
 use Rattle.image_form.specs.Reading.{reading}
 use Rattle.image_form.specs.Rules.{IsImage}
-use Rattle.image_form.proofs.ImageForm.{is_read}
+use Rattle.image_form.specs.declared.fault.Fault.{Fault}
+use Rattle.image_form.proofs.ImageForm.{is_found}
 use Rattle.machine.specs.Worlds.{WorldState}
 use Rattle.report_text.specs.Schedules.{names_in}
 use Rattle.world_turns.specs.declared.error.Why.{Why}
@@ -23,7 +25,7 @@ use Rattle.cli_inputs.specs.declared.loading.FileKind.TheVariants as kind
 use Rattle.cli_inputs.specs.declared.refusal.Refusal.{Refusal}
 use Rattle.cli_inputs.specs.Loading.{image_from_bytes, image_by, most_of, too_long}
 use Rattle.cli_inputs.specs.Replaying.{Making, text_of_replay, text_of_read, schedule_by, text_made, report_made, trace_made, replay_text}
-use Rattle.cli_inputs.specs.Enforcing.{enforced, text_checked, violations_by, trace_by, text_of_three, text_of_check, enforce_text, IsOwnTrace, OwnTracesPermit}
+use Rattle.cli_inputs.specs.Enforcing.{Check, emulated, enforced, text_checked, violations_by, trace_by, text_of_three, text_of_check, emulate_text, enforce_text, IsOwnTrace, OwnTracesPermit}
 
 -- ---- what a text of a replay is made of
 
@@ -68,11 +70,21 @@ trace_is : (i : Image) (names : List (List ℕ)) (m : Result WorldState (ℕ × 
 trace_is i names (Ok w) text e = let is : trace_of i names ≡ text = cc in sym is
 trace_is i names (Err fault) text e = absurd cc
 
-same_image : (i j : Image) (m : Result Image Refusal) → m ≡ Ok i → m ≡ Ok j → i ≡ j
-same_image i j (Ok k) one other = let a : k ≡ i = cc in let b : k ≡ j = cc in sym a ∙ b
-same_image i j (Err why) one other = absurd cc
+read_as : (m : Result Image Fault) (i : Image) → image_by m ≡ Ok i → m ≡ Ok i
+read_as (Ok k) i e = let is : k ≡ i = cc in ap (λ j. Ok j) is
+read_as (Err fault) i e = absurd cc
 
--- ---- what is enforced by it
+-- ---- what is emulated or enforced by it
+
+-- a check that changes nothing where all is permitted
+abbrev Keeps : Check → Type 0
+Keeps check = (text : List ℕ) → check [] text ≡ Ok text
+
+emulated_keeps : Keeps emulated
+emulated_keeps text = ap (λ t. Ok t) (append-nil text)
+
+enforced_keeps : Keeps enforced
+enforced_keeps text = refl
 
 module _ (image names trace : List ℕ) (h : IsOwnTrace image names trace) where
   shorts : AreShort image names × (text_of_read trace_made (image_from_bytes image) (schedule_by (names_in names)) ≡ Ok trace)
@@ -81,11 +93,8 @@ module _ (image names trace : List ℕ) (h : IsOwnTrace image names trace) where
   made : IsMade trace_made (image_from_bytes image) (schedule_by (names_in names)) trace
   made = made_by trace_made (image_from_bytes image) (schedule_by (names_in names)) trace shorts.1
 
-  accepted : image_from_bytes image ≡ Ok h.encoded
-  accepted = ap (λ bytes. image_by (reading bytes)) h.encodes.encoded ∙ ap image_by (is_read h.encoded h.encodes.valid)
-
   valid : IsImage made.image
-  valid = subst IsImage (same_image h.encoded made.image (image_from_bytes image) accepted made.image_is) h.encodes.valid
+  valid = (is_found image made.image h.bytes (read_as (reading image) made.image made.image_is)).valid
 
   text_is : trace ≡ trace_of made.image made.names
   text_is = trace_is made.image made.names (replay_of made.image made.names) trace made.made
@@ -108,31 +117,6 @@ module _ (image names trace : List ℕ) (h : IsOwnTrace image names trace) where
       ap (λ rs. violations_of (marks_of made.image made.names) rs (sheets_of (records_of trace))) (sym same_records)
       ∙ own_sheets_permit trace (marks_of made.image made.names) none
 
-  -- of the run, what is enforced is what is made without
-  unchanged : (m : Result (List ℕ) Refusal) → text_checked enforced [] m ≡ m
-  unchanged (Ok text) = refl
-  unchanged (Err why) = refl
-
-  checked : text_of_three enforced (image_from_bytes image) (schedule_by (names_in names)) (trace_by trace (first_fault trace))
-      ≡ text_of_read report_made (image_from_bytes image) (schedule_by (names_in names))
-  checked =
-      ap (λ m. text_of_three enforced m (schedule_by (names_in names)) (trace_by trace (first_fault trace))) made.image_is
-      ∙ ap (λ n. text_of_three enforced (Ok made.image) n (trace_by trace (first_fault trace))) made.names_are
-      ∙ ap (λ o. text_of_three enforced (Ok made.image) (Ok made.names) (trace_by trace o)) none
-      ∙ ap (λ vs. text_checked enforced vs (text_made report_made made.image made.names (replay_of made.image made.names))) permitted
-      ∙ unchanged (text_made report_made made.image made.names (replay_of made.image made.names))
-      ∙ sym (ap (λ n. text_of_read report_made (Ok made.image) n) made.names_are)
-      ∙ sym (ap (λ m. text_of_read report_made m (schedule_by (names_in names))) made.image_is)
-
-  enforced_is : enforce_text image names trace
-      ≡ text_of_three enforced (image_from_bytes image) (schedule_by (names_in names)) (trace_by trace (first_fault trace))
-  unfolding text_of_check
-  enforced_is =
-      let first = shorts.0.first in
-      let second = shorts.0.second in
-      let third : nat_lt (most_of kind.Trace) (length trace) ≡ false = le-ltb (most_of kind.Trace) (length trace) h.within in
-      rw (first, second, third) refl
-
   replayed_is : replay_text image names ≡ text_of_read report_made (image_from_bytes image) (schedule_by (names_in names))
   unfolding text_of_replay
   replayed_is =
@@ -140,8 +124,40 @@ module _ (image names trace : List ℕ) (h : IsOwnTrace image names trace) where
       let second = shorts.0.second in
       rw (first, second) refl
 
-  pub own_permits : enforce_text image names trace ≡ replay_text image names
-  own_permits = enforced_is ∙ checked ∙ sym replayed_is
+  module _ (check : Check) (keeps : Keeps check) where
+    -- of the run, what is checked is what is made without
+    unchanged : (m : Result (List ℕ) Refusal) → text_checked check [] m ≡ m
+    unchanged (Ok text) = keeps text
+    unchanged (Err why) = refl
+
+    run_is : text_of_three check (image_from_bytes image) (schedule_by (names_in names)) (trace_by trace (first_fault trace))
+        ≡ text_of_read report_made (image_from_bytes image) (schedule_by (names_in names))
+    run_is =
+        ap (λ m. text_of_three check m (schedule_by (names_in names)) (trace_by trace (first_fault trace))) made.image_is
+        ∙ ap (λ n. text_of_three check (Ok made.image) n (trace_by trace (first_fault trace))) made.names_are
+        ∙ ap (λ o. text_of_three check (Ok made.image) (Ok made.names) (trace_by trace o)) none
+        ∙ ap (λ vs. text_checked check vs (text_made report_made made.image made.names (replay_of made.image made.names))) permitted
+        ∙ unchanged (text_made report_made made.image made.names (replay_of made.image made.names))
+        ∙ sym (ap (λ n. text_of_read report_made (Ok made.image) n) made.names_are)
+        ∙ sym (ap (λ m. text_of_read report_made m (schedule_by (names_in names))) made.image_is)
+
+    checked_is : text_of_check check image names trace
+        ≡ text_of_three check (image_from_bytes image) (schedule_by (names_in names)) (trace_by trace (first_fault trace))
+    unfolding text_of_check
+    checked_is =
+        let first = shorts.0.first in
+        let second = shorts.0.second in
+        let third : nat_lt (most_of kind.Trace) (length trace) ≡ false = le-ltb (most_of kind.Trace) (length trace) h.within in
+        rw (first, second, third) refl
+
+    own_checked : text_of_check check image names trace ≡ replay_text image names
+    own_checked = checked_is ∙ run_is ∙ sym replayed_is
+
+  pub own_emulated : emulate_text image names trace ≡ replay_text image names
+  own_emulated = own_checked emulated emulated_keeps
+
+  pub own_enforced : enforce_text image names trace ≡ replay_text image names
+  own_enforced = own_checked enforced enforced_keeps
 
 pub own_traces_permit : OwnTracesPermit
-own_traces_permit image names trace h = own_permits image names trace h
+own_traces_permit image names trace h = (own_emulated image names trace h, own_enforced image names trace h)

@@ -1,9 +1,8 @@
 -- What is made of a replay whose accesses are checked by the sheets of a trace, as a function of the
 -- bytes of an image's file, a schedule's and a trace's.
-use Rattle.std.specs.Prelude.{◌≡◌, ◌≤◌, ◌++◌, ℕ, List, [], ◌∷◌, length, Option, Some, None, Result, Ok, Err, nat_lt, if◌then◌else◌}
+use Rattle.std.specs.Prelude.{◌≡◌, ◌≤◌, ◌<◌, ◌++◌, ℕ, List, [], ◌∷◌, length, get_or, Option, Some, None, Result, Ok, Err, nat_lt, if◌then◌else◌}
 use Rattle.std.specs.List.{flat_map}
 use Rattle.wedge_base.specs.Images.{Image}
-use Rattle.image_form.specs.Rules.{Encodes}
 use Rattle.report_text.specs.Schedules.{names_in}
 use Rattle.world_turns.specs.Replay.{replay_of}
 use Rattle.trace_form.specs.declared.fault.TraceFault.{TraceFault}
@@ -85,18 +84,18 @@ emulate_text image names trace = text_of_check emulated image names trace
 abbrev pub enforce_text : List ℕ → List ℕ → List ℕ → Result (List ℕ) Refusal
 enforce_text image names trace = text_of_check enforced image names trace
 
--- bytes encode an image, and a trace is that of its run by a schedule, and no longer than the file of
--- a trace may be
+-- a trace is that of the run of an image, as bytes, by a schedule, and no longer than the file of a
+-- trace may be
 pub record IsOwnTrace (image names trace : List ℕ) : Type 0 where
-  pub encoded : Image
-  pub encodes : Encodes encoded image
+  pub bytes : (index : ℕ) → get_or image index 0 < 256
   pub own : log_text image names ≡ Ok trace
   pub within : length trace ≤ most_of kind.Trace
 
--- it permits all of the run: what is enforced by it is what is replayed
+-- it permits all of the run: what is emulated or enforced by it is what is replayed
 abbrev pub OwnTracesPermit : Type 0
 OwnTracesPermit = (image names trace : List ℕ) → IsOwnTrace image names trace
-    → enforce_text image names trace ≡ replay_text image names
+    → (emulate_text image names trace ≡ replay_text image names)
+    × (enforce_text image names trace ≡ replay_text image names)
 
 -- what is meant is this refusal, unless memory ran out
 abbrev pub IsCheckRefusalIn : {X : Type 0} → Result X Refusal → Refusal → Type 0

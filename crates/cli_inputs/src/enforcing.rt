@@ -194,7 +194,7 @@ fn write_violations(out: &mut Vec<u8>, violations: &[Violation]) -> Result<(), N
     Ok(())
 }
 
-/// A run's own trace permits all of the run: what is enforced by it is what is replayed.
+/// A run's own trace permits all of the run: what is emulated or enforced by it is what is replayed.
 pub fn own_traces_permit()
     ensures { OwnTracesPermit }
 {}

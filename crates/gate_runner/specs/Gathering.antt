@@ -1,15 +1,28 @@
 -- What a run on threads leaves.
-use Rattle.std.specs.Prelude.{length}
+use Rattle.std.specs.Prelude.{◌≡◌, ◌∷◌, List, length}
 use Rattle.wedge_base.specs.Images.{Image}
 use Rattle.tag_laws.specs.DeclaredTags.{AreRuled}
+use Rattle.machine.specs.Actors.{root}
+use Rattle.thread_laws.specs.ActorProgresses.{AreReturned}
 use Rattle.thread_laws.specs.Joining.{AreWalked, all_logged}
-use Rattle.thread_laws.specs.Replaying.{AreKept}
+use Rattle.thread_laws.specs.Replaying.{AreLegalHistories}
+use Rattle.thread_laws.specs.declared.gathered.ActorEnd.{ActorEnd}
+use Rattle.thread_laws.specs.declared.gathered.ActorLog.{ActorLog}
 use Rattle.thread_laws.specs.declared.gathered.Gathered.{Gathered}
+
+-- the logs are what the thread of the root returned: each stamp is that of a clock as the rules have it
+pub record IsOfRoot (i : Image) (logs : List ActorLog) : Type 0 where
+  pub log : ActorLog
+  pub others : List ActorLog
+  pub end_ : ActorEnd
+  pub logs_ : logs ≡ log ∷ others
+  pub returned : AreReturned i (root i) 0 log others end_
 
 -- the logs are those of whole executions, one for each actor that the root created or that these
 -- created, and no other; the histories are those that cells kept; and those of the slots of declared tags have
 -- just the logged entries
 pub record IsGathered (i : Image) (g : Gathered) : Type 0 where
   pub walked : AreWalked i g.logs
-  pub kept : AreKept i g.cells
+  pub of_root : IsOfRoot i g.logs
+  pub kept : AreLegalHistories i g.cells
   pub ruled : AreRuled (length i.tags) (all_logged g.logs) g.cells

@@ -162,10 +162,6 @@ suffix [] a q b e h = (q, e)
 suffix (y ∷ p) a [] b e h = absurd (omega arith)
 suffix (y ∷ p) a (z ∷ q) b e h = suffix p a q b (ap tail_or e) (omega arith)
 
-pub ok_two : {T E : Type 0} (A B C : T → Type 0) (r : Result T E) → ((x : T) → A x → B x → C x) → IfOk r A → IfOk r B → IfOk r C
-ok_two A B C (Ok x) f a b = f x a b
-ok_two A B C (Err e) f a b = tt
-
 pub ok_map : {T E : Type 0} (A C : T → Type 0) (r : Result T E) → ((x : T) → A x → C x) → IfOk r A → IfOk r C
 ok_map A C (Ok x) f a = f x a
 ok_map A C (Err e) f a = tt

@@ -1,7 +1,7 @@
 //! One turn of a pass at a cell.
 
 ghost use Rattle.std.specs.Prelude.{◌≡◌, ◌<◌, ◌+◌, ◌∷◌, [], ◌⊎◌, IfOk, OnErr, MatchOption, Option, Some, None};
-ghost use Rattle.journal_cell.specs.Histories.{CellState, entry_at, cell_after, pass_after};
+ghost use Rattle.journal_cell.specs.Histories.{CellState, IsHistory, entry_at, cell_after, pass_after};
 ghost use Rattle.journal_cell.specs.declared.entry.Entry.{Entry as AnEntry};
 ghost use Rattle.ruled_cell.specs.Passes.{IsIdle, IsVisit, IsNewEntry};
 ghost use Rattle.ruled_cell.specs.Enter.{highest_ticket, HasTicket, IsCellAsked, HoldsCell};
@@ -56,8 +56,8 @@ impl<O: Object, I: RunOf> RuledCells<O, I> {
         ensures table { pass.new.table ≡ pass.old.table }
         ensures visit { IfOk result (λ e. IsVisit cell (Some e) pass.old.view pass.new.view) }
         ensures entry { IfOk result (λ e.
-            IsNewEntry O.reply (M.makes maker.now) (M.finds maker.now) cell actor.old e
-            pass.new.view) }
+            IsNewEntry O.reply (λ n es. IsHistory (O.fits I.image) O.reply O.next (O.opening I.image n) 0 es)
+            (M.makes maker.now) (M.finds maker.now) cell actor.old e pass.new.view) }
         ensures actor { IfOk result (λ e. actor.new ≡ pass_after actor.old e) }
         ensures err { OnErr result
             ((pass.new ≡ pass.old) ⊎ IsVisit cell None pass.old.view pass.new.view) }
@@ -157,15 +157,19 @@ impl<O: Object, I: RunOf> RuledCells<O, I> {
         ensures same { (seat.new.table_id ≡ seat.old.table_id) × (seat.new.id ≡ seat.old.id)
             × (seat.new.me.0 ≡ seat.old.me.0) }
         ensures ok { IfOk result (λ e.
-            IsCellAsked O.reply O.next (M.makes maker.now) (M.finds maker.now) cell actor.old e
-            seat.old.me seat.new.me) }
+            IsCellAsked O.reply O.next
+            (λ n es. IsHistory (O.fits I.image) O.reply O.next (O.opening I.image n) 0 es)
+            (M.makes maker.now) (M.finds maker.now) cell actor.old e seat.old.me seat.new.me) }
         ensures actor { IfOk result (λ e. actor.new ≡ pass_after actor.old e) }
         ensures err { OnErr result (seat.new.me ≡ seat.old.me) }
         ensures err_actor { OnErr result (actor.new ≡ actor.old) }
     {
         let inside = seat.slot_mut(&self.table.shared, cell);
         let ask = maker.ask(inside.state());
-        inside.enter(actor, ask)
+        let entry = inside.enter(actor, ask)?;
+        // The state is read here, so that its history, which has the entry, is known to be legal.
+        let _ = inside.state();
+        Ok(entry)
     }
 
     /// Returns the cell and serves the next ticket. Who waits for it is woken.
@@ -203,8 +207,8 @@ impl<O: Object, I: RunOf> RuledCells<O, I> {
             × (seat.new.me.0.unjoined ≡ seat.old.me.0.unjoined) }
         ensures visit { IfOk result (λ e. IsVisit cell (Some e) seat.old.me.0 seat.new.me.0) }
         ensures entry { IfOk result (λ e.
-            IsNewEntry O.reply (M.makes maker.now) (M.finds maker.now) cell actor.old e
-            seat.new.me.0) }
+            IsNewEntry O.reply (λ n es. IsHistory (O.fits I.image) O.reply O.next (O.opening I.image n) 0 es)
+            (M.makes maker.now) (M.finds maker.now) cell actor.old e seat.new.me.0) }
         ensures actor { IfOk result (λ e. actor.new ≡ pass_after actor.old e) }
         ensures err { OnErr result (IsVisit cell None seat.old.me.0 seat.new.me.0) }
         ensures err_actor { OnErr result (actor.new ≡ actor.old) }

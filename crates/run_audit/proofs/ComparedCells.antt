@@ -12,7 +12,7 @@ use Rattle.wedge_events.specs.declared.events.Event.TheVariants as event
 use Rattle.wedge_events.specs.declared.events.LogEntry.{LogEntry}
 use Rattle.thread_laws.specs.Auditing.{DifferAt}
 use Rattle.thread_laws.specs.Histories.{is_of, entries_on}
-use Rattle.thread_laws.specs.Replaying.{cell_in, same_cell, entries_in, history_of}
+use Rattle.thread_laws.specs.Replaying.{cell_in, same_cell, entries_kept_in, history_of}
 use Rattle.thread_laws.specs.Joining.{AgreeOn, Agrees, journal_of}
 use Rattle.thread_laws.specs.declared.gathered.ActorLog.{ActorLog}
 use Rattle.thread_laws.specs.declared.gathered.CellHistory.{CellHistory}
@@ -124,7 +124,7 @@ history_kept n name other [] = refl
 history_kept n name other (h ∷ hs) = by_test (is_of_declared n h) refl (history_kept n name other hs)
   where
     by_name : (t : Bool) → history_of (compared_histories n hs) name ≡ history_of hs name
-        → entries_in (if t then Some h else find (λ j. same_cell (cell_in j) name) (compared_histories n hs)) ≡ entries_in (if t then Some h else find (λ j. same_cell (cell_in j) name) hs)
+        → entries_kept_in (if t then Some h else find (λ j. same_cell (cell_in j) name) (compared_histories n hs)) ≡ entries_kept_in (if t then Some h else find (λ j. same_cell (cell_in j) name) hs)
     by_name true rest = refl
     by_name false rest = rest
 
@@ -133,7 +133,7 @@ history_kept n name other (h ∷ hs) = by_test (is_of_declared n h) refl (histor
     by_test false is rest = by_name (same_cell (cell_in h) name) rest
     by_test true is rest =
         let not_own = not_true (same_cell (cell_in h) name) (λ own. true≢false (sym is ∙ (of_declared n name h own ∙ other))) in
-        rest ∙ sym (ap (λ t. entries_in (if t then Some h else find (λ j. same_cell (cell_in j) name) hs)) not_own)
+        rest ∙ sym (ap (λ t. entries_kept_in (if t then Some h else find (λ j. same_cell (cell_in j) name) hs)) not_own)
 
 history_out : (n : ℕ) (name : CellName) → is_declared_slot n name ≡ true → (hs : List CellHistory) → history_of (compared_histories n hs) name ≡ []
 history_out n name own [] = refl
@@ -143,7 +143,7 @@ history_out n name own (h ∷ hs) = by_test (is_of_declared n h) refl (history_o
         → history_of (cond (not t) (h ∷ compared_histories n hs) (compared_histories n hs)) name ≡ []
     by_test false is rest =
         let not_own = not_true (same_cell (cell_in h) name) (λ here. true≢false (sym own ∙ (sym (of_declared n name h here) ∙ is))) in
-        ap (λ t. entries_in (if t then Some h else find (λ j. same_cell (cell_in j) name) (compared_histories n hs))) not_own ∙ rest
+        ap (λ t. entries_kept_in (if t then Some h else find (λ j. same_cell (cell_in j) name) (compared_histories n hs))) not_own ∙ rest
     by_test true is rest = rest
 
 -- ---- the comparison

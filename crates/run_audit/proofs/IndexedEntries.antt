@@ -10,7 +10,7 @@ use Rattle.wedge_events.specs.declared.events.LogEntry.{LogEntry}
 use Rattle.thread_laws.specs.Joining.{all_logged, journal_of}
 use Rattle.thread_laws.specs.Sorting.{comes_before}
 use Rattle.thread_laws.specs.declared.gathered.ActorLog.{ActorLog}
-use Rattle.run_audit.specs.IndexedEntries.{IndexedEntry, indexed, entries_of, indices_of, indexed_before, indexed_ordered, AreInOrder, indexed_journal, with_taken, taken_by}
+use Rattle.run_audit.specs.IndexedEntries.{IndexedEntry, indexed, entries_without_index, indices_of, indexed_before, indexed_ordered, AreInOrder, indexed_journal, with_taken, taken_by}
 use Rattle.run_audit.specs.Merges.{merged}
 use Rattle.run_audit.proofs.Merges.{merged_sorted, merged_stable, length_merged, merged_nothing}
 
@@ -18,7 +18,7 @@ pub length_indexed : (n : ℕ) (es : List LogEntry) → length (indexed n es) �
 length_indexed n [] = refl
 length_indexed n (e ∷ es) = ap suc (length_indexed (n + 1) es)
 
-entries_indexed : (n : ℕ) (es : List LogEntry) → entries_of (indexed n es) ≡ es
+entries_indexed : (n : ℕ) (es : List LogEntry) → entries_without_index (indexed n es) ≡ es
 entries_indexed n [] = refl
 entries_indexed n (e ∷ es) = ap (λ xs. e ∷ xs) (entries_indexed (n + 1) es)
 
@@ -108,19 +108,19 @@ merge_ended i j xs ys all next out end a b whole =
 
 -- ---- what is sorted with its indices is the journal
 
-entries_insert : (x : IndexedEntry) (ys : List IndexedEntry) → entries_of (insert_sorted indexed_before x ys) ≡ insert_sorted comes_before x.entry (entries_of ys)
+entries_insert : (x : IndexedEntry) (ys : List IndexedEntry) → entries_without_index (insert_sorted indexed_before x ys) ≡ insert_sorted comes_before x.entry (entries_without_index ys)
 entries_insert x [] = refl
 entries_insert x (y ∷ ys) = by_first (comes_before x.entry y.entry) (entries_insert x ys)
   where
-    by_first : (b : Bool) → entries_of (insert_sorted indexed_before x ys) ≡ insert_sorted comes_before x.entry (entries_of ys) → entries_of (if b then x ∷ y ∷ ys else y ∷ insert_sorted indexed_before x ys) ≡ (if b then x.entry ∷ y.entry ∷ entries_of ys else y.entry ∷ insert_sorted comes_before x.entry (entries_of ys))
+    by_first : (b : Bool) → entries_without_index (insert_sorted indexed_before x ys) ≡ insert_sorted comes_before x.entry (entries_without_index ys) → entries_without_index (if b then x ∷ y ∷ ys else y ∷ insert_sorted indexed_before x ys) ≡ (if b then x.entry ∷ y.entry ∷ entries_without_index ys else y.entry ∷ insert_sorted comes_before x.entry (entries_without_index ys))
     by_first true r = refl
     by_first false r = ap (λ es. y.entry ∷ es) r
 
-entries_onto : (done xs : List IndexedEntry) → entries_of (sorted_onto indexed_before done xs) ≡ sorted_onto comes_before (entries_of done) (entries_of xs)
+entries_onto : (done xs : List IndexedEntry) → entries_without_index (sorted_onto indexed_before done xs) ≡ sorted_onto comes_before (entries_without_index done) (entries_without_index xs)
 entries_onto done [] = refl
-entries_onto done (x ∷ xs) = entries_onto (insert_sorted indexed_before x done) xs ∙ ap (λ ds. sorted_onto comes_before ds (entries_of xs)) (entries_insert x done)
+entries_onto done (x ∷ xs) = entries_onto (insert_sorted indexed_before x done) xs ∙ ap (λ ds. sorted_onto comes_before ds (entries_without_index xs)) (entries_insert x done)
 
-pub journal_entries : (logs : List ActorLog) → entries_of (indexed_journal logs) ≡ journal_of logs
+pub journal_entries : (logs : List ActorLog) → entries_without_index (indexed_journal logs) ≡ journal_of logs
 journal_entries logs = entries_onto [] (indexed 0 (all_logged logs)) ∙ ap (sorted comes_before) (entries_indexed 0 (all_logged logs))
 
 length_insert : (x : IndexedEntry) (ys : List IndexedEntry) → length (insert_sorted indexed_before x ys) ≡ suc (length ys)
@@ -155,7 +155,7 @@ left_after : (i : ℕ) (slots : List (Option LogEntry)) (xs : List IndexedEntry)
 left_after i slots [] n h = tt
 left_after i slots (x ∷ xs) n h = (get_or-set_other slots i x.index None None (λ e. n.0 (sym e)) ∙ h.0, (h.1.0, left_after i slots xs n.1 h.1.1))
 
-taken_left : (xs : List IndexedEntry) (slots : List (Option LogEntry)) → AreLeft slots xs → taken_by (indices_of xs) slots ≡ entries_of xs
+taken_left : (xs : List IndexedEntry) (slots : List (Option LogEntry)) → AreLeft slots xs → taken_by (indices_of xs) slots ≡ entries_without_index xs
 taken_left [] slots h = refl
 taken_left (x ∷ xs) slots h =
     ap (λ o. with_taken o (taken_by (indices_of xs) (slice_set slots x.index None))) h.0

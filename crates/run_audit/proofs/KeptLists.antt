@@ -13,7 +13,7 @@ use Rattle.wedge_events.specs.declared.events.LogEntry.{LogEntry}
 use Rattle.journal_cell.specs.declared.entry.Entry.{Entry}
 use Rattle.stable_sort.proofs.Sorted.{IsLow, Rises, rises_if_sorted}
 use Rattle.thread_laws.specs.Histories.{is_of, entries_on}
-use Rattle.thread_laws.specs.Replaying.{logged_as, cell_in, logged, same_cell, entries_in, history_of}
+use Rattle.thread_laws.specs.Replaying.{logged_as, cell_in, logged, same_cell, entries_kept_in, history_of}
 use Rattle.thread_laws.specs.declared.gathered.CellHistory.{CellHistory}
 use Rattle.thread_laws.specs.declared.gathered.CellHistory.TheVariants as history
 use Rattle.thread_laws.proofs.Replaying.{cell_is}
@@ -119,7 +119,7 @@ found_behind h (k ∷ ks) name rise apart =
   where
     by_first : (t : Bool) → history_first h k ≡ t → (u : Bool) → same_cell (cell_in k) name ≡ u → entries_on name (entries_behind h ks) ≡ history_of ks name
         → ((cell_in k ≡ name → ⊥) → entries_on name (entries_behind k ks) ≡ history_of ks name)
-        → entries_on name (if t then logged k ++ entries_behind k ks else entries_behind h ks) ≡ entries_in (if u then Some k else find (λ j. same_cell (cell_in j) name) ks)
+        → entries_on name (if t then logged k ++ entries_behind k ks else entries_behind h ks) ≡ entries_kept_in (if u then Some k else find (λ j. same_cell (cell_in j) name) ks)
     by_first true first true own here others =
         let one = cell_is (cell_in k) name own in
         subst (λ c. entries_on c (logged k ++ entries_behind k ks) ≡ logged k) one
@@ -135,7 +135,7 @@ pub found_kept : (hs : List CellHistory) (name : CellName) → Rises history_fir
 found_kept [] name rise = refl
 found_kept (h ∷ hs) name rise = by_own (same_cell (cell_in h) name) refl
   where
-    by_own : (u : Bool) → same_cell (cell_in h) name ≡ u → entries_on name (logged h ++ entries_behind h hs) ≡ entries_in (if u then Some h else find (λ j. same_cell (cell_in j) name) hs)
+    by_own : (u : Bool) → same_cell (cell_in h) name ≡ u → entries_on name (logged h ++ entries_behind h hs) ≡ entries_kept_in (if u then Some h else find (λ j. same_cell (cell_in j) name) hs)
     by_own true own =
         let one = cell_is (cell_in h) name own in
         subst (λ c. entries_on c (logged h ++ entries_behind h hs) ≡ logged h) one
@@ -225,7 +225,7 @@ find_first name (h ∷ hs) = by_name (same_cell (cell_in h) name) (ties history_
     by_name false false e others = others
 
 pub stable_histories : (hs ks : List CellHistory) → IsStableBy history_first hs ks → (name : CellName) → history_of ks name ≡ history_of hs name
-stable_histories hs ks stable name = ap entries_in (find_first name ks ∙ (ap first_in (stable (history_on name)) ∙ sym (find_first name hs)))
+stable_histories hs ks stable name = ap entries_kept_in (find_first name ks ∙ (ap first_in (stable (history_on name)) ∙ sym (find_first name hs)))
 
 -- the entries of sorted histories rise, and those of each cell are its history
 pub kept_in_order : (hs ks : List CellHistory) → IsSortedBy history_first ks → IsStableBy history_first hs ks → Rises by_cell entries_ordered (entries_kept ks) × ((name : CellName) → entries_on name (entries_kept ks) ≡ history_of hs name)

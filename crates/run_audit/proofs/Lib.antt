@@ -34,3 +34,5 @@ pub mod Runs
 pub mod Merges
 -- Entries with their indices, sorted, merged, and taken by their indices.
 pub mod IndexedEntries
+-- The entries of a journal that are in its order, or still in logs.
+pub mod RunJournals

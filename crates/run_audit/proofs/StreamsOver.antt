@@ -19,9 +19,9 @@ use Rattle.machine.specs.Cells.{Cells, opening_cells, stream_in, cells_after}
 use Rattle.machine.specs.Outcomes.{with_kind, with_stream, streams_of}
 use Rattle.run_laws.proofs.Opening.{cells_open}
 use Rattle.run_laws.proofs.Settling.{opening_ready}
-use Rattle.thread_laws.specs.Histories.{replay_of}
+use Rattle.thread_laws.specs.Histories.{cells_after_entries}
 use Rattle.thread_laws.specs.Joining.{stream_left, streams_from}
-use Rattle.thread_laws.specs.Replaying.{logged_as, cell_in, same_cell, entries_in, history_of}
+use Rattle.thread_laws.specs.Replaying.{logged_as, cell_in, same_cell, entries_kept_in, history_of}
 use Rattle.thread_laws.specs.declared.gathered.CellHistory.{CellHistory}
 use Rattle.thread_laws.specs.declared.gathered.CellHistory.TheVariants as history
 use Rattle.thread_laws.proofs.Alike.{set_there, streams_long}
@@ -34,7 +34,7 @@ listed_entries [] fd = refl
 listed_entries (history.Fd n es ∷ hs) fd = by_number (n == fd) refl (listed_entries hs fd)
   where
     by_number : (t : Bool) → (n == fd) ≡ t → history_of hs (cell.Fd fd) ≡ logged_as (event.Fd fd) (stream_entries hs fd)
-        → entries_in (if t then Some (history.Fd n es) else find (λ h. same_cell (cell_in h) (cell.Fd fd)) hs) ≡ logged_as (event.Fd fd) (if t then es else stream_entries hs fd)
+        → entries_kept_in (if t then Some (history.Fd n es) else find (λ h. same_cell (cell_in h) (cell.Fd fd)) hs) ≡ logged_as (event.Fd fd) (if t then es else stream_entries hs fd)
     by_number true e others = ap (λ m. logged_as (event.Fd m) es) (eqb-true n fd e)
     by_number false e others = others
 listed_entries (history.Slots es ∷ hs) fd = listed_entries hs fd
@@ -55,7 +55,7 @@ kept_entries (history.Gate g es ∷ hs) fd = kept_entries hs fd
 
 -- ---- one stream among all cells
 
-replayed : (fd : ℕ) (c : Cells) (es : List (Entry StreamAsk StreamReply)) → fd < length c.streams → stream_in (replay_of c (logged_as (event.Fd fd) es)) fd ≡ stream_over (stream_in c fd) es
+replayed : (fd : ℕ) (c : Cells) (es : List (Entry StreamAsk StreamReply)) → fd < length c.streams → stream_in (cells_after_entries c (logged_as (event.Fd fd) es)) fd ≡ stream_over (stream_in c fd) es
 replayed fd c [] inside = refl
 replayed fd c (e ∷ es) inside =
     replayed fd (cells_after c (event.Fd fd e.ask e.reply)) es (subst (λ n. fd < n) (sym (streams_long c (event.Fd fd e.ask e.reply))) inside)
@@ -63,7 +63,7 @@ replayed fd c (e ∷ es) inside =
 
 left_over : (i : Image) (cells : List CellHistory) (fd : ℕ) → fd < length (opening_cells i).streams → stream_left i cells fd ≡ stream_over (stream_opening i fd) (stream_entries cells fd)
 left_over i cells fd inside =
-    ap (λ es. stream_in (replay_of (opening_cells i) es) fd) (listed_entries cells fd)
+    ap (λ es. stream_in (cells_after_entries (opening_cells i) es) fd) (listed_entries cells fd)
     ∙ (replayed fd (opening_cells i) (stream_entries cells fd) inside ∙ ap (λ s. stream_over s (stream_entries cells fd)) ((cells_open i).streams fd))
 
 -- ---- the kind and the bytes alone

@@ -22,8 +22,8 @@ abbrev pub indexed : ℕ → List LogEntry → List IndexedEntry
 indexed n [] = []
 indexed n (e ∷ es) = record { entry = e; index = n } ∷ indexed (n + 1) es
 
-abbrev pub entries_of : List IndexedEntry → List LogEntry
-entries_of xs = map (λ (x : IndexedEntry). x.entry) xs
+abbrev pub entries_without_index : List IndexedEntry → List LogEntry
+entries_without_index xs = map (λ (x : IndexedEntry). x.entry) xs
 
 abbrev pub indices_of : List IndexedEntry → List ℕ
 indices_of xs = map (λ (x : IndexedEntry). x.index) xs

@@ -2,7 +2,7 @@
 
 ghost use Rattle.std.specs.Prelude.{◌≡◌, IfErr, IfOk};
 ghost use Rattle.std.specs.Result.{MatchResult};
-ghost use Rattle.thread_laws.specs.Joining.{AreWalked, IsRun};
+ghost use Rattle.thread_laws.specs.Joining.{AreWalked, IsJournalOfRun};
 ghost use Rattle.thread_laws.specs.Joining as joining;
 ghost use Rattle.thread_laws.specs.LookUps.{AreCountsOf};
 ghost use Rattle.thread_laws.specs.Replaying.{Legal};
@@ -17,8 +17,9 @@ use crate::caches::counts_of;
 use crate::comparison::first_difference;
 use crate::fault::{AuditFault, Difference};
 use crate::merging::entries_in_order;
-use crate::moving::{Room, journal_moved, room_for};
+use crate::moving::{Room, room_for};
 use crate::outcome::outcome_gathered;
+use crate::run_journal::RunJournal;
 use crate::sorts::{
     JournalEntry, histories_by_cell, journal_references, kept_of_histories, logged_by_cell,
 };
@@ -27,12 +28,11 @@ use image_form::Image;
 use std::alloc::Global;
 use thread_laws::{ActorLog, CellHistory, Gathered};
 use wedge_base::{Items, NoMemory, Outcome};
-use wedge_events::Journal;
 
 /// The journal and the outcome of a run on threads.
 #[derive(Debug, Drop)]
 pub struct Audited {
-    pub journal: Journal,
+    pub journal: RunJournal,
     pub outcome: Outcome,
     /// The counts of the caches of its actors, in the order of their names.
     pub caches: Items<CacheLine>,
@@ -138,7 +138,7 @@ pub fn audit(alloc: Global, image: &Image, gathered: Gathered) -> Result<Audited
     ensures cell { IfErr result (λ r. IsAtCompared image.now r.fault) }
     ensures run { AreWalked image.now gathered.logs → Legal image.now gathered.cells
         → DeclaredAgree image.now gathered.logs gathered.cells
-        → IfOk result (λ a. IsRun image.now a.journal.entries a.outcome) }
+        → IfOk result (λ a. IsJournalOfRun image.now a.journal.entries a.outcome) }
     ensures caches { AreWalked image.now gathered.logs
         → IfOk result (λ a. AreCountsOf a.journal.entries a.outcome.actors a.caches) }
 {
@@ -151,7 +151,7 @@ pub fn audit(alloc: Global, image: &Image, gathered: Gathered) -> Result<Audited
             } = compared;
             let Gathered { logs, .. } = gathered;
             Ok(Audited {
-                journal: journal_moved(logs, room),
+                journal: RunJournal::of_logs(alloc, logs, room),
                 outcome,
                 caches,
             })

@@ -1,6 +1,6 @@
 //! The journal, made of the entries of the logs themselves.
 
-ghost use Rattle.std.specs.Prelude.{◌≡◌, ◌+◌, ◌≤◌, ◌++◌, length, map, slice_index_or, slice_set};
+ghost use Rattle.std.specs.Prelude.{◌≡◌, ◌+◌, ◌≤◌, ◌++◌, [], length, map, slice_index_or, slice_set};
 ghost use Rattle.std.specs.Prelude.{Some, None, IfOk, vec_len, vec_capacity};
 ghost use Rattle.thread_laws.specs.Joining.{all_logged, journal_of};
 ghost use Rattle.run_audit.specs.IndexedEntries.{indices_of, indexed_journal, taken_by};
@@ -14,11 +14,31 @@ use wedge_events::{Journal, LogEntry};
 
 /// The order of a journal, as indices of its entries among those of all logs, log by log, and the
 /// memory that it takes to move them.
-#[derive(Drop)]
+#[derive(Debug, Drop)]
 pub(crate) struct Room {
     order: Vec<usize>,
     slots: Vec<Option<LogEntry>>,
     entries: Vec<LogEntry>,
+}
+
+impl Room {
+    /// Returns the number of entries that there is room for.
+    pub fn len(&self) -> usize
+        ensures { result ≡ length self.now.order.items }
+    {
+        self.order.len()
+    }
+}
+
+/// Returns the room for no entry. It takes no memory.
+pub(crate) fn no_room(alloc: Global) -> Room
+    ensures { IsRoomFor [] result }
+{
+    Room {
+        order: Vec::new(alloc),
+        slots: Vec::new(alloc),
+        entries: Vec::new(alloc),
+    }
 }
 
 /// Returns the indices of entries.

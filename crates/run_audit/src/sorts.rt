@@ -5,7 +5,7 @@ ghost use Rattle.std.specs.List.Sorted.{IsSortedBy, IsStableBy};
 ghost use Rattle.std.specs.Option.{option_copied};
 ghost use Rattle.run_audit.specs.CellOrder.{by_cell};
 ghost use Rattle.run_audit.specs.ComparedCells.{compared_entries, compared_histories};
-ghost use Rattle.run_audit.specs.IndexedEntries.{entries_of};
+ghost use Rattle.run_audit.specs.IndexedEntries.{entries_without_index};
 ghost use Rattle.run_audit.specs.KeptEntries.{entries_kept, history_first, kept_as, new_after};
 
 use crate::declared_slots::{is_of_declared, is_on_declared};
@@ -109,7 +109,7 @@ pub(crate) fn journal_references<'a>(
     alloc: Global,
     sorted: &[ByStamp<'a>],
 ) -> Result<Vec<JournalEntry<'a>>, NoMemory>
-    ensures { IfOk result (λ v. v.items ≡ entries_of sorted.now) }
+    ensures { IfOk result (λ v. v.items ≡ entries_without_index sorted.now) }
 {
     let mut all = Vec::with_capacity(alloc, sorted.len())?;
     for item in sorted {

@@ -18,7 +18,7 @@ use Rattle.ruled_cell.specs.declared.passes.PassView.{PassView}
 use Rattle.ruled_cell.specs.Passes.{IsVisit, IsClosing, first_view, after_splitting, after_joining, IsSplitPass}
 use Rattle.ruled_cell.specs.declared.passes.PassOrigin.TheVariants.{First, SplitFrom}
 use Rattle.atomic_table.specs.Seated.{TableId}
-use Rattle.thread_laws.specs.Replaying.{logged_as, logged, entries_in, cell_in, same_cell, history_of}
+use Rattle.thread_laws.specs.Replaying.{logged_as, logged, entries_kept_in, cell_in, same_cell, history_of}
 use Rattle.thread_laws.specs.Histories.{entries_on}
 use Rattle.thread_laws.specs.declared.gathered.CellHistory.{CellHistory}
 use Rattle.thread_laws.specs.declared.gathered.CellHistory.TheVariants as history
@@ -132,7 +132,7 @@ found_slot n (j ∷ ks) others (suc c) m k at is =
 pub closed_ruled : (count : ℕ) (entered : List LogEntry) (ks : List SlotCell) (others all : List CellHistory) → AreClosed count entered ks → all ≡ slot_histories 0 ks ++ others → AreRuled count entered all
 closed_ruled count entered ks others all h is = λ slot inside.
     let r = h.ruled slot inside in
-    let there : history_of all (cell.Slot slot) ≡ logged_as (event.Slot slot) r.state.history = ap (λ hs. history_of hs (cell.Slot slot)) is ∙ ap entries_in (found_slot 0 ks others slot slot r.state r.there (omega arith)) in
+    let there : history_of all (cell.Slot slot) ≡ logged_as (event.Slot slot) r.state.history = ap (λ hs. history_of hs (cell.Slot slot)) is ∙ ap entries_kept_in (found_slot 0 ks others slot slot r.state r.there (omega arith)) in
     subst (λ es. IsPermutation es (entries_on (cell.Slot slot) entered)) (sym there) r.entries_
 
 -- ---- the first pass, and those that are split from it

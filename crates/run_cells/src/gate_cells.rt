@@ -2,7 +2,7 @@
 
 ghost use Rattle.std.specs.Prelude.{◌≡◌, ◌<◌, ◌+◌, ◌++◌, All, IfOk, IfSome, OnOk, OnErr, [], length, map, is_some};
 ghost use Rattle.std.specs.Arc.{arc_value};
-ghost use Rattle.thread_laws.specs.Replaying.{IsKept};
+ghost use Rattle.thread_laws.specs.Replaying.{IsLegalHistory};
 ghost use Rattle.run_cells.specs.RecycledGates.{with_recycled, has_cell, HasCells};
 
 use crate::locked_cell::LockedCell;
@@ -145,10 +145,10 @@ impl<I: RunOf> GateCells<I> {
 
     /// Consumes those of an actor that has ended, and adds the histories of its own gates to others. All actors
     /// that knew these gates have ended, so that nobody else has their cells; were there one that somebody has,
-    /// its history would be left out.
+    /// its history would be left out. Out of memory, those behind one that could not be added are lost.
     pub fn into_histories(self, histories: &mut Vec<CellHistory>) -> Result<(), NoMemory>
-        requires { All (IsKept I.image) histories.old.items }
-        ensures { OnOk result (All (IsKept I.image) histories.new.items) }
+        requires { All (IsLegalHistory I.image) histories.old.items }
+        ensures { All (IsLegalHistory I.image) histories.new.items }
     {
         let GateCells {
             inherited,
@@ -191,7 +191,7 @@ impl<I: RunOf> GateCell<I> {
 
     /// Consumes it, and returns the history as the cell kept it, unless somebody else has the cell.
     fn into_history(self) -> Option<CellHistory>
-        ensures { IfSome result (IsKept I.image) }
+        ensures { IfSome result (IsLegalHistory I.image) }
     {
         let GateCell { cell, .. } = self;
         let locked = Arc::into_inner(cell)?;

@@ -7,7 +7,7 @@ ghost use Rattle.wedge_events.specs.declared.events.Event.TheVariants as event;
 ghost use Rattle.wedge_events.specs.declared.events.Want.{Want as AWant};
 ghost use Rattle.machine.specs.Between.{WantFits};
 ghost use Rattle.machine.specs.Take.{current_want};
-ghost use Rattle.run_cells.specs.Entries.{IsPlainEntry, IsCreatingEntry};
+ghost use Rattle.run_cells.specs.Entries.{IsPlainEntry, IsCreatingEntry, IsKeptInGate};
 
 use crate::enter::pass_of;
 use crate::entries::gate_entry;
@@ -35,6 +35,8 @@ pub fn enter_gate<I: RunOf>(
         (AWant.Gate gate (gate_ask.Enter child memory)) }
     requires free { locked.old.state.entered ≡ false }
     ensures entry { IfOk result (IsCreatingEntry I.image run.now.progress) }
+    ensures kept { IfOk result
+        (IsKeptInGate gate (gate_ask.Enter child memory) locked.old locked.new) }
     ensures entered { OnOk result (locked.new.state.entered ≡ true) }
 {
     run.affords_gate();
@@ -60,6 +62,8 @@ pub fn leave_gate<I: RunOf>(
     ensures entry { IfOk result (IsPlainEntry I.image run.now.progress) }
     ensures event { IfOk result (λ e. e.event
         ≡ event.Gate gate (gate_ask.Leave end memory) gate_reply.Left) }
+    ensures kept { IfOk result
+        (IsKeptInGate gate (gate_ask.Leave end memory) locked.old locked.new) }
     ensures free { OnOk result (locked.new.state.entered ≡ false) }
 {
     let mut pass = pass_of(run);

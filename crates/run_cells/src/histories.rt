@@ -3,7 +3,7 @@
 ghost use Rattle.std.specs.Prelude.{◌≡◌, ◌<◌, ◌≤◌, ◌++◌, ◌∷◌, [], All, IfOk, OnOk, length};
 ghost use Rattle.wedge_base.specs.Images.{slots as most_slots};
 ghost use Rattle.wedge_events.specs.declared.events.CellName.TheVariants.{Slot as SlotName};
-ghost use Rattle.thread_laws.specs.Replaying.{AreKept, IsKept};
+ghost use Rattle.thread_laws.specs.Replaying.{AreLegalHistories, IsLegalHistory};
 ghost use Rattle.thread_laws.specs.declared.gathered.CellHistory.TheVariants as AHistory;
 ghost use Rattle.tag_laws.specs.DeclaredTags.{AreRuled};
 ghost use Rattle.run_cells.specs.TagPasses.{all_entered, AreNamedFrom, slot_histories};
@@ -32,8 +32,8 @@ impl<I: RunOf, T: TableOf> RunCells<I, T> {
         gates: Vec<CellHistory>,
         passes: Vec<TagPass<I, T>>,
     ) -> Result<Items<CellHistory>, NoMemory>
-        requires { All (IsKept I.image) gates.items }
-        ensures kept { IfOk result (AreKept I.image) }
+        requires { All (IsLegalHistory I.image) gates.items }
+        ensures kept { IfOk result (AreLegalHistories I.image) }
         ensures ruled { IfOk result (AreRuled T.table.slots (all_entered passes.items)) }
     {
         let RunCells {
@@ -65,7 +65,7 @@ fn tag_histories<I: RunOf>(
     requires few { length cells.items ≤ most_slots }
     requires named { AreNamedFrom 0 cells.items }
     ensures histories { IfOk result (λ v. v.items ≡ slot_histories 0 cells.items) }
-    ensures kept { IfOk result (λ v. All (IsKept I.image) v.items) }
+    ensures kept { IfOk result (λ v. All (IsLegalHistory I.image) v.items) }
 {
     let mut all = Vec::with_capacity(alloc, cells.len())?;
     for cell in cells {
@@ -81,10 +81,10 @@ fn add_tag<I: RunOf>(
 ) -> Result<(), NoMemory>
     requires inside { length all.old.items < most_slots }
     requires named { cell.name ≡ SlotName (length all.old.items) }
-    requires kept { All (IsKept I.image) all.old.items }
+    requires kept { All (IsLegalHistory I.image) all.old.items }
     ensures history { OnOk result (all.new.items ≡ all.old.items
         ++ AHistory.Slot (length all.old.items) cell.history ∷ []) }
-    ensures kept { OnOk result (All (IsKept I.image) all.new.items) }
+    ensures kept { OnOk result (All (IsLegalHistory I.image) all.new.items) }
 {
     let slot = Slot(all.len() as u32);
     let JournalParts { history, .. } = cell.into_parts();
@@ -100,8 +100,8 @@ fn add_slot_directory<I: RunOf>(
     cells: &mut Vec<CellHistory>,
     cell: Mutex<LockedCell<SlotDirectory, I>>,
 ) -> Result<(), NoMemory>
-    requires { All (IsKept I.image) cells.old.items }
-    ensures { OnOk result (All (IsKept I.image) cells.new.items) }
+    requires { All (IsLegalHistory I.image) cells.old.items }
+    ensures { OnOk result (All (IsLegalHistory I.image) cells.new.items) }
 {
     let JournalParts { history, .. } = cell.into_inner().into_parts();
     if history.is_empty() {
@@ -118,8 +118,8 @@ fn add_slots<I: RunOf>(
     cells: &mut Vec<CellHistory>,
     slots: Vec<Mutex<LockedCell<SlotState, I>>>,
 ) -> Result<(), NoMemory>
-    requires { All (IsKept I.image) cells.old.items }
-    ensures { OnOk result (All (IsKept I.image) cells.new.items) }
+    requires { All (IsLegalHistory I.image) cells.old.items }
+    ensures { OnOk result (All (IsLegalHistory I.image) cells.new.items) }
 {
     for cell in slots {
         add_slot(cells, cell)?;
@@ -132,8 +132,8 @@ fn add_slot<I: RunOf>(
     cells: &mut Vec<CellHistory>,
     cell: Mutex<LockedCell<SlotState, I>>,
 ) -> Result<(), NoMemory>
-    requires { All (IsKept I.image) cells.old.items }
-    ensures { OnOk result (All (IsKept I.image) cells.new.items) }
+    requires { All (IsLegalHistory I.image) cells.old.items }
+    ensures { OnOk result (All (IsLegalHistory I.image) cells.new.items) }
 {
     let JournalParts { name, history } = cell.into_inner().into_parts();
     if history.is_empty() {
@@ -154,8 +154,8 @@ fn add_fd_directory<I: RunOf>(
     cells: &mut Vec<CellHistory>,
     cell: Mutex<LockedCell<FdDirectory, I>>,
 ) -> Result<(), NoMemory>
-    requires { All (IsKept I.image) cells.old.items }
-    ensures { OnOk result (All (IsKept I.image) cells.new.items) }
+    requires { All (IsLegalHistory I.image) cells.old.items }
+    ensures { OnOk result (All (IsLegalHistory I.image) cells.new.items) }
 {
     let JournalParts { history, .. } = cell.into_inner().into_parts();
     if history.is_empty() {
@@ -172,8 +172,8 @@ fn add_streams<I: RunOf>(
     cells: &mut Vec<CellHistory>,
     streams: Vec<Mutex<LockedCell<Stream, I>>>,
 ) -> Result<(), NoMemory>
-    requires { All (IsKept I.image) cells.old.items }
-    ensures { OnOk result (All (IsKept I.image) cells.new.items) }
+    requires { All (IsLegalHistory I.image) cells.old.items }
+    ensures { OnOk result (All (IsLegalHistory I.image) cells.new.items) }
 {
     for cell in streams {
         add_stream(cells, cell)?;
@@ -186,8 +186,8 @@ fn add_stream<I: RunOf>(
     cells: &mut Vec<CellHistory>,
     cell: Mutex<LockedCell<Stream, I>>,
 ) -> Result<(), NoMemory>
-    requires { All (IsKept I.image) cells.old.items }
-    ensures { OnOk result (All (IsKept I.image) cells.new.items) }
+    requires { All (IsLegalHistory I.image) cells.old.items }
+    ensures { OnOk result (All (IsLegalHistory I.image) cells.new.items) }
 {
     let JournalParts { name, history } = cell.into_inner().into_parts();
     if history.is_empty() {
@@ -208,8 +208,8 @@ fn add_lives<I: RunOf>(
     cells: &mut Vec<CellHistory>,
     cell: Mutex<LockedCell<Lives, I>>,
 ) -> Result<(), NoMemory>
-    requires { All (IsKept I.image) cells.old.items }
-    ensures { OnOk result (All (IsKept I.image) cells.new.items) }
+    requires { All (IsLegalHistory I.image) cells.old.items }
+    ensures { OnOk result (All (IsLegalHistory I.image) cells.new.items) }
 {
     let JournalParts { history, .. } = cell.into_inner().into_parts();
     if history.is_empty() {

@@ -1,6 +1,6 @@
 //! What the lock of a cell protects.
 
-ghost use Rattle.std.specs.Prelude.{◌≡◌, ◌+◌, [], IfOk, IsErr, OnErr};
+ghost use Rattle.std.specs.Prelude.{◌≡◌, ◌+◌, ◌++◌, ◌∷◌, [], IfOk, IsErr, OnErr};
 ghost use Rattle.journal_cell.specs.Histories.{entry_at, cell_after, pass_after, IsHistory, highest_stamp, greater};
 
 use fd_table::Stream;
@@ -98,7 +98,7 @@ impl<O: Object + Named, I: RunOf> LockedCell<O, I> {
     }
 
     /// Asks the object, adds the entry that comes of it to the history, and returns an equal one: as
-    /// `Journaled::enter` does, with the same errors.
+    /// `Journaled::enter` does, with the same errors. The history, under a name of its kind, is legal with it.
     #[inline(always)]
     pub fn enter(
         &mut self,
@@ -112,8 +112,14 @@ impl<O: Object + Named, I: RunOf> LockedCell<O, I> {
         ensures room { greater self.old.clock pass.old.clock ≡ highest_stamp → IsErr result }
         ensures err { OnErr result (self.new ≡ self.old) }
         ensures err_pass { OnErr result (pass.new ≡ pass.old) }
+        ensures named { O.named self.old.name }
+        ensures legal { IfOk result (λ e. IsHistory (O.fits I.image) O.reply O.next
+            (O.opening I.image self.old.name) 0 (self.old.history ++ e ∷ [])) }
     {
-        self.journal.enter(pass, ask)
+        let entry = self.journal.enter(pass, ask)?;
+        // The state is read here, so that the history, which has the entry, is known to be legal.
+        let _ = self.journal.state();
+        Ok(entry)
     }
 
     /// Consumes the cell, and returns its name and its history. It takes no memory.

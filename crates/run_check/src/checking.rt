@@ -14,7 +14,14 @@ use std::time::Clock;
 use thread_laws::Gathered;
 use wedge_base::{ActorName, End, NoMemory, Outcome};
 use wedge_core::{ReplayFault, outcome, replay};
-use wedge_events::LogEntry;
+use wedge_events::{Journal, LogEntry};
+
+/// The journal and the outcome of a run on threads that is audited and replayed.
+#[derive(Drop)]
+pub struct CheckedRun {
+    pub journal: Journal,
+    pub outcome: Outcome,
+}
 
 /// Returns the image of a program that begins with so much fuel, and of the tables beside it.
 pub fn image_of(alloc: Global, fuel: u32, text: &str, tables: &str) -> Result<Image, Fail> {
@@ -72,21 +79,30 @@ fn ending_of(alloc: Global, image: &Image, names: &[ActorName]) -> Result<Ending
 }
 
 /// Whether what was audited is a run: the names of its journal replay in the core, to its outcome, by its turns.
-fn is_a_run(alloc: Global, image: &Image, audited: &Audited) -> Result<bool, Fail> {
-    let entries = audited.journal.entries.as_slice();
+fn is_a_run(alloc: Global, image: &Image, run: &CheckedRun) -> Result<bool, Fail> {
+    let entries = run.journal.entries.as_slice();
     let names = names_of(alloc, entries)?;
     let replayed = ending_of(alloc, image, names.as_slice())?;
-    let is_same = is_same_outcome(alloc, &replayed.outcome, &audited.outcome)?;
+    let is_same = is_same_outcome(alloc, &replayed.outcome, &run.outcome)?;
     Ok(is_same && are_same_turns(entries, replayed.entries.as_slice()))
 }
 
 /// Audits what was gathered of a run, and checks that it is one.
-fn checked(alloc: Global, image: &Image, gathered: Gathered) -> Result<Audited, Fail> {
+fn checked(alloc: Global, image: &Image, gathered: Gathered) -> Result<CheckedRun, Fail> {
     let Ok(audited) = audit(alloc, image, gathered) else {
         return Err("no audit".into());
     };
-    if is_a_run(alloc, image, &audited)? {
-        Ok(audited)
+    let Audited {
+        journal,
+        outcome,
+        ..
+    } = audited;
+    let run = CheckedRun {
+        journal: journal.into_journal(),
+        outcome,
+    };
+    if is_a_run(alloc, image, &run)? {
+        Ok(run)
     } else {
         Err("no run".into())
     }
@@ -99,7 +115,7 @@ pub fn run_at_once<R: Threads + Wait + Clock + Sync>(
     alloc: Global,
     image: &Image,
     wanted: u32,
-) -> Result<Audited, Fail> {
+) -> Result<CheckedRun, Fail> {
     let meeting = Meeting::new(rt, wanted);
     let gathered = run_image(rt, alloc, image, &meeting)?;
     if meeting.took_place() {
@@ -110,14 +126,14 @@ pub fn run_at_once<R: Threads + Wait + Clock + Sync>(
 }
 
 /// Returns how many actors ended so.
-pub fn ended(audited: &Audited, end: End) -> usize {
-    let lines = audited.outcome.actors.as_slice();
+pub fn ended(run: &CheckedRun, end: End) -> usize {
+    let lines = run.outcome.actors.as_slice();
     lines.iter().filter(|line| line.end == end).count()
 }
 
 /// Returns the value with which the root exited.
-pub fn exit_of_root(audited: &Audited) -> Option<u32> {
-    let root = audited.outcome.actors.as_slice().first()?;
+pub fn exit_of_root(run: &CheckedRun) -> Option<u32> {
+    let root = run.outcome.actors.as_slice().first()?;
     match root.end {
         End::Exited(value) => Some(value),
         _ => None,
@@ -125,6 +141,6 @@ pub fn exit_of_root(audited: &Audited) -> Option<u32> {
 }
 
 /// Returns how many entries the journal has.
-pub fn length(audited: &Audited) -> usize {
-    audited.journal.entries.as_slice().len()
+pub fn length(run: &CheckedRun) -> usize {
+    run.journal.entries.as_slice().len()
 }

@@ -3,4 +3,4 @@
 
 mod checking;
 
-pub use checking::{ended, exit_of_root, image_of, length, run_at_once};
+pub use checking::{CheckedRun, ended, exit_of_root, image_of, length, run_at_once};

@@ -45,42 +45,42 @@ use Rattle.run_laws.proofs.Preparing.{was_preparing}
 use Rattle.run_laws.proofs.Settling.{AllReady, turn_happens, turned_there}
 use Rattle.run_laws.proofs.Trees.{IsPut, IsDoer, IsOther, find_put, found_or_last}
 use Rattle.run_laws.proofs.Turns.{Readies, Stays, Back, readies, ready_name, Turned}
-use Rattle.run_log.specs.NamedNotes.{Begins}
+use Rattle.run_log.specs.NamedNotes.{BeginsAt}
 use Rattle.run_log.proofs.Kept.{takes_compartment, rest_compartment}
 use Rattle.run_log.proofs.Suiting.{Suits, request_suits, asked_suits}
 
 -- ---- the gates that an actor knows, and the one that it makes
 
 abbrev pub AreEntries : Image → List Gate → Type 0
-AreEntries i gs = AllByRecursion (λ (g : Gate). Begins i g.entry) gs
+AreEntries i gs = AllByRecursion (λ (g : Gate). BeginsAt i g.entry) gs
 
 record GatesBegin (i : Image) (a : ActorState) : Type 0 where
-  making : (p : Preparation) → a.phase ≡ phase.MakingGate p → Begins i (a1 a)
+  making : (p : Preparation) → a.phase ≡ phase.MakingGate p → BeginsAt i (a1 a)
   gates : AreEntries i a.gates
 
 keeps_entries : (i : Image) (a b : ActorState) → KeepsGates a b → AreEntries i a.gates → GatesBegin i b
 keeps_entries i a b k all = record { making = λ p is. absurd (subst NotMaking is k.calm); gates = subst (AreEntries i) (sym k.known) all }
 
-one_more : (i : Image) (gs : List Gate) (g : Gate) → AreEntries i gs → Begins i g.entry → AreEntries i (gs ++ g ∷ [])
+one_more : (i : Image) (gs : List Gate) (g : Gate) → AreEntries i gs → BeginsAt i g.entry → AreEntries i (gs ++ g ∷ [])
 one_more i [] g all own = (own, tt)
 one_more i (x ∷ xs) g all own = (all.0, one_more i xs g all.1 own)
 
-makes_entries : (i : Image) (a b : ActorState) (d : Draft) (p : Preparation) (gs : List CopyGrant) → Begins i (a1 a) → AreEntries i a.gates → MakesWith a d p gs b → GatesBegin i b
+makes_entries : (i : Image) (a b : ActorState) (d : Draft) (p : Preparation) (gs : List CopyGrant) → BeginsAt i (a1 a) → AreEntries i a.gates → MakesWith a d p gs b → GatesBegin i b
 makes_entries i a b d p [] h all (g, of, memory, is) = record {
   making = λ q at. absurd (subst NotMaking (sym (ap (λ (x : ActorState). x.phase) is) ∙ at) tt);
-  gates = subst (AreEntries i) (sym (ap (λ (x : ActorState). x.gates) is)) (one_more i a.gates g all (subst (Begins i) (sym of.entry) h));
+  gates = subst (AreEntries i) (sym (ap (λ (x : ActorState). x.gates) is)) (one_more i a.gates g all (subst (BeginsAt i) (sym of.entry) h));
 }
 makes_entries i a b d p (x ∷ xs) h all is = record {
-  making = λ q at. subst (λ (y : ActorState). Begins i (a1 y)) (sym is) h;
+  making = λ q at. subst (λ (y : ActorState). BeginsAt i (a1 y)) (sym is) h;
   gates = subst (AreEntries i) (sym (ap (λ (y : ActorState). y.gates) is)) all;
 }
 
-gate_begins : (i : Image) (a b : ActorState) (d : Draft) (m : PrivateMemory) (gs : List CopyGrant) → Begins i (a1 a) → AreEntries i a.gates → PreparesGate a d m gs b → GatesBegin i b
+gate_begins : (i : Image) (a b : ActorState) (d : Draft) (m : PrivateMemory) (gs : List CopyGrant) → BeginsAt i (a1 a) → AreEntries i a.gates → PreparesGate a d m gs b → GatesBegin i b
 gate_begins i a b d m gs h all p = makes_entries i a b d p.preparation p.preparation.left h all p.after
 
 -- ---- an instruction
 
-begins_gate : (i : Image) (a b : ActorState) (d : Draft) (o : Option Denial) → Begins i (a1 a) → AreEntries i a.gates → BeginsUnless i a d o b → GatesBegin i b
+begins_gate : (i : Image) (a b : ActorState) (d : Draft) (o : Option Denial) → BeginsAt i (a1 a) → AreEntries i a.gates → BeginsUnless i a d o b → GatesBegin i b
 begins_gate i a b d None h all k = gate_begins i a b d (memory_of_image i) _ h all k
 begins_gate i a b d (Some x) h all k = keeps_entries i a b k all
 
@@ -119,7 +119,7 @@ rest_gates i a h = run_entries i (a.fuel + 1) a _ refl h
 
 -- ---- an event: a copy is made for the gate, or its gates stay
 
-snap_entries : (w : WorldState) (a b : ActorState) (p : Preparation) (gs : List CopyGrant) (e : Event) → Begins w.image (a1 a) → AreEntries w.image a.gates → SnapsForGate w a p gs e b → GatesBegin w.image b
+snap_entries : (w : WorldState) (a b : ActorState) (p : Preparation) (gs : List CopyGrant) (e : Event) → BeginsAt w.image (a1 a) → AreEntries w.image a.gates → SnapsForGate w a p gs e b → GatesBegin w.image b
 snap_entries w a b p [] e own all h = keeps_entries w.image a b h all
 snap_entries w a b p (g ∷ gs) e own all h = gate_begins w.image a b _ (copied_from (option_map bytes_listed (pages_living (slot_in w.cells g.slot) g.tag)) g.slot p.memory) gs own all h.1
 
@@ -145,24 +145,24 @@ event_gates w b e happens h = by_phase b.phase refl (event_makes_gates w b e hap
 -- ---- an actor, and the child that it is about to start
 
 pub record HasEntries (i : Image) (a : ActorState) : Type 0 where
-  pub own : Begins i a.compartment
-  pub starting : (p : Preparation) → a.phase ≡ phase.Starting p → Begins i (a1 a)
-  pub making : (p : Preparation) → a.phase ≡ phase.MakingGate p → Begins i (a1 a)
+  pub own : BeginsAt i a.compartment
+  pub starting : (p : Preparation) → a.phase ≡ phase.Starting p → BeginsAt i (a1 a)
+  pub making : (p : Preparation) → a.phase ≡ phase.MakingGate p → BeginsAt i (a1 a)
   pub gates : AreEntries i a.gates
 
-starting_at_rest : (i : Image) (a : ActorState) (t : Bool) → is_running a.phase ≡ t → HasEntries i a → (p : Preparation) → (rest i a).phase ≡ phase.Starting p → Begins i (a1 (rest i a))
+starting_at_rest : (i : Image) (a : ActorState) (t : Bool) → is_running a.phase ≡ t → HasEntries i a → (p : Preparation) → (rest i a).phase ≡ phase.Starting p → BeginsAt i (a1 (rest i a))
 starting_at_rest i a true e h p is = absurd (subst IsCalm is (rests i a e).calm)
 starting_at_rest i a false e h p is =
     let same_one = rest-stays i a e in
-    subst (λ (x : ActorState). Begins i (a1 x)) (sym same_one) (h.starting p (sym (ap (λ (x : ActorState). x.phase) same_one) ∙ is))
+    subst (λ (x : ActorState). BeginsAt i (a1 x)) (sym same_one) (h.starting p (sym (ap (λ (x : ActorState). x.phase) same_one) ∙ is))
 
 pub rest_entries : (i : Image) (a : ActorState) → HasEntries i a → HasEntries i (rest i a)
 rest_entries i a h =
     let g = rest_gates i a (record { making = h.making; gates = h.gates }) in
-    record { own = subst (Begins i) (sym (rest_compartment i a)) h.own; starting = starting_at_rest i a _ refl h; making = g.making; gates = g.gates }
+    record { own = subst (BeginsAt i) (sym (rest_compartment i a)) h.own; starting = starting_at_rest i a _ refl h; making = g.making; gates = g.gates }
 
 -- a life is claimed by a call that names a procedure
-claims_at : (i : Image) (c : Cells) (b : ActorState) (N : ℕ → Type 0) (rd : ℕ) (s : Bool) (q : Want) → IsRequest N b q → request_at i c b ≡ request_for c b rd s q → event_for c b q ≡ event.Lives lives_ask.Claim lives_reply.Claimed → Begins i (a1 b)
+claims_at : (i : Image) (c : Cells) (b : ActorState) (N : ℕ → Type 0) (rd : ℕ) (s : Bool) (q : Want) → IsRequest N b q → request_at i c b ≡ request_for c b rd s q → event_for c b q ≡ event.Lives lives_ask.Claim lives_reply.Claimed → BeginsAt i (a1 b)
 claims_at i c b N rd s (want.Lives lives_ask.Claim) own asked is = asked_suits i c b (Creates own.draft) (asked ∙ ap (option_map (λ d. Creates d)) own.drafted)
 claims_at i c b N rd s (want.Lives (lives_ask.Release x)) own asked is = absurd own
 claims_at i c b N rd s (want.Slots q) own asked is = absurd cc
@@ -170,7 +170,7 @@ claims_at i c b N rd s (want.Slot slot q) own asked is = absurd cc
 claims_at i c b N rd s (want.Fd fd q) own asked is = absurd cc
 claims_at i c b N rd s q own asked is = absurd own
 
-claimed_begins : (w : WorldState) (b : ActorState) (e : Event) → Happens w b e → e ≡ event.Lives lives_ask.Claim lives_reply.Claimed → Begins w.image (a1 b)
+claimed_begins : (w : WorldState) (b : ActorState) (e : Event) → Happens w b e → e ≡ event.Lives lives_ask.Claim lives_reply.Claimed → BeginsAt w.image (a1 b)
 claimed_begins w b e (Requested r) is = claims_at w.image w.cells b _ r.rd r.is_signed r.want r.own (r.asked w.cells) (sym r.is ∙ is)
 claimed_begins w b e (Joined j) is = let f = sym j.join.is ∙ is in absurd cc
 claimed_begins w b e (Snaps s) is = let f = sym s.is ∙ is in absurd cc
@@ -191,21 +191,21 @@ claim_keeps : (i : Image) (b : ActorState) → a1 (takes i b (event.Lives lives_
 unfolding takes
 claim_keeps i b = refl
 
-snapped_begins : (i : Image) (b : ActorState) (old : Preparation) (slot : ℕ) (o : Option (List ℕ)) → b.phase ≡ phase.Starting old → Begins i (a1 b) → Begins i (a1 (has_snapped b b.phase slot o))
-snapped_begins i b old slot o at h = subst (λ ph. Begins i (a1 (has_snapped b ph slot o))) (sym at) h
+snapped_begins : (i : Image) (b : ActorState) (old : Preparation) (slot : ℕ) (o : Option (List ℕ)) → b.phase ≡ phase.Starting old → BeginsAt i (a1 b) → BeginsAt i (a1 (has_snapped b b.phase slot o))
+snapped_begins i b old slot o at h = subst (λ ph. BeginsAt i (a1 (has_snapped b ph slot o))) (sym at) h
 
-snap_begins : (i : Image) (b : ActorState) (old : Preparation) (slot tag : ℕ) (g : Option Segment) → b.phase ≡ phase.Starting old → Begins i (a1 b) → Begins i (a1 (takes i b (event.Slot slot (slot_ask.Snap tag) (slot_reply_of g (slot_ask.Snap tag)))))
+snap_begins : (i : Image) (b : ActorState) (old : Preparation) (slot tag : ℕ) (g : Option Segment) → b.phase ≡ phase.Starting old → BeginsAt i (a1 b) → BeginsAt i (a1 (takes i b (event.Slot slot (slot_ask.Snap tag) (slot_reply_of g (slot_ask.Snap tag)))))
 unfolding takes
 snap_begins i b old slot tag g at h =
-    snap_cases (λ r. Begins i (a1 (takes i b (event.Slot slot (slot_ask.Snap tag) r)))) g tag (λ pages. snapped_begins i b old slot (Some (bytes_listed pages)) at h) (snapped_begins i b old slot None at h)
+    snap_cases (λ r. BeginsAt i (a1 (takes i b (event.Slot slot (slot_ask.Snap tag) r)))) g tag (λ pages. snapped_begins i b old slot (Some (bytes_listed pages)) at h) (snapped_begins i b old slot None at h)
 
 started_calm : (i : Image) (b : ActorState) (name : List ℕ) (p : Preparation) → (takes i b (event.Start name)).phase ≡ phase.Starting p → ⊥
 unfolding takes
 started_calm i b name p is = cc
 
-prepares_on : (w : WorldState) (b : ActorState) (e : Event) → Happens w b e → HasEntries w.image b → (p : Preparation) → (takes w.image b e).phase ≡ phase.Starting p → IsPreparing b.phase → Begins w.image (a1 (takes w.image b e))
+prepares_on : (w : WorldState) (b : ActorState) (e : Event) → Happens w b e → HasEntries w.image b → (p : Preparation) → (takes w.image b e).phase ≡ phase.Starting p → IsPreparing b.phase → BeginsAt w.image (a1 (takes w.image b e))
 prepares_on w b e (Snaps s) h p is k =
-    subst (λ y. Begins w.image (a1 (takes w.image b y))) (sym s.is) (snap_begins w.image b s.preparation s.grant.slot s.grant.tag (slot_in w.cells s.grant.slot) s.at (h.starting s.preparation s.at))
+    subst (λ y. BeginsAt w.image (a1 (takes w.image b y))) (sym s.is) (snap_begins w.image b s.preparation s.grant.slot s.grant.tag (slot_in w.cells s.grant.slot) s.at (h.starting s.preparation s.at))
 prepares_on w b e (Started s) h p is k = absurd (started_calm w.image b (child_name b.name (next_start b)) p (ap (λ y. (takes w.image b y).phase) (sym s.is) ∙ is))
 prepares_on w b e (Requested r) h p is k = absurd (subst IsPreparing r.at k)
 prepares_on w b e (Joined j) h p is k = absurd (subst IsPreparing j.at k)
@@ -221,16 +221,16 @@ prepares_on w b e (EntersRecycled x) h p is k = absurd (subst IsPreparing x.at k
 prepares_on w b e (LeavesGate l) h p is k = absurd (subst IsPreparing l.at k)
 prepares_on w b e (LeavesRecycled l) h p is k = absurd (subst IsPreparing l.at k)
 
-starting_after : (w : WorldState) (b : ActorState) (e : Event) → Happens w b e → HasEntries w.image b → (p : Preparation) → (takes w.image b e).phase ≡ phase.Starting p → Begins w.image (a1 (takes w.image b e))
+starting_after : (w : WorldState) (b : ActorState) (e : Event) → Happens w b e → HasEntries w.image b → (p : Preparation) → (takes w.image b e).phase ≡ phase.Starting p → BeginsAt w.image (a1 (takes w.image b e))
 starting_after w b e happens h p is = elim (was_preparing w.image b e (subst IsPreparing (sym is) tt)) [
-  | inl claimed ↦ subst (λ y. Begins w.image (a1 (takes w.image b y))) (sym claimed) (subst (Begins w.image) (sym (claim_keeps w.image b)) (claimed_begins w b e happens claimed))
+  | inl claimed ↦ subst (λ y. BeginsAt w.image (a1 (takes w.image b y))) (sym claimed) (subst (BeginsAt w.image) (sym (claim_keeps w.image b)) (claimed_begins w b e happens claimed))
   | inr before ↦ prepares_on w b e happens h p is before
 ]
 
 pub event_entries : (w : WorldState) (b : ActorState) (e : Event) → Happens w b e → HasEntries w.image b → HasEntries w.image (takes w.image b e)
 event_entries w b e happens h =
     let g = event_gates w b e happens (record { making = h.making; gates = h.gates }) in
-    record { own = subst (Begins w.image) (sym (takes_compartment w.image b e)) h.own; starting = starting_after w b e happens h; making = g.making; gates = g.gates }
+    record { own = subst (BeginsAt w.image) (sym (takes_compartment w.image b e)) h.own; starting = starting_after w b e happens h; making = g.making; gates = g.gates }
 
 -- ---- the actor that begins by an event
 
@@ -247,7 +247,7 @@ begins_entries w b e (EntersGates x) h c is =
     let run = run_by b (child_name b.name (next_start b)) x.kept x.entrance in
     let both : Some run ≡ Some c = sym x.begins ∙ is in
     let same_one : run ≡ c = cc in
-    let own : Begins w.image x.entrance.gate.entry = each_entered (λ (g : Gate). Begins w.image g.entry) b (a0 b) x.entrance.gate h.gates x.may.held in
+    let own : BeginsAt w.image x.entrance.gate.entry = each_entered (λ (g : Gate). BeginsAt w.image g.entry) b (a0 b) x.entrance.gate h.gates x.may.held in
     subst (HasEntries w.image) same_one (record { own = own; starting = λ q at. absurd cc; making = λ q at. absurd cc; gates = h.gates })
 begins_entries w b e (Joins k listed j) h c is = let f : None ≡ Some c = sym (ap (actor_begun w.image b) j.is) ∙ is in absurd cc
 

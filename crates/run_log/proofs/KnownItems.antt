@@ -12,11 +12,11 @@ use Rattle.machine.specs.Cells.{Cells, tag_in}
 use Rattle.machine.specs.Worlds.{actor_named}
 use Rattle.run_laws.specs.CellHistories.{StreamMode, mode_in}
 use Rattle.run_laws.specs.Occupancy.{AreOccupied, HasIn, tag_of_call}
-use Rattle.run_notes.specs.Items.{made_item, tag_item, file_item, fd_item, is_copy_in, greater, greatest_copy}
+use Rattle.run_notes.specs.Items.{made_item, tag_item, file_item, fd_item, is_copy_in, greater_so_far, greatest_copy}
 use Rattle.run_notes.specs.declared.items.NoteItem.TheVariants as item
 use Rattle.run_notes.specs.declared.items.Makings.{Makings}
 use Rattle.run_notes.specs.declared.items.Origin.{Origin}
-use Rattle.run_log.specs.NamedNotes.{Begins, IsFileOf, IsTagNamed, IsStreamNamed}
+use Rattle.run_log.specs.NamedNotes.{BeginsAt, IsFileOf, IsTagNamed, IsStreamNamed}
 
 pub lt_of : (a b : ℕ) → nat_lt a b ≡ true → a < b
 lt_of a b e = grind arith
@@ -44,7 +44,7 @@ pub record IsComing (actors : List ActorState) (tag : ℕ) : Type 0 where
 -- be opened; each stream is one of the image's, or known
 pub record Knows (i : Image) (c : Cells) (actors : List ActorState) (m : Makings) : Type 0 where
   pub tags : (tag : ℕ) → length i.tags ≤ tag → tag < c.places.number → IsMade m tag ⊎ IsComing actors tag
-  pub origins : (tag : ℕ) (o : Origin) → at m.tags tag ≡ Some o → Begins i o.compartment
+  pub origins : (tag : ℕ) (o : Origin) → at m.tags tag ≡ Some o → BeginsAt i o.compartment
   pub streams : (fd : ℕ) (k : StreamMode) → mode_in c fd ≡ Some k → (fd < length i.fds) ⊎ HasPath m fd
   pub paths : (fd : ℕ) (path : List ℕ) → at m.files fd ≡ Some path → IsFileOf i path
 
@@ -53,7 +53,7 @@ pub record Knows (i : Image) (c : Cells) (actors : List ActorState) (m : Makings
 abbrev pub KnowsTag : Image → Makings → ℕ → Type 0
 KnowsTag i m tag = (tag < length i.tags) ⊎ IsMade m tag
 
-pub tag_named : (i : Image) (m : Makings) (tag : ℕ) → ((t : ℕ) (o : Origin) → at m.tags t ≡ Some o → Begins i o.compartment) → KnowsTag i m tag → IsTagNamed i (tag_item i m tag)
+pub tag_named : (i : Image) (m : Makings) (tag : ℕ) → ((t : ℕ) (o : Origin) → at m.tags t ≡ Some o → BeginsAt i o.compartment) → KnowsTag i m tag → IsTagNamed i (tag_item i m tag)
 tag_named i m tag origins known = by_test (nat_lt tag (length i.tags)) refl
   where
     by_made : (o : Option Origin) → at m.tags tag ≡ o → IsMade m tag → IsTagNamed i (made_item tag o)
@@ -124,9 +124,9 @@ others_have x gs tag there = by_key (eq_by_cmp nat_cmp tag x.0)
 
 greatest_has : (slot : ℕ) (gs : Map Grant) (best : Option ℕ) (tag : ℕ) → greatest_copy slot best gs ≡ Some tag → (best ≡ Some tag) ⊎ (is_some (at gs tag) ≡ true)
 greatest_has slot [] best tag e = inl e
-greatest_has slot (x ∷ gs) best tag e = by_copy (is_copy_in slot x.1) (greatest_has slot gs (if is_copy_in slot x.1 then Some (greater x.0 best) else best) tag e)
+greatest_has slot (x ∷ gs) best tag e = by_copy (is_copy_in slot x.1) (greatest_has slot gs (if is_copy_in slot x.1 then Some (greater_so_far x.0 best) else best) tag e)
   where
-    by_best : (b : Option ℕ) → Some (greater x.0 b) ≡ Some tag → (b ≡ Some tag) ⊎ (is_some (at (x ∷ gs) tag) ≡ true)
+    by_best : (b : Option ℕ) → Some (greater_so_far x.0 b) ≡ Some tag → (b ≡ Some tag) ⊎ (is_some (at (x ∷ gs) tag) ≡ true)
     by_best None is = let same : x.0 ≡ tag = cc in inr (first_has x gs tag same)
     by_best (Some b) is =
         let same : max b x.0 ≡ tag = cc in
@@ -135,7 +135,7 @@ greatest_has slot (x ∷ gs) best tag e = by_copy (is_copy_in slot x.1) (greates
           | inr new ↦ inr (first_has x gs tag (sym new ∙ same))
         ]
 
-    by_copy : (t : Bool) → ((if t then Some (greater x.0 best) else best) ≡ Some tag) ⊎ (is_some (at gs tag) ≡ true) → (best ≡ Some tag) ⊎ (is_some (at (x ∷ gs) tag) ≡ true)
+    by_copy : (t : Bool) → ((if t then Some (greater_so_far x.0 best) else best) ≡ Some tag) ⊎ (is_some (at gs tag) ≡ true) → (best ≡ Some tag) ⊎ (is_some (at (x ∷ gs) tag) ≡ true)
     by_copy true (inl is) = by_best best is
     by_copy true (inr there) = inr (others_have x gs tag there)
     by_copy false (inl is) = inl is

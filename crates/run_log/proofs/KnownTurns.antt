@@ -49,7 +49,7 @@ use Rattle.run_notes.specs.Doers.{doer_of}
 use Rattle.run_notes.specs.Items.{with_label, last_label, makings_after}
 use Rattle.run_notes.specs.declared.items.Makings.{Makings}
 use Rattle.run_notes.specs.declared.items.Origin.{Origin}
-use Rattle.run_log.specs.NamedNotes.{Begins, IsFileOf}
+use Rattle.run_log.specs.NamedNotes.{BeginsAt, IsFileOf}
 use Rattle.run_log.proofs.KnownItems.{IsMade, HasPath, IsComing, Knows}
 use Rattle.run_log.proofs.Suiting.{asked_suits}
 
@@ -176,13 +176,13 @@ keeps_path i b m e n fd (MakesNone is none quiet) has_path = subst (λ x. HasPat
 keeps_path i b m e n fd (MakesTag slot t pages at_ quiet is_event is) has_path = subst (λ x. HasPath x fd) (sym is) has_path
 keeps_path i b m e n fd (MakesFile f o at_ file is_event is) has_path = subst (λ x. HasPath x fd) (sym is) (still_there m.files f o.path fd has_path)
 
-next_origins : (i : Image) (b : ActorState) (m : Makings) (e : Event) (n : Makings) → Makes i b m e n → Begins i b.compartment → ((t : ℕ) (o : Origin) → at m.tags t ≡ Some o → Begins i o.compartment)
-    → (t : ℕ) (o : Origin) → at n.tags t ≡ Some o → Begins i o.compartment
+next_origins : (i : Image) (b : ActorState) (m : Makings) (e : Event) (n : Makings) → Makes i b m e n → BeginsAt i b.compartment → ((t : ℕ) (o : Origin) → at m.tags t ≡ Some o → BeginsAt i o.compartment)
+    → (t : ℕ) (o : Origin) → at n.tags t ≡ Some o → BeginsAt i o.compartment
 next_origins i b m e n (MakesNone is none quiet) own old t o there = old t o (subst (λ (x : Makings). at x.tags t ≡ Some o) is there)
 next_origins i b m e n (MakesFile fd opening at_ file is_event is) own old t o there = old t o (subst (λ (x : Makings). at x.tags t ≡ Some o) is there)
 next_origins i b m e n (MakesTag slot tag pages at_ quiet is_event is) own old t o there =
     elim (same_or m.tags tag (record { compartment = b.compartment; pc = b.hart.pc }) t o (subst (λ (x : Makings). at x.tags t ≡ Some o) is there)) [
-      | inl new ↦ subst (λ (x : Origin). Begins i x.compartment) (sym new) own
+      | inl new ↦ subst (λ (x : Origin). BeginsAt i x.compartment) (sym new) own
       | inr before ↦ old t o before
     ]
 
@@ -333,7 +333,7 @@ abbrev pub makings_of_turn : Image → Makings → ActorState → Event → Maki
 makings_of_turn i m b e = makings_after m (doer_of b) (takes i b e).labels e
 
 pub turn_knows : (w : WorldState) (name : List ℕ) (e : Event) (new : WorldState) (m : Makings) → AllReady w → turn_of w name ≡ Some (record { event = e; world = new }) → (p : Turned w name e new)
-    → Begins w.image (rest w.image p.parts.actor).compartment → Knows w.image w.cells w.actors m → Knows w.image new.cells new.actors (makings_of_turn w.image m (rest w.image p.parts.actor) e)
+    → BeginsAt w.image (rest w.image p.parts.actor).compartment → Knows w.image w.cells w.actors m → Knows w.image new.cells new.actors (makings_of_turn w.image m (rest w.image p.parts.actor) e)
 turn_knows w name e new m all turn p own k = record { tags = tags; origins = next_origins w.image b m e n makes own k.origins; streams = streams; paths = next_paths w.image b m e n makes k.paths }
   where
     v : WorldState

@@ -46,7 +46,7 @@ use Rattle.run_notes.specs.declared.doer.Doer.{Doer}
 use Rattle.run_notes.specs.declared.items.Makings.{Makings}
 use Rattle.run_log.specs.Logs.{Log}
 use Rattle.run_log.specs.Logging.{opening_log, log_event_by, with_noted, log_turn, log_from}
-use Rattle.run_log.specs.NamedNotes.{Begins, IsTagNamed, IsStreamNamed, NotesAreNamed}
+use Rattle.run_log.specs.NamedNotes.{BeginsAt, IsTagNamed, IsStreamNamed, NotesAreNamed}
 use Rattle.run_log.proofs.Entries.{HasEntries, AreEntries, EachEntries, ready_entries, rest_entries, turn_entries, opening_entries}
 use Rattle.run_log.proofs.KnownItems.{Knows, tag_named, fd_named, living_known, CopiesAreNamed, copies_named}
 use Rattle.run_log.proofs.KnownTurns.{makings_of_turn, turn_knows}
@@ -56,7 +56,7 @@ use Rattle.world_turns.specs.Progress.{IsTurn}
 
 -- ---- the note of an event
 
-slot_named : (i : Image) (m : Makings) (d : Doer) (ch : CallChain) (b : ActorState) (o : Option ℕ) (q : SlotWant) (r : SlotReply) → Begins i d.compartment → ((tag : ℕ) → o ≡ Some tag → IsTagNamed i (tag_item i m tag))
+slot_named : (i : Image) (m : Makings) (d : Doer) (ch : CallChain) (b : ActorState) (o : Option ℕ) (q : SlotWant) (r : SlotReply) → BeginsAt i d.compartment → ((tag : ℕ) → o ≡ Some tag → IsTagNamed i (tag_item i m tag))
     → IsOptionNamed i (slot_note i m d ch (slot_ask_with q (pair b o)) r)
 slot_named i m d ch b None (slot_want.Load offset width) (slot_reply.Loaded value) own named = tt
 slot_named i m d ch b (Some tag) (slot_want.Load offset width) (slot_reply.Loaded value) own named = record { compartment = own; mode = refl; item = named tag refl }
@@ -64,12 +64,12 @@ slot_named i m d ch b None (slot_want.Store offset width value) slot_reply.Store
 slot_named i m d ch b (Some tag) (slot_want.Store offset width value) slot_reply.Stored own named = record { compartment = own; mode = refl; item = named tag refl }
 slot_named i m d ch b o q r own named = tt
 
-asked_named : (i : Image) (m : Makings) (d : Doer) (ch : CallChain) (fd : ℕ) (q : StreamAsk) (r : StreamReply) → Begins i d.compartment → IsStreamNamed i (fd_item i m fd) → IsOptionNamed i (stream_note i m d ch fd q r)
+asked_named : (i : Image) (m : Makings) (d : Doer) (ch : CallChain) (fd : ℕ) (q : StreamAsk) (r : StreamReply) → BeginsAt i d.compartment → IsStreamNamed i (fd_item i m fd) → IsOptionNamed i (stream_note i m d ch fd q r)
 asked_named i m d ch fd (stream_ask.Read bits count) (stream_reply.Given bytes) own named = record { compartment = own; mode = refl; item = named }
 asked_named i m d ch fd (stream_ask.Append bits bytes) stream_reply.Appended own named = record { compartment = own; mode = refl; item = named }
 asked_named i m d ch fd q r own named = tt
 
-stream_named : (i : Image) (m : Makings) (d : Doer) (ch : CallChain) (fd : ℕ) (s : Option Stream) (q : StreamAsk) → Begins i d.compartment → ((x : Stream) → s ≡ Some x → IsStreamNamed i (fd_item i m fd)) → IsOptionNamed i (stream_note i m d ch fd q (stream_reply_of s q))
+stream_named : (i : Image) (m : Makings) (d : Doer) (ch : CallChain) (fd : ℕ) (s : Option Stream) (q : StreamAsk) → BeginsAt i d.compartment → ((x : Stream) → s ≡ Some x → IsStreamNamed i (fd_item i m fd)) → IsOptionNamed i (stream_note i m d ch fd q (stream_reply_of s q))
 stream_named i m d ch fd None (stream_ask.Open k bytes) own named = tt
 stream_named i m d ch fd None (stream_ask.Read bits count) own named = tt
 stream_named i m d ch fd None (stream_ask.Append bits bytes) own named = tt
@@ -83,7 +83,7 @@ TagsAreNamed i c m = (slot tag : ℕ) → tag_in c slot ≡ Some tag → IsTagNa
 abbrev StreamsAreNamed : Image → Cells → Makings → Type 0
 StreamsAreNamed i c m = (fd : ℕ) (x : Stream) → stream_in c fd ≡ Some x → IsStreamNamed i (fd_item i m fd)
 
-request_named : (i : Image) (c : Cells) (m : Makings) (b : ActorState) (ch : CallChain) (N : ℕ → Type 0) (q : Want) → IsRequest N b q → Begins i b.compartment → TagsAreNamed i c m → StreamsAreNamed i c m
+request_named : (i : Image) (c : Cells) (m : Makings) (b : ActorState) (ch : CallChain) (N : ℕ → Type 0) (q : Want) → IsRequest N b q → BeginsAt i b.compartment → TagsAreNamed i c m → StreamsAreNamed i c m
     → IsOptionNamed i (event_note i m (doer_of b) ch (event_for c b q))
 request_named i c m b ch N (want.Slots q) asked own tags streams = tt
 request_named i c m b ch N (want.Slot slot q) asked own tags streams = slot_named i m (doer_of b) ch b (tag_in c slot) q (slot_reply_of (slot_in c slot) (slot_ask_with q (pair b (tag_in c slot)))) own (tags slot)
@@ -91,12 +91,12 @@ request_named i c m b ch N (want.Fd fd q) asked own tags streams = stream_named 
 request_named i c m b ch N (want.Lives q) asked own tags streams = tt
 request_named i c m b ch N q asked own tags streams = absurd asked
 
-entry_named : (i : Image) (b : ActorState) (ch : CallChain) (x : Entrance) → b.phase ≡ phase.Entering x → IsEnterable b x → Begins i b.compartment → AreEntries i b.gates → IsOptionNamed i (entry_note (doer_of b) ch (entry_of b.phase))
+entry_named : (i : Image) (b : ActorState) (ch : CallChain) (x : Entrance) → b.phase ≡ phase.Entering x → IsEnterable b x → BeginsAt i b.compartment → AreEntries i b.gates → IsOptionNamed i (entry_note (doer_of b) ch (entry_of b.phase))
 entry_named i b ch x at_ may own gates =
-    let begins : Begins i x.gate.entry = each_entered (λ (g : Gate). Begins i g.entry) b (a0 b) x.gate gates may.held in
+    let begins : BeginsAt i x.gate.entry = each_entered (λ (g : Gate). BeginsAt i g.entry) b (a0 b) x.gate gates may.held in
     subst (λ p. IsOptionNamed i (entry_note (doer_of b) ch (entry_of p))) (sym at_) (record { compartment = own; mode = refl; item = begins })
 
-event_named : (w : WorldState) (m : Makings) (b : ActorState) (ch : CallChain) (e : Event) → Happens w b e → Begins w.image b.compartment → AreEntries w.image b.gates → TagsAreNamed w.image w.cells m → StreamsAreNamed w.image w.cells m
+event_named : (w : WorldState) (m : Makings) (b : ActorState) (ch : CallChain) (e : Event) → Happens w b e → BeginsAt w.image b.compartment → AreEntries w.image b.gates → TagsAreNamed w.image w.cells m → StreamsAreNamed w.image w.cells m
     → IsOptionNamed w.image (event_note w.image m (doer_of b) ch e)
 event_named w m b ch e (Requested r) own gates tags streams =
     subst (λ y. IsOptionNamed w.image (event_note w.image m (doer_of b) ch y)) (sym r.is) (request_named w.image w.cells m b ch (LoadsAt w.image b.hart r.rd r.is_signed) r.want r.own own tags streams)
@@ -151,7 +151,7 @@ turn_is_named w l name e new was turn =
     let happens : Happens (resumed w a) r e = subst (λ y. Happens (resumed w a) y e) same_actor (turn_happens w name e new was.all t) in
     let noted : AreNamed i (log_event_by i (with_noted l p.index n) r e (Some n.chain)).notes =
     note_named i n.notes (event_note i l.makings (doer_of r) n.chain e) rested (event_named (resumed w a) l.makings r n.chain e happens rest_own.own rest_own.gates tags streams) in
-    let own : Begins i (rest i t.parts.actor).compartment = subst (λ (y : ActorState). Begins i y.compartment) (sym same_actor) rest_own.own in
+    let own : BeginsAt i (rest i t.parts.actor).compartment = subst (λ (y : ActorState). BeginsAt i y.compartment) (sym same_actor) rest_own.own in
     let known : Knows i new.cells new.actors (makings_of_turn i l.makings r e) =
     subst (λ y. Knows i new.cells new.actors (makings_of_turn i l.makings y e)) same_actor (turn_knows w name e new l.makings was.all turn t own was.knows) in
     subst (IsNamedLog new) (sym p.is) (record {

@@ -23,7 +23,7 @@ use Rattle.trace_form.specs.declared.words.Kind.{Kind}
 use Rattle.trace_form.specs.declared.words.Kind.TheVariants as kind
 use Rattle.trace_form.specs.declared.words.Mode.TheVariants as mode
 use Rattle.run_notes.specs.Doers.{doer_of}
-use Rattle.run_notes.specs.Items.{tag_item, is_copy_in, greater, greatest_copy}
+use Rattle.run_notes.specs.Items.{tag_item, is_copy_in, greater_so_far, greatest_copy}
 use Rattle.run_notes.specs.Notes.{Noted, note_by, with_note, copy_note, copy_in_window, copy_past_range, held_copy, copy_reached, note_of_need, noted_instr, instr_at, noted_step, noted_local, noted_rest}
 use Rattle.run_notes.specs.declared.chain.CallChain.{CallChain}
 use Rattle.run_notes.specs.declared.items.Makings.{Makings}
@@ -47,7 +47,7 @@ max_least a b = (grind arith, grind arith)
 greatest_is : (slot : ℕ) (gs : Map Grant) (best : Option ℕ) (tag : ℕ) → greatest_copy slot best gs ≡ Some tag → IsGreatest slot best gs tag
 greatest_is slot [] best tag e = record { is = inl e; before = λ t f. (let both : Some t ≡ Some tag = sym f ∙ e in let same_tag : t ≡ tag = cc in omega (arith, same_tag)); others = λ t f. absurd cc }
 greatest_is slot (x ∷ gs) best tag e =
-    let p = by_copy (is_copy_in slot x.1) (greatest_is slot gs (if is_copy_in slot x.1 then Some (greater x.0 best) else best) tag e) in
+    let p = by_copy (is_copy_in slot x.1) (greatest_is slot gs (if is_copy_in slot x.1 then Some (greater_so_far x.0 best) else best) tag e) in
     record { is = p.0; before = p.1; others = p.2 }
   where
     further : (t : Bool) (u : Bool) → u ≡ true → (t || u) ≡ true
@@ -57,7 +57,7 @@ greatest_is slot (x ∷ gs) best tag e =
     here : (n : ℕ) → (true && (n == n)) ≡ true
     here n = grind arith
 
-    of_best : (b : Option ℕ) → Some (greater x.0 b) ≡ Some tag → (b ≡ Some tag) ⊎ (((true && (x.0 == tag)) || grants_copy_of gs slot tag) ≡ true)
+    of_best : (b : Option ℕ) → Some (greater_so_far x.0 b) ≡ Some tag → (b ≡ Some tag) ⊎ (((true && (x.0 == tag)) || grants_copy_of gs slot tag) ≡ true)
     of_best None is = let same_tag : x.0 ≡ tag = cc in inr (ap (λ n. (true && (x.0 == n)) || grants_copy_of gs slot tag) (sym same_tag) ∙ ap (λ t. t || grants_copy_of gs slot tag) (here x.0))
     of_best (Some b) is =
         let same_tag : max b x.0 ≡ tag = cc in
@@ -66,15 +66,15 @@ greatest_is slot (x ∷ gs) best tag e =
           | inr new ↦ inr (ap (λ n. (true && (x.0 == n)) || grants_copy_of gs slot tag) (sym (sym new ∙ same_tag)) ∙ ap (λ t. t || grants_copy_of gs slot tag) (here x.0))
         ]
 
-    is_here : ((Some (greater x.0 best)) ≡ Some tag) ⊎ (grants_copy_of gs slot tag ≡ true) → (best ≡ Some tag) ⊎ (((true && (x.0 == tag)) || grants_copy_of gs slot tag) ≡ true)
+    is_here : ((Some (greater_so_far x.0 best)) ≡ Some tag) ⊎ (grants_copy_of gs slot tag ≡ true) → (best ≡ Some tag) ⊎ (((true && (x.0 == tag)) || grants_copy_of gs slot tag) ≡ true)
     is_here (inl is) = of_best best is
     is_here (inr there) = inr (further (true && (x.0 == tag)) (grants_copy_of gs slot tag) there)
 
-    best_below : (b : Option ℕ) → greater x.0 b ≤ tag → (t : ℕ) → b ≡ Some t → t ≤ tag
+    best_below : (b : Option ℕ) → greater_so_far x.0 b ≤ tag → (t : ℕ) → b ≡ Some t → t ≤ tag
     best_below None le t is = absurd cc
     best_below (Some b) le t is = let same_best : b ≡ t = cc in let m = (max_least b x.0).0 in omega (arith, le, same_best, m)
 
-    first_below : (b : Option ℕ) → greater x.0 b ≤ tag → x.0 ≤ tag
+    first_below : (b : Option ℕ) → greater_so_far x.0 b ≤ tag → x.0 ≤ tag
     first_below None le = le
     first_below (Some b) le = let m = (max_least b x.0).1 in omega (arith, le, m)
 
@@ -82,10 +82,10 @@ greatest_is slot (x ∷ gs) best tag e =
     all_below t true le more same_one h = let is : x.0 ≡ t = eqb-true x.0 t same_one in omega (arith, le, is)
     all_below t false le more same_one h = more h
 
-    by_copy : (t : Bool) → IsGreatest slot (if t then Some (greater x.0 best) else best) gs tag
+    by_copy : (t : Bool) → IsGreatest slot (if t then Some (greater_so_far x.0 best) else best) gs tag
         → ((best ≡ Some tag) ⊎ (((t && (x.0 == tag)) || grants_copy_of gs slot tag) ≡ true)) × ((n : ℕ) → best ≡ Some n → n ≤ tag) × ((n : ℕ) → ((t && (x.0 == n)) || grants_copy_of gs slot n) ≡ true → n ≤ tag)
     by_copy true g =
-        let le : greater x.0 best ≤ tag = g.before (greater x.0 best) refl in
+        let le : greater_so_far x.0 best ≤ tag = g.before (greater_so_far x.0 best) refl in
         (is_here g.is, best_below best le, λ n h. all_below n (x.0 == n) (first_below best le) (g.others n) refl h)
     by_copy false g = (g.is, g.before, g.others)
 
@@ -96,9 +96,9 @@ granted_some slot [] best h = by_best best h
     by_best : (b : Option ℕ) → (is_some b || false) ≡ true → is_some b ≡ true
     by_best None e = e
     by_best (Some n) e = refl
-granted_some slot (x ∷ gs) best h = granted_some slot gs (if is_copy_in slot x.1 then Some (greater x.0 best) else best) (by_copy (is_copy_in slot x.1) h)
+granted_some slot (x ∷ gs) best h = granted_some slot gs (if is_copy_in slot x.1 then Some (greater_so_far x.0 best) else best) (by_copy (is_copy_in slot x.1) h)
   where
-    by_copy : (t : Bool) → (is_some best || (t || grants_copy gs slot)) ≡ true → (is_some (if t then Some (greater x.0 best) else best) || grants_copy gs slot) ≡ true
+    by_copy : (t : Bool) → (is_some best || (t || grants_copy gs slot)) ≡ true → (is_some (if t then Some (greater_so_far x.0 best) else best) || grants_copy gs slot) ≡ true
     by_copy true e = refl
     by_copy false e = e
 

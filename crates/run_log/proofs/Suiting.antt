@@ -21,11 +21,11 @@ use Rattle.machine.specs.Actors.{ActorState}
 use Rattle.machine.specs.Cells.{Cells, slot_in, stream_in}
 use Rattle.run_laws.specs.Holding.{gate_for, is_loan}
 use Rattle.run_laws.specs.Requests.{Access, Request, Loads, Stores, Reads, Appends, Closes, Opens, Creates, Makes, Enters, Deletes, Allots, Frees, reaches_window, in_tag, in_window, buffer_bytes, path_at, in_stream, is_room, append_of, bits_to_open, file_of, open_of, create_of, make_of, enter_of, free_of, lent_of, call_request, needed_request, instr_request, word_request, request_at}
-use Rattle.run_log.specs.NamedNotes.{Begins}
+use Rattle.run_log.specs.NamedNotes.{BeginsAt}
 
 abbrev pub Suits : Image → ℕ → Request → Type 0
-Suits i entry (Creates d) = Begins i entry
-Suits i entry (Makes d) = Begins i entry
+Suits i entry (Creates d) = BeginsAt i entry
+Suits i entry (Makes d) = BeginsAt i entry
 Suits i entry (Opens path f b) = file_of i path ≡ Some f
 Suits i entry r = Unit {0}
 

@@ -13,8 +13,8 @@ use Rattle.run_notes.specs.declared.note.Note.{Note}
 use Rattle.run_log.specs.Logging.{log_of}
 
 -- a procedure begins at an address, and a path is that of a file
-abbrev pub Begins : Image → ℕ → Type 0
-Begins i address = begins_at i.procedures address ≡ true
+abbrev pub BeginsAt : Image → ℕ → Type 0
+BeginsAt i address = begins_at i.procedures address ≡ true
 
 abbrev pub IsFileOf : Image → List ℕ → Type 0
 IsFileOf i path = list_any (λ f. same f.path path) i.files ≡ true
@@ -22,7 +22,7 @@ IsFileOf i path = list_any (λ f. same f.path path) i.files ≡ true
 -- a tag that the image declares, or one that a run made, and the compartment that made it
 abbrev pub IsTagNamed : Image → NoteItem → Type 0
 IsTagNamed i (item.Declared tag) = tag < length i.tags
-IsTagNamed i (item.Made compartment pc) = Begins i compartment
+IsTagNamed i (item.Made compartment pc) = BeginsAt i compartment
 IsTagNamed i it = ⊥
 
 -- a descriptor that the image declares, or one of its files
@@ -33,7 +33,7 @@ IsStreamNamed i it = ⊥
 
 -- a gate, by the procedure at its entry
 abbrev pub IsGateNamed : Image → NoteItem → Type 0
-IsGateNamed i (item.Gate entry) = Begins i entry
+IsGateNamed i (item.Gate entry) = BeginsAt i entry
 IsGateNamed i it = ⊥
 
 -- what is loaded from and stored to is a tag, what is read and appended to a stream, and what is
@@ -48,7 +48,7 @@ IsItemNamed i kind.Call it = IsGateNamed i it
 -- the compartment is a procedure, a private access is a load or a store, and the item is of its
 -- kind
 pub record IsNamed (i : Image) (n : Note) : Type 0 where
-  pub compartment : Begins i n.compartment
+  pub compartment : BeginsAt i n.compartment
   pub mode : mode_fits n.kind n.mode ≡ true
   pub item : IsItemNamed i n.kind n.item
 

@@ -15,9 +15,10 @@ use wedge_base::{ActorName, NoMemory};
 use wedge_events::Event;
 use world_turns::{NoTurn, Taken, Went, World};
 
-/// Takes a turn, as `turn` does, and adds the notes of the actor's accesses that succeeded. The log is that of the turns of
-/// the world so far. Where there is no turn but the actor waits, or finds a gate busy, the accesses that come before are
-/// noted. Out of memory the notes and the turns are as they were, and the world has stopped.
+/// Takes a turn, as `turn` does, and adds the notes of the actor's accesses that succeeded. The log has a chain for each
+/// actor of the world, and the procedures of its image. Where there is no turn but the actor waits, or finds a gate
+/// busy, the accesses that come before are noted. Out of memory the notes and the turns are as they were, and the world
+/// has stopped.
 pub fn turn_logged(
     world: &mut World<'_>,
     name: &ActorName,

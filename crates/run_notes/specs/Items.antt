@@ -47,13 +47,13 @@ fd_item i m fd = if nat_lt fd (length i.fds) then item.Fd fd else file_item fd (
 abbrev pub is_copy_in : ℕ → Grant → Bool
 is_copy_in slot g = is_copy g.right && (g.slot == slot)
 
-abbrev pub greater : ℕ → Option ℕ → ℕ
-greater n None = n
-greater n (Some best) = max best n
+abbrev pub greater_so_far : ℕ → Option ℕ → ℕ
+greater_so_far n None = n
+greater_so_far n (Some best) = max best n
 
 abbrev pub greatest_copy : ℕ → Option ℕ → Map Grant → Option ℕ
 greatest_copy slot best [] = best
-greatest_copy slot best (e ∷ es) = greatest_copy slot (if is_copy_in slot e.1 then Some (greater e.0 best) else best) es
+greatest_copy slot best (e ∷ es) = greatest_copy slot (if is_copy_in slot e.1 then Some (greater_so_far e.0 best) else best) es
 
 abbrev pub copy_item : Image → Makings → Sheet → ℕ → Option NoteItem
 copy_item i m sheet slot = option_map (tag_item i m) (greatest_copy slot None sheet.tags)

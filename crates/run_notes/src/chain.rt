@@ -1,6 +1,6 @@
 //! Chains of calls.
 
-ghost use Rattle.std.specs.Prelude.{◌≡◌, ◌<◌, ◌++◌, ◌∷◌, ◌-◌, [], length, take, IfOk, OnOk};
+ghost use Rattle.std.specs.Prelude.{◌≡◌, ◌<◌, ◌++◌, ◌∷◌, ◌-◌, [], length, take, IfOk, OnErr, OnOk};
 ghost use Rattle.run_notes.specs.Chains as chains;
 ghost use Rattle.run_notes.specs.Procedures.{AreProceduresOf};
 
@@ -61,7 +61,8 @@ impl Frames {
 
     /// Adds a frame. The list is copied where others hold it.
     fn push(&mut self, procedure: u32) -> Result<(), NoMemory>
-        ensures { OnOk result (self.new ≡ self.old ++ procedure ∷ []) }
+        ensures ok { OnOk result (self.new ≡ self.old ++ procedure ∷ []) }
+        ensures err { OnErr result (self.new ≡ self.old) }
     {
         let list = Arc::make_mut(&mut self.list)?;
         list.push(procedure)?;
@@ -71,7 +72,8 @@ impl Frames {
     /// Takes the last frame off. The list is copied where others hold it.
     fn pop(&mut self) -> Result<(), NoMemory>
         requires { 0 < length self.old }
-        ensures { OnOk result (self.new ≡ take (length self.old - 1) self.old) }
+        ensures ok { OnOk result (self.new ≡ take (length self.old - 1) self.old) }
+        ensures err { OnErr result (self.new ≡ self.old) }
     {
         let list = Arc::make_mut(&mut self.list)?;
         list.pop();
@@ -99,7 +101,8 @@ impl CallChain {
 
     /// A procedure is called. A full chain counts the call.
     fn call(&mut self, procedure: u32) -> Result<(), NoMemory>
-        ensures { OnOk result (self.new ≡ chains.with_call self.old procedure) }
+        ensures ok { OnOk result (self.new ≡ chains.with_call self.old procedure) }
+        ensures err { OnErr result (self.new ≡ self.old) }
     {
         if self.frames.as_slice().len() < MOST_FRAMES {
             self.frames.push(procedure)?;
@@ -111,7 +114,8 @@ impl CallChain {
 
     /// A call returns: one that was counted, or else the innermost frame, but never the first one.
     fn drop_call(&mut self) -> Result<(), NoMemory>
-        ensures { OnOk result (self.new ≡ chains.with_return self.old) }
+        ensures ok { OnOk result (self.new ≡ chains.with_return self.old) }
+        ensures err { OnErr result (self.new ≡ self.old) }
     {
         if self.beyond > 0 {
             self.beyond -= 1;
@@ -121,7 +125,7 @@ impl CallChain {
         Ok(())
     }
 
-    /// Follows an instruction that was made, after which the pc is this.
+    /// Follows an instruction that was made, after which the pc is this. Out of memory the chain is as it was.
     pub fn follow(
         &mut self,
         image: &Image,
@@ -130,8 +134,9 @@ impl CallChain {
         target: u32,
     ) -> Result<(), NoMemory>
         requires { AreProceduresOf image.now procedures.now }
-        ensures { OnOk result
+        ensures ok { OnOk result
             (self.new ≡ chains.chain_after image.now instr.now target self.old) }
+        ensures err { OnErr result (self.new ≡ self.old) }
     {
         if is_call(instr) {
             if image.is_in_text(target, 1) {

@@ -1,6 +1,6 @@
 //! What is accessed.
 
-ghost use Rattle.std.specs.Prelude.{◌≡◌, None, IfOk, OnOk, option_copied};
+ghost use Rattle.std.specs.Prelude.{◌≡◌, None, IfOk, OnErr, OnOk, option_copied};
 ghost use Rattle.wedge_base.specs.Maps.{with};
 ghost use Rattle.run_notes.specs.Items as items;
 
@@ -91,15 +91,16 @@ impl Makings {
     }
 
     /// Keeps what an event makes: a tag that is opened, and the path of a file, which is the last of those that the
-    /// actor keeps after the event.
+    /// actor keeps after the event. Out of memory all is as it was.
     pub fn add(
         &mut self,
         doer: &Doer,
         labels: &[StreamLabel],
         event: &Event,
     ) -> Result<(), NoMemory>
-        ensures { OnOk result
+        ensures ok { OnOk result
             (self.new ≡ items.makings_after self.old doer.now labels.now event.now) }
+        ensures err { OnErr result (self.new ≡ self.old) }
     {
         match event {
             Event::Slot {
@@ -118,10 +119,11 @@ impl Makings {
 
     /// Keeps the origin of a tag that an actor opens.
     fn add_tag(&mut self, doer: &Doer, tag: TagNo) -> Result<(), NoMemory>
-        ensures { OnOk result (self.new ≡ record self.old {
+        ensures ok { OnOk result (self.new ≡ record self.old {
           tags = with self.old.tags tag
               (record { compartment = doer.now.compartment; pc = doer.now.pc });
         }) }
+        ensures err { OnErr result (self.new ≡ self.old) }
     {
         let origin = Origin {
             compartment: doer.compartment,
@@ -132,10 +134,11 @@ impl Makings {
 
     /// Keeps the path of the file that an actor opened.
     fn add_file(&mut self, labels: &[StreamLabel], number: FdNo) -> Result<(), NoMemory>
-        ensures { OnOk result (self.new ≡ record self.old {
+        ensures ok { OnOk result (self.new ≡ record self.old {
           files = items.with_label self.old.files
               number (items.last_label labels.now);
         }) }
+        ensures err { OnErr result (self.new ≡ self.old) }
     {
         match last_label(labels) {
             None => Ok(()),

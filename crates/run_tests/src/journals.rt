@@ -23,11 +23,7 @@ fn journal_of<R: Threads + Wait + Sync>(
     let mut out = MemSink::new(alloc, ROOM, Vec::new(alloc))?;
     let mut err = MemSink::new(alloc, ROOM, Vec::new(alloc))?;
     let ended = wedge(rt, alloc, words, &mut files, &mut out, &mut err, &NoPace);
-    Ok(
-        ended
-            .journal
-            .map(|journal| journal.entries.as_slice().len()),
-    )
+    Ok(ended.journal.map(|journal| journal.len()))
 }
 
 #[test]

@@ -19,7 +19,7 @@ use Rattle.wedge_events.specs.declared.events.Event.TheVariants as event
 use Rattle.wedge_events.specs.declared.events.LogEntry.{LogEntry}
 use Rattle.machine.specs.Cells.{Cells, GateCell, held, slot_in, stream_in, kept_in, kept_among, put_kept, event_of, cells_after, AskFits}
 use Rattle.run_laws.proofs.KnownGates.{same_id, itself}
-use Rattle.thread_laws.specs.Histories.{is_of, entries_on, IsReplay, replay_of, AreAlike}
+use Rattle.thread_laws.specs.Histories.{is_of, entries_on, IsReplay, cells_after_entries, AreAlike}
 
 -- ---- one place of a list
 
@@ -222,7 +222,7 @@ pub record CellOn (x : CellName) (left : Cells) (c : Cells) (es : List LogEntry)
   pub clock : ℕ
   pub alike : AreAlike x c replayed
   pub replay : IsReplay x replayed clock es
-  pub leads : replay_of replayed es ≡ left
+  pub leads : cells_after_entries replayed es ≡ left
 
 first_on : (x : CellName) (e : LogEntry) (es : List LogEntry) (t : Bool) → is_of x e.event ≡ t → entries_on x (e ∷ es) ≡ (if t then e ∷ entries_on x es else entries_on x es)
 first_on x e es t is = ap (λ u. if u then e ∷ entries_on x es else entries_on x es) is
@@ -245,7 +245,7 @@ on_goes x left c e es true own h =
       clock = e.stamp;
       alike = alike_next x c h.replayed e.event own h.alike;
       replay = all.1;
-      leads = ap (replay_of h.replayed) (sym (first_on x e es true own)) ∙ h.leads;
+      leads = ap (cells_after_entries h.replayed) (sym (first_on x e es true own)) ∙ h.leads;
     }
 on_goes x left c e es false own h =
     record {
@@ -253,7 +253,7 @@ on_goes x left c e es false own h =
       clock = h.clock;
       alike = other_cell x c h.replayed e.event own h.alike;
       replay = subst (IsReplay x h.replayed h.clock) (first_on x e es false own) h.replay;
-      leads = ap (replay_of h.replayed) (sym (first_on x e es false own)) ∙ h.leads;
+      leads = ap (cells_after_entries h.replayed) (sym (first_on x e es false own)) ∙ h.leads;
     }
 
 pub cells_go : (left : CellName → Cells) (c : Cells) (e : LogEntry) (es : List LogEntry) → ((x : CellName) → CellOn x (left x) c (entries_on x (e ∷ es))) → (x : CellName) → CellOn x (left x) (cells_after c e.event) (entries_on x es)

@@ -12,7 +12,7 @@ use Rattle.run_laws.proofs.KnownGates.{same_id, itself}
 use Rattle.thread_laws.specs.Auditing.{ListedAgree, IsListed, AllListed, ComparedAgree, DifferentDisagree}
 use Rattle.thread_laws.specs.Histories.{is_of, entries_on}
 use Rattle.thread_laws.specs.Joining.{journal_of}
-use Rattle.thread_laws.specs.Replaying.{cell_in, same_cell, entries_in, history_of}
+use Rattle.thread_laws.specs.Replaying.{cell_in, same_cell, entries_kept_in, history_of}
 use Rattle.thread_laws.specs.declared.gathered.CellHistory.{CellHistory}
 use Rattle.thread_laws.proofs.Replaying.{cell_is}
 
@@ -74,7 +74,7 @@ pub compared_agree : ComparedAgree
 compared_agree logs cells equal listed name compared = by_found (find (λ h. same_cell (cell_in h) name) cells) refl
   where
     by_found : (o : Option CellHistory) → find (λ h. same_cell (cell_in h) name) cells ≡ o → history_of cells name ≡ entries_on name (journal_of logs)
-    by_found None none = ap entries_in none ∙ sym (none_on cells name (journal_of logs) none listed)
+    by_found None none = ap entries_kept_in none ∙ sym (none_on cells name (journal_of logs) none listed)
     by_found (Some k) found = agrees_found cells cells name (journal_of logs) k found equal
 
 pub different_disagree : DifferentDisagree

@@ -25,9 +25,9 @@ use Rattle.run_laws.proofs.Between.{joined_is, takes_name}
 use Rattle.run_laws.proofs.FamilyRuns.{kept_at_rest}
 use Rattle.thread_laws.specs.declared.gathered.ActorLog.{ActorLog}
 use Rattle.thread_laws.specs.declared.gathered.ActorEnd.{ActorEnd}
-use Rattle.thread_laws.specs.ActorProgresses.{ActorProgress, at_creation, after_rest, after_entry, after_run, CreatedActor, created_actor, NoJoin, IsProgress, begun, rests, does, starts, learns, joins, resumes, IsLeft, Families, another, ReturnedLogsAreFamilies}
+use Rattle.thread_laws.specs.ActorProgresses.{ActorProgress, at_creation, after_rest, after_entry, after_run, CreatedActor, created_actor, NoJoin, IsProgress, begun, rests, does, starts, learns, joins, resumes, IsLogLeft, Families, another, ReturnedLogsAreFamilies}
 use Rattle.thread_laws.specs.ActorProgresses.{nobody as none_left}
-use Rattle.thread_laws.specs.Joining.{IsEndOf, IsLogOf, AreLogs}
+use Rattle.thread_laws.specs.Joining.{IsEndOf, IsExecutionLog, AreLogs}
 use Rattle.thread_laws.specs.Forests.{Forest, nobody, someone, executions, AllLearnedIn, IsTreeOf, IsForestOf}
 use Rattle.thread_laws.specs.Executions.{LearnedEnd, learned_of, at_next_event, after_entries, clock_after, name_begun, IsBeginning, Begins, IsJoinLearned, IsNext, IsWalkWith, Execution, final_state, final_stamp, IsExecution, Creation, with_creation, creations}
 use Rattle.thread_laws.proofs.Creations.{more_starts, takes_starts}
@@ -340,11 +340,11 @@ execution_of way its = record { began = way.began; low = way.low; entries = way.
 record IsWhole (i : Image) (k : CreatedActor) (way : ActorProgress) (its : List CreatedActor) (own : ActorLog) (t : ActorEnd) : Type 0 where
   execution : IsExecution i (execution_of way its)
   ending : IsEnding i k (execution_of way its)
-  log : IsLogOf i (execution_of way its) own
+  log : IsExecutionLog i (execution_of way its) own
   creations_ : creations i (learned_in its) way.began way.entries ≡ map creation_of its
   named : AreNext way.began.name 1 its
 
-whole_execution : (i : Image) (k : CreatedActor) (way : ActorProgress) (its : List CreatedActor) (own : ActorLog) (t : ActorEnd) → k.began.starts ≡ 0 → IsProgress i way its → IsLeft i k way own t → IsWhole i k way its own t
+whole_execution : (i : Image) (k : CreatedActor) (way : ActorProgress) (its : List CreatedActor) (own : ActorLog) (t : ActorEnd) → k.began.starts ≡ 0 → IsProgress i way its → IsLogLeft i k way own t → IsWhole i k way its own t
 whole_execution i k way its own t fresh progress left =
     let h = knows i way its progress in
     let ended_so : way.state.phase ≡ phase.Ended t.how = left.end_.ended ∙ ap (λ e. phase.Ended e) left.how in

@@ -18,8 +18,8 @@ use Rattle.run_laws.proofs.FamilyRuns.{run_family}
 use Rattle.run_laws.proofs.Named.{same_self, same_equal}
 use Rattle.thread_laws.specs.declared.gathered.ActorLog.{ActorLog}
 use Rattle.thread_laws.specs.declared.gathered.CellHistory.{CellHistory}
-use Rattle.thread_laws.specs.Joining.{IsEndOf, IsLogOf, AreLogs, AreWalked, all_logged, journal_of, log_named, with_log, logs_named, logs_in_order, line_in, lines_in, labels_in, stream_left, streams_from, streams_left, outcome_gathered, GatheredIsRun}
-use Rattle.thread_laws.specs.Histories.{entries_on, IsLegal, left_by_history, replay_of}
+use Rattle.thread_laws.specs.Joining.{IsEndOf, IsExecutionLog, AreLogs, AreWalked, all_logged, journal_of, log_named, with_log, logs_named, logs_in_order, line_in, lines_in, labels_in, stream_left, streams_from, streams_left, outcome_gathered, GatheredIsRun}
+use Rattle.thread_laws.specs.Histories.{entries_on, IsLegal, left_by_history, cells_after_entries}
 use Rattle.thread_laws.specs.Forests.{Forest, nobody, someone, executions, IsForestOfRoot}
 use Rattle.thread_laws.specs.Laws.{IsRunOfExecutions}
 use Rattle.thread_laws.specs.Executions.{LearnedEnd, at_next_event, after_entries, Execution, final_state, names_begun}
@@ -84,7 +84,7 @@ pub after_entries_name : (i : Image) (learned : List LearnedEnd) (a : ActorState
 after_entries_name i learned a [] = refl
 after_entries_name i learned a (e ∷ es) = after_entries_name i learned (takes i (at_next_event i learned a) e.event) es ∙ taken_name i learned a e.event
 
-log_name : (i : Image) (l : Execution) (g : ActorLog) → IsLogOf i l g → g.name ≡ l.began.name
+log_name : (i : Image) (l : Execution) (g : ActorLog) → IsExecutionLog i l g → g.name ≡ l.began.name
 log_name i l g h = h.end_.name ∙ after_entries_name i l.learned l.began l.entries
 
 logged : (i : Image) (ls : List Execution) (logs : List ActorLog) → AreLogs i ls logs → all_logged logs ≡ all_entries ls
@@ -98,7 +98,7 @@ abbrev pub IsLogIf : Image → Option Execution → Option ActorLog → Type 0
 IsLogIf i None None = Unit {0}
 IsLogIf i None (Some g) = ⊥
 IsLogIf i (Some l) None = ⊥
-IsLogIf i (Some l) (Some g) = IsLogOf i l g
+IsLogIf i (Some l) (Some g) = IsExecutionLog i l g
 
 pub log_if : (i : Image) (ls : List Execution) (logs : List ActorLog) (m : List ℕ) → AreLogs i ls logs → IsLogIf i (execution_named ls m) (log_named logs m)
 log_if i [] [] m h = tt
@@ -158,7 +158,7 @@ streams_alike i cells (x ∷ xs) (suc n) fd long h =
     ap (λ y. y ∷ xs) first ∙ ap (λ ys. stream_left i cells fd ∷ ys) others
 
 -- entries leave as many streams as there were
-kept_long : (c : Cells) (es : List LogEntry) → length (replay_of c es).streams ≡ length c.streams
+kept_long : (c : Cells) (es : List LogEntry) → length (cells_after_entries c es).streams ≡ length c.streams
 kept_long c [] = refl
 kept_long c (e ∷ es) = kept_long (cells_after c e.event) es ∙ streams_long c e.event
 

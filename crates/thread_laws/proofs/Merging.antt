@@ -22,7 +22,7 @@ use Rattle.machine.specs.Worlds.{WorldState, initial_state, actor_named, ended_w
 use Rattle.run_laws.proofs.Named.{same_self, same_equal, found_name}
 use Rattle.thread_laws.specs.Executions.{LearnedEnd, learned_of, at_next_event, after_entries, clock_after, name_begun, with_named, names_begun, IsBeginning, Begins, IsAboveRun, IsJoinLearned, IsNext, IsWalkWith, Execution, final_state, final_stamp, IsExecution, Creation, with_creation, creations}
 use Rattle.thread_laws.specs.Histories.{entries_on, left_by_history, AreAlike}
-use Rattle.thread_laws.specs.Merging.{execution_named, entries_in_execution, IsLearnedOf, HasExecution, AllHaveExecutions, IsNamedBy, IsCreated, IsRootExecution, AreExecutions, IsBelowAll, IsRising, IsMerge, AreLegal}
+use Rattle.thread_laws.specs.Merging.{execution_named, entries_in_execution, IsLearnedOf, HasExecution, AllHaveExecutions, IsNamedBy, IsCreated, IsRootExecution, AreExecutions, IsBelowAll, IsNondecreasing, IsMerge, AreLegal}
 use Rattle.thread_laws.specs.Laws.{ExecutionsAreARun}
 use Rattle.thread_laws.proofs.Alike.{CellOn, alike_self, cells_go, cells_answer}
 use Rattle.thread_laws.proofs.Turning.{IsLearned, IsJoinable, world_after, takes_turn, next_event_name, own_after, other_after, none_after, begun_as, begun_name, names_of, names_after}
@@ -52,7 +52,7 @@ named_above stamp m low [] h n = absurd n
 named_above stamp m low (e ∷ es) h (inl n) = let is = n.1 in let le = h.0 in omega (arith, is, le)
 named_above stamp m low (e ∷ es) h (inr n) = named_above stamp m low es h.1 n
 
-all_above : (e : LogEntry) (es : List LogEntry) → IsRising (e ∷ es) → IsBelowAll e.stamp (e ∷ es)
+all_above : (e : LogEntry) (es : List LogEntry) → IsNondecreasing (e ∷ es) → IsBelowAll e.stamp (e ∷ es)
 all_above e es h = let same_stamp : e.stamp ≤ e.stamp = omega arith in (same_stamp, h.0)
 
 -- ---- places
@@ -78,7 +78,7 @@ IsAt i ls es m (Some a) (Some l) = IsOn i ls l a (entries_of m es)
 
 pub record Ahead (i : Image) (left : CellName → Cells) (ls : List Execution) (w : WorldState) (es : List LogEntry) : Type 0 where
   pub image : w.image ≡ i
-  pub rising : IsRising es
+  pub rising : IsNondecreasing es
   pub actors : (m : List ℕ) → IsAt i ls es m (actor_named w.actors m) (execution_named ls m)
   pub cells : (x : CellName) → CellOn x (left x) w.cells (entries_on x es)
 

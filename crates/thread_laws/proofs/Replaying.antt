@@ -21,7 +21,7 @@ use Rattle.run_laws.proofs.Settling.{slots_size, opening_ready}
 use Rattle.journal_cell.specs.Histories.{IsHistory}
 use Rattle.journal_cell.specs.declared.entry.Entry.{Entry}
 use Rattle.thread_laws.specs.Histories.{is_of, IsReplay, IsLegal}
-use Rattle.thread_laws.specs.Replaying.{logged_as, cell_in, logged, same_cell, entries_in, history_of, IsKept, KeptAreLegal}
+use Rattle.thread_laws.specs.Replaying.{logged_as, cell_in, logged, same_cell, entries_kept_in, history_of, IsLegalHistory, KeptAreLegal}
 use Rattle.thread_laws.specs.declared.gathered.CellHistory.{CellHistory}
 use Rattle.thread_laws.specs.declared.gathered.CellHistory.TheVariants as history
 use Rattle.thread_laws.proofs.Alike.{streams_long, set_there, kept_there}
@@ -92,7 +92,7 @@ gate_kind id = record {
 enough : (m n k : ℕ) → k < m → k < n + (m - n)
 enough m n k less = omega (arith, less)
 
-is_legal : (i : Image) (h : CellHistory) → IsKept i h → IsLegal i (cell_in h) (logged h)
+is_legal : (i : Image) (h : CellHistory) → IsLegalHistory i h → IsLegal i (cell_in h) (logged h)
 is_legal i (history.Slots es) h = replays cell.Slots DirectoryFits directory_reply directory_next (λ c. c.places) (λ c. Unit {0}) event.Slots places_kind (opening_cells i) 0 es tt h
 is_legal i (history.Slot s es) h =
     replays (cell.Slot s) SlotFits slot_reply slot_next (λ c. slot_in c s) (λ c. s < length c.slots) (event.Slot s) (slot_kind s h.0) (opening_cells i) 0 es
@@ -118,6 +118,6 @@ pub kept_are_legal : KeptAreLegal
 kept_are_legal i [] h name = tt
 kept_are_legal i (k ∷ ks) h name = by_name (same_cell (cell_in k) name) refl (kept_are_legal i ks h.1 name)
   where
-    by_name : (t : Bool) → same_cell (cell_in k) name ≡ t → IsLegal i name (history_of ks name) → IsLegal i name (entries_in (if t then Some k else find (λ j. same_cell (cell_in j) name) ks))
+    by_name : (t : Bool) → same_cell (cell_in k) name ≡ t → IsLegal i name (history_of ks name) → IsLegal i name (entries_kept_in (if t then Some k else find (λ j. same_cell (cell_in j) name) ks))
     by_name true e others = subst (λ n. IsLegal i n (logged k)) (cell_is (cell_in k) name e) (is_legal i k h.0)
     by_name false e others = others

@@ -16,7 +16,7 @@ use Rattle.machine.specs.Take.{takes}
 use Rattle.run_laws.specs.Walks.{entries_of}
 use Rattle.run_laws.proofs.Named.{same_equal}
 use Rattle.thread_laws.specs.Executions.{LearnedEnd, at_next_event, IsWalkWith, Execution, IsExecution}
-use Rattle.thread_laws.specs.Merging.{execution_named, entries_in_execution, AreExecutions, IsBelowAll, IsRising}
+use Rattle.thread_laws.specs.Merging.{execution_named, entries_in_execution, AreExecutions, IsBelowAll, IsNondecreasing}
 use Rattle.thread_laws.specs.Forests.{IsNewName, AreApart}
 use Rattle.thread_laws.specs.Sorting.{comes_before, all_entries, OrderIsMerge}
 use Rattle.thread_laws.proofs.Creations.{taken_name}
@@ -69,15 +69,15 @@ below_less : (s r : ℕ) (ys : List LogEntry) → s ≤ r → IsBelowAll r ys �
 below_less s r [] le h = tt
 below_less s r (y ∷ ys) le h = let more = h.0 in (omega (arith, le, more), below_less s r ys le h.1)
 
-rising_insert : (x : LogEntry) (ys : List LogEntry) → IsRising ys → IsRising (insert_sorted comes_before x ys)
+rising_insert : (x : LogEntry) (ys : List LogEntry) → IsNondecreasing ys → IsNondecreasing (insert_sorted comes_before x ys)
 rising_insert x [] h = (tt, tt)
 rising_insert x (y ∷ ys) h = by_order (comes_before x y) refl (rising_insert x ys h.1)
   where
-    by_order : (t : Bool) → comes_before x y ≡ t → IsRising (insert_sorted comes_before x ys) → IsRising (if t then x ∷ y ∷ ys else y ∷ insert_sorted comes_before x ys)
+    by_order : (t : Bool) → comes_before x y ≡ t → IsNondecreasing (insert_sorted comes_before x ys) → IsNondecreasing (if t then x ∷ y ∷ ys else y ∷ insert_sorted comes_before x ys)
     by_order true e others = let le = before_le x y e in ((le, below_less x.stamp y.stamp ys le h.0), h)
     by_order false e others = (below_insert y.stamp x ys (not_before_le x y e) h.0, others)
 
-rising_sorted : (done xs : List LogEntry) → IsRising done → IsRising (sorted_onto comes_before done xs)
+rising_sorted : (done xs : List LogEntry) → IsNondecreasing done → IsNondecreasing (sorted_onto comes_before done xs)
 rising_sorted done [] h = h
 rising_sorted done (x ∷ xs) h = rising_sorted (insert_sorted comes_before x done) xs (rising_insert x done h)
 
@@ -107,7 +107,7 @@ none_own m s r (y ∷ ys) less low up = by_name (same y.actor m) up (none_own m 
     by_name false h others = others h
 
 -- its own entry, above all others of it, comes behind them
-own_insert : (m : List ℕ) (r : ℕ) (x : LogEntry) (ys : List LogEntry) → same x.actor m ≡ true → r < x.stamp → IsRising ys → AreUpTo r (entries_of m ys) → entries_of m (insert_sorted comes_before x ys) ≡ entries_of m ys ++ x ∷ []
+own_insert : (m : List ℕ) (r : ℕ) (x : LogEntry) (ys : List LogEntry) → same x.actor m ≡ true → r < x.stamp → IsNondecreasing ys → AreUpTo r (entries_of m ys) → entries_of m (insert_sorted comes_before x ys) ≡ entries_of m ys ++ x ∷ []
 own_insert m r x [] own less rise up = ap (λ t. if t then x ∷ [] else []) own
 own_insert m r x (y ∷ ys) own less rise up = by_order (comes_before x y) refl (own_insert m r x ys own less rise.1)
   where
@@ -137,7 +137,7 @@ up_behind : (r : ℕ) (x : LogEntry) (ys : List LogEntry) → r < x.stamp → Ar
 up_behind r x [] less h = (omega arith, tt)
 up_behind r x (y ∷ ys) less h = let le = h.0 in (omega (arith, le, less), up_behind r x ys less h.1)
 
-own_sorted : (m : List ℕ) (r : ℕ) (done xs : List LogEntry) → IsRising done → AreUpTo r (entries_of m done) → IsClimbing r (entries_of m xs) → entries_of m (sorted_onto comes_before done xs) ≡ entries_of m done ++ entries_of m xs
+own_sorted : (m : List ℕ) (r : ℕ) (done xs : List LogEntry) → IsNondecreasing done → AreUpTo r (entries_of m done) → IsClimbing r (entries_of m xs) → entries_of m (sorted_onto comes_before done xs) ≡ entries_of m done ++ entries_of m xs
 own_sorted m r done [] rise up climb = sym (append-nil (entries_of m done))
 own_sorted m r done (x ∷ xs) rise up climb = by_name (same x.actor m) refl climb (λ s. own_sorted m s (insert_sorted comes_before x done) xs (rising_insert x done rise))
   where

@@ -110,7 +110,7 @@ pub data IsProgress (i : Image) : ActorProgress → List CreatedActor → Type 0
       → new ≡ after_run old (index + 1) t → IsProgress i new created
 
 -- the log that an actor left, and how it ended, are those of its progress
-pub record IsLeft (i : Image) (k : CreatedActor) (way : ActorProgress) (own : ActorLog) (t : ActorEnd) : Type 0 where
+pub record IsLogLeft (i : Image) (k : CreatedActor) (way : ActorProgress) (own : ActorLog) (t : ActorEnd) : Type 0 where
   pub began : way.began ≡ k.began
   pub low : way.low ≡ k.stamp
   pub learned : k.learned ≡ Some t
@@ -127,7 +127,7 @@ pub data Families (i : Image) : List CreatedActor → List ActorLog → Type 0 w
   another : (created more : List CreatedActor) (logs all : List ActorLog) (k : CreatedActor)
       (way : ActorProgress) (its : List CreatedActor) (own : ActorLog) (others : List ActorLog)
       (t : ActorEnd)
-      → Families i created logs → IsProgress i way its → IsLeft i k way own t
+      → Families i created logs → IsProgress i way its → IsLogLeft i k way own t
       → Families i its others
       → more ≡ created ++ k ∷ [] → all ≡ logs ++ own ∷ others → Families i more all
 
@@ -138,7 +138,7 @@ pub record AreReturned (i : Image) (a : ActorState) (low : ℕ) (own : ActorLog)
   pub way : ActorProgress
   pub its : List CreatedActor
   pub progress : IsProgress i way its
-  pub left : IsLeft i (created_actor a low (Some t)) way own t
+  pub left : IsLogLeft i (created_actor a low (Some t)) way own t
   pub others_ : Families i its others
 
 -- so these logs are those of a family; and those of the root are walked

@@ -43,12 +43,12 @@ abbrev pub IsLegal : Image → CellName → List LogEntry → Type 0
 IsLegal i name es = IsReplay name (opening_cells i) 0 es
 
 -- the cells after these entries, and the cells after a history
-abbrev pub replay_of : Cells → List LogEntry → Cells
-replay_of c [] = c
-replay_of c (e ∷ es) = replay_of (cells_after c e.event) es
+abbrev pub cells_after_entries : Cells → List LogEntry → Cells
+cells_after_entries c [] = c
+cells_after_entries c (e ∷ es) = cells_after_entries (cells_after c e.event) es
 
 abbrev pub left_by_history : Image → List LogEntry → Cells
-left_by_history i es = replay_of (opening_cells i) es
+left_by_history i es = cells_after_entries (opening_cells i) es
 
 -- one cell is the same in both
 abbrev pub AreAlike : CellName → Cells → Cells → Type 0

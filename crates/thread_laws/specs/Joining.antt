@@ -20,7 +20,7 @@ use Rattle.thread_laws.specs.Histories.{entries_on, left_by_history}
 use Rattle.thread_laws.specs.Forests.{Forest, nobody, someone, executions, IsForestOf}
 use Rattle.thread_laws.specs.Executions.{Execution, final_state, names_begun}
 use Rattle.thread_laws.specs.LookUps.{IsCounted}
-use Rattle.thread_laws.specs.Merging.{IsRising}
+use Rattle.thread_laws.specs.Merging.{IsNondecreasing}
 use Rattle.thread_laws.specs.Replaying.{history_of, Legal}
 use Rattle.thread_laws.specs.Sorting.{in_order}
 use Rattle.thread_laws.specs.declared.gathered.ActorLog.{ActorLog}
@@ -40,7 +40,7 @@ pub record IsEndOf (a : ActorState) (g : ActorLog) : Type 0 where
   pub counted : IsCounted g.entries g.cache
 
 -- the log of an execution
-pub record IsLogOf (i : Image) (l : Execution) (g : ActorLog) : Type 0 where
+pub record IsExecutionLog (i : Image) (l : Execution) (g : ActorLog) : Type 0 where
   pub entries : g.entries ≡ l.entries
   pub end_ : IsEndOf (final_state i l) g
 
@@ -48,7 +48,7 @@ abbrev pub AreLogs : Image → List Execution → List ActorLog → Type 0
 AreLogs i [] [] = Unit {0}
 AreLogs i [] (g ∷ gs) = ⊥
 AreLogs i (l ∷ ls) [] = ⊥
-AreLogs i (l ∷ ls) (g ∷ gs) = IsLogOf i l g × AreLogs i ls gs
+AreLogs i (l ∷ ls) (g ∷ gs) = IsExecutionLog i l g × AreLogs i ls gs
 
 -- The logs of an actor that began so at a stamp, of all that it created, and that these created: each
 -- is the log of a whole execution, there is one for each of them and no other, and what an actor
@@ -80,11 +80,11 @@ AgreeOn compared logs cells =
     (name : CellName) → compared name → history_of cells name ≡ entries_on name (journal_of logs)
 
 -- the cells whose histories are compared with the journal: all of them
-abbrev pub IsCompared : CellName → Type 0
-IsCompared name = Unit {0}
+abbrev pub IsAnyCell : CellName → Type 0
+IsAnyCell name = Unit {0}
 
 abbrev pub Agrees : List ActorLog → List CellHistory → Type 0
-Agrees logs cells = AgreeOn IsCompared logs cells
+Agrees logs cells = AgreeOn IsAnyCell logs cells
 
 -- ---- the outcome, read off the logs and the histories
 
@@ -144,11 +144,11 @@ outcome_gathered i logs cells = record {
 
 -- the journal is a complete run of the image, up to the end of its root, in the order of its stamps,
 -- with this outcome
-pub record IsRun (i : Image) (journal : List LogEntry) (outcome : Outcome) : Type 0 where
+pub record IsJournalOfRun (i : Image) (journal : List LogEntry) (outcome : Outcome) : Type 0 where
   pub last : WorldState
   pub run : Runs (initial_state i) (turns_of journal) last
   pub complete : is_complete last ≡ true
-  pub rising : IsRising journal
+  pub rising : IsNondecreasing journal
   pub goes_on : EachTurn (λ old t new. is_complete old ≡ false) (initial_state i) (turns_of journal)
   pub ends : outcome ≡ outcome_of last
 
@@ -156,4 +156,4 @@ pub record IsRun (i : Image) (journal : List LogEntry) (outcome : Outcome) : Typ
 abbrev pub GatheredIsRun : Type 0
 GatheredIsRun = (i : Image) (logs : List ActorLog) (cells : List CellHistory) → AreWalked i logs
     → Legal i cells → Agrees logs cells
-    → IsRun i (journal_of logs) (outcome_gathered i logs cells)
+    → IsJournalOfRun i (journal_of logs) (outcome_gathered i logs cells)

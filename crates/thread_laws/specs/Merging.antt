@@ -75,13 +75,13 @@ abbrev pub IsBelowAll : ℕ → List LogEntry → Type 0
 IsBelowAll stamp [] = Unit {0}
 IsBelowAll stamp (e ∷ es) = (stamp ≤ e.stamp) × IsBelowAll stamp es
 
-abbrev pub IsRising : List LogEntry → Type 0
-IsRising [] = Unit {0}
-IsRising (e ∷ es) = IsBelowAll e.stamp es × IsRising es
+abbrev pub IsNondecreasing : List LogEntry → Type 0
+IsNondecreasing [] = Unit {0}
+IsNondecreasing (e ∷ es) = IsBelowAll e.stamp es × IsNondecreasing es
 
 -- the entries of all executions in one list, in the order of their stamps
 pub record IsMerge (ls : List Execution) (es : List LogEntry) : Type 0 where
-  pub rising : IsRising es
+  pub rising : IsNondecreasing es
   pub each : (name : List ℕ) → entries_of name es ≡ entries_in_execution (execution_named ls name)
 
 -- the entries of each cell are a legal history of it

@@ -49,34 +49,34 @@ same_cell cell.Lives cell.Lives = true
 same_cell (cell.Gate g) (cell.Gate h) = same_gate g h
 same_cell x y = false
 
-abbrev pub entries_in : Option CellHistory → List LogEntry
-entries_in None = []
-entries_in (Some h) = logged h
+abbrev pub entries_kept_in : Option CellHistory → List LogEntry
+entries_kept_in None = []
+entries_kept_in (Some h) = logged h
 
 -- the history of a cell is that of the first item that names it, and is empty where none does
 abbrev pub history_of : List CellHistory → CellName → List LogEntry
-history_of cells name = entries_in (find (λ h. same_cell (cell_in h) name) cells)
+history_of cells name = entries_kept_in (find (λ h. same_cell (cell_in h) name) cells)
 
 -- the history of each cell, listed or not, is legal
 abbrev pub Legal : Image → List CellHistory → Type 0
 Legal i cells = (name : CellName) → IsLegal i name (history_of cells name)
 
 -- what a locked cell of the run kept: each ask fitted, each reply is the cell's, and stamps rise
-abbrev pub IsKept : Image → CellHistory → Type 0
-IsKept i (history.Slots es) =
+abbrev pub IsLegalHistory : Image → CellHistory → Type 0
+IsLegalHistory i (history.Slots es) =
     IsHistory DirectoryFits directory_reply directory_next (slots_opening i) 0 es
-IsKept i (history.Slot slot es) = (slot < most_slots)
+IsLegalHistory i (history.Slot slot es) = (slot < most_slots)
     × IsHistory SlotFits slot_reply slot_next (slot_opening i slot) 0 es
-IsKept i (history.Fds es) =
+IsLegalHistory i (history.Fds es) =
     IsHistory DirectoryFits directory_reply directory_next (fds_opening i) 0 es
-IsKept i (history.Fd fd es) = (fd < most_fds)
+IsLegalHistory i (history.Fd fd es) = (fd < most_fds)
     × IsHistory StreamFits stream_reply stream_next (stream_opening i fd) 0 es
-IsKept i (history.Lives es) = IsHistory (λ n q. Unit {0}) lives_reply lives_next lives_opening 0 es
-IsKept i (history.Gate id es) = IsHistory GateFits gate_reply gate_next gate_opening 0 es
+IsLegalHistory i (history.Lives es) = IsHistory (λ n q. Unit {0}) lives_reply lives_next lives_opening 0 es
+IsLegalHistory i (history.Gate id es) = IsHistory GateFits gate_reply gate_next gate_opening 0 es
 
-abbrev pub AreKept : Image → List CellHistory → Type 0
-AreKept i [] = Unit {0}
-AreKept i (h ∷ hs) = IsKept i h × AreKept i hs
+abbrev pub AreLegalHistories : Image → List CellHistory → Type 0
+AreLegalHistories i [] = Unit {0}
+AreLegalHistories i (h ∷ hs) = IsLegalHistory i h × AreLegalHistories i hs
 
 abbrev pub KeptAreLegal : Type 0
-KeptAreLegal = (i : Image) (cells : List CellHistory) → AreKept i cells → Legal i cells
+KeptAreLegal = (i : Image) (cells : List CellHistory) → AreLegalHistories i cells → Legal i cells

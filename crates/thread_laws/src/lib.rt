@@ -7,6 +7,7 @@ mod laws;
 
 pub use gathered::{ActorEnd, ActorLog, CellHistory, Gathered};
 pub use laws::{
-    compared_agree, every_actor_walks, executions_are_a_run, forest_is_executions, gathered_is_run,
-    kept_are_legal, order_is_merge, progress_keeps_account, returned_logs_are_families,
+    caches_are_counted, compared_agree, every_actor_walks, executions_are_a_run,
+    forest_is_executions, gathered_is_run, kept_are_legal, order_is_merge, progress_keeps_account,
+    returned_logs_are_families,
 };

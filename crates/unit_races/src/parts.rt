@@ -134,6 +134,42 @@ bits = \"read\"
 hex = \"04000000410000000800fe1f000000000400000042000000\"
 ";
 
+/// Eight children, each of which loads and stores 50 times in one tag.
+pub(crate) static CROWD: &str = "
+.proc main
+    svc  sc_new
+    li   a1, tag_box
+    li   a2, 3
+    svc  sc_mem_add
+    li   s1, 8
+start:
+    li   a0, 0
+    la   a1, kid
+    li   a2, 0
+    li   a3, 400
+    svc  sthread_create
+    addi s1, s1, -1
+    bnez s1, start
+    li   s1, 8
+join:
+    mv   a0, s1
+    svc  sthread_join
+    addi s1, s1, -1
+    bnez s1, join
+    li   a0, 1
+    svc  exit
+.proc kid
+    li   t0, seg_box
+    li   s0, 50
+again:
+    lw   a0, 0(t0)
+    sw   a0, 4(t0)
+    addi s0, s0, -1
+    bnez s0, again
+    li   a0, 0
+    svc  exit
+";
+
 /// Eight children that enter a recycled gate, which counts its runs.
 pub(crate) static COUNT: &str = "
 .proc main

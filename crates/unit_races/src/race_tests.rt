@@ -1,8 +1,9 @@
 //! Runs on threads that race.
 
-use crate::parts::{BOX, COUNT, FILED, FULL, MEET, ONE_BY_ONE, RACE, READ, SIGN, SIGNED, TAGS};
-use run_audit::Audited;
-use run_check::{ended, exit_of_root, image_of, length, run_at_once};
+use crate::parts::{
+    BOX, COUNT, CROWD, FILED, FULL, MEET, ONE_BY_ONE, RACE, READ, SIGN, SIGNED, TAGS,
+};
+use run_check::{CheckedRun, ended, exit_of_root, image_of, length, run_at_once};
 use std::alloc::{AllocError, Global};
 use std::test::Fail;
 use wedge_base::End;
@@ -23,7 +24,7 @@ fn children_meet(rt: HostRuntime) -> Result<(), Fail> {
 }
 
 /// Whether a run left one stream, of either bytes.
-fn has_either(audited: &Audited, one: &[u8], other: &[u8]) -> bool {
+fn has_either(audited: &CheckedRun, one: &[u8], other: &[u8]) -> bool {
     match audited.outcome.streams.as_slice() {
         [stream] => {
             let bytes = stream.bytes.as_slice();
@@ -44,6 +45,19 @@ fn messages_are_signed(rt: HostRuntime) -> Result<(), Fail> {
     assert_eq!(&rt; ended(&audited, End::Exited(0)), 2);
     assert!(&rt; has_either(&audited, b"12", b"21"));
     assert_eq!(&rt; length(&audited), 25);
+    Ok(())
+}
+
+/// Eight children load and store at once in one tag that is declared, of which four take turns while others stay
+/// outside. Each is let in, to its end.
+#[test]
+fn all_that_stay_outside_are_let_in(rt: HostRuntime) -> Result<(), Fail> {
+    let alloc = rt.alloc();
+    let image = image_of(alloc, 10_000, CROWD, BOX)?;
+    let audited = run_at_once(&rt, alloc, &image, 8)?;
+    assert_eq!(&rt; exit_of_root(&audited), Some(1));
+    assert_eq!(&rt; ended(&audited, End::Exited(0)), 8);
+    assert_eq!(&rt; length(&audited), 833);
     Ok(())
 }
 
@@ -71,7 +85,7 @@ fn is_of_slots(entry: &LogEntry, first: u32, last: u32) -> bool {
 }
 
 /// Whether all entries of a journal are of no slot, or of a slot of these.
-fn are_of_slots(audited: &Audited, first: u32, last: u32) -> bool {
+fn are_of_slots(audited: &CheckedRun, first: u32, last: u32) -> bool {
     let entries = audited.journal.entries.as_slice();
     entries.iter().all(|entry| is_of_slots(entry, first, last))
 }

@@ -4,8 +4,8 @@
 use host_io::{NoPace, RealErr, RealFiles, RealOut};
 use std::io::ErrorKind;
 use std::process::ExitCode;
-use std::{env, io};
-use wedge_cli::{exit_status, out_of_memory};
+use std::{env, io, mem};
+use wedge_cli::{out_of_memory, wedge};
 
 /// Does what the words ask, with the files and the streams of the process.
 fn main(rt: HostRuntime) -> ExitCode {
@@ -18,7 +18,7 @@ fn main(rt: HostRuntime) -> ExitCode {
         Err(error) if error.kind() == ErrorKind::InvalidData => Vec::new(rt.alloc()),
         Err(_) => return ExitCode::from(out_of_memory(&mut err).status),
     };
-    let status = exit_status(
+    let ended = wedge(
         &rt,
         rt.alloc(),
         words.as_slice(),
@@ -27,6 +27,9 @@ fn main(rt: HostRuntime) -> ExitCode {
         &mut err,
         &NoPace,
     );
+    let status = ended.status;
+    // The process ends here, so what its threads logged is not released entry by entry.
+    mem::forget(ended);
     ExitCode::from(status)
 }
 

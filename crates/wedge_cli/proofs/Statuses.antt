@@ -19,7 +19,7 @@ use Rattle.sheet_enforce.specs.declared.violations.Violation.{Violation}
 use Rattle.cli_inputs.specs.Replaying.{Making, report_made, trace_made, text_of_replay, replay_text, log_text}
 use Rattle.cli_inputs.specs.Linking.{link_text, IsLinkedImage}
 use Rattle.cli_inputs.specs.Enforcing.{Check, emulated, enforced, text_of_check, emulate_text, enforce_text, IsOwnTrace}
-use Rattle.cli_inputs.proofs.OwnTraces.{own_permits}
+use Rattle.cli_inputs.proofs.OwnTraces.{own_emulated, own_enforced}
 use Rattle.cli_inputs.specs.Words.{Asked, Run, Show, Build, Link, Replay, Log, Emulate, Enforce, Derive, Analyze, Gen}
 use Rattle.wedge_cli.specs.Outside.{Device, Sinks, Outside, Rises, Takes}
 use Rattle.trace_form.specs.Records.{records_of}
@@ -639,12 +639,20 @@ enforce_done image schedule trace bytes names records ended before after (inr d)
     triple_done enforce_text (before.files image) (before.files schedule) (before.files trace) bytes names records d.kept d.texts ended before.sinks after.sinks d.made image_is schedule_is trace_is d.written
 
 -- by the run's own trace
-pub own_done : (image schedule trace bytes names records : List ℕ) (ended : Ended) (before after : Outside) → IsEither (Enforce image schedule trace) ended before after
-    → before.files image ≡ Some bytes → before.files schedule ≡ Some names → before.files trace ≡ Some records → IsOwnTrace bytes names records
-    → IsCutShort ended.status ⊎ IsAnswerEnd (replay_text bytes names) ended.status before.sinks after.sinks
-own_done image schedule trace bytes names records ended before after either image_is schedule_is trace_is own =
-    subst (λ m. IsCutShort ended.status ⊎ IsAnswerEnd m ended.status before.sinks after.sinks) (own_permits bytes names records own)
-    (enforce_done image schedule trace bytes names records ended before after either image_is schedule_is trace_is)
+module _ (image schedule trace bytes names records : List ℕ) (ended : Ended) (before after : Outside) where
+  pub own_emulate_done : IsEither (Emulate image schedule trace) ended before after
+      → before.files image ≡ Some bytes → before.files schedule ≡ Some names → before.files trace ≡ Some records → IsOwnTrace bytes names records
+      → IsCutShort ended.status ⊎ IsAnswerEnd (replay_text bytes names) ended.status before.sinks after.sinks
+  own_emulate_done either image_is schedule_is trace_is own =
+      subst (λ m. IsCutShort ended.status ⊎ IsAnswerEnd m ended.status before.sinks after.sinks) (own_emulated bytes names records own)
+      (emulate_done image schedule trace bytes names records ended before after either image_is schedule_is trace_is)
+
+  pub own_enforce_done : IsEither (Enforce image schedule trace) ended before after
+      → before.files image ≡ Some bytes → before.files schedule ≡ Some names → before.files trace ≡ Some records → IsOwnTrace bytes names records
+      → IsCutShort ended.status ⊎ IsAnswerEnd (replay_text bytes names) ended.status before.sinks after.sinks
+  own_enforce_done either image_is schedule_is trace_is own =
+      subst (λ m. IsCutShort ended.status ⊎ IsAnswerEnd m ended.status before.sinks after.sinks) (own_enforced bytes names records own)
+      (enforce_done image schedule trace bytes names records ended before after either image_is schedule_is trace_is)
 
 -- ---- a link
 

@@ -9,7 +9,7 @@ use Rattle.host_io.specs.Exposed.{WhereExposed}
 use Rattle.run_laws.specs.CompleteRuns.{IsJournaledRun}
 use Rattle.grant_cache.specs.declared.count.CacheLine.{CacheLine}
 use Rattle.thread_laws.specs.LookUps.{AreCountsOf}
-use Rattle.audited_run.specs.AuditedRuns.{IsThreaded, IsDiffering, IsInSerialOrder, IsMadeSo, AreCachesOf}
+use Rattle.audited_run.specs.AuditedRuns.{IsOfThreads, IsDiffering, IsInSerialOrder, IsMadeSo, AreCachesOf}
 use Rattle.audited_run.specs.Texts.{difference_text}
 use Rattle.audited_run.specs.declared.run.Differs.{Differs}
 use Rattle.report_text.specs.CacheTexts.{cache_lines}
@@ -258,7 +258,7 @@ pub record IsRunDone (bytes : List ℕ) (kept : Option Journal) (before after : 
   pub kept_is : kept ≡ Some journal
   pub outcome : Outcome
   pub run : IsJournaledRun image journal.entries outcome
-  pub threads : IsThreaded image journal.entries outcome
+  pub threads : IsOfThreads image journal.entries outcome
   pub out : Takes (report_of outcome) before.out after.out
   pub err : after.err ≡ before.err
 
@@ -275,7 +275,7 @@ pub record IsScheduleDone (bytes : List ℕ) (kept : Option Journal) (before aft
   pub kept_is : kept ≡ Some journal
   pub outcome : Outcome
   pub run : IsJournaledRun image journal.entries outcome
-  pub threads : IsThreaded image journal.entries outcome
+  pub threads : IsOfThreads image journal.entries outcome
   pub schedule : List ℕ
   pub schedule_is : schedule ≡ schedule_of (actors_of journal.entries)
   pub out : Takes schedule before.out after.out
@@ -291,7 +291,7 @@ pub record IsStatsDone (bytes : List ℕ) (kept : Option Journal) (before after 
   pub kept_is : kept ≡ Some journal
   pub outcome : Outcome
   pub run : IsJournaledRun image journal.entries outcome
-  pub threads : IsThreaded image journal.entries outcome
+  pub threads : IsOfThreads image journal.entries outcome
   pub caches : List CacheLine
   pub counted : AreCountsOf journal.entries outcome.actors caches
   pub out : Takes (report_of outcome ++ cache_lines caches) before.out after.out
@@ -333,7 +333,7 @@ pub record IsGenDone (workers : ℕ) (kept : Option Journal) (before after : Sin
   pub kept_is : kept ≡ Some journal
   pub outcome : Outcome
   pub run : IsJournaledRun (workload workers) journal.entries outcome
-  pub threads : IsThreaded (workload workers) journal.entries outcome
+  pub threads : IsOfThreads (workload workers) journal.entries outcome
   pub out : Takes (summary_line workers journal outcome) before.out after.out
   pub err : after.err ≡ before.err
 

@@ -24,11 +24,11 @@ use grant_cache::CacheLine;
 use host_io::{Files, Pace};
 use image_form::{Image, write_image};
 use report_text::{report, write_caches, write_schedule};
+use run_audit::RunJournal;
 use std::alloc::Global;
 use std::sync::Wait;
 use std::thread::Threads;
 use wedge_base::{Bytes, Items, NoMemory, Outcome};
-use wedge_events::Journal;
 
 /// The texts of a command: all of them are made before the first is written.
 pub(crate) fn prepare<R: Threads + Wait + Sync, F: Files, P: Pace + Sync>(
@@ -113,7 +113,7 @@ fn run_image<R: Threads + Wait + Sync, P: Pace + Sync>(
         caches,
         differs,
     } = run_audited(rt, alloc, image, pace)?;
-    let mut texts = texts_of(alloc, &journal, &outcome, &caches, flag)?;
+    let (journal, mut texts) = texts_of(alloc, journal, &outcome, &caches, flag)?;
     add_difference(alloc, &mut texts, &differs)?;
     let kept = KeptRun {
         journal: Some(journal),
@@ -122,36 +122,39 @@ fn run_image<R: Threads + Wait + Sync, P: Pace + Sync>(
     Ok(Ready { kept, texts })
 }
 
-/// The texts of a run with this journal, this outcome and these counts of its caches.
+/// The texts of a run with this journal, this outcome and these counts of its caches; and the journal, whose entries are
+/// put in its order where the schedule is asked for.
 fn texts_of(
     alloc: Global,
-    journal: &Journal,
+    journal: RunJournal,
     outcome: &Outcome,
     caches: &Items<CacheLine>,
     flag: RunFlag,
-) -> Result<Vec<Text>, NoMemory>
+) -> Result<(RunJournal, Vec<Text>), NoMemory>
+    ensures same { IfOk result (λ t. t.0 ≡ journal) }
     ensures texts { IfOk result
-        (λ t. t.items ≡ run_texts flag journal.now outcome.now caches.now) }
-    ensures again { IfOk result (λ t. IsScheduleReadAgain flag journal.now.entries) }
+        (λ t. t.1.items ≡ run_texts flag journal outcome.now caches.now) }
+    ensures again { IfOk result (λ t. IsScheduleReadAgain flag journal.entries) }
 {
     let mut report = report(alloc, outcome)?;
     match flag {
         RunFlag::Plain => {
             let texts = vec![in alloc; text_on(SinkName::Out, report)]?;
-            Ok(texts)
+            Ok((journal, texts))
         }
         RunFlag::Schedule => {
-            let schedule = write_schedule(alloc, journal)?;
+            let ordered = journal.into_journal();
+            let schedule = write_schedule(alloc, &ordered)?;
             let texts = vec![in alloc;
                 text_on(SinkName::Out, schedule),
                 text_on(SinkName::Err, report),
             ]?;
-            Ok(texts)
+            Ok((RunJournal::ordered(alloc, ordered), texts))
         }
         RunFlag::Stats => {
             write_caches(&mut report, caches.as_slice())?;
             let texts = vec![in alloc; text_on(SinkName::Out, report)]?;
-            Ok(texts)
+            Ok((journal, texts))
         }
     }
 }

@@ -1,7 +1,7 @@
 //! What the program ends with.
 
 use audited_run::Differs;
-use wedge_events::Journal;
+use run_audit::RunJournal;
 
 /// The status of what was done.
 pub(crate) const DONE: u8 = 0;
@@ -32,7 +32,7 @@ pub struct Ended {
     /// The exit status.
     pub status: u8,
     /// The journal of the run, where there was one and its texts were written, or their writing failed.
-    pub journal: Option<Journal>,
+    pub journal: Option<RunJournal>,
     /// What differed between the logs and the histories of a run on threads, with the status 7 alone.
     pub differs: Option<Differs>,
 }

@@ -175,9 +175,10 @@ pub fn wedge<R: Threads + Wait + Sync, F: Files, O: Sink, E: Sink, P: Pace + Syn
         (sinks (O.written out.old) (O.faults out.old) (E.written err.old) (E.faults err.old))
         (sinks (O.written out.new) (O.faults out.new) (E.written err.new) (E.faults err.new)) }
 
-    // Where the trace is the run's own, all is permitted, and `enforce` ends as `replay` does.
+    // Where the trace is the run's own, all is permitted, and `emulate` and `enforce` end as `replay` does.
     ensures own_trace { (image schedule trace bytes names records : List ℕ)
-        → command_of (texts words.now) ≡ Some (asking.Enforce image schedule trace)
+        → (command_of (texts words.now) ≡ Some (asking.Emulate image schedule trace))
+        ⊎ (command_of (texts words.now) ≡ Some (asking.Enforce image schedule trace))
         → F.content files.old image ≡ Some bytes → F.content files.old schedule ≡ Some names
         → F.content files.old trace ≡ Some records → IsOwnTrace bytes names records
         → IsCutShort result.status ⊎ IsAnswerEnd (replay_text bytes names) result.status
@@ -333,7 +334,8 @@ pub fn exit_status<R: Threads + Wait + Sync, F: Files, O: Sink, E: Sink, P: Pace
         (sinks (O.written out.old) (O.faults out.old) (E.written err.old) (E.faults err.old))
         (sinks (O.written out.new) (O.faults out.new) (E.written err.new) (E.faults err.new)) }
     ensures own_trace { (image schedule trace bytes names records : List ℕ)
-        → command_of (texts words.now) ≡ Some (asking.Enforce image schedule trace)
+        → (command_of (texts words.now) ≡ Some (asking.Emulate image schedule trace))
+        ⊎ (command_of (texts words.now) ≡ Some (asking.Enforce image schedule trace))
         → F.content files.old image ≡ Some bytes → F.content files.old schedule ≡ Some names
         → F.content files.old trace ≡ Some records → IsOwnTrace bytes names records
         → IsCutShort result ⊎ IsAnswerEnd (replay_text bytes names) result

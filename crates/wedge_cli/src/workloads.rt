@@ -10,11 +10,11 @@ use audited_run::{AuditedRun, run_audited};
 use host_io::Pace;
 use image_form::Image;
 use report_text::summary;
+use run_audit::RunJournal;
 use std::alloc::Global;
 use std::sync::Wait;
 use std::thread::Threads;
 use wedge_base::{NoMemory, Outcome};
-use wedge_events::Journal;
 use workload::generate;
 
 /// Runs the workload of 1 to 200 workers on threads, and returns the line that sums the run up, with its journal. Fails
@@ -63,13 +63,13 @@ fn run_summed<R: Threads + Wait + Sync, P: Pace + Sync>(
 fn summary_texts(
     alloc: Global,
     workers: u32,
-    journal: &Journal,
+    journal: &RunJournal,
     outcome: &Outcome,
 ) -> Result<Vec<Text>, NoMemory>
     ensures { IfOk result
         (λ t. t.items ≡ on_out (summary_line workers journal.now outcome.now)) }
 {
-    let entries = journal.entries.as_slice().len() as u64;
+    let entries = journal.len() as u64;
     let line = summary(alloc, workers, outcome, entries)?;
     let texts = vec![in alloc; text_on(SinkName::Out, line)]?;
     Ok(texts)

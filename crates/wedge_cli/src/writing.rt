@@ -9,8 +9,8 @@ use crate::lines::write_fault_line;
 use crate::status::{DISAGREED, DONE, Ended, WRITE_FAULT};
 use audited_run::Differs;
 use host_io::{Sink, WriteFault, write_whole};
+use run_audit::RunJournal;
 use wedge_base::Bytes;
-use wedge_events::Journal;
 
 /// One of the two sinks.
 #[derive(Clone, Copy, Debug, PartialEq, Eq)]
@@ -32,7 +32,7 @@ pub struct Text {
 /// nothing keeps none of both.
 #[derive(Debug, Drop)]
 pub struct KeptRun {
-    pub journal: Option<Journal>,
+    pub journal: Option<RunJournal>,
     pub differs: Option<Differs>,
 }
 

@@ -4,7 +4,7 @@ ghost use Rattle.std.specs.Prelude.{◌≡◌, ◌<◌, ◌++◌, ◌∷◌, [],
 ghost use Rattle.run_laws.specs.Fuel.{work_left};
 ghost use Rattle.machine.specs.Worlds as worlds;
 ghost use Rattle.wedge_core.specs.Serial.{InSerialOrder, IsSerial, LivesAfter, LivingGoOn, SerialOrderGoesOn};
-ghost use Rattle.world_turns.specs.Progress.{IsNumbered};
+ghost use Rattle.world_turns.specs.Progress.{IsStampedByIndex};
 ghost use Rattle.run_laws.specs.CompleteRuns.{IsJournaledRun};
 ghost use Rattle.wedge_events.specs.Journals.{turns_of};
 
@@ -27,7 +27,7 @@ pub(crate) struct LiveActor {
 /// has not ended.
 pub fn serial(alloc: Global, image: &Image) -> Result<(Journal, Outcome), NoMemory>
     ensures run { IfOk result (λ r. IsJournaledRun image.now r.0.entries r.1) }
-    ensures stamps { IfOk result (λ r. IsNumbered r.0.entries) }
+    ensures stamps { IfOk result (λ r. IsStampedByIndex r.0.entries) }
     ensures order { IfOk result
         (λ r. InSerialOrder (worlds.initial_state image.now) (turns_of r.0.entries)) }
 {

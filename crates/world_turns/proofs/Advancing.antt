@@ -20,7 +20,7 @@ use Rattle.run_laws.proofs.Settling.{AllReady, all_alike, run_ready}
 use Rattle.world_turns.specs.Progress.{Progress, IsRunSoFar, IsTurn, HasEnded, IsWaiting, IsBusy, AreRecorded, TookTurnOf, state_of, rested, rested_in}
 use Rattle.world_turns.specs.declared.turns.Went.{Went}
 use Rattle.world_turns.specs.declared.turns.Went.TheVariants as went
-use Rattle.world_turns.specs.Progress.{IsNumbered}
+use Rattle.world_turns.specs.Progress.{IsStampedByIndex}
 use Rattle.world_turns.specs.Turning.{WasTaken, HasWaited, HasMetBusy}
 use Rattle.world_turns.proofs.AtRest.{family_at_rest, recorded_alike}
 use Rattle.world_turns.proofs.Numbering.{entry, numbered-push, turns_of-numbered, is_numbered, notes_turns, notes_numbered}
@@ -29,7 +29,7 @@ use Rattle.world_turns.proofs.Turning.{run_goes_on, rested_settled, not_ended}
 
 -- what the type of a world keeps
 pub record IsKept (i : Image) (cells : Cells) (actors : List ActorState) (entries : List LogEntry) (stopped : Bool) : Type 0 where
-  pub numbered : IsNumbered entries
+  pub numbered : IsStampedByIndex entries
   pub run : IsRunSoFar (record { state = state_of i cells actors; turns = turns_of entries; stopped = stopped })
   pub family : stopped ≡ false → Family actors
 
@@ -131,7 +131,7 @@ busy_waits_not w name busy waits = elim waits.awaits [
 
 pub record IsUndone (entries popped : List LogEntry) : Type 0 where
   pub turns : turns_of popped ≡ turns_of entries
-  pub numbered : IsNumbered popped
+  pub numbered : IsStampedByIndex popped
 
 pub length-push : {X : Type 0} (xs : List X) (x : X) → length (xs ++ x ∷ []) ≡ length xs + 1
 length-push [] x = refl
@@ -144,7 +144,7 @@ take_push (y ∷ ys) x =
     let one : length ((y ∷ ys) ++ x ∷ []) - 1 ≡ suc (length (ys ++ x ∷ []) - 1) = omega (arith, len) in
     ap (λ n. take n ((y ∷ ys) ++ x ∷ [])) one ∙ ap (λ zs. y ∷ zs) (take_push ys x)
 
-pub undone : (entries more popped : List LogEntry) (t : Turn) → IsNumbered more → turns_of more ≡ turns_of entries ++ t ∷ [] → popped ≡ take (length more - 1) more → IsUndone entries popped
+pub undone : (entries more popped : List LogEntry) (t : Turn) → IsStampedByIndex more → turns_of more ≡ turns_of entries ++ t ∷ [] → popped ≡ take (length more - 1) more → IsUndone entries popped
 undone entries more popped t numbered_ noted is =
     let ts = turns_of entries in
     let are : popped ≡ numbered 1 ts = is ∙ (ap (λ es. take (length es - 1) es) (numbered_ ∙ (ap (numbered 1) noted ∙ numbered-push 1 ts t)) ∙ take_push (numbered 1 ts) (entry (1 + length ts) t)) in

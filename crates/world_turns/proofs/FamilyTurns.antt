@@ -36,7 +36,7 @@ use Rattle.run_laws.proofs.Turns.{ready_else}
 use Rattle.run_laws.proofs.Waits.{IsAwake}
 use Rattle.world_turns.specs.Progress.{IsFirstNamed, IsRecorded, IsTurn, state_of, rested, rested_in}
 use Rattle.world_turns.specs.Progress.{Notes}
-use Rattle.world_turns.specs.Turning.{IsOfCell, IsEventDone, IsLeft, WantsOfFamily, IsBeginning, IsGoingAlone, IsJoining, HasTaken, HasDone, IsDoneAt, FindsBusy, WasTaken, HasWaited, HasMetBusy}
+use Rattle.world_turns.specs.Turning.{IsOfCell, IsEventDone, IsLeft, WantsOfFamily, MayCreate, IsGoingAlone, IsJoining, HasTaken, HasDone, IsDoneAt, FindsBusy, WasTaken, HasWaited, HasMetBusy}
 use Rattle.world_turns.proofs.AtRest.{family_rests, rest_end, recorded_at_rest}
 use Rattle.world_turns.proofs.Turning.{found_set, cell_turn, family_turn, ended_alike}
 
@@ -63,7 +63,7 @@ none_set (y ∷ ys) index a new m there own none = by_name (same y.name m) refl 
 
 -- ---- an event by which another begins
 -- no actor had its name, and none has
-pub begun_fresh : (i : Image) (actors : List ActorState) (index : ℕ) (e : Event) (c : ActorState) (mid : List ActorState) → IsBeginning i actors index e → HasTaken i actors index e (Some c) mid → actor_named mid c.name ≡ None
+pub begun_fresh : (i : Image) (actors : List ActorState) (index : ℕ) (e : Event) (c : ActorState) (mid : List ActorState) → MayCreate i actors index e → HasTaken i actors index e (Some c) mid → actor_named mid c.name ≡ None
 begun_fresh i actors index e c mid b t =
     let is : t.actor ≡ b.actor = one_of (sym t.there ∙ b.there) in
     let same_one : b.begun_ ≡ c = one_of (sym b.begins ∙ (ap (λ x. actor_begun i x e) (sym is) ∙ sym t.begins)) in
@@ -73,7 +73,7 @@ begun_fresh i actors index e c mid b t =
     one_of h = cc
 
 -- one always begins
-pub begins_some : (i : Image) (actors : List ActorState) (index : ℕ) (e : Event) (o : Option ActorState) (mid : List ActorState) → IsBeginning i actors index e → HasTaken i actors index e o mid → o ≡ None → ⊥
+pub begins_some : (i : Image) (actors : List ActorState) (index : ℕ) (e : Event) (o : Option ActorState) (mid : List ActorState) → MayCreate i actors index e → HasTaken i actors index e o mid → o ≡ None → ⊥
 begins_some i actors index e o mid b t none =
     let is : t.actor ≡ b.actor = one_of (sym t.there ∙ b.there) in
     let f : Some b.begun_ ≡ None = sym b.begins ∙ (ap (λ x. actor_begun i x e) (sym is) ∙ (sym t.begins ∙ none)) in
@@ -189,7 +189,7 @@ next_fresh : (i : Image) (cells : Cells) (actors : List ActorState) (index : ℕ
 next_fresh i cells actors index name q child w is = ap (actor_named actors) is ∙ next_is_new actors w.family w.actor (ap (actor_named actors) w.own ∙ w.named)
 
 -- an actor that wants to start a child may
-pub starting : (i : Image) (cells : Cells) (actors : List ActorState) (index : ℕ) (name child : List ℕ) → WantsOfFamily i cells actors index name (want.Start child) → IsBeginning i actors index (event.Start child)
+pub starting : (i : Image) (cells : Cells) (actors : List ActorState) (index : ℕ) (name child : List ℕ) → WantsOfFamily i cells actors index name (want.Start child) → MayCreate i actors index (event.Start child)
 starting i cells actors index name child w = record {
   actor = w.actor;
   inside = w.inside;
@@ -202,7 +202,7 @@ starting i cells actors index name child w = record {
 
 -- one that is about to enter a gate may, in a run of its next name
 run_begins : (i : Image) (cells : Cells) (actors : List ActorState) (index : ℕ) (name run : List ℕ) (q : Want) (e : Event) (kept : Option PrivateMemory) (w : WantsOfFamily i cells actors index name q) → run ≡ child_name w.actor.name (w.actor.starts + 1)
-    → ((a : ActorState) → TakesFit a e) → ((a : ActorState) → actor_begun i a e ≡ run_at a run kept a.phase) → (p : Phase) → w.actor.phase ≡ p → IsAtGate p → IsBeginning i actors index e
+    → ((a : ActorState) → TakesFit a e) → ((a : ActorState) → actor_begun i a e ≡ run_at a run kept a.phase) → (p : Phase) → w.actor.phase ≡ p → IsAtGate p → MayCreate i actors index e
 run_begins i cells actors index name run q e kept w next fits begins (phase.Entering x) at gate = record {
   actor = w.actor;
   inside = w.inside;
@@ -214,7 +214,7 @@ run_begins i cells actors index name run q e kept w next fits begins (phase.Ente
 }
 run_begins i cells actors index name run q e kept w next fits begins p at gate = absurd gate
 
-pub entering : (i : Image) (cells : Cells) (actors : List ActorState) (index : ℕ) (name run : List ℕ) → WantsOfFamily i cells actors index name (want.Enter run) → IsBeginning i actors index (event.Enter run)
+pub entering : (i : Image) (cells : Cells) (actors : List ActorState) (index : ℕ) (name run : List ℕ) → WantsOfFamily i cells actors index name (want.Enter run) → MayCreate i actors index (event.Enter run)
 entering i cells actors index name run w = run_begins i cells actors index name run (want.Enter run) (event.Enter run) None w w.fits.1 (λ a. (tt, tt)) (λ a. refl) w.actor.phase refl w.fits.0
 
 -- ---- a recycled gate
@@ -239,11 +239,11 @@ entry_is cells id q e is = cc
 
 -- whoever wants to enter one may
 pub entering_gate : (i : Image) (cells : Cells) (actors : List ActorState) (index : ℕ) (name run : List ℕ) (id : GateId) (m : PrivateMemory) (e : Event) → WantsOfFamily i cells actors index name (want.Gate id (gate_ask.Enter run m))
-    → event_of cells (ask.Gate id (gate_ask.Enter run m)) ≡ Some e → IsBeginning i actors index e
+    → event_of cells (ask.Gate id (gate_ask.Enter run m)) ≡ Some e → MayCreate i actors index e
 entering_gate i cells actors index name run id m e w comes =
     let memory = unwrap_or (kept_in cells id).kept m in
     let x : Event = event.Gate id (gate_ask.Enter run m) (gate_replies.Entered memory) in
-    subst (IsBeginning i actors index) (entry_is cells id (gate_ask.Enter run m) e comes)
+    subst (MayCreate i actors index) (entry_is cells id (gate_ask.Enter run m) e comes)
     (run_begins i cells actors index name run (want.Gate id (gate_ask.Enter run m)) x (Some memory) w w.fits.1 (λ a. (tt, tt)) (λ a. refl) w.actor.phase refl w.fits.0)
 
 -- and whoever wants to leave one leaves it alone

@@ -11,7 +11,7 @@ use Rattle.wedge_events.specs.declared.events.Event.{Event}
 use Rattle.std.proofs.lemmas.List.{map-append, length-map}
 use Rattle.run_laws.proofs.Settling.{whole_alike, outcome_alike}
 use Rattle.world_turns.specs.Progress.{LeadsTo}
-use Rattle.world_turns.specs.Progress.{IsNumbered, Notes}
+use Rattle.world_turns.specs.Progress.{IsStampedByIndex, Notes}
 use Rattle.run_laws.specs.CompleteRuns.{RootGoesOn, IsJournaledRun}
 use Rattle.world_turns.proofs.Replays.{complete_of}
 
@@ -27,7 +27,7 @@ pub turns_of-numbered : (stamp : ℕ) (ts : List Turn) → turns_of (numbered st
 turns_of-numbered stamp [] = refl
 turns_of-numbered stamp (t ∷ ts) = ap (λ us. t ∷ us) (turns_of-numbered (stamp + 1) ts)
 
-pub is_numbered : (ts : List Turn) (entries : List LogEntry) → entries ≡ numbered 1 ts → IsNumbered entries
+pub is_numbered : (ts : List Turn) (entries : List LogEntry) → entries ≡ numbered 1 ts → IsStampedByIndex entries
 is_numbered ts entries is = is ∙ ap (numbered 1) (sym (ap turns_of is ∙ turns_of-numbered 1 ts))
 
 -- an entry that is added tells its turn, and is numbered by its index
@@ -35,7 +35,7 @@ pub notes_turns : (old new : List LogEntry) (name : List ℕ) (e : Event) → No
 notes_turns old new name e noted =
     ap turns_of noted ∙ map-append (λ (x : LogEntry). record { actor = x.actor; event = x.event }) old (entry (length old + 1) (record { actor = name; event = e }) ∷ [])
 
-pub notes_numbered : (old new : List LogEntry) (name : List ℕ) (e : Event) → Notes old name e new → IsNumbered old → IsNumbered new
+pub notes_numbered : (old new : List LogEntry) (name : List ℕ) (e : Event) → Notes old name e new → IsStampedByIndex old → IsStampedByIndex new
 notes_numbered old new name e noted numbered_old =
     let t : Turn = record { actor = name; event = e } in
     let len : length (turns_of old) ≡ length old = length-map old (λ (x : LogEntry). record { actor = x.actor; event = x.event }) in

@@ -68,8 +68,8 @@ IsIndexOf actors name index = (a : ActorState) × IsFirstNamed actors name index
 -- ---- the entries of a world
 
 -- stamps are the indices of the entries, from 1
-abbrev pub IsNumbered : List LogEntry → Type 0
-IsNumbered entries = entries ≡ numbered 1 (turns_of entries)
+abbrev pub IsStampedByIndex : List LogEntry → Type 0
+IsStampedByIndex entries = entries ≡ numbered 1 (turns_of entries)
 
 -- an entry is added, for a turn of this actor with this event
 abbrev pub Notes : List LogEntry → List ℕ → Event → List LogEntry → Type 0

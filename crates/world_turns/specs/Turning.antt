@@ -99,7 +99,7 @@ pub record WantsOfFamily (i : Image) (cells : Cells) (actors : List ActorState) 
   pub recorded : IsRecorded cells actor
 
 -- it may take an event by which another begins, of a name that no actor has
-pub record IsBeginning (i : Image) (actors : List ActorState) (index : ℕ) (e : Event) : Type 0 where
+pub record MayCreate (i : Image) (actors : List ActorState) (index : ℕ) (e : Event) : Type 0 where
   pub actor : ActorState
   pub inside : index < length actors
   pub there : slice_get actors index ≡ Some actor

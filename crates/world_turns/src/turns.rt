@@ -16,7 +16,7 @@ ghost use Rattle.machine.specs.Worlds.{actor_named, is_ended};
 ghost use Rattle.run_laws.specs.Written.{TurnAppendsOwn, TurnWritesOwn};
 ghost use Rattle.world_turns.specs.Progress.{IsTurn, HasEnded, IsIndexOf, IsWaiting, IsBusy, AreRecorded, rested, TookTurnOf};
 ghost use Rattle.world_turns.specs.Progress.{Notes};
-ghost use Rattle.world_turns.specs.Turning.{event_asked, IsOfCell, IsOfFamily, IsEventDone, IsLeft, HasGoneOn, StillWaits, IsAwakeAt, WantsOfFamily, IsBeginning, IsGoingAlone, IsJoining, IsTaking, HasTaken, HasDone, IsDoneAt, FindsBusy, WasTaken, HasWaited, HasMetBusy};
+ghost use Rattle.world_turns.specs.Turning.{event_asked, IsOfCell, IsOfFamily, IsEventDone, IsLeft, HasGoneOn, StillWaits, IsAwakeAt, WantsOfFamily, MayCreate, IsGoingAlone, IsJoining, IsTaking, HasTaken, HasDone, IsDoneAt, FindsBusy, WasTaken, HasWaited, HasMetBusy};
 
 use crate::error::NoTurn;
 use crate::residents::{Residents, drop_all};
@@ -414,7 +414,7 @@ fn begin(
     index: usize,
     event: Event,
 ) -> Result<(), NoMemory>
-    requires { IsBeginning program.now residents.old index event }
+    requires { MayCreate program.now residents.old index event }
     ensures done { OnOk result (HasDone program.now residents.old index event entries.old.items
         name.now residents.new entries.new.items) }
     ensures kept { OnErr result (entries.new.items ≡ entries.old.items) }

@@ -3,7 +3,7 @@
 ghost use Rattle.std.specs.Prelude.{◌≡◌, ◌<◌, ◌++◌, ◌∷◌, [], List, length, IfOk, false};
 ghost use Rattle.wedge_events.specs.declared.events.Turn.{Turn as ATurn};
 ghost use Rattle.world_turns.specs.Progress.{LeadsTo, initial_progress};
-ghost use Rattle.world_turns.specs.Progress.{IsNumbered};
+ghost use Rattle.world_turns.specs.Progress.{IsStampedByIndex};
 ghost use Rattle.wedge_events.specs.Journals.{turns_of};
 
 use crate::residents::Residents;
@@ -32,7 +32,7 @@ impl<'a> Model for World<'a> {
     ghost use Rattle.std.specs.Prelude.{◌≡◌, false};
     ghost use Rattle.run_laws.specs.FamilyTrees.{Family};
     ghost use Rattle.world_turns.specs.Progress.{Progress, IsRunSoFar};
-    ghost use Rattle.world_turns.specs.Progress.{IsNumbered};
+    ghost use Rattle.world_turns.specs.Progress.{IsStampedByIndex};
     ghost use Rattle.wedge_events.specs.Journals.{turns_of};
 
     ghost Value = { Progress };
@@ -44,7 +44,7 @@ impl<'a> Model for World<'a> {
     } };
 
     ghost invariant = { λ w. record {
-      numbered : IsNumbered w.entries.items;
+      numbered : IsStampedByIndex w.entries.items;
       run : IsRunSoFar (record {
         state = record { image = w.program; cells = w.cells; actors = w.residents };
         turns = turns_of w.entries.items;
@@ -74,7 +74,7 @@ impl<'a> World<'a> {
 
     /// Consumes the world and returns the entries of the turns taken so far.
     pub fn into_entries(self) -> Vec<LogEntry>
-        ensures numbered { IsNumbered result.items }
+        ensures numbered { IsStampedByIndex result.items }
         ensures turns { turns_of result.items ≡ self.entry.turns }
         ensures run { self.entry.stopped ≡ false
             → LeadsTo (turns_of result.items) self.entry.state }

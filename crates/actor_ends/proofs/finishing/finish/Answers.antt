@@ -8,8 +8,8 @@ use Rattle.actor_task.specs.Tasks.{TaskState}
 use Rattle.actor_task.proofs.Progressing.{returned_so}
 use Rattle.actor_ends.proofs.finishing.finish.Goals as goal
 
-pub returns : goal.returns
-returns g c =
+pub returns-clause-returned : goal.returns-clause-returned
+returns-clause-returned g c =
     let i = g.I.RunOf.image in
     let n = g.T.TableOf.table.slots in
     let way = c.task.inside.run.progress in

@@ -1,4 +1,5 @@
-use Rattle.std.proofs.Common.{ap}
+use Rattle.std.proofs.Common.{ap, ◌∙◌}
+use Rattle.actor_task.proofs.Progressing.{if_ok}
 use Rattle.wedge_events.specs.declared.cells.GateReply.TheVariants as gate_reply
 use Rattle.actor_task.specs.Tasks.{TaskState}
 use Rattle.actor_task.proofs.EntriesFit.{gate_leave_ends}
@@ -16,3 +17,8 @@ pub finish-requires-clause-tracked : goal.finish-requires-clause-tracked
 finish-requires-clause-tracked g c =
     still_tracked g.T.TableOf.table.slots c.args.pass g.I.RunOf.image c.args.task.progress c.take_plain.new.self.progress c.in_ok-entry.entry c.requires.tracked (ap (λ (k : TaskState). k.progress) c.in_ok-take_plain.ensures)
     (event_on_no_slot c.in_ok-entry.entry (event.Gate c.args.gate (gate_ask.Leave c.args.end c.args.memory) gate_reply.Left) c.in_ok-entry.ensures.event (λ slot at. cc))
+
+pub returns-clause-left : goal.returns-clause-left
+returns-clause-left g c =
+    let is = ap (λ (k : TaskState). k.progress.entries) c.in_ok-take_plain.ensures in
+    if_ok _ _ c.finish.result (λ t log. record { entry = c.in_ok-entry.entry; kept_ = c.in_ok-entry.ensures.kept; log_ = log ∙ is }) c.finish.ensures.log

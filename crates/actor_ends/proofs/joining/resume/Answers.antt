@@ -1,8 +1,9 @@
-use Rattle.std.proofs.Common.{rules, sym, subst, ap, length}
+use Rattle.std.proofs.Common.{rules, Ok, sym, subst, ap, length, ◌∙◌}
+use Rattle.thread_laws.specs.ActorProgresses.{after_run}
 use Rattle.actor_task.specs.Tasks.{Waits, IsIndexed}
-use Rattle.actor_task.proofs.Progressing.{kept_resumes, child_indexed, learned_within, waits_so}
+use Rattle.actor_task.proofs.Progressing.{kept_resumes, child_indexed, learned_if, learned_within, waits_so}
 use Rattle.actor_run.specs.Runs.{RunState}
-use Rattle.actor_task.specs.Tasks.{IsBesideSlots}
+use Rattle.actor_task.specs.Tasks.{IsBesideSlots, TaskState}
 use Rattle.actor_task.proofs.Tracking.{beside_run}
 use Rattle.actor_ends.proofs.joining.resume.Goals as goal
 
@@ -27,5 +28,14 @@ invariant_of-result g c = λ going.
     kept_resumes g.I.RunOf.image c.task.inside.run.progress _ c.task.inside.created.items _ _ c.args.number c.index_of-index.result c.in_ok-end.end (c.task.invariant w.going) w.child c.index_of-index.ensures.is c.in_ok-end.ensures.learned
     (waits_so c.task.inside.run.progress.state.phase c.args.number w.waits) (search rules)
 
-pub returns : goal.returns
-returns g c = subst (λ k. IsBesideSlots k.progress c.resume.new.self.progress) c.task.view_is (beside_run c.task.inside.run.progress c.resume.new.self.progress c.args.number c.in_ok-end.end (ap (λ (x : RunState). x.progress) c.resume.ensures))
+pub returns-clause-beside : goal.returns-clause-beside
+returns-clause-beside g c = subst (λ k. IsBesideSlots k.progress c.resume.new.self.progress) c.task.view_is (beside_run c.task.inside.run.progress c.resume.new.self.progress c.args.number c.in_ok-end.end (ap (λ (x : RunState). x.progress) c.resume.ensures))
+
+pub returns-clause-resumed : goal.returns-clause-resumed
+returns-clause-resumed g c =
+    let end = c.in_ok-end.end in
+    record {
+      end_ = end;
+      learned_ = learned_if c.task.inside.created.items _ c.args.number c.index_of-index.result (Ok end) c.index_of-index.ensures.is c.in_ok-end.ensures.learned;
+      progress_ = ap (λ (x : RunState). x.progress) c.resume.ensures ∙ ap (λ (k : TaskState). after_run k.progress c.args.number end) c.task.view_is;
+    }

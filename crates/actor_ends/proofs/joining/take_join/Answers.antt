@@ -40,8 +40,8 @@ invariant_of-task g c = λ still.
     (join_own r c.args.number j.end_ c.args.entry w.wants j.entry_) j.entry_ refl)
     c.take_alone.ensures.entered c.take_alone.ensures.err still
 
-pub returns : goal.returns
-returns g c =
+pub returns-clause-beside : goal.returns-clause-beside
+returns-clause-beside g c =
     let j = c.requires.joins in
     let r = c.task.inside.run.progress in
     let none = event_on_no_slot c.args.entry (event.Join c.args.number j.end_.how j.end_.fuel) j.entry_.joins (λ slot at. cc) in

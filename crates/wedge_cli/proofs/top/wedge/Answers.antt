@@ -1,6 +1,7 @@
+use Rattle.std.proofs.Common.{inl, inr}
 use Rattle.wedge_cli.proofs.GenEnds.{gen_done, gen_again, gen_ended}
 use Rattle.wedge_cli.proofs.RunEnds.{run_done, schedule_done, stats_done, run_again, run_ended}
-use Rattle.wedge_cli.proofs.Statuses.{replay_done, log_done, emulate_done, enforce_done, own_done, enforced_only, link_answered, link_done, derive_done, analyze_done, rejected_only, name_only, elf_only, usage_only, image_only, read_only, write_only, unwritten, differs_only, differs_7}
+use Rattle.wedge_cli.proofs.Statuses.{replay_done, log_done, emulate_done, enforce_done, own_emulate_done, own_enforce_done, enforced_only, link_answered, link_done, derive_done, analyze_done, rejected_only, name_only, elf_only, usage_only, image_only, read_only, write_only, unwritten, differs_only, differs_7}
 use Rattle.wedge_cli.proofs.top.wedge.Goals as goal
 
 pub returns-clause-run : goal.returns-clause-run
@@ -85,7 +86,10 @@ returns-clause-enforce g c = λ image schedule trace bytes names records asked i
 
 pub returns-clause-own_trace : goal.returns-clause-own_trace
 returns-clause-own_trace g c = λ image schedule trace bytes names records asked image_is schedule_is trace_is own.
-    own_done image schedule trace bytes names records _ _ _ (c.does.ensures.answer.command _ asked) image_is schedule_is trace_is own
+    elim asked [
+      | inl emulates ↦ own_emulate_done image schedule trace bytes names records _ _ _ (c.does.ensures.answer.command _ emulates) image_is schedule_is trace_is own
+      | inr enforces ↦ own_enforce_done image schedule trace bytes names records _ _ _ (c.does.ensures.answer.command _ enforces) image_is schedule_is trace_is own
+    ]
 
 pub returns-clause-enforced_only : goal.returns-clause-enforced_only
 returns-clause-enforced_only g c = λ a asked is. enforced_only a _ _ _ (c.does.ensures.answer.command a asked) is

@@ -5,12 +5,12 @@ use Rattle.machine.specs.Actors.{root}
 use Rattle.machine.specs.Cells.{opening_cells}
 use Rattle.run_laws.specs.FamilyTrees.{Family}
 use Rattle.run_laws.proofs.FamilyRuns.{opening_family}
-use Rattle.world_turns.specs.Progress.{IsNumbered}
+use Rattle.world_turns.specs.Progress.{IsStampedByIndex}
 use Rattle.world_turns.proofs.Runs.{opened_is_run}
 use Rattle.world_turns.proofs.world.open_world.Goals as goal
 
-none : (es : List LogEntry) → es ≡ [] → IsNumbered es
-none es e = subst IsNumbered (sym e) refl
+none : (es : List LogEntry) → es ≡ [] → IsStampedByIndex es
+none es e = subst IsStampedByIndex (sym e) refl
 
 pub invariant_of-result : goal.invariant_of-result
 invariant_of-result c =

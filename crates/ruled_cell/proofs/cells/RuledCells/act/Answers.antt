@@ -1,7 +1,6 @@
 use Rattle.std.proofs.Common.{rules, ap, sym, ◌∙◌, subst, ◌≡◌, ◌∷◌, []}
 use Rattle.atomic_table.specs.Table.{rest}
-use Rattle.journal_cell.specs.Histories.{entry_at}
-use Rattle.ruled_cell.proofs.Lists.{ok_two}
+use Rattle.journal_cell.specs.Histories.{IsHistory, entry_at}
 use Rattle.ruled_cell.proofs.cells.RuledCells.act.Goals as goal
 
 pub slot_mut-inside-requires : goal.slot_mut-inside-requires
@@ -12,4 +11,6 @@ returns-clause-ok g c = let k = c.slot_mut-inside.result.now in let bare : rest 
     let carried = c.slot_mut-inside.ensures.value ∙ ap (λ l. (c.args.cell, k) ∷ l) bare in let state = c.state.ensures.state in
     let finds = subst (g.M.AskMaker.finds c.args.maker.now) state c.ask-ask.ensures.finds in
     let asked = c.ask-ask.ensures.makes ∙ ap (g.M.AskMaker.makes c.args.maker.now) state in
-    ok_two _ _ _ c.enter.result (λ e a b. (k, carried, finds, a ∙ ap (entry_at g.O.Object.reply k c.args.actor.now) asked, λ i. (c.args.cell, b i) ∷ bare i)) c.enter.ensures.entry c.enter.ensures.kept
+    let kept = c.in_ok-entry.ensures.kept in
+    let legal = subst (λ j. IsHistory (g.O.Object.fits g.I.RunOf.image) g.O.Object.reply g.O.Object.next (g.O.Object.opening g.I.RunOf.image j.name) 0 j.history) kept c.state-2.ensures.legal in
+    (k, carried, finds, c.in_ok-entry.ensures.entry ∙ ap (entry_at g.O.Object.reply k c.args.actor.now) asked, λ i. (c.args.cell, kept i) ∷ bare i, legal)

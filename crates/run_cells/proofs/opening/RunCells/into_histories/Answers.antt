@@ -1,7 +1,7 @@
 use Rattle.std.proofs.Common.{rules, ◌≡◌, ◌++◌, sym, ap, subst, ◌∙◌}
 use Rattle.std.specs.Prelude.{All}
 use Rattle.std.proofs.lemmas.List.Elements.{All-append}
-use Rattle.thread_laws.specs.Replaying.{IsKept}
+use Rattle.thread_laws.specs.Replaying.{IsLegalHistory}
 use Rattle.run_cells.specs.TagPasses.{all_entered}
 use Rattle.run_cells.proofs.Kept.{all_are_kept}
 use Rattle.run_cells.proofs.TagPasses.{closed_named, closed_ruled}
@@ -14,7 +14,7 @@ pub returns-clause-kept : goal.returns-clause-kept
 returns-clause-kept g c =
     let i = g.I.RunOf.image in
     let is : c.new.result ≡ c.in_ok-cells.cells.items ++ c.add_lives.new.cells.items = search rules in
-    all_are_kept i c.new.result (subst (All (IsKept i)) (sym is) (All-append (IsKept i) c.in_ok-cells.cells.items c.add_lives.new.cells.items c.in_ok-cells.ensures.kept c.in_ok-add_lives.ensures))
+    all_are_kept i c.new.result (subst (All (IsLegalHistory i)) (sym is) (All-append (IsLegalHistory i) c.in_ok-cells.cells.items c.add_lives.new.cells.items c.in_ok-cells.ensures.kept c.in_ok-add_lives.ensures))
 
 pub returns-clause-ruled : goal.returns-clause-ruled
 returns-clause-ruled g c =

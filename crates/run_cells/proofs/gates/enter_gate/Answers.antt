@@ -1,0 +1,10 @@
+use Rattle.run_cells.specs.Entries.{IsCreatingEntry, gate_entry_of}
+use Rattle.run_cells.proofs.EntriesFit.{gate_entered, if_entry}
+use Rattle.run_cells.proofs.gates.enter_gate.Goals as goal
+
+pub returns-clause-entry : goal.returns-clause-entry
+returns-clause-entry g c =
+    let r = c.args.run.now.progress in
+    if_entry (IsCreatingEntry g.I.RunOf.image r) (gate_entry_of c.args.gate c.in_ok-entry.entry) c.gate_entry.result c.gate_entry.ensures
+    (gate_entered g.I.RunOf.image r c.args.gate c.args.child c.args.memory c.args.locked.now c.pass_of-pass.result c.in_ok-entry.entry
+    c.requires.wants c.requires.fits c.affords_gate.ensures c.pass_of-pass.ensures.name c.pass_of-pass.ensures.clock c.in_ok-entry.ensures.entry c.in_ok-entry.ensures.legal)
