@@ -1,6 +1,6 @@
 //! An actor: the root, a child, or the run of a gate.
 
-ghost use Rattle.std.specs.Prelude.{◌≡◌, ◌≤◌, ◌++◌, ◌∷◌, [], length, map, IfOk, OnOk, OnErr, false};
+ghost use Rattle.std.specs.Prelude.{◌≡◌, ◌≤◌, ◌++◌, ◌∷◌, [], length, map, IfOk, OnOk, OnErr, Some, true, false};
 ghost use Rattle.std.specs.List.{AllByRecursion};
 ghost use Rattle.image_form.specs.Rules.{IsTag};
 ghost use Rattle.machine.specs.Preparation.{with_declared};
@@ -18,6 +18,7 @@ ghost use Rattle.machine.specs.Take.{pair, asks};
 
 use crate::children::Children;
 use crate::copy_grant::is_copy_alone;
+use crate::ended::EndedActor;
 use crate::opening::StreamLabel;
 use crate::phase::Phase;
 use crate::registers::SP;
@@ -39,7 +40,7 @@ use wedge_events::{Ask, Live, Want};
 /// An actor: its sheet, its registers, its fuel, the actors that it began and has not joined, and
 /// what it is at. Its private memory is kept beside it. Once it ran out of memory it has stopped,
 /// and takes no further part in a run.
-#[derive(Debug, Drop)]
+#[derive(Debug)]
 pub struct Actor {
     pub alloc: Global,
     pub name: ActorName,
@@ -62,6 +63,30 @@ pub struct Actor {
     pub unjoined: Children,
     pub phase: Phase,
     pub stopped: bool,
+}
+
+// By hand, so that who drops an actor calls this function: a derived one would be proved again at each place.
+impl Drop for Actor {
+    fn drop(self) {
+        let Self {
+            alloc: _,
+            name: _,
+            compartment: _,
+            run_of: _,
+            sheet: _,
+            made: _,
+            gates: _,
+            labels: _,
+            drafts: _,
+            hart: _,
+            fuel: _,
+            denials: _,
+            starts: _,
+            unjoined: _,
+            phase: _,
+            stopped: _,
+        } = self;
+    }
 }
 
 impl Model for Actor {
@@ -350,5 +375,53 @@ fn code_number(code: Code) -> u32
         Code::Deep => 4,
         Code::NoSuch => 5,
         Code::Bad => 6,
+    }
+}
+
+impl Actor {
+    /// Consumes an actor that has ended, and returns what is left of it. It takes no memory.
+    pub fn into_ended(self) -> EndedActor
+        requires { has_ended self.phase ≡ true }
+        ensures end { end_reached self.phase ≡ Some result.end }
+        ensures rest { result ≡ record {
+          name = self.name;
+          compartment = self.compartment;
+          end = result.end;
+          pc = self.hart.pc;
+          fuel = self.fuel;
+          denials = self.denials;
+          labels = self.labels;
+        } }
+    {
+        let Self {
+            alloc: _alloc,
+            name,
+            compartment,
+            run_of: _run_of,
+            sheet: _sheet,
+            made: _made,
+            gates: _gates,
+            labels,
+            drafts: _drafts,
+            hart,
+            fuel,
+            denials,
+            starts: _starts,
+            unjoined: _unjoined,
+            phase,
+            stopped: _stopped,
+        } = self;
+        let Phase::Ended(end) = phase else {
+            unreachable!()
+        };
+        EndedActor {
+            name,
+            compartment,
+            end,
+            pc: hart.pc,
+            fuel,
+            denials,
+            labels,
+        }
     }
 }
