@@ -526,6 +526,7 @@ OTHERS = [
             ("actor_ends/Joins", "A join logs just its entry, and a caller goes on with the end that it learned."),
             ("actor_ends/Leaving", "`LeavesCell`: what the cell of a recycled gate has more is what its run logged."),
             ("gate_runner/Endings", ""),
+            ("gate_runner/Joints", ""),
         ],
     ),
 ]

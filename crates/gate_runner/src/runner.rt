@@ -6,6 +6,8 @@ ghost use Rattle.wedge_events.specs.declared.events.Want.{Want as AWant};
 ghost use Rattle.gate_runner.specs.Gathering.{IsGathered};
 ghost use Rattle.actor_task.specs.Returning.{IsReturned};
 ghost use Rattle.gate_runner.specs.Endings.{IsAtEnd};
+ghost use Rattle.gate_runner.specs.Joints.{IsJointDone};
+ghost use Rattle.actor_ends.specs.Joins.{HasJoined};
 ghost use Rattle.actor_task.specs.Steps.{IsStep, IsJointStep};
 ghost use Rattle.actor_task.specs.Tasks.{IsBesideSlots, IsUnlocked, Wants, WantsEntry};
 
@@ -132,7 +134,8 @@ fn do_joint<
 ) -> Result<ActorTask<I, T>, NoMemory>
     requires step { IsStep task step }
     requires joint { IsJointStep step }
-    ensures { IfOk result (λ k. IsBesideSlots task.progress k.progress) }
+    ensures beside { IfOk result (λ k. IsBesideSlots task.progress k.progress) }
+    ensures done { IfOk result (IsJointDone I.image task step) }
 {
     match step {
         Step::Waits { number } => resume(task, all.rt, number),
@@ -151,7 +154,8 @@ fn join<'e, I: RunOf, T: TableOf, R: Threads, P: Pace>(
     number: u32,
 ) -> Result<ActorTask<I, T>, NoMemory>
     requires { Wants task (AWant.Join number) }
-    ensures { IfOk result (λ k. IsBesideSlots task.progress k.progress) }
+    ensures beside { IfOk result (λ k. IsBesideSlots task.progress k.progress) }
+    ensures joined { IfOk result (HasJoined I.image number task) }
 {
     let mut task = task;
     all.pace.before(task.name());

@@ -7,7 +7,7 @@ use Rattle.wedge_events.specs.declared.events.CellName.TheVariants.{Slot}
 use Rattle.journal_cell.specs.declared.entry.Entry.{Entry}
 use Rattle.journal_cell.specs.declared.entry.Pass.{Pass}
 use Rattle.wedge_events.specs.declared.events.CellName.{CellName}
-use Rattle.journal_cell.specs.Histories.{CellState, entry_at}
+use Rattle.journal_cell.specs.Histories.{CellState, IsHistory, entry_at}
 use Rattle.ruled_cell.specs.declared.visits.Visit.{Visit}
 use Rattle.ruled_cell.specs.declared.passes.PassView.{PassView}
 use Rattle.ruled_cell.specs.declared.passes.PassOrigin.{PassOrigin}
@@ -87,6 +87,11 @@ module _ {Q R : Type 0} where
     pub others : List (Visit Q R)
     pub view_ : w ≡ after_visit c x others v
     pub apart : HasNoneBy (pass_numbers v) others
+
+  -- these are a legal history of the cell of this name, from its opening state on
+  abbrev pub IsHistoryOf : {S : Type 0} → (S → Q → Type 0) → (S → Q → R) → (S → Q → S) → (CellName → S)
+      → CellName → List (Entry Q R) → Type 0
+  IsHistoryOf fits reply next opening name es = IsHistory fits reply next (opening name) 0 es
 
   -- An entry is last in the history of the cell, which is legal, and is what the ask that was made of the state
   -- before it leads to. The maker's finding holds of that state.

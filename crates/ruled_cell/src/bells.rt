@@ -22,25 +22,29 @@ const CROWD: u64 = 4;
 const TURNS: u64 = 64;
 
 impl<O: Object, I: RunOf> RuledCells<O, I> {
-    /// Stays outside while many wait for a cell, until it is let in.
+    /// Stays outside while many wait for a cell, until it is let in. Returns how many of its tickets were drawn, as it
+    /// looked.
     #[inline(always)]
-    pub(crate) fn come_in<R: Wait>(&self, rt: &R, seat: &mut PassSeat<O, I>, cell: usize)
+    pub(crate) fn come_in<R: Wait>(&self, rt: &R, seat: &mut PassSeat<O, I>, cell: usize) -> u64
         requires { (seat.old.table_id ≡ self.now) × (cell < seat.old.table_id.slots) }
         ensures same { (seat.new.table_id ≡ seat.old.table_id) × (seat.new.id ≡ seat.old.id) }
         ensures me { seat.new.me ≡ seat.old.me }
     {
-        if self.is_crowded(cell) {
+        let (drawn, is_crowded) = self.look(cell);
+        if is_crowded {
             self.stay_outside(rt, seat, cell);
         }
+        drawn
     }
 
-    /// Whether many tickets of a cell are out.
+    /// Returns how many tickets of a cell were drawn, and whether many of them are out.
     #[inline(always)]
-    fn is_crowded(&self, cell: usize) -> bool
+    fn look(&self, cell: usize) -> (u64, bool)
         requires { cell < self.now.slots }
     {
         let served = self.table.shared.peek(16 * cell + 8);
-        self.table.shared.peek(16 * cell).saturating_sub(served) >= CROWD
+        let drawn = self.table.shared.peek(16 * cell);
+        (drawn, drawn.saturating_sub(served) >= CROWD)
     }
 
     /// Parks at the door of a cell, unless few wait by then.
@@ -55,7 +59,8 @@ impl<O: Object, I: RunOf> RuledCells<O, I> {
         self.change(seat, count, 1);
         // The door is read before the tickets are, so that an opening between them is not missed.
         let opened = self.table.shared.peek(door);
-        if self.is_crowded(cell) {
+        let (_, is_crowded) = self.look(cell);
+        if is_crowded {
             self.table
                 .shared
                 .park(rt, door, (opened % 4294967296) as u32);
