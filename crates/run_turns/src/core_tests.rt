@@ -9,7 +9,7 @@ use wedge_base::{
     ActorName, Bytes, FdEntry, Items, MemoryRange, NoMemory, Outcome, Procedure, Right, Slot,
     TagEntry,
 };
-use wedge_core::{ReplayFault, Why, open_world, outcome, replay, serial, turn};
+use wedge_core::{ReplayFault, Why, World, open_world, outcome, replay, serial, turn};
 use wedge_events::Journal;
 
 /// LUI t0, 0x40000; ADDI t0, t0, 0; ADDI t1, zero, 5; SW t1, 0(t0).
@@ -45,19 +45,42 @@ fn image(alloc: Global, right: Option<Right>) -> Result<Image, Fail> {
     Ok(finish_image(alloc, parts).ok().ok_or("an image")?)
 }
 
-/// The first bytes of the tag after the root's turns, and the number of the last one that it took.
-fn first_bytes(alloc: Global, image: &Image) -> Result<(Bytes, usize), Fail> {
-    let root = ActorName::root(alloc)?;
-    let mut world = open_world(alloc, image).ok().ok_or("a world")?;
+/// The bytes of the tag in a slot of an image's initial state, if one lives there.
+fn opened_bytes(alloc: Global, image: &Image, slot: Slot) -> Result<Option<Bytes>, Fail> {
+    let world = open_world(alloc, image).ok().ok_or("a world")?;
+    Ok(world.cells().copy_bytes(slot)?)
+}
+
+/// The first six bytes of the tag in the first slot.
+fn first_bytes(alloc: Global, world: &World) -> Result<Bytes, Fail> {
+    let bytes = world.cells().copy_bytes(Slot(0))?.ok_or("a tag")?;
+    let first = bytes.as_slice().get(..6).ok_or("six bytes")?;
+    Ok(Bytes::from_slice(alloc, first)?)
+}
+
+/// Asks for four turns of the root, and returns the number of the last one that it took.
+fn take_turns(world: &mut World, root: &ActorName) -> usize {
     let mut taken = 0;
     for number in 1..5 {
-        if turn(&mut world, &root).is_ok() {
+        if turn(world, root).is_ok() {
             taken = number;
         }
     }
-    let bytes = world.cells().copy_bytes(Slot(0))?.ok_or("a tag")?;
-    let first = bytes.as_slice().get(..6).ok_or("six bytes")?;
-    Ok((Bytes::from_slice(alloc, first)?, taken))
+    taken
+}
+
+/// The first bytes of the tag after the root's turns, and the number of the last one that it took.
+fn bytes_after_turns(alloc: Global, image: &Image) -> Result<(Bytes, usize), Fail> {
+    let root = ActorName::root(alloc)?;
+    let mut world = open_world(alloc, image).ok().ok_or("a world")?;
+    let taken = take_turns(&mut world, &root);
+    Ok((first_bytes(alloc, &world)?, taken))
+}
+
+/// The same of the image with this right of the root.
+fn after_turns(alloc: Global, right: Option<Right>) -> Result<(Bytes, usize), Fail> {
+    let image = image(alloc, right)?;
+    bytes_after_turns(alloc, &image)
 }
 
 /// The root has two turns: its store and its end.
@@ -67,8 +90,7 @@ fn check(
     right: Option<Right>,
     wanted: &[u8; 6],
 ) -> Result<(), Fail> {
-    let image = image(alloc, right)?;
-    let (bytes, taken) = first_bytes(alloc, &image)?;
+    let (bytes, taken) = after_turns(alloc, right)?;
     assert_eq!(rt; bytes.as_slice(), wanted.as_slice());
     assert_eq!(rt; taken, 2);
     Ok(())
@@ -85,12 +107,17 @@ fn store_without_it_changes_nothing(rt: HostRuntime) -> Result<(), Fail> {
     check(&rt, rt.alloc(), None, &[1, 2, 3, 4, 9, 0])
 }
 
+/// Whether no tag lives in a slot of the image's initial state.
+fn has_no_tag(alloc: Global, slot: Slot) -> Result<bool, Fail> {
+    let image = image(alloc, None)?;
+    Ok(opened_bytes(alloc, &image, slot)?.is_none())
+}
+
 #[test]
 fn a_slot_without_a_tag_has_no_bytes(rt: HostRuntime) -> Result<(), Fail> {
-    let image = image(rt.alloc(), None)?;
-    let world = open_world(rt.alloc(), &image).ok().ok_or("a world")?;
-    assert!(rt; world.cells().copy_bytes(Slot(1))?.is_none());
-    assert!(rt; world.cells().copy_bytes(Slot(4095))?.is_none());
+    for slot in [1, 4095] {
+        assert!(rt; has_no_tag(rt.alloc(), Slot(slot))?);
+    }
     Ok(())
 }
 
@@ -126,13 +153,21 @@ fn replay_of(
     Ok(fuel_left(&outcome))
 }
 
+/// How many turns a run of the image has, the fuel that is left at its end, and what its schedule replays to.
+fn run_and_replay(
+    alloc: Global,
+) -> Result<(usize, Option<u32>, Result<Option<u32>, ReplayFault>), Fail> {
+    let image = image(alloc, Some(Right::ReadWrite))?;
+    let (names, fuel) = run_of(alloc, &image)?;
+    let replayed = replay_of(alloc, &image, &names);
+    Ok((names.len(), fuel, replayed))
+}
+
 #[test]
 fn the_schedule_of_a_run_replays_to_its_outcome(rt: HostRuntime) -> Result<(), Fail> {
-    let image = image(rt.alloc(), Some(Right::ReadWrite))?;
-    let (names, fuel) = run_of(rt.alloc(), &image)?;
-    assert_eq!(rt; names.len(), 2);
+    let (turns, fuel, replayed) = run_and_replay(rt.alloc())?;
+    assert_eq!(rt; turns, 2);
     assert_eq!(rt; fuel, Some(96));
-    let replayed = replay_of(rt.alloc(), &image, &names);
     assert_eq!(rt; replayed, Ok(fuel));
     Ok(())
 }

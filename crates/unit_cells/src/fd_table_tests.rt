@@ -27,16 +27,23 @@ const BOTH: FdBits = FdBits {
     append: true,
 };
 
+/// A declared source of three bytes.
+fn declared_source(alloc: Global) -> Result<Stream, NoMemory> {
+    let name = Bytes::from_slice(alloc, b"in")?;
+    let content = Bytes::from_slice(alloc, b"abc")?;
+    let entry = FdEntry {
+        name,
+        kind: StreamKind::Source,
+        bits: READ,
+        content,
+    };
+    Stream::declared(alloc, &entry)
+}
+
 /// A declared stream begins with its content.
 #[test]
 fn declared_stream_has_its_content(rt: HostRuntime) -> Result<(), Fail> {
-    let entry = FdEntry {
-        name: Bytes::from_slice(rt.alloc(), b"in")?,
-        kind: StreamKind::Source,
-        bits: READ,
-        content: Bytes::from_slice(rt.alloc(), b"abc")?,
-    };
-    let stream = Stream::declared(rt.alloc(), &entry)?;
+    let stream = declared_source(rt.alloc())?;
     assert!(rt; stream.is_live());
     assert!(rt; matches!(stream.kind(), Some(StreamKind::Source)));
     assert!(rt; stream.bytes() == b"abc".as_slice());
@@ -126,7 +133,7 @@ fn is_gone(stream: &mut Stream) -> bool {
         && close_fault(stream, BOTH) == Some(StreamFault::NoSuch)
 }
 
-/// A closed stream is no stream, but its bytes stay; nor is one that was never opened.
+/// A closed stream is no stream, but its bytes stay.
 #[test]
 fn closed_streams_are_gone(rt: HostRuntime) -> Result<(), Fail> {
     let mut source = Stream::source(rt.alloc(), b"ab")?;
@@ -134,10 +141,15 @@ fn closed_streams_are_gone(rt: HostRuntime) -> Result<(), Fail> {
     assert!(rt; source.bytes() == b"ab".as_slice());
     assert!(rt; matches!(source.kind(), Some(StreamKind::Source)));
     assert!(rt; is_gone(&mut source));
+    Ok(())
+}
+
+/// A stream that was never opened is no stream, and has no bytes.
+#[test]
+fn unopened_streams_are_gone(rt: HostRuntime) {
     let mut unopened = Stream::unopened();
     assert!(rt; is_gone(&mut unopened));
     assert!(rt; unopened.kind().is_none() && unopened.bytes().is_empty());
-    Ok(())
 }
 
 /// Bytes as an ask has them.
@@ -145,27 +157,40 @@ fn boxed(alloc: Global, bytes: &[u8]) -> Result<Boxed<Bytes>, NoMemory> {
     Ok(Boxed::new(alloc, Bytes::from_slice(alloc, bytes)?)?)
 }
 
-/// Opens a stream through its cell, by a copy of the ask.
-fn opens(rt: &(impl Abort + AllocGlobal), stream: &mut Stream, bytes: &[u8]) -> Result<(), Fail> {
+/// A copy of the ask to open a source of these bytes.
+fn open_ask(alloc: Global, bytes: &[u8]) -> Result<StreamAsk, NoMemory> {
     let open = StreamAsk::Open {
         kind: StreamKind::Source,
-        bytes: boxed(rt.alloc(), bytes)?,
+        bytes: boxed(alloc, bytes)?,
     };
-    let copy = Stream::copy_ask(&open)?;
-    let (first, second) = stream.act(&copy)?;
+    Stream::copy_ask(&open)
+}
+
+/// Opens a stream through its cell, by a copy of the ask.
+fn opens(
+    rt: &(impl Abort + AllocGlobal),
+    stream: &mut Stream,
+    bytes: &[u8],
+) -> Result<(), NoMemory> {
+    let ask = open_ask(rt.alloc(), bytes)?;
+    let (first, second) = stream.act(&ask)?;
     assert!(rt; matches!(first, StreamReply::Opened) && matches!(second, StreamReply::Opened));
     Ok(())
 }
 
+/// Whether a reply gives these bytes.
+fn gives(reply: &StreamReply, bytes: &[u8]) -> bool {
+    matches!(reply, StreamReply::Given { bytes: b } if b.as_slice() == bytes)
+}
+
 /// Reads three bytes through the cell.
-fn reads(rt: &impl Abort, stream: &mut Stream, bytes: &[u8]) -> Result<(), Fail> {
+fn reads(rt: &impl Abort, stream: &mut Stream, bytes: &[u8]) -> Result<(), NoMemory> {
     let ask = StreamAsk::Read {
         bits: READ,
         count: 3,
     };
     let (first, second) = stream.act(&ask)?;
-    assert!(rt; matches!(&first, StreamReply::Given { bytes: b } if b.as_slice() == bytes));
-    assert!(rt; matches!(&second, StreamReply::Given { bytes: b } if b.as_slice() == bytes));
+    assert!(rt; gives(&first, bytes) && gives(&second, bytes));
     Ok(())
 }
 
@@ -176,55 +201,86 @@ fn closes(stream: &mut Stream) -> Result<bool, NoMemory> {
     Ok(matches!(first, StreamReply::Closed) && matches!(second, StreamReply::Closed))
 }
 
-/// A cell does what it is asked with one reply.
-#[test]
-fn one_reply_is_enough(rt: HostRuntime) -> Result<(), Fail> {
-    let mut stream = Stream::unopened();
+/// The one reply to a read of two bytes.
+fn reply_once(stream: &mut Stream) -> Result<StreamReply, NoMemory> {
     let read = StreamAsk::Read {
         bits: READ,
         count: 2,
     };
-    let none = stream.act_once(&read)?;
-    assert!(rt; matches!(none, StreamReply::NoSuch));
+    stream.act_once(&read)
+}
+
+/// Whether the one reply to a read of two bytes is that there is no stream.
+fn finds_none_once(stream: &mut Stream) -> Result<bool, NoMemory> {
+    let none = reply_once(stream)?;
+    Ok(matches!(none, StreamReply::NoSuch))
+}
+
+/// Whether the one reply to a read of two bytes gives these bytes.
+fn gives_once(stream: &mut Stream, bytes: &[u8]) -> Result<bool, NoMemory> {
+    let reply = reply_once(stream)?;
+    Ok(gives(&reply, bytes))
+}
+
+static GIVEN: [&str; 3] = ["ab", "c", ""];
+
+/// A cell does what it is asked with one reply.
+#[test]
+fn one_reply_is_enough(rt: HostRuntime) -> Result<(), Fail> {
+    let mut stream = Stream::unopened();
+    assert!(rt; finds_none_once(&mut stream)?);
     opens(&rt, &mut stream, b"abc")?;
-    for wanted in ["ab", "c", ""] {
-        let reply = stream.act_once(&read)?;
-        assert!(rt;
-            matches!(&reply, StreamReply::Given { bytes } if bytes.as_slice() == wanted.as_bytes())
-        );
+    for wanted in &GIVEN {
+        assert!(rt; gives_once(&mut stream, wanted.as_bytes())?);
     }
     Ok(())
+}
+
+/// Opens a cell, reads past its end and closes it, and opens and reads it again.
+fn opens_reads_and_closes(
+    rt: &(impl Abort + AllocGlobal),
+    stream: &mut Stream,
+) -> Result<(), NoMemory> {
+    opens(rt, stream, b"abcd")?;
+    reads(rt, stream, b"abc")?;
+    reads(rt, stream, b"d")?;
+    reads(rt, stream, b"")?;
+    assert!(rt; closes(stream)?);
+    assert!(rt; !closes(stream)?);
+    opens(rt, stream, b"ef")?;
+    reads(rt, stream, b"ef")
 }
 
 /// A cell is opened, read past its end, closed and opened again.
 #[test]
 fn cells_are_opened_read_and_closed(rt: HostRuntime) -> Result<(), Fail> {
     let mut stream = Stream::unopened();
-    opens(&rt, &mut stream, b"abcd")?;
-    reads(&rt, &mut stream, b"abc")?;
-    reads(&rt, &mut stream, b"d")?;
-    reads(&rt, &mut stream, b"")?;
-    assert!(rt; closes(&mut stream)?);
-    assert!(rt; !closes(&mut stream)?);
-    opens(&rt, &mut stream, b"ef")?;
-    reads(&rt, &mut stream, b"ef")?;
+    opens_reads_and_closes(&rt, &mut stream)?;
     Ok(())
+}
+
+/// Whether both copies of the reply to an append say so.
+fn grows(stream: &mut Stream, grow: &StreamAsk) -> Result<bool, NoMemory> {
+    let (first, second) = stream.act(grow)?;
+    Ok(matches!(first, StreamReply::Appended) && matches!(second, StreamReply::Appended))
+}
+
+/// Whether a stream takes the ask to append two bytes twice.
+fn grows_twice(alloc: Global, stream: &mut Stream) -> Result<bool, NoMemory> {
+    let grow = StreamAsk::Append {
+        bits: BOTH,
+        bytes: boxed(alloc, b"ab")?,
+    };
+    let first = grows(stream, &grow)?;
+    let second = grows(stream, &grow)?;
+    Ok(first && second)
 }
 
 /// An append stream grows through its cell.
 #[test]
 fn cells_grow(rt: HostRuntime) -> Result<(), Fail> {
     let mut stream = Stream::append_only(rt.alloc());
-    let grow = StreamAsk::Append {
-        bits: BOTH,
-        bytes: boxed(rt.alloc(), b"ab")?,
-    };
-    for _ in 0..2 {
-        let (first, second) = stream.act(&grow)?;
-        assert!(rt;
-            matches!(first, StreamReply::Appended) && matches!(second, StreamReply::Appended)
-        );
-    }
+    assert!(rt; grows_twice(rt.alloc(), &mut stream)?);
     assert!(rt; stream.bytes() == b"abab".as_slice());
     Ok(())
 }

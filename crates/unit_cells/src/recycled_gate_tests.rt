@@ -1,5 +1,8 @@
 //! Tests of recycled_gate.
 
+ghost use Rattle.std.specs.Prelude.{IsTrue};
+ghost use Rattle.wedge_events.specs.Gates.{GateFits};
+
 use cow_pages::PrivateView;
 use recycled_gate::Kept;
 use std::alloc::Global;
@@ -67,6 +70,56 @@ fn begins_with(reply: &GateReply, number: u32) -> bool {
     matches!(reply, GateReply::Entered { memory } if begins(memory, number))
 }
 
+/// A copy of the ask to enter a gate, with memory that begins with a number.
+fn enter_ask(alloc: Global, opening: u32) -> Result<GateAsk, NoMemory> {
+    let run = ActorName::root(alloc)?;
+    let memory = memory_of(alloc, opening)?;
+    let ask = GateAsk::Enter { run, memory };
+    Kept::copy_ask(&ask)
+}
+
+/// A copy of the ask to leave a gate, with memory that begins with a number.
+fn leave_ask(alloc: Global, left: u32) -> Result<GateAsk, NoMemory> {
+    let memory = memory_of(alloc, left)?;
+    let end = End::Denied;
+    let ask = GateAsk::Leave { end, memory };
+    Kept::copy_ask(&ask)
+}
+
+/// Whether a gate may be asked so: to be entered where it is free, to be left where it is not.
+fn may_be_asked(gate: &Kept, ask: &GateAsk) -> bool
+    ensures { IsTrue result → GateFits gate.now ask.now }
+{
+    match ask {
+        GateAsk::Enter { .. } => !gate.entered(),
+        GateAsk::Leave { .. } => gate.entered(),
+    }
+}
+
+/// Whether the reply to an ask, made once, begins a run with memory that begins with a number.
+fn begins_once(
+    rt: &impl Abort,
+    gate: &mut Kept,
+    ask: &GateAsk,
+    number: u32,
+) -> Result<bool, NoMemory> {
+    assert!(rt; may_be_asked(gate, ask));
+    let reply = gate.act_once(ask)?;
+    Ok(begins_with(&reply, number))
+}
+
+/// Whether both replies to an ask begin a run with memory that begins with a number.
+fn begins_twice(
+    rt: &impl Abort,
+    gate: &mut Kept,
+    ask: &GateAsk,
+    number: u32,
+) -> Result<bool, NoMemory> {
+    assert!(rt; may_be_asked(gate, ask));
+    let (first, second) = gate.act(ask)?;
+    Ok(begins_with(&first, number) && begins_with(&second, number))
+}
+
 /// Enters a gate through its cell, by a copy of the ask; where only one reply is wanted, by `act_once`.
 fn asks_to_enter(
     rt: &impl Abort,
@@ -75,19 +128,22 @@ fn asks_to_enter(
     opening: u32,
     wanted: u32,
 ) -> Result<(), NoMemory> {
-    let run = ActorName::root(alloc)?;
-    let memory = memory_of(alloc, opening)?;
-    let ask = Kept::copy_ask(&GateAsk::Enter { run, memory })?;
-    let free = !gate.entered();
-    assert!(rt; free);
-    if free && opening % 2 == 0 {
-        let reply = gate.act_once(&ask)?;
-        assert!(rt; begins_with(&reply, wanted));
-    } else if free {
-        let (first, second) = gate.act(&ask)?;
-        assert!(rt; begins_with(&first, wanted) && begins_with(&second, wanted));
-    }
+    let ask = enter_ask(alloc, opening)?;
+    assert!(rt; !gate.entered());
+    let begun = if opening % 2 == 0 {
+        begins_once(rt, gate, &ask, wanted)?
+    } else {
+        begins_twice(rt, gate, &ask, wanted)?
+    };
+    assert!(rt; begun, "{wanted}");
     Ok(())
+}
+
+/// Whether both replies to an ask say that the gate is left.
+fn is_left(rt: &impl Abort, gate: &mut Kept, ask: &GateAsk) -> Result<bool, NoMemory> {
+    assert!(rt; may_be_asked(gate, ask));
+    let (first, second) = gate.act(ask)?;
+    Ok(matches!(first, GateReply::Left) && matches!(second, GateReply::Left))
 }
 
 /// Leaves a gate through its cell, by a copy of the ask.
@@ -97,15 +153,9 @@ fn asks_to_leave(
     gate: &mut Kept,
     left: u32,
 ) -> Result<(), NoMemory> {
-    let memory = memory_of(alloc, left)?;
-    let end = End::Denied;
-    let ask = Kept::copy_ask(&GateAsk::Leave { end, memory })?;
-    let entered = gate.entered();
-    assert!(rt; entered);
-    if entered {
-        let (first, second) = gate.act(&ask)?;
-        assert!(rt; matches!(first, GateReply::Left) && matches!(second, GateReply::Left));
-    }
+    let ask = leave_ask(alloc, left)?;
+    assert!(rt; gate.entered());
+    assert!(rt; is_left(rt, gate, &ask)?);
     let kept = gate.kept().is_some_and(|memory| begins(memory, left));
     assert!(rt; kept, "{left}");
     Ok(())

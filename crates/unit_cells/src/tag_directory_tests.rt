@@ -3,6 +3,7 @@
 use std::process::Abort;
 use std::test::Fail;
 use tag_directory::{ClaimFault, Claimed, Directory};
+use wedge_base::NoMemory;
 use wedge_events::{DirectoryAsk, DirectoryReply, Object};
 
 /// Claims a slot: the slot and the number that are expected.
@@ -70,46 +71,46 @@ fn all_slots_are_claimed_again(rt: HostRuntime) -> Result<(), Fail> {
     Ok(())
 }
 
+const CLAIM: DirectoryAsk = DirectoryAsk::Claim;
+
+const RELEASED: DirectoryReply = DirectoryReply::Released;
+
+/// Asks of a directory of two slots, one after another, and its replies.
+#[rattlefmt::skip]
+static REPLIES: [(DirectoryAsk, DirectoryReply); 9] = [
+    (CLAIM, DirectoryReply::Claimed { place: 0, number: 0 }),
+    (DirectoryAsk::Release { place: 1 }, RELEASED),
+    (CLAIM, DirectoryReply::Claimed { place: 1, number: 1 }),
+    (CLAIM, DirectoryReply::Full),
+    (DirectoryAsk::Release { place: 2 }, RELEASED),
+    (DirectoryAsk::Release { place: 0 }, RELEASED),
+    (DirectoryAsk::Release { place: 0 }, RELEASED),
+    (CLAIM, DirectoryReply::Claimed { place: 0, number: 2 }),
+    (CLAIM, DirectoryReply::Full),
+];
+
+/// Asks a directory by a copy of the ask, and compares both copies of its reply.
+fn replies(
+    rt: &impl Abort,
+    directory: &mut Directory,
+    ask: DirectoryAsk,
+    wanted: DirectoryReply,
+) -> Result<(), NoMemory> {
+    let copy = Directory::copy_ask(&ask)?;
+    assert_eq!(rt; copy, ask);
+    let (first, second) = directory.act(&copy)?;
+    assert_eq!(rt; first, wanted);
+    assert_eq!(rt; second, wanted);
+    Ok(())
+}
+
 /// What a directory replies as a cell, in two copies. A release of a slot that is not claimed
 /// changes nothing.
 #[test]
 fn asks_are_replied_to(rt: HostRuntime) -> Result<(), Fail> {
     let mut directory = Directory::new(rt.alloc(), 2, 0)?;
-    let claim = DirectoryAsk::Claim;
-    for (ask, wanted) in [
-        (
-            claim,
-            DirectoryReply::Claimed {
-                place: 0,
-                number: 0,
-            },
-        ),
-        (DirectoryAsk::Release { place: 1 }, DirectoryReply::Released),
-        (
-            claim,
-            DirectoryReply::Claimed {
-                place: 1,
-                number: 1,
-            },
-        ),
-        (claim, DirectoryReply::Full),
-        (DirectoryAsk::Release { place: 2 }, DirectoryReply::Released),
-        (DirectoryAsk::Release { place: 0 }, DirectoryReply::Released),
-        (DirectoryAsk::Release { place: 0 }, DirectoryReply::Released),
-        (
-            claim,
-            DirectoryReply::Claimed {
-                place: 0,
-                number: 2,
-            },
-        ),
-        (claim, DirectoryReply::Full),
-    ] {
-        let copy = Directory::copy_ask(&ask)?;
-        assert_eq!(rt; copy, ask);
-        let (first, second) = directory.act(&copy)?;
-        assert_eq!(rt; first, wanted);
-        assert_eq!(rt; second, wanted);
+    for (ask, wanted) in &REPLIES {
+        replies(&rt, &mut directory, *ask, *wanted)?;
     }
     Ok(())
 }

@@ -6,26 +6,40 @@ use host_io::{
     Failed, Files, MemFile, MemFiles, MemSink, NoPace, Pace, ReadFault, RealErr, RealFiles,
     RealOut, RealSink, Sink, WriteFault, read_whole, write_whole,
 };
-use std::alloc::{AllocError, Global};
+use std::alloc::Global;
 use std::fmt::Display;
 use std::io::{self, Print};
 use std::process::{self, Abort};
 use std::test::Fail;
-use std::{env, fs};
-use wedge_base::ActorName;
+use std::{env, fs, rt};
+use wedge_base::{ActorName, NoMemory};
 
-/// A file of so many bytes, which count up and begin again after 250.
-fn counting(alloc: Global, name: &str, length: usize) -> Result<MemFile, AllocError> {
+/// So many bytes, which count up and begin again after 250.
+fn counting_bytes(alloc: Global, length: usize) -> Result<Vec<u8>, NoMemory> {
     let mut bytes = Vec::new(alloc);
     for i in 0..length {
         bytes.push((i % 251) as u8)?;
     }
-    Ok(MemFile {
-        name: String::from_str(alloc, name)?,
-        bytes,
-    })
+    Ok(bytes)
 }
 
+/// A file of so many bytes, which count up.
+fn counting(alloc: Global, name: &str, length: usize) -> Result<MemFile, NoMemory> {
+    let name = String::from_str(alloc, name)?;
+    let bytes = counting_bytes(alloc, length)?;
+    Ok(MemFile { name, bytes })
+}
+
+/// Files of names and lengths, the bytes of which count up.
+fn counting_files(alloc: Global, list: &[(&str, usize)]) -> Result<Vec<MemFile>, NoMemory> {
+    let mut files = Vec::new(alloc);
+    for (name, length) in list {
+        files.push(counting(alloc, name, *length)?)?;
+    }
+    Ok(files)
+}
+
+/// Files of memory, where some calls fail.
 fn files_of(rt: &impl Abort, files: Vec<MemFile>, fails: Vec<u64>) -> MemFiles {
     assert!(rt; MemFiles::names_differ(files.as_slice()));
     MemFiles::new(files, fails)
@@ -56,28 +70,45 @@ static WHOLE_READS: [WholeRead; 13] = [
     WholeRead { length: 200000, limit: 70000, fails: 3, want: Err(ReadFault::TooLong { limit: 70000 }) },
 ];
 
-/// The bytes of the file of a row and those that are read of it, beside another file.
+/// The file of a row beside another.
+fn files_of_row(rt: &impl Abort, alloc: Global, row: &WholeRead) -> Result<MemFiles, NoMemory> {
+    let files = counting_files(alloc, &[("a", row.length), ("b", 3)])?;
+    let fails = vec![in alloc; row.fails]?;
+    Ok(files_of(rt, files, fails))
+}
+
+/// What is read of the file of a row, beside another file.
 fn read_of(
     rt: &impl Abort,
     alloc: Global,
     row: &WholeRead,
-) -> Result<(Vec<u8>, Result<Vec<u8>, ReadFault>), Fail> {
-    let file = counting(alloc, "a", row.length)?;
-    let bytes = file.bytes.clone()?;
-    let files = vec![in alloc; file, counting(alloc, "b", 3)?]?;
-    let mut files = files_of(rt, files, vec![in alloc; row.fails]?);
-    let read = read_whole(alloc, &mut files, "a", row.limit);
-    Ok((bytes, read))
+) -> Result<Result<Vec<u8>, ReadFault>, NoMemory> {
+    let mut files = files_of_row(rt, alloc, row)?;
+    Ok(read_whole(alloc, &mut files, "a", row.limit))
+}
+
+/// Whether so many bytes count up.
+fn are_counting(alloc: Global, bytes: &[u8], length: usize) -> Result<bool, NoMemory> {
+    let wanted = counting_bytes(alloc, length)?;
+    Ok(bytes == wanted.as_slice())
+}
+
+/// Reads the file of a row, and compares.
+fn check_read(rt: &impl Abort, alloc: Global, row: &WholeRead) -> Result<(), NoMemory> {
+    match read_of(rt, alloc, row)? {
+        Ok(read) => {
+            assert!(rt; are_counting(alloc, read.as_slice(), row.length)?);
+            assert_eq!(rt; Ok(read.len()), row.want);
+        }
+        Err(fault) => assert_eq!(rt; Err(fault), row.want),
+    }
+    Ok(())
 }
 
 #[test]
 fn whole_files_are_read_up_to_the_limit(rt: HostRuntime) -> Result<(), Fail> {
     for row in &WHOLE_READS {
-        let (bytes, read) = read_of(&rt, rt.alloc(), row)?;
-        if let Ok(read) = &read {
-            assert!(rt; read.as_slice() == bytes.as_slice());
-        }
-        assert_eq!(rt; read.map(|read| read.len()), row.want);
+        check_read(&rt, rt.alloc(), row)?;
     }
     Ok(())
 }
@@ -118,14 +149,19 @@ fn reads<F: Files>(
     assert!(rt; buf == *left, "{name} at {at}");
 }
 
+/// A file of six bytes, where the third and the fifth call fail.
+fn six_bytes(rt: &(impl Abort + AllocGlobal)) -> Result<MemFiles, NoMemory> {
+    let alloc = rt.alloc();
+    let name = String::from_str(alloc, "a")?;
+    let bytes = b"abcdef".to_vec(alloc)?;
+    let files = vec![in alloc; MemFile { name, bytes }]?;
+    let fails = vec![in alloc; 3, 5]?;
+    Ok(files_of(rt, files, fails))
+}
+
 #[test]
 fn reads_give_what_is_there_and_fits(rt: HostRuntime) -> Result<(), Fail> {
-    let alloc = rt.alloc();
-    let file = MemFile {
-        name: String::from_str(alloc, "a")?,
-        bytes: b"abcdef".to_vec(alloc)?,
-    };
-    let mut files = files_of(&rt, vec![in alloc; file]?, vec![in alloc; 3, 5]?);
+    let mut files = six_bytes(&rt)?;
     for row in &FOURS {
         reads(&rt, &mut files, row.name, row.at, row.want, row.left);
     }
@@ -142,16 +178,16 @@ static NAMES: [(&str, &str, &str, bool); 4] = [
     ("", "b", "b", false),
 ];
 
+/// Whether the names of three files differ.
+fn three_differ(alloc: Global, first: &str, second: &str, third: &str) -> Result<bool, NoMemory> {
+    let files = counting_files(alloc, &[(first, 0), (second, 1), (third, 2)])?;
+    Ok(MemFiles::names_differ(files.as_slice()))
+}
+
 #[test]
 fn two_files_of_one_name_are_told_apart(rt: HostRuntime) -> Result<(), Fail> {
-    let alloc = rt.alloc();
     for (first, second, third, want) in &NAMES {
-        let files = vec![in alloc;
-            counting(alloc, first, 0)?,
-            counting(alloc, second, 1)?,
-            counting(alloc, third, 2)?,
-        ]?;
-        let differ = MemFiles::names_differ(files.as_slice());
+        let differ = three_differ(rt.alloc(), first, second, third)?;
         assert!(rt; differ == *want, "{first} {second} {third}");
     }
     assert!(rt; MemFiles::names_differ(&[]));
@@ -209,8 +245,9 @@ fn is_written<S: Sink>(sink: &mut S) -> bool {
 }
 
 /// A sink of a row, with room and a call that fails.
-fn sink_of(alloc: Global, row: &WholeWrite) -> Result<MemSink, Fail> {
-    Ok(MemSink::new(alloc, row.room, vec![in alloc; row.fails]?)?)
+fn sink_of(alloc: Global, row: &WholeWrite) -> Result<MemSink, NoMemory> {
+    let fails = vec![in alloc; row.fails]?;
+    MemSink::new(alloc, row.room, fails)
 }
 
 /// The text's first bytes, so many.
@@ -218,12 +255,27 @@ fn has_taken(sink: &MemSink, taken: usize) -> bool {
     TEXT.get(..taken) == Some(sink.bytes())
 }
 
+/// Writes the text into a sink of a row, and compares.
+fn check_write(rt: &impl Abort, alloc: Global, row: &WholeWrite) -> Result<(), NoMemory> {
+    let mut sink = sink_of(alloc, row)?;
+    assert!(rt; is_written(&mut sink) == row.is_written);
+    assert!(rt; has_taken(&sink, row.taken));
+    Ok(())
+}
+
+/// Writes the text into a slow sink of a row, and compares.
+fn check_slow_write(rt: &impl Abort, alloc: Global, row: &WholeWrite) -> Result<(), NoMemory> {
+    let inner = sink_of(alloc, row)?;
+    let mut slow = Slow { inner };
+    assert!(rt; is_written(&mut slow) == row.is_slowly_written);
+    assert!(rt; has_taken(&slow.inner, row.slowly_taken));
+    Ok(())
+}
+
 #[test]
 fn whole_texts_are_written_or_a_part_of_them(rt: HostRuntime) -> Result<(), Fail> {
     for row in &WHOLE_WRITES {
-        let mut sink = sink_of(rt.alloc(), row)?;
-        assert!(rt; is_written(&mut sink) == row.is_written);
-        assert!(rt; has_taken(&sink, row.taken));
+        check_write(&rt, rt.alloc(), row)?;
     }
     Ok(())
 }
@@ -231,11 +283,7 @@ fn whole_texts_are_written_or_a_part_of_them(rt: HostRuntime) -> Result<(), Fail
 #[test]
 fn whole_texts_are_written_slowly_or_a_part_of_them(rt: HostRuntime) -> Result<(), Fail> {
     for row in &WHOLE_WRITES {
-        let mut slow = Slow {
-            inner: sink_of(rt.alloc(), row)?,
-        };
-        assert!(rt; is_written(&mut slow) == row.is_slowly_written);
-        assert!(rt; has_taken(&slow.inner, row.slowly_taken));
+        check_slow_write(&rt, rt.alloc(), row)?;
     }
     Ok(())
 }
@@ -249,11 +297,16 @@ static PIECES: [(&[u8], Result<usize, Failed>); 5] = [
     (b"abc", Err(Failed)),
 ];
 
+/// A sink with room for three bytes, where the first call fails.
+fn three_bytes(alloc: Global) -> Result<MemSink, NoMemory> {
+    let fails = vec![in alloc; 1]?;
+    MemSink::new(alloc, 3, fails)
+}
+
 /// The first call to fail is still to come after a text of no bytes.
 #[test]
 fn a_text_of_no_bytes_is_not_written(rt: HostRuntime) -> Result<(), Fail> {
-    let alloc = rt.alloc();
-    let mut sink = MemSink::new(alloc, 3, vec![in alloc; 1]?)?;
+    let mut sink = three_bytes(rt.alloc())?;
     assert!(rt; write_whole(&mut sink, b"") == Ok(()));
     for (piece, want) in &PIECES {
         assert!(rt; sink.write(piece) == *want);
@@ -275,54 +328,87 @@ fn whole_length(rt: &HostRuntime, name: &str, limit: u64) -> Result<usize, ReadF
     read_whole(rt.alloc(), &mut files, name, limit).map(|bytes| bytes.len())
 }
 
+/// The name of a new file of this process, which has these bytes.
+fn written(rt: &HostRuntime, ending: &str, bytes: &[u8]) -> io::Result<String> {
+    let name = own_name(rt, ending)?;
+    fs::write(rt, name.as_str(), bytes)?;
+    Ok(name)
+}
+
+/// Reads a file of eight bytes, and one that is not there.
+fn reads_eight(rt: &(impl Abort + AllocGlobal + rt::Files), name: &str) {
+    let mut files = RealFiles::new(rt, rt.alloc());
+    reads(rt, &mut files, name, 2, Ok(4), b"cdef");
+    reads(rt, &mut files, name, 6, Ok(2), b"g\n..");
+    reads(rt, &mut files, name, 0, Ok(4), b"abcd");
+    reads(rt, &mut files, "no such file", 0, Err(Failed), b"....");
+}
+
 #[test]
 fn files_of_the_system_are_read(rt: HostRuntime) -> Result<(), Fail> {
-    let owned = own_name(&rt, "")?;
-    let name = owned.as_str();
-    fs::write(&rt, name, b"abcdefg\n")?;
-    let mut files = RealFiles::new(&rt, rt.alloc());
-    reads(&rt, &mut files, name, 2, Ok(4), b"cdef");
-    reads(&rt, &mut files, name, 6, Ok(2), b"g\n..");
-    reads(&rt, &mut files, name, 0, Ok(4), b"abcd");
-    reads(&rt, &mut files, "no such file", 0, Err(Failed), b"....");
-    fs::remove_file(&rt, name)?;
+    let name = written(&rt, "", b"abcdefg\n")?;
+    reads_eight(&rt, name.as_str());
+    fs::remove_file(&rt, name.as_str())?;
     Ok(())
+}
+
+/// Whether a file of the system, which is read whole up to a limit, has these bytes.
+fn has_bytes(rt: &HostRuntime, name: &str, limit: u64, bytes: &[u8]) -> Result<bool, ReadFault> {
+    let mut files = RealFiles::new(rt, rt.alloc());
+    let whole = read_whole(rt.alloc(), &mut files, name, limit)?;
+    Ok(whole.as_slice() == bytes)
 }
 
 #[test]
 fn files_of_the_system_are_read_whole(rt: HostRuntime) -> Result<(), Fail> {
-    let owned = own_name(&rt, "-whole")?;
-    let name = owned.as_str();
-    fs::write(&rt, name, b"abcdefg\n")?;
-    let whole = read_whole(rt.alloc(), &mut RealFiles::new(&rt, rt.alloc()), name, 8)?;
-    assert!(rt; whole.as_slice() == b"abcdefg\n".as_slice());
-    assert!(rt; whole_length(&rt, name, 7) == Err(ReadFault::TooLong { limit: 7 }));
-    fs::remove_file(&rt, name)?;
-    assert!(rt; whole_length(&rt, name, 8) == Err(ReadFault::Fault));
+    let name = written(&rt, "-whole", b"abcdefg\n")?;
+    assert!(rt; has_bytes(&rt, name.as_str(), 8, b"abcdefg\n")?);
+    assert!(rt; whole_length(&rt, name.as_str(), 7) == Err(ReadFault::TooLong { limit: 7 }));
+    fs::remove_file(&rt, name.as_str())?;
+    assert!(rt; whole_length(&rt, name.as_str(), 8) == Err(ReadFault::Fault));
     Ok(())
+}
+
+/// The name of the folder for files that do not last.
+fn folder_name(rt: &HostRuntime) -> io::Result<String> {
+    let folder = env::temp_dir(rt)?;
+    Ok(format!(in rt.alloc(); "{}", folder.display())?)
+}
+
+/// Reads of a file of the system, which fail.
+fn read_fails(rt: &(impl Abort + AllocGlobal + rt::Files), name: &str) {
+    let mut files = RealFiles::new(rt, rt.alloc());
+    reads(rt, &mut files, name, 0, Err(Failed), b"....");
 }
 
 #[test]
 fn a_folder_is_no_file(rt: HostRuntime) -> Result<(), Fail> {
-    let folder = format!(in rt.alloc(); "{}", env::temp_dir(&rt)?.display())?;
-    let mut files = RealFiles::new(&rt, rt.alloc());
-    reads(&rt, &mut files, folder.as_str(), 0, Err(Failed), b"....");
+    let folder = folder_name(&rt)?;
+    read_fails(&rt, folder.as_str());
     assert!(rt; whole_length(&rt, folder.as_str(), 8) == Err(ReadFault::Fault));
     Ok(())
 }
 
+/// Reads two files of eight bytes, in turn.
+fn reads_two(rt: &(impl Abort + AllocGlobal + rt::Files), one: &str, other: &str) {
+    let mut files = RealFiles::new(rt, rt.alloc());
+    reads(rt, &mut files, one, 0, Ok(4), b"abcd");
+    reads(rt, &mut files, other, 4, Ok(4), b"EFGH");
+    reads(rt, &mut files, one, 4, Ok(4), b"efgh");
+}
+
+/// Removes two files.
+fn removes_two(rt: &HostRuntime, one: &str, other: &str) -> io::Result<()> {
+    fs::remove_file(rt, one)?;
+    fs::remove_file(rt, other)
+}
+
 #[test]
 fn two_files_of_the_system_are_told_apart(rt: HostRuntime) -> Result<(), Fail> {
-    let one = own_name(&rt, "-one")?;
-    let other = own_name(&rt, "-other")?;
-    fs::write(&rt, one.as_str(), b"abcdefgh")?;
-    fs::write(&rt, other.as_str(), b"ABCDEFGH")?;
-    let mut files = RealFiles::new(&rt, rt.alloc());
-    reads(&rt, &mut files, one.as_str(), 0, Ok(4), b"abcd");
-    reads(&rt, &mut files, other.as_str(), 4, Ok(4), b"EFGH");
-    reads(&rt, &mut files, one.as_str(), 4, Ok(4), b"efgh");
-    fs::remove_file(&rt, one.as_str())?;
-    fs::remove_file(&rt, other.as_str())?;
+    let one = written(&rt, "-one", b"abcdefgh")?;
+    let other = written(&rt, "-other", b"ABCDEFGH")?;
+    reads_two(&rt, one.as_str(), other.as_str());
+    removes_two(&rt, one.as_str(), other.as_str())?;
     Ok(())
 }
 

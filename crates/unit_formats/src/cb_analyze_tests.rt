@@ -2,6 +2,7 @@
 
 use cb_analyze::{DerivedSheets, derive};
 use std::alloc::Global;
+use std::process::Abort;
 use std::test::Fail;
 use trace_form::{Kind, Mode, Record, Records};
 
@@ -31,12 +32,17 @@ call shared m m gate:g
 end 12
 ";
 
-#[test]
-fn the_sheets_permit_their_trace(rt: HostRuntime) -> Result<(), Fail> {
-    let sheets = sheets_of(rt.alloc(), TRACE)?;
+/// Finds each record of the trace permitted by these sheets.
+fn permits_trace(rt: &impl Abort, sheets: &DerivedSheets<'_>) {
     for row in Records::of_trace(TRACE) {
         assert!(rt; sheets.permits(&row));
     }
+}
+
+#[test]
+fn the_sheets_permit_their_trace(rt: HostRuntime) -> Result<(), Fail> {
+    let sheets = sheets_of(rt.alloc(), TRACE)?;
+    permits_trace(&rt, &sheets);
     Ok(())
 }
 
@@ -65,18 +71,27 @@ static ACCESSES: [Access; 12] = [
     Access { comp: b"n", kind: Kind::Load, mode: Mode::Shared, item: b"tag:e", want: false },
 ];
 
+/// Whether sheets permit an access.
+fn permits_access(sheets: &DerivedSheets<'_>, access: &Access) -> bool {
+    sheets.permits(&Record {
+        kind: access.kind,
+        mode: access.mode,
+        comp: access.comp,
+        chain: access.comp,
+        item: access.item,
+    })
+}
+
+/// Compares what these sheets permit with what is wanted of each access.
+fn compares_accesses(rt: &impl Abort, sheets: &DerivedSheets<'_>) {
+    for access in &ACCESSES {
+        assert!(rt; permits_access(sheets, access) == access.want);
+    }
+}
+
 #[test]
 fn what_the_sheets_permit(rt: HostRuntime) -> Result<(), Fail> {
     let sheets = sheets_of(rt.alloc(), TRACE)?;
-    for access in &ACCESSES {
-        let row = Record {
-            kind: access.kind,
-            mode: access.mode,
-            comp: access.comp,
-            chain: access.comp,
-            item: access.item,
-        };
-        assert!(rt; sheets.permits(&row) == access.want);
-    }
+    compares_accesses(&rt, &sheets);
     Ok(())
 }

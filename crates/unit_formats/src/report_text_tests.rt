@@ -26,12 +26,35 @@ fn root_line(
     })
 }
 
+/// The root alone, with the compartment `main`.
+fn root_alone(
+    alloc: Global,
+    end: End,
+    pc: u32,
+    fuel: u32,
+    denials: Vec<DenialAt>,
+) -> Result<Vec<ActorLine>, NoMemory> {
+    let line = root_line(alloc, end, pc, fuel, denials)?;
+    Ok(vec![in alloc; line]?)
+}
+
 fn stream(alloc: Global, number: u32, label: &[u8], bytes: &[u8]) -> Result<StreamLine, NoMemory> {
     Ok(StreamLine {
         number: FdNo(number),
         label: Bytes::from_slice(alloc, label)?,
         bytes: Bytes::from_slice(alloc, bytes)?,
     })
+}
+
+/// One stream alone.
+fn stream_alone(
+    alloc: Global,
+    number: u32,
+    label: &[u8],
+    bytes: &[u8],
+) -> Result<Vec<StreamLine>, NoMemory> {
+    let line = stream(alloc, number, label, bytes)?;
+    Ok(vec![in alloc; line]?)
 }
 
 /// Whether the report of these actors and streams is a text.
@@ -51,9 +74,8 @@ fn is_reported(
 #[test]
 fn an_actor_and_a_stream(rt: HostRuntime) -> Result<(), Fail> {
     let alloc = rt.alloc();
-    let line = root_line(alloc, End::Exited(0), 0x10028, 87, Vec::new(alloc))?;
-    let actors = vec![in alloc; line]?;
-    let streams = vec![in alloc; stream(alloc, 0, b"out", b"ok")?]?;
+    let actors = root_alone(alloc, End::Exited(0), 0x10028, 87, Vec::new(alloc))?;
+    let streams = stream_alone(alloc, 0, b"out", b"ok")?;
     let want = b"actor 0 main exited 0 pc 00010028 fuel 87\nstream 0 out \"ok\"\n";
     assert!(rt; is_reported(alloc, actors, streams, want)?);
     Ok(())
@@ -82,14 +104,9 @@ static ENDS: [(End, &str); 10] = [
 
 /// Whether an end is reported by this word.
 fn is_end(alloc: Global, end: End, word: &str) -> Result<bool, Fail> {
-    let line = root_line(alloc, end, 0xfedcba98, 16777216, Vec::new(alloc))?;
     let want = format!(in alloc; "actor 0 main {word} pc fedcba98 fuel 16777216\n")?;
-    Ok(is_reported(
-        alloc,
-        vec![in alloc; line]?,
-        Vec::new(alloc),
-        want.as_bytes(),
-    )?)
+    let actors = root_alone(alloc, end, 0xfedcba98, 16777216, Vec::new(alloc))?;
+    Ok(is_reported(alloc, actors, Vec::new(alloc), want.as_bytes())?)
 }
 
 #[test]
@@ -100,24 +117,24 @@ fn every_end(rt: HostRuntime) -> Result<(), Fail> {
     Ok(())
 }
 
-/// Whether a denial is reported by these words.
-fn is_denial(alloc: Global, denial: Denial, words: &str) -> Result<bool, Fail> {
+/// The root alone, which was denied this.
+fn denied_alone(alloc: Global, denial: Denial) -> Result<Vec<ActorLine>, NoMemory> {
     let denials = vec![in alloc;
         DenialAt {
             pc: 0x1000c,
             denial
         },
     ]?;
-    let line = root_line(alloc, End::Break, 4, 1, denials)?;
+    root_alone(alloc, End::Break, 4, 1, denials)
+}
+
+/// Whether a denial is reported by these words.
+fn is_denial(alloc: Global, denial: Denial, words: &str) -> Result<bool, Fail> {
+    let actors = denied_alone(alloc, denial)?;
     let want = format!(in alloc;
         "actor 0 main break pc 00000004 fuel 1\ndenied 0 pc 0001000c {words}\n"
     )?;
-    Ok(is_reported(
-        alloc,
-        vec![in alloc; line]?,
-        Vec::new(alloc),
-        want.as_bytes(),
-    )?)
+    Ok(is_reported(alloc, actors, Vec::new(alloc), want.as_bytes())?)
 }
 
 #[rattlefmt::skip]
@@ -213,14 +230,25 @@ fn two_denials(alloc: Global) -> Result<Vec<DenialAt>, NoMemory> {
     Ok(denials)
 }
 
+/// Two lines of actors, the first one with two denials.
+fn two_actors(alloc: Global) -> Result<Vec<ActorLine>, NoMemory> {
+    let first = root_line(alloc, End::Denied, 0x1000c, 96, two_denials(alloc)?)?;
+    let second = root_line(alloc, End::Break, 4, 1, Vec::new(alloc))?;
+    Ok(vec![in alloc; first, second]?)
+}
+
+/// Two streams, the first one empty.
+fn two_streams(alloc: Global) -> Result<Vec<StreamLine>, NoMemory> {
+    let first = stream(alloc, 0, b"out", b"")?;
+    let second = stream(alloc, 7, b"log", b"x")?;
+    Ok(vec![in alloc; first, second]?)
+}
+
 #[test]
 fn denials_follow_their_actor(rt: HostRuntime) -> Result<(), Fail> {
     let alloc = rt.alloc();
-    let first = root_line(alloc, End::Denied, 0x1000c, 96, two_denials(alloc)?)?;
-    let second = root_line(alloc, End::Break, 4, 1, Vec::new(alloc))?;
-    let actors = vec![in alloc; first, second]?;
-    let empty = stream(alloc, 0, b"out", b"")?;
-    let streams = vec![in alloc; empty, stream(alloc, 7, b"log", b"x")?]?;
+    let actors = two_actors(alloc)?;
+    let streams = two_streams(alloc)?;
     let want = b"actor 0 main denied pc 0001000c fuel 96
 denied 0 pc 0001000c user
 denied 0 pc 00010010 root
@@ -235,8 +263,8 @@ stream 7 log \"x\"
 #[test]
 fn bytes_in_quotes(rt: HostRuntime) -> Result<(), Fail> {
     let alloc = rt.alloc();
-    let quoted = stream(alloc, 3, b"a", b"\x00\x1f !\"#[\\]~\x7f\x80\xff\n")?;
+    let quoted = stream_alone(alloc, 3, b"a", b"\x00\x1f !\"#[\\]~\x7f\x80\xff\n")?;
     let want = b"stream 3 a \"\\00\\1f !\\22#[\\5c]~\\7f\\80\\ff\\0a\"\n";
-    assert!(rt; is_reported(alloc, Vec::new(alloc), vec![in alloc; quoted]?, want)?);
+    assert!(rt; is_reported(alloc, Vec::new(alloc), quoted, want)?);
     Ok(())
 }

@@ -4,11 +4,11 @@ ghost use Rattle.std.specs.Prelude.{◌≡◌, ◌↔◌, IsTrue, length};
 ghost use Rattle.trace_form.specs.Records.{records_of};
 
 use cb_analyze::{DerivedSheets, derive};
-use sheet_enforce::{Mark, check, write_enforced, write_violation};
+use sheet_enforce::{Mark, Violation, check, write_enforced, write_violation};
 use std::alloc::Global;
 use std::test::Fail;
 use trace_form::Records;
-use wedge_base::{ActorName, is_actor_name};
+use wedge_base::{ActorName, NoMemory, is_actor_name};
 
 const REJECTED: &str = "the trace is rejected";
 
@@ -73,17 +73,21 @@ fn has_records(trace: &[u8], count: usize) -> bool
     left == 0
 }
 
+fn mark_of(alloc: Global, at: &At) -> Result<Mark, Fail> {
+    if !is_actor_name(at.actor) {
+        return Err(Fail::new(NO_NAME));
+    }
+    Ok(Mark {
+        turn: at.turn,
+        actor: ActorName::of_parts(alloc, at.actor)?,
+        pc: at.pc,
+    })
+}
+
 fn marks_of(alloc: Global, table: &[At]) -> Result<Vec<Mark>, Fail> {
     let mut marks = Vec::new(alloc);
     for at in table {
-        if !is_actor_name(at.actor) {
-            return Err(Fail::new(NO_NAME));
-        }
-        marks.push(Mark {
-            turn: at.turn,
-            actor: ActorName::of_parts(alloc, at.actor)?,
-            pc: at.pc,
-        })?;
+        marks.push(mark_of(alloc, at)?)?;
     }
     Ok(marks)
 }
@@ -94,6 +98,18 @@ fn sheets_of(alloc: Global, bytes: &[u8]) -> Result<DerivedSheets<'_>, Fail> {
         Ok(_) => Ok(derive(alloc, bytes)?),
         Err(_) => Err(Fail::new(REJECTED)),
     }
+}
+
+/// The lines of these violations, and why the first is rejected.
+fn lines_of(alloc: Global, violations: &[Violation]) -> Result<Vec<u8>, NoMemory> {
+    let mut out = Vec::new(alloc);
+    for violation in violations {
+        write_violation(&mut out, violation)?;
+    }
+    if let Some(first) = violations.first() {
+        write_enforced(&mut out, first)?;
+    }
+    Ok(out)
 }
 
 /// The lines of the violations of a trace, and why the first is rejected.
@@ -111,14 +127,7 @@ fn violation_lines(
         return Err(Fail::new(COUNTS));
     }
     let violations = check(alloc, trace, marks.as_slice(), sheets)?;
-    let mut out = Vec::new(alloc);
-    for violation in &violations {
-        write_violation(&mut out, violation)?;
-    }
-    if let Some(first) = violations.first() {
-        write_enforced(&mut out, first)?;
-    }
-    Ok(out)
+    Ok(lines_of(alloc, &violations)?)
 }
 
 #[test]

@@ -1,9 +1,11 @@
 //! Traces that were written by hand.
 
+use std::alloc::Global;
 use std::test::Fail;
 use trace_form::{
     Kind, Mode, Record, Records, TraceFault, Why, write_end, write_first_line, write_record,
 };
+use wedge_base::NoMemory;
 
 /// The trace of a server that signs what it reads, with a worker for each request.
 const SERVER: &[u8] = b"wedge-trace 1
@@ -33,7 +35,7 @@ fn fault_of(bytes: &[u8]) -> Option<TraceFault> {
 }
 
 /// Adds the frames of a record.
-fn add_frames(frames: &mut Vec<u8>, row: &Record<'_>) -> Result<(), Fail> {
+fn add_frames(frames: &mut Vec<u8>, row: &Record<'_>) -> Result<(), NoMemory> {
     for frame in row.frames() {
         frames.extend_from_slice(frame)?;
         frames.push(b' ')?;
@@ -41,18 +43,32 @@ fn add_frames(frames: &mut Vec<u8>, row: &Record<'_>) -> Result<(), Fail> {
     Ok(())
 }
 
+/// The trace of the server, written from its records.
+fn written_again(alloc: Global) -> Result<Vec<u8>, NoMemory> {
+    let mut out = Vec::new(alloc);
+    write_first_line(&mut out)?;
+    for row in Records::of_trace(SERVER) {
+        write_record(&row, &mut out)?;
+    }
+    write_end(15, &mut out)?;
+    Ok(out)
+}
+
+/// The frames of the records of the server.
+fn server_frames(alloc: Global) -> Result<Vec<u8>, NoMemory> {
+    let mut frames = Vec::new(alloc);
+    for row in Records::of_trace(SERVER) {
+        add_frames(&mut frames, &row)?;
+    }
+    Ok(frames)
+}
+
 #[test]
 fn the_trace_of_a_server_is_read_and_written_again(rt: HostRuntime) -> Result<(), Fail> {
     assert!(rt; fault_of(SERVER) == None);
-    let mut out = Vec::new(rt.alloc());
-    write_first_line(&mut out)?;
-    let mut frames = Vec::new(rt.alloc());
-    for row in Records::of_trace(SERVER) {
-        write_record(&row, &mut out)?;
-        add_frames(&mut frames, &row)?;
-    }
-    write_end(15, &mut out)?;
+    let out = written_again(rt.alloc())?;
     assert!(rt; out.as_slice() == SERVER);
+    let frames = server_frames(rt.alloc())?;
     let want = b"main main worker worker sign worker worker emit \
                  main main worker worker sign worker worker emit main ";
     assert!(rt; frames.as_slice() == want.as_slice());

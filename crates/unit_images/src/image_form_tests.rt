@@ -3,8 +3,11 @@
 use image_form::Why::{Limit, Range, Truncated};
 use image_form::{Image, ImageError, ImageParts, Why, finish_image, read_image, write_image};
 use std::alloc::Global;
+use std::process::Abort;
 use std::test::Fail;
-use wedge_base::{Bytes, FdBits, FileEntry, Items, NoMemory, Procedure, Right, StreamKind};
+use wedge_base::{
+    Bytes, FdBits, FdEntry, FileEntry, Items, NoMemory, Procedure, Right, StreamKind,
+};
 
 /// An image with a procedure `main`, a tag `box`, a descriptor `out` and no file.
 static IMAGE: [u8; 139] = [
@@ -79,34 +82,64 @@ fn bytes(alloc: Global, text: &[u8]) -> Result<Bytes, NoMemory> {
     Bytes::from_slice(alloc, text)
 }
 
-/// The parts of an image of one word, whose one procedure has a name that is given, with one file.
-fn parts(alloc: Global, name: Bytes, content: Bytes) -> Result<ImageParts, NoMemory> {
+/// One procedure at the base, of this name.
+fn one_procedure(alloc: Global, name: Bytes) -> Result<Items<Procedure>, NoMemory> {
     let mut procedures = Vec::new(alloc);
     procedures.push(Procedure {
         name,
         address: 0x10000,
     })?;
+    Ok(Items::new(procedures))
+}
+
+/// One file, a source with this content.
+fn one_file(alloc: Global, content: Bytes) -> Result<Items<FileEntry>, NoMemory> {
+    let path = bytes(alloc, b"/a")?;
     let mut files = Vec::new(alloc);
     files.push(FileEntry {
-        path: bytes(alloc, b"/a")?,
+        path,
         owner: 7,
         mode: 15,
         kind: StreamKind::Source,
         content,
     })?;
+    Ok(Items::new(files))
+}
+
+/// The parts of an image of one word, whose one procedure has a name that is given, with one file.
+fn parts(alloc: Global, name: Bytes, content: Bytes) -> Result<ImageParts, NoMemory> {
+    let procedures = one_procedure(alloc, name)?;
+    let files = one_file(alloc, content)?;
+    table_parts(alloc, procedures, files)
+}
+
+/// The parts of an image of one word, with these procedures and files.
+fn table_parts(
+    alloc: Global,
+    procedures: Items<Procedure>,
+    files: Items<FileEntry>,
+) -> Result<ImageParts, NoMemory> {
+    let root = bytes(alloc, b"/")?;
+    let words = Vec::from_slice(alloc, &[0x73])?;
     Ok(ImageParts {
         fuel: 1,
         base: 0x10000,
-        words: Items::new(Vec::from_slice(alloc, &[0x73])?),
-        procedures: Items::new(procedures),
+        words: Items::new(words),
+        procedures,
         entry: 0x10000,
         ranges: Items::new(Vec::new(alloc)),
         tags: Items::new(Vec::new(alloc)),
         fds: Items::new(Vec::new(alloc)),
-        files: Items::new(files),
+        files,
         user: 0,
-        root: bytes(alloc, b"/")?,
+        root,
     })
+}
+
+/// The same, with these bytes as the name and as the content of the file.
+fn named_parts(alloc: Global, name: &[u8], content: &[u8]) -> Result<ImageParts, NoMemory> {
+    let name = bytes(alloc, name)?;
+    parts(alloc, name, bytes(alloc, content)?)
 }
 
 fn finish_fault(alloc: Global, parts: ImageParts) -> Result<Option<(usize, Why)>, NoMemory> {
@@ -114,7 +147,7 @@ fn finish_fault(alloc: Global, parts: ImageParts) -> Result<Option<(usize, Why)>
 }
 
 /// The image that was accepted.
-fn accepted(answer: Result<Image, ImageError>) -> Result<Image, Fail> {
+pub(crate) fn accepted(answer: Result<Image, ImageError>) -> Result<Image, Fail> {
     match answer {
         Ok(image) => Ok(image),
         Err(ImageError::NoMemory) => Err(NoMemory)?,
@@ -126,86 +159,155 @@ fn first_image(alloc: Global) -> Result<Image, Fail> {
     accepted(read_image(alloc, &IMAGE))
 }
 
-fn finished(alloc: Global, name: &[u8], content: Bytes) -> Result<Image, Fail> {
-    let parts = parts(alloc, bytes(alloc, name)?, content)?;
-    accepted(finish_image(alloc, parts))
+/// The image that is made of parts, with a procedure of this name and a file of this content.
+fn finished(alloc: Global, name: &[u8], content: &[u8]) -> Result<Image, Fail> {
+    accepted(finish_image(alloc, named_parts(alloc, name, content)?))
+}
+
+/// Compares the numbers of `IMAGE`.
+fn compares_numbers(rt: &impl Abort, image: &Image) {
+    assert!(rt; image.fuel() == 100);
+    assert!(rt; image.base() == 0x10000);
+    assert!(rt; image.entry() == 0x10000);
+    assert!(rt; image.user() == 0);
 }
 
 #[test]
 fn numbers_of_an_image(rt: HostRuntime) -> Result<(), Fail> {
     let image = first_image(rt.alloc())?;
-    assert!(rt; image.fuel() == 100);
-    assert!(rt; image.base() == 0x10000);
-    assert!(rt; image.entry() == 0x10000);
-    assert!(rt; image.user() == 0);
+    compares_numbers(&rt, &image);
+    drop(image);
     Ok(())
+}
+
+/// Compares the lengths of the lists of `IMAGE`.
+fn compares_lengths(rt: &impl Abort, image: &Image) {
+    assert!(rt; image.words().len() == 11);
+    assert!(rt; image.procedures().len() == 1);
+    assert!(rt; image.ranges().len() == 0);
+    assert!(rt; image.files().len() == 0);
 }
 
 #[test]
 fn lists_of_an_image(rt: HostRuntime) -> Result<(), Fail> {
     let image = first_image(rt.alloc())?;
-    assert!(rt; image.words().len() == 11);
-    assert!(rt; image.procedures().len() == 1);
-    assert!(rt; image.ranges().len() == 0);
-    assert!(rt; image.files().len() == 0);
+    compares_lengths(&rt, &image);
+    drop(image);
     Ok(())
+}
+
+/// Compares the root of `IMAGE`, and the base of its data.
+fn compares_root(rt: &impl Abort, image: &Image) {
+    assert!(rt; image.root().as_slice() == b"/".as_slice());
+    assert!(rt; image.pristine().base == 0x10000);
 }
 
 #[test]
 fn root_of_an_image(rt: HostRuntime) -> Result<(), Fail> {
     let image = first_image(rt.alloc())?;
-    assert!(rt; image.root().as_slice() == b"/".as_slice());
-    assert!(rt; image.pristine().base == 0x10000);
+    compares_root(&rt, &image);
+    drop(image);
     Ok(())
 }
 
-#[test]
-fn tags_of_an_image(rt: HostRuntime) -> Result<(), Fail> {
-    let image = first_image(rt.alloc())?;
+/// Compares the one tag of `IMAGE`.
+fn compares_tags(rt: &impl Abort, image: &Image) {
     assert!(rt; image.tags().len() == 1);
     for tag in image.tags() {
         assert!(rt; tag.name.as_slice() == b"box".as_slice());
         assert!(rt; tag.right == Some(Right::ReadWrite));
     }
+}
+
+#[test]
+fn tags_of_an_image(rt: HostRuntime) -> Result<(), Fail> {
+    let image = first_image(rt.alloc())?;
+    compares_tags(&rt, &image);
+    drop(image);
     Ok(())
+}
+
+/// Compares a descriptor that is named `out` and appends.
+fn compares_descriptor(rt: &impl Abort, fd: &FdEntry) {
+    assert!(rt; fd.name.as_slice() == b"out".as_slice());
+    assert!(rt; fd.kind == StreamKind::Append);
+    assert!(rt;
+        fd.bits
+            == FdBits {
+                read: false,
+                append: true
+            }
+    );
+}
+
+/// Compares the one descriptor of `IMAGE`.
+fn compares_descriptors(rt: &impl Abort, image: &Image) {
+    assert!(rt; image.fds().len() == 1);
+    for fd in image.fds() {
+        compares_descriptor(rt, fd);
+    }
 }
 
 #[test]
 fn descriptors_of_an_image(rt: HostRuntime) -> Result<(), Fail> {
     let image = first_image(rt.alloc())?;
-    assert!(rt; image.fds().len() == 1);
-    for fd in image.fds() {
-        assert!(rt; fd.name.as_slice() == b"out".as_slice());
-        assert!(rt; fd.kind == StreamKind::Append);
-        assert!(rt;
-            fd.bits
-                == FdBits {
-                    read: false,
-                    append: true
-                }
-        );
-    }
+    compares_descriptors(&rt, &image);
+    drop(image);
     Ok(())
+}
+
+/// Compares the words of `IMAGE` at its second address and around its text.
+fn compares_words(rt: &impl Abort, image: &Image) {
+    assert!(rt; image.fetch(0x10004) == Some(0xb6f28293));
+    assert!(rt; image.fetch(0x1002c) == None);
+    assert!(rt; image.fetch(0xfffc) == None);
 }
 
 #[test]
 fn words_at_addresses(rt: HostRuntime) -> Result<(), Fail> {
     let image = first_image(rt.alloc())?;
-    assert!(rt; image.fetch(0x10004) == Some(0xb6f28293));
-    assert!(rt; image.fetch(0x1002c) == None);
-    assert!(rt; image.fetch(0xfffc) == None);
+    compares_words(&rt, &image);
+    drop(image);
     Ok(())
+}
+
+/// Compares the procedures of `IMAGE` that begin at an address or have it.
+fn compares_procedures(rt: &impl Abort, image: &Image) {
+    assert!(rt; image.proc_at(0x10000) == Some(0x10000));
+    assert!(rt; image.proc_at(0x10004) == None);
+    if image.is_in_text(0x10028, 1) {
+        assert!(rt; image.proc_of(0x10028) == 0x10000);
+    }
+}
+
+/// Whether the procedure at an address has this name.
+fn is_procedure_name(
+    alloc: Global,
+    image: &Image,
+    address: u32,
+    name: &[u8],
+) -> Result<bool, NoMemory> {
+    Ok(image.procedure_name(alloc, address)?.as_slice() == name)
 }
 
 #[test]
 fn procedures_at_addresses(rt: HostRuntime) -> Result<(), Fail> {
     let image = first_image(rt.alloc())?;
-    assert!(rt; image.proc_at(0x10000) == Some(0x10000));
-    assert!(rt; image.proc_at(0x10004) == None);
-    let name = image.procedure_name(rt.alloc(), 0x10000)?;
-    assert!(rt; name.as_slice() == b"main".as_slice());
-    if image.is_in_text(0x10028, 1) {
-        assert!(rt; image.proc_of(0x10028) == 0x10000);
+    compares_procedures(&rt, &image);
+    let is_main = is_procedure_name(rt.alloc(), &image, 0x10000, b"main");
+    drop(image);
+    assert!(rt; is_main?);
+    Ok(())
+}
+
+/// Compares the bytes of `IMAGE` at two addresses in its text.
+fn compares_bytes(rt: &impl Abort, alloc: Global, image: &Image) -> Result<(), NoMemory> {
+    if image.is_in_text(0x10006, 2) {
+        assert!(rt; image.text_number(0x10006, 2) == 0xb6f2);
+    }
+    if image.is_in_text(0x10003, 3) {
+        let text = image.text_bytes(alloc, 0x10003, 3)?;
+        assert!(rt; text.as_slice() == [0x00, 0x93, 0x82].as_slice());
     }
     Ok(())
 }
@@ -213,35 +315,43 @@ fn procedures_at_addresses(rt: HostRuntime) -> Result<(), Fail> {
 #[test]
 fn bytes_at_addresses(rt: HostRuntime) -> Result<(), Fail> {
     let image = first_image(rt.alloc())?;
-    if image.is_in_text(0x10006, 2) {
-        assert!(rt; image.text_number(0x10006, 2) == 0xb6f2);
-    }
-    if image.is_in_text(0x10003, 3) {
-        let text = image.text_bytes(rt.alloc(), 0x10003, 3)?;
-        assert!(rt; text.as_slice() == [0x00, 0x93, 0x82].as_slice());
-    }
-    Ok(())
+    let compared = compares_bytes(&rt, rt.alloc(), &image);
+    drop(image);
+    Ok(compared?)
+}
+
+/// Whether an image is written as these bytes.
+pub(crate) fn is_written_as(alloc: Global, image: &Image, bytes: &[u8]) -> Result<bool, NoMemory> {
+    Ok(write_image(alloc, image)?.as_slice() == bytes)
 }
 
 #[test]
 fn written_as_it_was_read(rt: HostRuntime) -> Result<(), Fail> {
     let image = first_image(rt.alloc())?;
-    let file = write_image(rt.alloc(), &image)?;
-    assert!(rt; file.as_slice() == IMAGE.as_slice());
+    let is_same = is_written_as(rt.alloc(), &image, &IMAGE);
+    drop(image);
+    assert!(rt; is_same?);
     Ok(())
+}
+
+/// How many bytes an image has when it is written.
+fn written_length(alloc: Global, image: &Image) -> Result<usize, NoMemory> {
+    Ok(write_image(alloc, image)?.len())
 }
 
 #[test]
 fn finished_parts(rt: HostRuntime) -> Result<(), Fail> {
-    let image = finished(rt.alloc(), b"main", bytes(rt.alloc(), b"hi")?)?;
-    assert!(rt; write_image(rt.alloc(), &image)?.len() == 87);
+    let image = finished(rt.alloc(), b"main", b"hi")?;
+    let length = written_length(rt.alloc(), &image);
+    drop(image);
+    assert!(rt; length? == 87);
     Ok(())
 }
 
 #[test]
 fn finished_with_no_name(rt: HostRuntime) -> Result<(), Fail> {
     let alloc = rt.alloc();
-    let no_name = parts(alloc, bytes(alloc, b"a b")?, bytes(alloc, b"hi")?)?;
+    let no_name = named_parts(alloc, b"a b", b"hi")?;
     assert!(rt; finish_fault(alloc, no_name)? == Some((28, Range)));
     Ok(())
 }

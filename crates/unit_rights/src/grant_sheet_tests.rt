@@ -28,12 +28,10 @@ fn gate(alloc: Global, number: u32) -> Result<GateId, NoMemory> {
 }
 
 /// The path of a canonical text.
-fn path(alloc: Global, text: &str) -> Result<PathText, Fail> {
-    let bytes = Bytes::from_slice(alloc, text.as_bytes())?;
-    if !is_canonical(bytes.as_slice()) {
-        return Err("not canonical".into());
-    }
-    Ok(PathText::new(bytes))
+fn path(rt: &(impl Abort + AllocGlobal), text: &str) -> Result<PathText, NoMemory> {
+    let bytes = text.as_bytes();
+    assert!(rt; is_canonical(bytes), "not canonical");
+    Ok(PathText::new(Bytes::from_slice(rt.alloc(), bytes)?))
 }
 
 /// A map of these entries.
@@ -74,64 +72,112 @@ fn gates(alloc: Global, list: &[(u32, u32)]) -> Result<NumberMap<GateId>, NoMemo
 }
 
 /// A sheet of these tags, read on descriptor 3, gate 1 at entry 16 and gate 4 at entry 48.
-fn sheet(alloc: Global, user: u32, root: &str) -> Result<Sheet, Fail> {
-    let tags = tags(alloc)?;
-    let fds = fds(alloc, &[3])?;
-    let gates = gates(alloc, &[(16, 1), (48, 4)])?;
-    Ok(Sheet::new(tags, fds, gates, user, path(alloc, root)?))
+fn sheet(rt: &(impl Abort + AllocGlobal), user: u32, root: &str) -> Result<Sheet, NoMemory> {
+    let root = path(rt, root)?;
+    let gates = gates(rt.alloc(), &[(16, 1), (48, 4)])?;
+    let fds = fds(rt.alloc(), &[3])?;
+    let tags = tags(rt.alloc())?;
+    Ok(Sheet::new(tags, fds, gates, user, root))
 }
 
 /// Adds gates that an actor made, each an entry and a number.
-fn make_gates(alloc: Global, made: &mut Made, list: &[(u32, u32)]) -> Result<(), Fail> {
+fn make_gates(
+    rt: &(impl Abort + AllocGlobal),
+    made: &mut Made,
+    list: &[(u32, u32)],
+) -> Result<(), NoMemory> {
     for (entry, number) in list {
-        if made.count() == u32::MAX {
-            return Err("too many gates".into());
-        }
-        made.put_gate(*entry, gate(alloc, *number)?)?;
+        assert!(rt; made.count() < u32::MAX, "too many gates");
+        made.put_gate(*entry, gate(rt.alloc(), *number)?)?;
     }
     Ok(())
 }
 
+/// Makes tag 5 in slot 0, opens descriptor 7 with read, and makes gate 2 at entry 32 and gates 3
+/// and 5 at entry 48.
+fn make_all(rt: &(impl Abort + AllocGlobal), made: &mut Made) -> Result<(), NoMemory> {
+    make_gates(rt, made, &[(48, 3), (32, 2), (48, 5)])?;
+    made.put_fd(FdNo(7), READ)?;
+    made.put_tag(TagNo(5), Slot(0))
+}
+
 /// One who made tag 5 in slot 0, opened descriptor 7 with read, and made gate 2 at entry 32 and
 /// gates 3 and 5 at entry 48.
-fn made(alloc: Global) -> Result<Made, Fail> {
-    let mut made = Made::new(alloc);
-    make_gates(alloc, &mut made, &[(48, 3), (32, 2), (48, 5)])?;
-    made.put_fd(FdNo(7), READ)?;
-    made.put_tag(TagNo(5), Slot(0))?;
+fn made(rt: &(impl Abort + AllocGlobal)) -> Result<Made, NoMemory> {
+    let mut made = Made::new(rt.alloc());
+    make_all(rt, &mut made)?;
     Ok(made)
 }
 
+/// What an actor has: its sheet, and what it made.
+#[derive(Drop)]
+struct Held {
+    sheet: Sheet,
+    made: Made,
+}
+
+/// What an actor of a user and a root directory has.
+fn held_by(rt: &(impl Abort + AllocGlobal), user: u32, root: &str) -> Result<Held, NoMemory> {
+    let sheet = sheet(rt, user, root)?;
+    let made = made(rt)?;
+    Ok(Held { sheet, made })
+}
+
+/// What came of a grant that was put into a draft with room for it.
+fn with_room(rt: &impl Abort, put: Result<(), DraftFault>) -> Result<(), NoMemory> {
+    match put {
+        Ok(()) => Ok(()),
+        Err(DraftFault::NoMemory) => Err(NoMemory),
+        Err(DraftFault::Full) => panic!(rt; "full"),
+    }
+}
+
 /// Puts rights on tags into a draft.
-fn put_tags(draft: &mut Draft, tags: &[(u32, Right)]) -> Result<(), Fail> {
+fn put_tags(rt: &impl Abort, draft: &mut Draft, tags: &[(u32, Right)]) -> Result<(), NoMemory> {
     for (tag, right) in tags {
-        draft.put_tag(TagNo(*tag), *right).map_err(|_| "tag")?;
+        with_room(rt, draft.put_tag(TagNo(*tag), *right))?;
     }
     Ok(())
 }
 
 /// Puts read on descriptors into a draft.
-fn put_fds(draft: &mut Draft, fds: &[u32]) -> Result<(), Fail> {
+fn put_fds(rt: &impl Abort, draft: &mut Draft, fds: &[u32]) -> Result<(), NoMemory> {
     for fd in fds {
-        draft.put_fd(FdNo(*fd), READ).map_err(|_| "descriptor")?;
+        with_room(rt, draft.put_fd(FdNo(*fd), READ))?;
     }
     Ok(())
 }
 
 /// Puts entries of gates into a draft.
-fn put_gates(draft: &mut Draft, entries: &[u32]) -> Result<(), Fail> {
+fn put_gates(rt: &impl Abort, draft: &mut Draft, entries: &[u32]) -> Result<(), NoMemory> {
     for entry in entries {
-        draft.put_gate(*entry).map_err(|_| "gate")?;
+        with_room(rt, draft.put_gate(*entry))?;
     }
     Ok(())
 }
 
+/// Puts rights on tags, read on descriptors and entries of gates into a draft.
+fn put_all(
+    rt: &impl Abort,
+    draft: &mut Draft,
+    tags: &[(u32, Right)],
+    fds: &[u32],
+    gates: &[u32],
+) -> Result<(), NoMemory> {
+    put_gates(rt, draft, gates)?;
+    put_fds(rt, draft, fds)?;
+    put_tags(rt, draft, tags)
+}
+
 /// A draft of rights on tags, of descriptors that may be read, and of gates at entries.
-fn draft(alloc: Global, tags: &[(u32, Right)], fds: &[u32], gates: &[u32]) -> Result<Draft, Fail> {
-    let mut draft = Draft::new(alloc);
-    put_gates(&mut draft, gates)?;
-    put_fds(&mut draft, fds)?;
-    put_tags(&mut draft, tags)?;
+fn draft(
+    rt: &(impl Abort + AllocGlobal),
+    tags: &[(u32, Right)],
+    fds: &[u32],
+    gates: &[u32],
+) -> Result<Draft, NoMemory> {
+    let mut draft = Draft::new(rt.alloc());
+    put_all(rt, &mut draft, tags, fds, gates)?;
     Ok(draft)
 }
 
@@ -147,18 +193,26 @@ fn maps_are_sorted(rt: HostRuntime) -> Result<(), Fail> {
     Ok(())
 }
 
+/// Tags, and the right of an actor on each.
+static RIGHTS: [(u32, Option<Right>); 4] = [
+    (1, Some(Right::Cow)),
+    (2, Some(Right::Read)),
+    (3, None),
+    (5, Some(Right::ReadWrite)),
+];
+
+/// Finds the right of an actor on a tag.
+fn check_right(rt: &impl Abort, held: &Held, tag: u32, wanted: Option<Right>) {
+    let right = right_on(&held.sheet, &held.made, TagNo(tag));
+    assert!(rt; right == wanted, "tag {tag}");
+}
+
 /// The right on each tag, by the sheet and by what was made.
 #[test]
 fn rights_of_an_actor(rt: HostRuntime) -> Result<(), Fail> {
-    let sheet = sheet(rt.alloc(), 1, "/")?;
-    let made = made(rt.alloc())?;
-    for (tag, wanted) in [
-        (1, Some(Right::Cow)),
-        (2, Some(Right::Read)),
-        (3, None),
-        (5, Some(Right::ReadWrite)),
-    ] {
-        assert!(rt; right_on(&sheet, &made, TagNo(tag)) == wanted, "tag {tag}");
+    let held = held_by(&rt, 1, "/")?;
+    for (tag, wanted) in &RIGHTS {
+        check_right(&rt, &held, *tag, *wanted);
     }
     Ok(())
 }
@@ -171,23 +225,34 @@ fn number_of(gate: Option<&GateId>) -> u32 {
     }
 }
 
+/// Entries, and the number of an actor's gate at each.
+static GATES: [(u32, u32); 4] = [(16, 1), (32, 2), (48, 5), (24, 0)];
+
+/// Finds the number of an actor's gate at an entry.
+fn check_gate(rt: &impl Abort, held: &Held, entry: u32, wanted: u32) {
+    let number = number_of(gate_at(&held.sheet, &held.made, entry));
+    assert!(rt; number == wanted, "entry {entry}");
+}
+
 /// A gate that was made later hides the one that was made there before, and the sheet's.
 #[test]
 fn last_gate_counts(rt: HostRuntime) -> Result<(), Fail> {
-    let sheet = sheet(rt.alloc(), 1, "/")?;
-    let made = made(rt.alloc())?;
-    for (entry, wanted) in [(16, 1), (32, 2), (48, 5), (24, 0)] {
-        let number = number_of(gate_at(&sheet, &made, entry));
-        assert!(rt; number == wanted, "entry {entry}");
+    let held = held_by(&rt, 1, "/")?;
+    for (entry, wanted) in &GATES {
+        check_gate(&rt, &held, *entry, *wanted);
     }
     Ok(())
 }
 
 /// The first excess of a draft of an actor of a user and a root directory.
-fn excess_of(alloc: Global, user: u32, root: &str, draft: &Draft) -> Result<Option<Denial>, Fail> {
-    let creator = sheet(alloc, user, root)?;
-    let made = made(alloc)?;
-    Ok(first_excess(&creator, &made, draft))
+fn excess_of(
+    rt: &(impl Abort + AllocGlobal),
+    user: u32,
+    root: &str,
+    draft: &Draft,
+) -> Result<Option<Denial>, NoMemory> {
+    let held = held_by(rt, user, root)?;
+    Ok(first_excess(&held.sheet, &held.made, draft))
 }
 
 /// The item of a draft that is denied, if one is.
@@ -198,37 +263,50 @@ fn item_of(denial: &Option<Denial>) -> Option<Item> {
     }
 }
 
-/// Finds the item that an actor of user 1 may not grant first, in a draft that also asks for user
-/// 0.
-fn check_item(rt: &impl Abort, alloc: Global, mut draft: Draft, wanted: Item) -> Result<(), Fail> {
+/// The item of a draft that an actor of user 1 may not grant first, if there is one.
+fn excess_item(rt: &(impl Abort + AllocGlobal), draft: &Draft) -> Result<Option<Item>, NoMemory> {
+    let denial = excess_of(rt, 1, "/box", draft)?;
+    Ok(item_of(&denial))
+}
+
+/// The item that an actor of user 1 may not grant first, if there is one, in a draft of rights on
+/// tags, of descriptors and of gates that also asks for user 0.
+fn denied_item(
+    rt: &(impl Abort + AllocGlobal),
+    tags: &[(u32, Right)],
+    fds: &[u32],
+    gates: &[u32],
+) -> Result<Option<Item>, NoMemory> {
+    let mut draft = draft(rt, tags, fds, gates)?;
     draft.set_user(0);
-    let denial = excess_of(alloc, 1, "/box", &draft)?;
-    assert!(rt; item_of(&denial) == Some(wanted));
-    Ok(())
+    excess_item(rt, &draft)
 }
 
 /// Tags come before descriptors and gates, in the order of their numbers.
 #[test]
 fn tags_are_denied_first(rt: HostRuntime) -> Result<(), Fail> {
     let rights = [(9, Right::Cow), (2, Right::ReadWrite), (1, Right::Cow)];
-    let draft = draft(rt.alloc(), &rights, &[9], &[24])?;
+    let item = denied_item(&rt, &rights, &[9], &[24])?;
     let (tag, right) = (TagNo(2), Right::ReadWrite);
-    check_item(&rt, rt.alloc(), draft, Item::Tag { tag, right })
+    assert!(rt; item == Some(Item::Tag { tag, right }));
+    Ok(())
 }
 
 /// Descriptors come before gates, in the order of their numbers.
 #[test]
 fn descriptors_are_denied_before_gates(rt: HostRuntime) -> Result<(), Fail> {
-    let draft = draft(rt.alloc(), &[(4, Right::Read)], &[7, 9, 8], &[24])?;
+    let item = denied_item(&rt, &[(4, Right::Read)], &[7, 9, 8], &[24])?;
     let (fd, bits) = (FdNo(8), READ);
-    check_item(&rt, rt.alloc(), draft, Item::Fd { fd, bits })
+    assert!(rt; item == Some(Item::Fd { fd, bits }));
+    Ok(())
 }
 
 /// Gates come in the order of their entries.
 #[test]
 fn gates_are_denied_by_entry(rt: HostRuntime) -> Result<(), Fail> {
-    let draft = draft(rt.alloc(), &[], &[], &[32, 40, 24, 16])?;
-    check_item(&rt, rt.alloc(), draft, Item::Gate { entry: 24 })
+    let item = denied_item(&rt, &[], &[], &[32, 40, 24, 16])?;
+    assert!(rt; item == Some(Item::Gate { entry: 24 }));
+    Ok(())
 }
 
 /// The part of a draft that is denied, by its name.
@@ -241,30 +319,74 @@ fn part_of(denial: &Option<Denial>) -> &'static str {
     }
 }
 
+/// The part that is denied of a draft of an actor of a user and a root directory.
+fn denied_part(
+    rt: &(impl Abort + AllocGlobal),
+    user: u32,
+    root: &str,
+    draft: &Draft,
+) -> Result<&'static str, NoMemory> {
+    let denial = excess_of(rt, user, root, draft)?;
+    Ok(part_of(&denial))
+}
+
 /// A draft of user 5 and a root directory.
-fn placed_draft(alloc: Global, root: &str) -> Result<Draft, Fail> {
-    let root = path(alloc, root)?;
-    let mut draft = Draft::new(alloc);
+fn placed_draft(rt: &(impl Abort + AllocGlobal), root: &str) -> Result<Draft, NoMemory> {
+    let root = path(rt, root)?;
+    let mut draft = Draft::new(rt.alloc());
     draft.set_user(5);
     draft.set_root(root);
     Ok(draft)
 }
 
 /// The part that is denied of a draft of user 5 and a root directory.
-fn denied_part(alloc: Global, user: u32, root: &str, asked: &str) -> Result<&'static str, Fail> {
-    let draft = placed_draft(alloc, asked)?;
-    let denial = excess_of(alloc, user, root, &draft)?;
-    Ok(part_of(&denial))
+fn denied_place(
+    rt: &(impl Abort + AllocGlobal),
+    user: u32,
+    root: &str,
+    asked: &str,
+) -> Result<&'static str, NoMemory> {
+    let draft = placed_draft(rt, asked)?;
+    denied_part(rt, user, root, &draft)
+}
+
+/// The part that is denied of a draft of items that an actor of user 1 may all grant, and of user
+/// 0.
+fn denied_after_items(rt: &(impl Abort + AllocGlobal)) -> Result<&'static str, NoMemory> {
+    let mut draft = draft(rt, &[(5, Right::ReadWrite)], &[3, 7], &[48])?;
+    draft.set_user(0);
+    denied_part(rt, 1, "/", &draft)
 }
 
 /// The user is denied after items that may all be granted.
 #[test]
 fn users_are_denied_after_items(rt: HostRuntime) -> Result<(), Fail> {
-    let alloc = rt.alloc();
-    let mut draft = draft(alloc, &[(5, Right::ReadWrite)], &[3, 7], &[48])?;
-    draft.set_user(0);
-    let denial = excess_of(alloc, 1, "/", &draft)?;
-    assert!(rt; part_of(&denial) == "user");
+    let part = denied_after_items(&rt)?;
+    assert!(rt; part == "user");
+    Ok(())
+}
+
+/// An actor's user and root directory, the root directory that is asked for with user 5, and the
+/// part that is denied.
+#[rattlefmt::skip]
+static PLACES: [(u32, &str, &str, &str); 5] = [
+    (0, "/box", "/box/etc", "none"),
+    (0, "/box", "/boxes", "root"),
+    (5, "/box", "/box", "none"),
+    (5, "/box", "/box/etc", "root"),
+    (6, "/box", "/", "user"),
+];
+
+/// Finds the part that is denied of a draft of user 5 and a root directory.
+fn check_place(
+    rt: &(impl Abort + AllocGlobal),
+    user: u32,
+    root: &str,
+    asked: &str,
+    wanted: &str,
+) -> Result<(), NoMemory> {
+    let part = denied_place(rt, user, root, asked)?;
+    assert!(rt; part == wanted, "user {user}, {asked} of {root}");
     Ok(())
 }
 
@@ -272,16 +394,8 @@ fn users_are_denied_after_items(rt: HostRuntime) -> Result<(), Fail> {
 /// directory.
 #[test]
 fn users_and_roots(rt: HostRuntime) -> Result<(), Fail> {
-    let alloc = rt.alloc();
-    for (user, root, asked, wanted) in [
-        (0, "/box", "/box/etc", "none"),
-        (0, "/box", "/boxes", "root"),
-        (5, "/box", "/box", "none"),
-        (5, "/box", "/box/etc", "root"),
-        (6, "/box", "/", "user"),
-    ] {
-        let part = denied_part(alloc, user, root, asked)?;
-        assert!(rt; part == wanted, "user {user}, {asked} of {root}");
+    for (user, root, asked, wanted) in &PLACES {
+        check_place(&rt, *user, root, asked, wanted)?;
     }
     Ok(())
 }
@@ -308,10 +422,10 @@ fn paths_under_paths(rt: HostRuntime) {
 }
 
 /// A draft of 1,024 grants: on the tags below 1,022, on descriptor 0 and at entry 16.
-fn full_draft(alloc: Global) -> Result<Draft, Fail> {
-    let mut draft = draft(alloc, &[], &[0], &[16])?;
+fn full_draft(rt: &(impl Abort + AllocGlobal)) -> Result<Draft, NoMemory> {
+    let mut draft = draft(rt, &[], &[0], &[16])?;
     for tag in 0..1_022 {
-        put_tags(&mut draft, &[(tag, Right::Read)])?;
+        put_tags(rt, &mut draft, &[(tag, Right::Read)])?;
     }
     Ok(draft)
 }
@@ -328,40 +442,56 @@ fn full_at(draft: &mut Draft, number: u32) -> [bool; 3] {
     ]
 }
 
+/// Numbers, and whether a full draft takes no tag, descriptor and gate of each.
+static FULL: [(u32, [bool; 3]); 3] = [
+    (0, [false, false, true]),
+    (16, [false, true, false]),
+    (1_022, [true, true, true]),
+];
+
 /// A draft takes 1,024 grants of all kinds together, and then only on what it has a grant already.
 #[test]
 fn drafts_fill_up(rt: HostRuntime) -> Result<(), Fail> {
-    let mut draft = full_draft(rt.alloc())?;
-    for (number, wanted) in [
-        (0, [false, false, true]),
-        (16, [false, true, false]),
-        (1_022, [true, true, true]),
-    ] {
-        assert!(rt; full_at(&mut draft, number) == wanted, "{number}");
+    let mut draft = full_draft(&rt)?;
+    for (number, wanted) in &FULL {
+        assert!(rt; full_at(&mut draft, *number) == *wanted, "{number}");
     }
     Ok(())
 }
 
-/// The sheet that a draft gives, where no part of it is in excess.
-fn child(alloc: Global, creator: &Sheet, made: &Made, draft: &Draft) -> Result<Sheet, Fail> {
-    let None = first_excess(creator, made, draft) else {
-        return Err("an excess".into());
-    };
-    Ok(sheet_of(alloc, creator, made, draft)?)
+/// The sheet that a draft of an actor gives, where no part of it is in excess.
+fn child_of(
+    rt: &(impl Abort + AllocGlobal),
+    held: &Held,
+    draft: &Draft,
+) -> Result<Sheet, NoMemory> {
+    let denial = first_excess(&held.sheet, &held.made, draft);
+    assert!(rt; denial.is_none(), "an excess");
+    sheet_of(rt.alloc(), &held.sheet, &held.made, draft)
+}
+
+/// The sheet that a draft of an actor of user 0 gives, where no part of it is in excess.
+fn child(rt: &(impl Abort + AllocGlobal), draft: &Draft) -> Result<Sheet, NoMemory> {
+    let held = held_by(rt, 0, "/box")?;
+    child_of(rt, &held, draft)
 }
 
 /// The sheet of Read on tag 5 and Cow on tag 2, with read on descriptor 3 and the gates at entries
 /// 48 and 16.
-fn given(alloc: Global) -> Result<Sheet, Fail> {
+fn given(rt: &(impl Abort + AllocGlobal)) -> Result<Sheet, NoMemory> {
     let rights = [(5, Right::Read), (2, Right::Cow)];
-    let draft = draft(alloc, &rights, &[3], &[48, 16])?;
-    child(alloc, &sheet(alloc, 0, "/box")?, &made(alloc)?, &draft)
+    let draft = draft(rt, &rights, &[3], &[48, 16])?;
+    child(rt, &draft)
 }
 
-/// Tags are given in the creator's slots.
-#[test]
-fn slots_are_the_creators(rt: HostRuntime) -> Result<(), Fail> {
-    let given = given(rt.alloc())?;
+/// A copy of the gates of that sheet.
+fn given_gates(rt: &(impl Abort + AllocGlobal)) -> Result<NumberMap<GateId>, NoMemory> {
+    let given = given(rt)?;
+    given.copy_gates(rt.alloc())
+}
+
+/// Whether the tags of that sheet are given in the creator's slots.
+fn has_given_tags(given: &Sheet) -> bool {
     let wanted = [
         (
             2,
@@ -378,67 +508,106 @@ fn slots_are_the_creators(rt: HostRuntime) -> Result<(), Fail> {
             },
         ),
     ];
-    assert!(rt; given.tags().as_slice() == wanted.as_slice());
+    given.tags().as_slice() == wanted.as_slice()
+}
+
+/// Tags are given in the creator's slots.
+#[test]
+fn slots_are_the_creators(rt: HostRuntime) -> Result<(), Fail> {
+    let given = given(&rt)?;
+    assert!(rt; has_given_tags(&given));
     Ok(())
 }
+
+/// Entries, and the number of the gate that is given at each.
+static GIVEN_GATES: [(u32, u32); 3] = [(16, 1), (32, 0), (48, 5)];
 
 /// Gates are the creator's at their entries.
 #[test]
 fn gates_are_the_creators(rt: HostRuntime) -> Result<(), Fail> {
-    let gates = given(rt.alloc())?.copy_gates(rt.alloc())?;
-    for (entry, wanted) in [(16, 1), (32, 0), (48, 5)] {
-        let number = number_of(gates.get(entry));
-        assert!(rt; number == wanted, "entry {entry}");
+    let gates = given_gates(&rt)?;
+    for (entry, wanted) in &GIVEN_GATES {
+        let number = number_of(gates.get(*entry));
+        assert!(rt; number == *wanted, "entry {entry}");
     }
     Ok(())
+}
+
+/// A declared tag, on which the root has this right.
+fn tag_entry(alloc: Global, right: Option<Right>) -> Result<TagEntry, NoMemory> {
+    Ok(TagEntry {
+        name: Bytes::from_slice(alloc, b"tag")?,
+        pages: 1,
+        right,
+        content: Bytes::from_slice(alloc, b"")?,
+    })
 }
 
 /// Declared tags, on which the root has these rights.
 fn tag_entries(alloc: Global, rights: &[Option<Right>]) -> Result<Vec<TagEntry>, NoMemory> {
     let mut entries = Vec::new(alloc);
     for right in rights {
-        entries.push(TagEntry {
-            name: Bytes::from_slice(alloc, b"tag")?,
-            pages: 1,
-            right: *right,
-            content: Bytes::from_slice(alloc, b"")?,
-        })?;
+        entries.push(tag_entry(alloc, *right)?)?;
     }
     Ok(entries)
+}
+
+/// A declared descriptor, on which the root has these bits.
+fn fd_entry(alloc: Global, bits: FdBits) -> Result<FdEntry, NoMemory> {
+    Ok(FdEntry {
+        name: Bytes::from_slice(alloc, b"fd")?,
+        kind: StreamKind::Source,
+        bits,
+        content: Bytes::from_slice(alloc, b"")?,
+    })
 }
 
 /// Declared descriptors, on which the root has these bits.
 fn fd_entries(alloc: Global, bits: &[FdBits]) -> Result<Vec<FdEntry>, NoMemory> {
     let mut entries = Vec::new(alloc);
     for bits in bits {
-        entries.push(FdEntry {
-            name: Bytes::from_slice(alloc, b"fd")?,
-            kind: StreamKind::Source,
-            bits: *bits,
-            content: Bytes::from_slice(alloc, b"")?,
-        })?;
+        entries.push(fd_entry(alloc, *bits)?)?;
     }
     Ok(entries)
 }
 
+/// The root's sheet, of user 7 and a root directory, of declared tags and descriptors.
+fn sheet_of_entries(
+    rt: &(impl Abort + AllocGlobal),
+    tags: &[TagEntry],
+    fds: &[FdEntry],
+) -> Result<Sheet, NoMemory> {
+    let root = path(rt, "/srv")?;
+    assert!(rt; tags.len() <= 3 && fds.len() <= 2, "too many entries");
+    Sheet::root(rt.alloc(), tags, fds, 7, root)
+}
+
 /// The root's sheet, of Cow on tag 0, nothing on tag 1 and ReadWrite on tag 2, and these bits on
 /// descriptors 0 and 1.
-fn root_sheet(alloc: Global) -> Result<Sheet, Fail> {
-    let tags = tag_entries(alloc, &[Some(Right::Cow), None, Some(Right::ReadWrite)])?;
-    let fds = fd_entries(alloc, &[READ, BOTH])?;
-    if tags.len() > 3 || fds.len() > 2 {
-        return Err("too many entries".into());
-    }
-    Ok(Sheet::root(alloc, &tags, &fds, 7, path(alloc, "/srv")?)?)
+fn root_sheet(rt: &(impl Abort + AllocGlobal)) -> Result<Sheet, NoMemory> {
+    let tags = tag_entries(
+        rt.alloc(),
+        &[Some(Right::Cow), None, Some(Right::ReadWrite)],
+    )?;
+    let fds = fd_entries(rt.alloc(), &[READ, BOTH])?;
+    sheet_of_entries(rt, &tags, &fds)
+}
+
+/// Tags, and the slot of each in the root's sheet, if it is there.
+static ROOT_SLOTS: [(u32, Option<u32>); 4] = [(0, Some(0)), (1, None), (2, Some(2)), (3, None)];
+
+/// Finds the slot of a tag in a sheet, if it is there.
+fn check_slot(rt: &impl Abort, sheet: &Sheet, tag: u32, wanted: Option<u32>) {
+    let slot = sheet.tags().get(tag).map(|grant| grant.slot.0);
+    assert!(rt; slot == wanted, "tag {tag}");
 }
 
 /// The root's tags are numbered by their indices, and one without a right is left out.
 #[test]
 fn tags_of_the_root(rt: HostRuntime) -> Result<(), Fail> {
-    let sheet = root_sheet(rt.alloc())?;
-    for (tag, wanted) in [(0, Some(0)), (1, None), (2, Some(2)), (3, None)] {
-        let slot = sheet.tags().get(tag).map(|grant| grant.slot.0);
-        assert!(rt; slot == wanted, "tag {tag}");
+    let sheet = root_sheet(&rt)?;
+    for (tag, wanted) in &ROOT_SLOTS {
+        check_slot(&rt, &sheet, *tag, *wanted);
     }
     Ok(())
 }
@@ -446,7 +615,7 @@ fn tags_of_the_root(rt: HostRuntime) -> Result<(), Fail> {
 /// The root's descriptors are numbered by their indices.
 #[test]
 fn descriptors_of_the_root(rt: HostRuntime) -> Result<(), Fail> {
-    let sheet = root_sheet(rt.alloc())?;
+    let sheet = root_sheet(&rt)?;
     assert!(rt; sheet.fds().as_slice() == [(0, READ), (1, BOTH)].as_slice());
     Ok(())
 }

@@ -1,12 +1,16 @@
 //! Tests of ruled_cell: the slot of a declared tag, which passes store to and load from.
 
-ghost use Rattle.std.specs.Prelude.{◌≡◌, [], IfOk, Some, option_map};
+ghost use Rattle.std.specs.Prelude.{◌≡◌, ◌<◌, [], IfOk, Some, option_map};
+ghost use Rattle.ruled_cell.specs.Passes.{first_view};
+ghost use Rattle.ruled_cell.specs.declared.passes.PassOrigin.TheVariants.{First};
 ghost use Rattle.wedge_events.specs.declared.events.CellName.TheVariants.{Slot as SlotName};
 
 use crate::journal_cell_tests::{SlotEntry, entry_of, has_entries, is_same};
 use journal_cell::{Journaled, Pass, RunOf};
-use ruled_cell::{AskMaker, RuledCells};
+use ruled_cell::{AskMaker, RuledCells, RuledPass};
 use std::alloc::Global;
+use std::process::Abort;
+use std::sync::Wait;
 use std::test::Fail;
 use tag_segment::SlotState;
 use wedge_base::{ActorName, NoMemory, Right, Slot, Stamp, TagNo};
@@ -33,6 +37,12 @@ impl RunOf for OneTag {
       root = [];
     } };
 }
+
+/// The slot of the tag, under its lock.
+type OneSlot = RuledCells<SlotState, OneTag>;
+
+/// What a thread has seen of it.
+type OnePass = RuledPass<SlotState, OneTag>;
 
 /// Stores a word at offset 0, with this right on the tag that lives there.
 #[derive(Drop)]
@@ -109,6 +119,16 @@ fn declared_slot(alloc: Global) -> Result<Journaled<SlotState, OneTag>, NoMemory
     Ok(Journaled::new(alloc, CellName::Slot { slot: Slot(0) }, state))
 }
 
+/// Returns that slot, and the first pass.
+fn one_slot(alloc: Global) -> Result<(OneSlot, OnePass), NoMemory>
+    ensures table { IfOk result (λ t. (t.1.table ≡ t.0) × (t.0.slots ≡ 1)) }
+    ensures first { IfOk result (λ t. t.1.view ≡ first_view) }
+{
+    let mut slots = Vec::new(alloc);
+    slots.push(declared_slot(alloc)?)?;
+    RuledCells::new(alloc, slots)
+}
+
 /// Returns the tag, with a right on it.
 fn tag_with(right: Right) -> Option<Live> {
     Some(Live {
@@ -138,38 +158,101 @@ fn load_entry(child: &ActorName) -> Result<SlotEntry, NoMemory> {
     entry_of(child, 2, ask, SlotReply::Loaded { value: 5 })
 }
 
-/// One pass stores, and one that is split from it loads: the history has both, with the stamps 1 and 2.
-#[test]
-fn passes_store_and_load(rt: HostRuntime) -> Result<(), Fail> {
-    let alloc = rt.alloc();
+/// Returns the two entries.
+fn wanted_entries(alloc: Global) -> Result<[SlotEntry; 2], Fail> {
     let root = ActorName::root(alloc)?;
     let child = root.child(alloc, 1)?;
-    let wanted = [store_entry(&root)?, load_entry(&child)?];
-    let mut slots = Vec::new(alloc);
-    slots.push(declared_slot(alloc)?)?;
-    let (cells, mut pass) = RuledCells::new(alloc, slots)?;
-    let mut other = cells.split(&mut pass)?;
+    let store = store_entry(&root)?;
+    let load = load_entry(&child)?;
+    Ok([store, load])
+}
+
+/// Stores 5 by the actor of the wanted entry. The entry has to be that one.
+fn stores<R: Wait + Abort>(
+    rt: &R,
+    cells: &OneSlot,
+    pass: &mut OnePass,
+    wanted: &SlotEntry,
+) -> Result<(), NoMemory>
+    requires { (pass.old.table ≡ cells.now) × (0 < cells.now.slots) }
+    ensures { IfOk result (λ _. (pass.new.table ≡ pass.old.table)
+        × (pass.new.view.origin ≡ pass.old.view.origin)
+        × (pass.new.view.number ≡ pass.old.view.number)
+        × (pass.new.view.unjoined ≡ pass.old.view.unjoined)) }
+{
     let store = StoreWord {
         right: Right::ReadWrite,
         value: 5,
     };
     let mut actor = Pass {
-        name: &root,
+        name: &wanted.actor,
         clock: Stamp(0),
     };
-    let entry = cells.enter(&rt, &mut pass, 0, &mut actor, &store)?;
-    assert!(rt; is_same(&entry, &wanted[0]));
+    let entry = cells.enter(rt, pass, 0, &mut actor, &store)?;
+    assert!(rt; is_same(&entry, wanted));
+    Ok(())
+}
+
+/// Loads by the actor of the wanted entry. The entry has to be that one.
+fn loads<R: Wait + Abort>(
+    rt: &R,
+    cells: &OneSlot,
+    pass: &mut OnePass,
+    wanted: &SlotEntry,
+) -> Result<(), NoMemory>
+    requires { (pass.old.table ≡ cells.now) × (0 < cells.now.slots) }
+    ensures { IfOk result (λ _. (pass.new.table ≡ pass.old.table)
+        × (pass.new.view.origin ≡ pass.old.view.origin)
+        × (pass.new.view.number ≡ pass.old.view.number)
+        × (pass.new.view.unjoined ≡ pass.old.view.unjoined)) }
+{
     let load = LoadWord { right: Right::Read };
     let mut actor = Pass {
-        name: &child,
+        name: &wanted.actor,
         clock: Stamp(0),
     };
-    let entry = cells.enter(&rt, &mut other, 0, &mut actor, &load)?;
-    assert!(rt; is_same(&entry, &wanted[1]));
-    cells.join(&mut pass, other);
+    let entry = cells.enter(rt, pass, 0, &mut actor, &load)?;
+    assert!(rt; is_same(&entry, wanted));
+    Ok(())
+}
+
+/// Stores by the first pass, loads by one that is split from it, and joins the two.
+fn stores_and_loads<R: Wait + Abort>(
+    rt: &R,
+    cells: &OneSlot,
+    pass: &mut OnePass,
+    wanted: &[SlotEntry; 2],
+) -> Result<(), NoMemory>
+    requires table { (pass.old.table ≡ cells.now) × (cells.now.slots ≡ 1) }
+    requires first { pass.old.view ≡ first_view }
+    ensures { IfOk result (λ _. (pass.new.table ≡ cells.now) × (pass.new.view.origin ≡ First)
+        × (pass.new.view.unjoined ≡ 0)) }
+{
+    let mut other = cells.split(pass)?;
+    stores(rt, cells, pass, &wanted[0])?;
+    loads(rt, cells, &mut other, &wanted[1])?;
+    cells.join(pass, other);
+    Ok(())
+}
+
+/// Closes the slot, which has to be the only one, with this history.
+fn closes_one<R: Abort>(rt: &R, cells: OneSlot, pass: OnePass, wanted: &[SlotEntry])
+    requires table { pass.table ≡ cells }
+    requires all_joined { (pass.view.origin ≡ First) × (pass.view.unjoined ≡ 0) }
+{
     let mut closed = cells.close(pass).into_iter();
-    let parts = closed.next().expect(&rt, "slot 0").into_parts();
-    assert!(rt; has_entries(&parts.history, &wanted));
+    let parts = closed.next().expect(rt, "slot 0").into_parts();
+    assert!(rt; has_entries(&parts.history, wanted));
     assert!(rt; closed.next().is_none());
+}
+
+/// One pass stores, and one that is split from it loads: the history has both, with the stamps 1 and 2.
+#[test]
+fn passes_store_and_load(rt: HostRuntime) -> Result<(), Fail> {
+    let alloc = rt.alloc();
+    let wanted = wanted_entries(alloc)?;
+    let (cells, mut pass) = one_slot(alloc)?;
+    stores_and_loads(&rt, &cells, &mut pass, &wanted)?;
+    closes_one(&rt, cells, pass, &wanted);
     Ok(())
 }

@@ -332,22 +332,44 @@ fn enters_slot(
 /// The tag that is opened in a slot.
 const TAG: TagNo = TagNo(7);
 
+/// Opens the tag in a slot by the root, and returns the entry.
+fn opens_tag(rt: &impl Abort, alloc: Global, cell: &mut SlotCell) -> Result<SlotEntry, NoMemory> {
+    let root = ActorName::root(alloc)?;
+    let open_ = SlotAsk::Open { tag: TAG, pages: 1 };
+    let wanted = entry_of(&root, 1, open_, SlotReply::Opened)?;
+    enters_slot(rt, cell, 0, &wanted)?;
+    Ok(wanted)
+}
+
+/// Places a block in the tag by the root, and returns the entry.
+fn places_block(
+    rt: &impl Abort,
+    alloc: Global,
+    cell: &mut SlotCell,
+) -> Result<SlotEntry, NoMemory> {
+    let root = ActorName::root(alloc)?;
+    let smalloc = SlotAsk::Smalloc { tag: TAG, size: 16 };
+    let wanted = entry_of(&root, 2, smalloc, SlotReply::Placed { offset: 0 })?;
+    enters_slot(rt, cell, 1, &wanted)?;
+    Ok(wanted)
+}
+
+/// Compares the name and the history of slot 3.
+fn compares_slot(rt: &impl Abort, cell: SlotCell, wanted: &[SlotEntry]) {
+    let parts = cell.into_parts();
+    assert!(rt; parts.name == CellName::Slot { slot: Slot(3) });
+    assert!(rt; has_entries(&parts.history, wanted));
+}
+
 /// A tag is opened in a slot, and a block is placed there.
 #[test]
 fn slot_holds_a_tag(rt: HostRuntime) -> Result<(), Fail> {
     let alloc = rt.alloc();
-    let root = ActorName::root(alloc)?;
-    let open_ = SlotAsk::Open { tag: TAG, pages: 1 };
-    let first = entry_of(&root, 1, open_, SlotReply::Opened)?;
-    let smalloc = SlotAsk::Smalloc { tag: TAG, size: 16 };
-    let second = entry_of(&root, 2, smalloc, SlotReply::Placed { offset: 0 })?;
     let mut cell = new_slot(alloc);
-    enters_slot(&rt, &mut cell, 0, &first)?;
-    enters_slot(&rt, &mut cell, 1, &second)?;
+    let first = opens_tag(&rt, alloc, &mut cell)?;
+    let second = places_block(&rt, alloc, &mut cell)?;
     assert!(rt; cell.state().live() == Some(TAG));
-    let parts = cell.into_parts();
-    assert!(rt; parts.name == CellName::Slot { slot: Slot(3) });
-    assert!(rt; has_entries(&parts.history, &[first, second]));
+    compares_slot(&rt, cell, &[first, second]);
     Ok(())
 }
 

@@ -3,14 +3,16 @@
 ghost use Rattle.std.specs.Prelude.{◌≡◌, ◌<◌, [], IfOk};
 ghost use Rattle.wedge_events.specs.declared.events.CellName.TheVariants.{Slot as SlotName};
 ghost use Rattle.ruled_cell.specs.Passes.{first_view};
+ghost use Rattle.ruled_cell.specs.declared.passes.PassOrigin.TheVariants.{First};
 
 use crate::journal_cell_tests::{Bare, SlotEntry, entry_of, has_entries, is_same};
 use journal_cell::{Entry, Journaled, Pass};
 use ruled_cell::{AskMaker, RuledCells, RuledPass};
 use std::alloc::Global;
+use std::process::Abort;
 use std::sync::Wait;
 use std::test::Fail;
-use std::thread;
+use std::thread::{self, Threads};
 use tag_segment::SlotState;
 use wedge_base::{ActorName, NoMemory, Slot, Stamp, TagNo};
 use wedge_events::{CellName, SlotAsk, SlotReply};
@@ -85,6 +87,27 @@ fn enters<R: Wait>(
     cells.enter(rt, pass, slot, &mut actor, &maker)
 }
 
+/// Enters a slot as `enters` does, by the actor of the wanted entry. The entry has to be that one.
+fn enters_as<R: Wait + Abort>(
+    rt: &R,
+    cells: &SlotCells,
+    pass: &mut SlotPass,
+    slot: usize,
+    clock: u64,
+    tag: u32,
+    wanted: &SlotEntry,
+) -> Result<(), NoMemory>
+    requires { (pass.old.table ≡ cells.now) × (slot < cells.now.slots) }
+    ensures { IfOk result (λ _. (pass.new.table ≡ pass.old.table)
+        × (pass.new.view.origin ≡ pass.old.view.origin)
+        × (pass.new.view.number ≡ pass.old.view.number)
+        × (pass.new.view.unjoined ≡ pass.old.view.unjoined)) }
+{
+    let entry = enters(rt, cells, pass, slot, &wanted.actor, clock, tag)?;
+    assert!(rt; is_same(&entry, wanted));
+    Ok(())
+}
+
 /// Enters slot 0 so many times, each time with the clock 0, and returns the pass.
 fn enters_often<R: Wait>(
     rt: &R,
@@ -115,49 +138,105 @@ fn close_entry(actor: &ActorName, stamp: u64, tag: u32) -> Result<SlotEntry, NoM
     )
 }
 
+/// Returns the entries of two actors: two of slot 0, and then one of slot 1.
+fn turn_entries(alloc: Global) -> Result<[SlotEntry; 3], Fail> {
+    let root = ActorName::root(alloc)?;
+    let child = root.child(alloc, 1)?;
+    let first = close_entry(&root, 1, 7)?;
+    let second = close_entry(&child, 2, 8)?;
+    let third = close_entry(&child, 3, 9)?;
+    Ok([first, second, third])
+}
+
+/// Enters slot 0 by the first pass, then by one that is split from it, and by that one slot 1, and joins
+/// the two. Each entry has to be the wanted one.
+fn takes_turns<R: Wait + Abort>(
+    rt: &R,
+    cells: &SlotCells,
+    pass: &mut SlotPass,
+    wanted: &[SlotEntry; 3],
+) -> Result<(), NoMemory>
+    requires table { (pass.old.table ≡ cells.now) × (cells.now.slots ≡ 2) }
+    requires first { pass.old.view ≡ first_view }
+    ensures { IfOk result (λ _. (pass.new.table ≡ cells.now) × (pass.new.view.origin ≡ First)
+        × (pass.new.view.unjoined ≡ 0)) }
+{
+    enters_as(rt, cells, pass, 0, 0, 7, &wanted[0])?;
+    let mut other = cells.split(pass)?;
+    assert!(rt; pass.unjoined() == 1);
+    enters_as(rt, cells, &mut other, 0, 0, 8, &wanted[1])?;
+    enters_as(rt, cells, &mut other, 1, 2, 9, &wanted[2])?;
+    cells.join(pass, other);
+    assert!(rt; pass.unjoined() == 0);
+    Ok(())
+}
+
+/// Compares the name and the history of a slot.
+fn compares_slot(rt: &impl Abort, cell: SlotCell, slot: u32, wanted: &[SlotEntry]) {
+    let parts = cell.into_parts();
+    assert!(rt; parts.name == CellName::Slot { slot: Slot(slot) });
+    assert!(rt; has_entries(&parts.history, wanted));
+}
+
+/// Closes the slots, which have to be two, with these histories.
+fn closes_two<R: Abort>(
+    rt: &R,
+    cells: SlotCells,
+    pass: SlotPass,
+    first: &[SlotEntry],
+    second: &[SlotEntry],
+)
+    requires table { pass.table ≡ cells }
+    requires all_joined { (pass.view.origin ≡ First) × (pass.view.unjoined ≡ 0) }
+{
+    let mut closed = cells.close(pass).into_iter();
+    compares_slot(rt, closed.next().expect(rt, "slot 0"), 0, first);
+    compares_slot(rt, closed.next().expect(rt, "slot 1"), 1, second);
+    assert!(rt; closed.next().is_none());
+}
+
 /// Two passes enter two slots in turn: each slot has a history of its own, and stamps rise.
 #[test]
 fn passes_take_turns(rt: HostRuntime) -> Result<(), Fail> {
     let alloc = rt.alloc();
-    let root = ActorName::root(alloc)?;
-    let child = root.child(alloc, 1)?;
-    let wanted = [close_entry(&root, 1, 7)?, close_entry(&child, 2, 8)?];
-    let wanted_next = [close_entry(&child, 3, 9)?];
+    let wanted = turn_entries(alloc)?;
     let (cells, mut pass) = two_slots(alloc)?;
     assert!(rt; cells.count() == 2);
-    let entry = enters(&rt, &cells, &mut pass, 0, &root, 0, 7)?;
-    assert!(rt; is_same(&entry, &wanted[0]));
-    let mut other = cells.split(&mut pass)?;
-    assert!(rt; pass.unjoined() == 1);
-    let entry = enters(&rt, &cells, &mut other, 0, &child, 0, 8)?;
-    assert!(rt; is_same(&entry, &wanted[1]));
-    let entry = enters(&rt, &cells, &mut other, 1, &child, 2, 9)?;
-    assert!(rt; is_same(&entry, &wanted_next[0]));
-    cells.join(&mut pass, other);
-    assert!(rt; pass.unjoined() == 0);
-    let mut closed = cells.close(pass).into_iter();
-    let parts = closed.next().expect(&rt, "slot 0").into_parts();
-    assert!(rt; parts.name == CellName::Slot { slot: Slot(0) });
-    assert!(rt; has_entries(&parts.history, &wanted));
-    let parts = closed.next().expect(&rt, "slot 1").into_parts();
-    assert!(rt; parts.name == CellName::Slot { slot: Slot(1) });
-    assert!(rt; has_entries(&parts.history, &wanted_next));
-    assert!(rt; closed.next().is_none());
+    takes_turns(&rt, &cells, &mut pass, &wanted)?;
+    let (first, second) = wanted.split_at(2);
+    closes_two(&rt, cells, pass, first, second);
     Ok(())
+}
+
+/// Returns the entry in which the root asks to close tag 8, with the stamp 1.
+fn close_entry_of_root(alloc: Global) -> Result<SlotEntry, NoMemory> {
+    let root = ActorName::root(alloc)?;
+    close_entry(&root, 1, 8)
+}
+
+/// Fails to enter slot 0 by a pass that is split from the first, at the highest clock, and then enters it
+/// by the first. The entry has to be the wanted one.
+fn passes_turn_on<R: Wait + Abort>(
+    rt: &R,
+    cells: &SlotCells,
+    pass: &mut SlotPass,
+    wanted: &SlotEntry,
+) -> Result<(), NoMemory>
+    requires { (pass.old.table ≡ cells.now) × (cells.now.slots ≡ 2) }
+{
+    let mut other = cells.split(pass)?;
+    let refused = enters(rt, cells, &mut other, 0, &wanted.actor, u64::MAX, 7);
+    assert!(rt; refused.is_err());
+    enters_as(rt, cells, pass, 0, 0, 8, wanted)
 }
 
 /// At the highest clock nothing is entered: the turn is passed on, and the next entry comes.
 #[test]
 fn turn_is_passed_on_without_an_entry(rt: HostRuntime) -> Result<(), Fail> {
     let alloc = rt.alloc();
-    let root = ActorName::root(alloc)?;
-    let wanted = close_entry(&root, 1, 8)?;
+    let wanted = close_entry_of_root(alloc)?;
     let (cells, mut pass) = two_slots(alloc)?;
-    let mut other = cells.split(&mut pass)?;
-    let refused = enters(&rt, &cells, &mut other, 0, &root, u64::MAX, 7);
-    assert!(rt; refused.is_err());
-    let entry = enters(&rt, &cells, &mut pass, 0, &root, 0, 8)?;
-    assert!(rt; is_same(&entry, &wanted));
+    passes_turn_on(&rt, &cells, &mut pass, &wanted)?;
     Ok(())
 }
 
@@ -169,26 +248,57 @@ fn count_of(history: &[SlotEntry], actor: &ActorName) -> usize {
 /// How often each of two threads enters.
 const TIMES: u32 = 50_000;
 
+/// Enters slot 0 by two threads at the same time, each with a pass of its own, and returns the first pass,
+/// which the other is joined to.
+fn enters_by_two<R: Threads + Wait + Sync>(
+    rt: &R,
+    cells: &SlotCells,
+    pass: SlotPass,
+    actors: &[ActorName; 2],
+) -> Result<SlotPass, NoMemory>
+    requires table { (pass.table ≡ cells.now) × (cells.now.slots ≡ 2) }
+    requires first { pass.view ≡ first_view }
+    ensures { IfOk result (λ p. (p.table ≡ cells.now) × (p.view.origin ≡ First)
+        × (p.view.unjoined ≡ 0)) }
+{
+    let mut pass = pass;
+    let other = cells.split(&mut pass)?;
+    let [root, child] = actors;
+    let (other, pass) = thread::join(
+        rt,
+        || enters_often(rt, cells, other, child, 7, TIMES),
+        || enters_often(rt, cells, pass, root, 8, TIMES),
+    );
+    let mut pass = pass?;
+    cells.join(&mut pass, other?);
+    Ok(pass)
+}
+
+/// Compares the stamps of a slot, and how often each of two actors entered it.
+fn compares_stamps(rt: &impl Abort, cell: SlotCell, actors: &[ActorName; 2]) {
+    let parts = cell.into_parts();
+    let stamps = parts.history.iter().map(|e| e.stamp.0);
+    assert!(rt; stamps.eq(1..=2 * TIMES as u64));
+    for actor in actors {
+        assert!(rt; count_of(&parts.history, actor) == TIMES as usize);
+    }
+}
+
+/// Returns the names of the root and of its first child.
+fn two_actors(alloc: Global) -> Result<[ActorName; 2], Fail> {
+    let root = ActorName::root(alloc)?;
+    let child = root.child(alloc, 1)?;
+    Ok([root, child])
+}
+
 /// Two threads enter a slot at the same time: each entry comes once, with a stamp of its own.
 #[test]
 fn threads_take_turns(rt: HostRuntime) -> Result<(), Fail> {
     let alloc = rt.alloc();
-    let root = ActorName::root(alloc)?;
-    let child = root.child(alloc, 1)?;
-    let (cells, mut pass) = two_slots(alloc)?;
-    let other = cells.split(&mut pass)?;
-    let (other, pass) = thread::join(
-        &rt,
-        || enters_often(&rt, &cells, other, &child, 7, TIMES),
-        || enters_often(&rt, &cells, pass, &root, 8, TIMES),
-    );
-    let mut pass = pass?;
-    cells.join(&mut pass, other?);
+    let actors = two_actors(alloc)?;
+    let (cells, pass) = two_slots(alloc)?;
+    let pass = enters_by_two(&rt, &cells, pass, &actors)?;
     let mut closed = cells.close(pass).into_iter();
-    let parts = closed.next().expect(&rt, "slot 0").into_parts();
-    let stamps = parts.history.iter().map(|e| e.stamp.0);
-    assert!(rt; stamps.eq(1..=2 * TIMES as u64));
-    assert!(rt; count_of(&parts.history, &child) == TIMES as usize);
-    assert!(rt; count_of(&parts.history, &root) == TIMES as usize);
+    compares_stamps(&rt, closed.next().expect(&rt, "slot 0"), &actors);
     Ok(())
 }

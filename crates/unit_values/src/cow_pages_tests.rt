@@ -1,6 +1,6 @@
 //! Pages at work.
 
-ghost use Rattle.std.specs.Prelude.{◌≡◌, ◌<◌, ◌%◌, ◌⊎◌, length, IfOk, IsTrue};
+ghost use Rattle.std.specs.Prelude.{◌≡◌, ◌<◌, ◌%◌, ◌^◌, ◌⊎◌, length, IfOk, IsTrue};
 
 use cow_pages::{
     PagedRange, Pages, PrivateView, equal_memory_is_the_same, snaps_are_the_bytes,
@@ -328,44 +328,90 @@ fn pages_are_equal_by_their_bytes(rt: HostRuntime) -> Result<(), Fail> {
     Ok(())
 }
 
+/// Whether a range is equal to one of these bytes at this address.
+fn is_range_of(range: &PagedRange, alloc: Global, base: u32, bytes: &[u8]) -> Result<bool, NoMemory>
+    requires base { base % 4 ≡ 0 }
+    requires size { length bytes.now < 2 ^ 32 }
+{
+    let other = PagedRange::new(alloc, base, bytes)?;
+    Ok(*range == other && other == *range)
+}
+
 #[test]
 fn ranges_are_equal_by_address_and_bytes(rt: HostRuntime) -> Result<(), Fail> {
     let zero_last = past_a_page(rt.alloc(), 0)?;
     let one_last = past_a_page(rt.alloc(), 1)?;
-    let range = PagedRange::new(rt.alloc(), 64, zero_last.as_slice())?;
-    let same = PagedRange::new(rt.alloc(), 64, zero_last.as_slice())?;
-    assert!(rt; range == same, "the same bytes in other pages");
-    let elsewhere = PagedRange::new(rt.alloc(), 68, zero_last.as_slice())?;
-    assert!(rt; range != elsewhere, "another address");
     let less = sevens(rt.alloc())?;
-    let shorter = PagedRange::new(rt.alloc(), 64, less.as_slice())?;
-    assert!(rt;
-        range != shorter && shorter != range,
-        "a byte less, in equal pages"
-    );
-    let other = PagedRange::new(rt.alloc(), 64, one_last.as_slice())?;
-    assert!(rt; range != other, "the last byte of a part of a page");
+    let range = PagedRange::new(rt.alloc(), 64, zero_last.as_slice())?;
+    let same = is_range_of(&range, rt.alloc(), 64, zero_last.as_slice())?;
+    let elsewhere = is_range_of(&range, rt.alloc(), 68, zero_last.as_slice())?;
+    let shorter = is_range_of(&range, rt.alloc(), 64, less.as_slice())?;
+    let other = is_range_of(&range, rt.alloc(), 64, one_last.as_slice())?;
+    assert!(rt; same, "the same bytes in other pages");
+    assert!(rt; !elsewhere, "another address");
+    assert!(rt; !shorter, "a byte less, in equal pages");
+    assert!(rt; !other, "the last byte of a part of a page");
+    Ok(())
+}
+
+/// An actor's memory with a range of four bytes.
+fn small_view(alloc: Global) -> Result<PrivateView, NoMemory> {
+    PrivateView::new(
+        alloc,
+        &[PagedRange::new(alloc, 0x0001_0100, &[42, 0, 0, 0])?],
+    )
+}
+
+/// Puts a copy of a page that begins with this byte at a slot.
+fn put_page(view: &mut PrivateView, alloc: Global, slot: Slot, first: u8) -> Result<(), NoMemory> {
+    view.put_copy(slot, Pages::new(alloc, &[first], 1)?)
+}
+
+/// What is done to an actor's memory in turn, to compare it with one that has the range and the page 6 at slot 3.
+fn change(view: &mut PrivateView, alloc: Global, turn: usize) -> Result<(), NoMemory> {
+    match turn {
+        0 => Ok(()),
+        1 => put_page(view, alloc, Slot(4), 6),
+        2 => {
+            view.drop_copy(Slot(4));
+            put_page(view, alloc, Slot(3), 7)
+        }
+        3 => put_page(view, alloc, Slot(3), 6),
+        _ => {
+            view.store(0x2001_fffc, 4, 1)?;
+            Ok(())
+        }
+    }
+}
+
+/// What is different after each turn: the copy, its slot, the page, nothing, the last word of the private range.
+static EQUAL: [bool; 5] = [false, false, false, true, false];
+
+#[test]
+fn private_memory_is_equal_by_ranges_and_copies(rt: HostRuntime) -> Result<(), Fail> {
+    let mut view = small_view(rt.alloc())?;
+    put_page(&mut view, rt.alloc(), Slot(3), 6)?;
+    assert!(rt; view == view.snapshot()?);
+    let mut other = small_view(rt.alloc())?;
+    for (turn, equal) in EQUAL.iter().enumerate() {
+        change(&mut other, rt.alloc(), turn)?;
+        assert!(rt; (view == other) == *equal, "after turn {turn}");
+    }
     Ok(())
 }
 
 #[test]
-fn private_memory_is_equal_by_ranges_and_copies(rt: HostRuntime) -> Result<(), Fail> {
-    let ranges = [PagedRange::new(rt.alloc(), 0x0001_0100, &[42, 0, 0, 0])?];
-    let mut view = PrivateView::new(rt.alloc(), &ranges)?;
-    let mut other = PrivateView::new(rt.alloc(), &ranges)?;
-    assert!(rt; view == other && view == view.snapshot()?);
+fn private_memory_without_copies_is_equal_by_ranges(rt: HostRuntime) -> Result<(), Fail> {
+    let view = small_view(rt.alloc())?;
+    assert!(rt; view == small_view(rt.alloc())?);
     let fewer = PrivateView::new(rt.alloc(), &[])?;
     assert!(rt; view != fewer && fewer != view, "a range less");
-    view.put_copy(Slot(3), Pages::new(rt.alloc(), &[6], 1)?)?;
-    assert!(rt; view != other, "no copy");
-    other.put_copy(Slot(4), Pages::new(rt.alloc(), &[6], 1)?)?;
-    assert!(rt; view != other, "a copy at another slot");
-    other.drop_copy(Slot(4));
-    other.put_copy(Slot(3), Pages::new(rt.alloc(), &[7], 1)?)?;
-    assert!(rt; view != other, "another copy");
-    other.put_copy(Slot(3), Pages::new(rt.alloc(), &[6], 1)?)?;
-    assert!(rt; view == other);
-    assert_eq!(rt; other.store(0x2001_fffc, 4, 1)?, true);
-    assert!(rt; view != other, "the last word of the private range");
+    Ok(())
+}
+
+#[test]
+fn stores_find_the_last_word_of_the_private_range(rt: HostRuntime) -> Result<(), Fail> {
+    let mut view = small_view(rt.alloc())?;
+    assert_eq!(rt; view.store(0x2001_fffc, 4, 1)?, true);
     Ok(())
 }
