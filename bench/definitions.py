@@ -288,8 +288,10 @@ OTHERS = [
         "Compare with [COMMANDS.md](COMMANDS.md).",
         [
             ("cli_inputs/Loading", ""),
-            ("wedge_cli/Lines", ""),
+            ("refusal_lines/Lines", ""),
             ("cli_inputs/Refusals", ""),
+            ("command_texts/Answers", ""),
+            ("command_texts/Causes", ""),
             ("wedge_cli/Causes", ""),
             ("image_form/Reading", ""),
             ("image_form/Words", ""),

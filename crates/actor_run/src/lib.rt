@@ -1,7 +1,6 @@
 //! An actor with the log of what it does: what a thread runs. Nothing here locks or waits.
 #![tactic(auto)]
 
-mod finished;
 mod looking;
 mod run;
 

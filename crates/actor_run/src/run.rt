@@ -4,13 +4,14 @@ ghost use Rattle.std.specs.Prelude.{◌≡◌, ◌≤◌, ◌⊎◌, IfOk, OnOk,
 ghost use Rattle.machine.specs.Actors.{right_of};
 ghost use Rattle.machine.specs.Between.{TakesFit};
 ghost use Rattle.machine.specs.Children.{fuel_given};
-ghost use Rattle.machine.specs.Local.{end_reached, is_running, run_awaited};
+ghost use Rattle.machine.specs.Local.{end_reached, has_ended, is_running, run_awaited};
 ghost use Rattle.machine.specs.Resting.{want_in, end_in, run_in, NextFits};
 ghost use Rattle.machine.specs.Take.{asks, pair, current_want, actor_begun};
 ghost use Rattle.std.specs.Arc.{arc_value};
 ghost use Rattle.machine.specs.declared.phase.Phase.TheVariants as phase;
 ghost use Rattle.run_laws.specs.Walks.{IsEntryOf};
 ghost use Rattle.sthread_life.specs.Within.{FitsWithin};
+ghost use Rattle.thread_laws.specs.Joining.{IsEndOf};
 ghost use Rattle.thread_laws.specs.ActorProgresses.{at_creation, after_rest, after_entry, after_run};
 ghost use Rattle.actor_run.specs.Runs.{going, AffordsGate};
 
@@ -19,14 +20,14 @@ use callgate::Gate;
 use cow_pages::PrivateView;
 use grant_cache::GrantCache;
 use journal_cell::RunOf;
-use machine::{Actor, Next, Phase, Resident};
+use machine::{Actor, EndedActor, Next, Phase, Resident};
 use ready_text::Program;
 use std::alloc::Global;
 use std::marker::{Model, PhantomData};
 use std::snapshot::Snapshot;
 use std::sync::Arc;
-use thread_laws::ActorEnd;
-use wedge_base::{ActorName, NoMemory, Right, Stamp, TagNo};
+use thread_laws::{ActorEnd, ActorLog};
+use wedge_base::{ActorName, Items, NoMemory, Right, Stamp, TagNo};
 use wedge_events::{Ask, Live, LogEntry, Want};
 
 /// An actor with its private memory, its cache of rights, and the log of what it did since it was created. It takes part in a run
@@ -35,7 +36,6 @@ use wedge_events::{Ask, Live, LogEntry, Want};
 /// Contracts see its progress: how it began, its entries, its state now, and its clock. Each call is one step
 /// of that progress. The clock is the stamp of the actor's last entry, or of the end of the run of a gate from
 /// which it went on; before these, it is the stamp of the event that created the actor.
-#[derive(Drop)]
 pub struct ActorRun<I: RunOf> {
     pub(crate) actor: Actor,
     pub(crate) memory: PrivateView,
@@ -46,6 +46,22 @@ pub struct ActorRun<I: RunOf> {
     pub(crate) began: Snapshot<Resident>,
     pub(crate) low: Stamp,
     run: PhantomData<I>,
+}
+
+// By hand: a derived drop would be proved again in each function that drops one.
+impl<I: RunOf> Drop for ActorRun<I> {
+    fn drop(self) {
+        let Self {
+            actor: _,
+            memory: _,
+            entries: _,
+            clock: _,
+            cache: _,
+            began: _,
+            low: _,
+            run: _,
+        } = self;
+    }
 }
 
 impl<I: RunOf> Model for ActorRun<I> {
@@ -296,4 +312,57 @@ fn affords_gate(actor: &Actor)
 {
     // The phase is read here, so that what the actor's type keeps is at hand.
     let _ = matches!(actor.phase, Phase::Entering(_));
+}
+
+impl<I: RunOf> ActorRun<I> {
+    /// Consumes an actor that has ended, and returns its log, and what another learns of its end. It takes no
+    /// memory.
+    #[tactic(auto, using(crate::proofs::Phases::ended_so))]
+    pub fn finish(self) -> (ActorLog, ActorEnd)
+        requires { has_ended self.progress.state.phase ≡ true }
+        ensures entries { result.0.entries ≡ self.progress.entries }
+        ensures log { IsEndOf self.progress.state result.0 }
+        ensures end { result.1 ≡ record {
+          how = result.0.end;
+          fuel = result.0.fuel;
+          last = self.progress.clock;
+        } }
+    {
+        let ActorRun {
+            actor,
+            memory: _memory,
+            entries,
+            clock: last_stamp,
+            cache,
+            began: _began,
+            low: _low,
+            run: _run,
+        } = self;
+        let EndedActor {
+            name,
+            compartment,
+            end,
+            pc,
+            fuel,
+            denials,
+            labels,
+        } = actor.into_ended();
+        let learned = ActorEnd {
+            how: end,
+            fuel,
+            last: last_stamp,
+        };
+        let log = ActorLog {
+            name,
+            compartment,
+            end,
+            pc,
+            fuel,
+            denials,
+            labels,
+            entries: Items::new(entries),
+            cache: cache.count(),
+        };
+        (log, learned)
+    }
 }

@@ -58,11 +58,21 @@ enum State<I: RunOf, T: TableOf> {
 
 /// A child that an actor started, or the run of a gate that it entered. Contracts see how that began, at which
 /// stamp, and how it ended, once the actor has waited for it.
-#[derive(Drop)]
 pub struct Created<I: RunOf, T: TableOf> {
     began: Snapshot<Resident>,
     stamp: Stamp,
     state: State<I, T>,
+}
+
+// By hand: a derived drop would be proved again in each function that drops one.
+impl<I: RunOf, T: TableOf> Drop for Created<I, T> {
+    fn drop(self) {
+        let Self {
+            began: _,
+            stamp: _,
+            state: _,
+        } = self;
+    }
 }
 
 impl<I: RunOf, T: TableOf> Model for Created<I, T> {
@@ -133,7 +143,11 @@ impl<I: RunOf, T: TableOf> Created<I, T> {
     pub fn into_returned<R: Threads>(self, rt: &R) -> Result<Returned<I, T>, NoMemory>
         ensures { IfOk result (IsReturnedOf I.image T.table.slots self) }
     {
-        let Created { state, .. } = self;
+        let Created {
+            began: _began,
+            stamp: _stamp,
+            state,
+        } = self;
         match state {
             State::Running(handle) => handle.join(rt),
             State::Ended(returned) => Ok(returned),

@@ -18,10 +18,20 @@ use wedge_core::serial;
 
 /// What a run on threads left, where the histories that its cells kept differ from the logs of its actors, and the
 /// first difference.
-#[derive(Debug, Drop)]
+#[derive(Debug)]
 pub struct Differs {
     pub gathered: Gathered,
     pub disagree: Difference,
+}
+
+// By hand: a derived drop would be proved again in each function that drops one.
+impl Drop for Differs {
+    fn drop(self) {
+        let Self {
+            gathered: _,
+            disagree: _,
+        } = self;
+    }
 }
 
 /// The journal and the outcome of a run. Where the threads' logs and histories differ, they are those of a run on one

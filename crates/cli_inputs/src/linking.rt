@@ -37,7 +37,7 @@ pub fn read_partition_file<F: Files>(
 {
     match read_file(alloc, files, FileKind::Partition, name) {
         Ok(bytes) => Ok(Some(bytes)),
-        Err(Refusal::Partition(_)) => Ok(None),
+        Err(Refusal::Partition(..)) => Ok(None),
         Err(refusal) => Err(refusal),
     }
 }

@@ -14,7 +14,7 @@ use wedge_base::{Bytes, NoMemory};
 use wedge_core::ReplayFault;
 
 /// Why a command is not done.
-#[derive(Debug, Drop)]
+#[derive(Debug)]
 pub enum Refusal {
     /// Out of memory.
     NoMemory,
@@ -34,6 +34,23 @@ pub enum Refusal {
     NoSuchName { name: Bytes },
     /// The first access of the run that the sheets derived from the trace do not permit.
     Violation(Violation),
+}
+
+// By hand: a derived drop would be proved again in each function that drops one.
+impl Drop for Refusal {
+    fn drop(self) {
+        match self {
+            Refusal::NoMemory => {}
+            Refusal::Read { file: _file } => {}
+            Refusal::Image(_fault) => {}
+            Refusal::Partition(_fault) => {}
+            Refusal::Schedule(_fault) => {}
+            Refusal::Trace(_fault) => {}
+            Refusal::Elf(_fault) => {}
+            Refusal::NoSuchName { name: _name } => {}
+            Refusal::Violation(_violation) => {}
+        }
+    }
 }
 
 /// The first thing that is wrong with a partition's file.

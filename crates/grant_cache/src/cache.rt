@@ -29,12 +29,22 @@ struct Latest {
 /// The rights that an actor's sheet gives on the tags that the actor used last, and counts of the look-ups. That the
 /// sheet gives no right on a tag is cached too. The tags that the actor made are not looked up here first: on these it
 /// has every right, whatever its sheet gives.
-#[derive(Drop)]
 pub struct GrantCache {
     rights: LruCache<u32, Option<Right>>,
     /// The first entry of `rights`, once more: most look-ups are of the tag that was looked up last.
     latest: Option<Latest>,
     count: CacheCount,
+}
+
+// By hand: a derived drop would be proved again in each function that drops one.
+impl Drop for GrantCache {
+    fn drop(self) {
+        let Self {
+            rights: _,
+            latest: _,
+            count: _,
+        } = self;
+    }
 }
 
 impl Model for GrantCache {

@@ -16,7 +16,7 @@ use wedge_base::{
 };
 
 /// An image that meets every rule of its form.
-#[derive(Debug, Drop)]
+#[derive(Debug)]
 pub struct Image {
     fuel: u32,
     pristine: Pristine,
@@ -27,6 +27,23 @@ pub struct Image {
     files: Items<FileEntry>,
     user: u32,
     root: Bytes,
+}
+
+// By hand: a derived drop would be proved again in each function that drops one.
+impl Drop for Image {
+    fn drop(self) {
+        let Self {
+            fuel: _,
+            pristine: _,
+            procedures: _,
+            entry: _,
+            tags: _,
+            fds: _,
+            files: _,
+            user: _,
+            root: _,
+        } = self;
+    }
 }
 
 impl Model for Image {

@@ -16,7 +16,6 @@ use wedge_base::{MemoryRange, NoMemory};
 
 /// An image, with each word of its text decoded once, and its data ranges in pages, which the
 /// actors of a run share until they store to them. Contracts see it as the image.
-#[derive(Drop)]
 pub struct Program<'a> {
     image: &'a Image,
     /// The address of the first word.
@@ -25,6 +24,19 @@ pub struct Program<'a> {
     last: u32,
     code: Vec<Option<Instr>>,
     pristine: Vec<PagedRange>,
+}
+
+// By hand: a derived drop would be proved again in each function that drops one.
+impl<'a> Drop for Program<'a> {
+    fn drop(self) {
+        let Self {
+            image: _,
+            base: _,
+            last: _,
+            code: _,
+            pristine: _,
+        } = self;
+    }
 }
 
 impl<'a> Model for Program<'a> {

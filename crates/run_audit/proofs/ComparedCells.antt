@@ -77,13 +77,6 @@ of_declared n name h own = own_declared n h ∙ ap (is_declared_slot n) (cell_is
 
 -- ---- one more of a list
 
-pub entries_more : (n : ℕ) (es : List LogEntry) (k : ℕ) (d : LogEntry) → k < length es → is_on_declared n (slice_index_or es k d).event ≡ false → compared_entries n (take (k + 1) es) ≡ compared_entries n (take k es) ++ slice_index_or es k d ∷ []
-entries_more n es k d less here = filter_more (λ (e : LogEntry). not (is_on_declared n e.event)) es k d less ∙ ap (λ t. compared_entries n (take k es) ++ cond (not t) (slice_index_or es k d ∷ []) []) here
-
-pub entries_over : (n : ℕ) (es : List LogEntry) (k : ℕ) (d : LogEntry) → k < length es → is_on_declared n (slice_index_or es k d).event ≡ true → compared_entries n (take (k + 1) es) ≡ compared_entries n (take k es)
-entries_over n es k d less here =
-    filter_more (λ (e : LogEntry). not (is_on_declared n e.event)) es k d less ∙ (ap (λ t. compared_entries n (take k es) ++ cond (not t) (slice_index_or es k d ∷ []) []) here ∙ append-nil (compared_entries n (take k es)))
-
 pub histories_more : (n : ℕ) (hs : List CellHistory) (k : ℕ) (d : CellHistory) → k < length hs → is_of_declared n (slice_index_or hs k d) ≡ false → compared_histories n (take (k + 1) hs) ≡ compared_histories n (take k hs) ++ slice_index_or hs k d ∷ []
 histories_more n hs k d less here = filter_more (λ (h : CellHistory). not (is_of_declared n h)) hs k d less ∙ ap (λ t. compared_histories n (take k hs) ++ cond (not t) (slice_index_or hs k d ∷ []) []) here
 
@@ -184,10 +177,11 @@ first_of_all n cells es d h agree =
 
 -- ---- of what was gathered, by the slices of it
 
-pub of_gathered : (i : Image) (tags : List TagEntry) (logs slices : List ActorLog) (cells listed : List CellHistory) (es items : List LogEntry) (o r : Option Difference) → tags ≡ i.tags → slices ≡ logs → listed ≡ cells → es ≡ items → items ≡ journal_of slices → o ≡ r
-    → IsComparison (compared_histories (length tags) listed) (compared_entries (length tags) es) o → IsComparison (compared_histories (length i.tags) cells) (compared_entries (length i.tags) (journal_of logs)) r
+pub of_gathered : (i : Image) (tags : List TagEntry) (logs slices : List ActorLog) (cells listed : List CellHistory) (es items : List LogEntry) (o r : Option Difference) → tags ≡ i.tags → slices ≡ logs → listed ≡ cells → es ≡ items
+    → items ≡ compared_entries (length tags) (journal_of slices) → o ≡ r → IsComparison (compared_histories (length tags) listed) es o → IsComparison (compared_histories (length i.tags) cells) (compared_entries (length i.tags) (journal_of logs)) r
 of_gathered i tags logs slices cells listed es items o r a b c d e f h =
+    let whole : es ≡ compared_entries (length i.tags) (journal_of logs) = d ∙ (e ∙ (λ k. compared_entries (length (a k)) (journal_of (b k)))) in
     subst (λ x. IsComparison (compared_histories (length i.tags) cells) (compared_entries (length i.tags) (journal_of logs)) x) f
-    (subst (λ x. IsComparison (compared_histories (length i.tags) cells) (compared_entries (length i.tags) x) o) (d ∙ (e ∙ ap journal_of b))
-    (subst (λ x. IsComparison (compared_histories (length i.tags) x) (compared_entries (length i.tags) es) o) c
-    (subst (λ x. IsComparison (compared_histories (length x) listed) (compared_entries (length x) es) o) a h)))
+    (subst (λ x. IsComparison (compared_histories (length i.tags) cells) x o) whole
+    (subst (λ x. IsComparison (compared_histories (length i.tags) x) es o) c
+    (subst (λ x. IsComparison (compared_histories (length x) listed) es o) a h)))

@@ -1,18 +1,23 @@
 -- Entries with their indices, sorted, merged, and taken by their indices.
-use Rattle.std.proofs.Common.{◌≡◌, ◌≢◌, ◌⊎◌, inl, inr, ℕ, zero, suc, ◌+◌, ◌-◌, ◌<◌, ◌≤◌, Bool, true, false, List, [], ◌∷◌, ◌++◌, length, take, drop, map, get_or, Option, Some, None, refl, ap, sym, subst, ◌∙◌, append-nil, append_assoc, arith}
-use Rattle.std.specs.Prelude.{if◌then◌else◌, slice_index_or, slice_set}
-use Rattle.std.proofs.lemmas.List.{length-append, get_or-set_other}
+use Rattle.std.proofs.Common.{◌≡◌, ◌≢◌, ◌⊎◌, inl, inr, ℕ, zero, suc, ◌+◌, ◌-◌, ◌<◌, ◌≤◌, Bool, true, false, cond, not, List, [], ◌∷◌, ◌++◌, length, take, drop, map, get_or, Option, Some, None, refl, ap, sym, subst, ◌∙◌, append-nil, append_assoc, arith}
+use Rattle.std.specs.Prelude.{if◌then◌else◌, nat_lt, slice_index_or, slice_set}
+use Rattle.std.proofs.lemmas.Bool.{ltb-true}
+use Rattle.std.proofs.lemmas.List.{length-append, length-take-le, get_or-set_other, take_more}
 use Rattle.std.proofs.Math.Seq.{get_or-append_seam}
 use Rattle.std.specs.List.Sorted.{IsSortedBy, IsStableBy}
+use Rattle.std.proofs.lemmas.List.Elements.{filter-append}
 use Rattle.stable_sort.specs.Sorting.{insert_sorted, sorted_onto, sorted}
 use Rattle.stable_sort.proofs.Sorted.{is_sorted}
+use Rattle.wedge_events.specs.declared.events.Event.{Event}
+use Rattle.wedge_events.specs.declared.events.Event.TheVariants as event
 use Rattle.wedge_events.specs.declared.events.LogEntry.{LogEntry}
 use Rattle.thread_laws.specs.Joining.{all_logged, journal_of}
 use Rattle.thread_laws.specs.Sorting.{comes_before}
 use Rattle.thread_laws.specs.declared.gathered.ActorLog.{ActorLog}
-use Rattle.run_audit.specs.IndexedEntries.{IndexedEntry, indexed, entries_without_index, indices_of, indexed_before, indexed_ordered, AreInOrder, indexed_journal, with_taken, taken_by}
+use Rattle.tag_laws.specs.DeclaredTags.{is_on_declared}
+use Rattle.run_audit.specs.IndexedEntries.{IndexedEntry, indexed, entries_without_index, indices_of, indexed_before, indexed_ordered, compared_indexed, AreInOrder, indexed_journal, with_taken, taken_by}
 use Rattle.run_audit.specs.Merges.{merged}
-use Rattle.run_audit.proofs.Merges.{merged_sorted, merged_stable, length_merged, merged_nothing}
+use Rattle.run_audit.proofs.Merges.{merged_sorted, merged_stable, merged_nothing}
 
 pub length_indexed : (n : ℕ) (es : List LogEntry) → length (indexed n es) ≡ length es
 length_indexed n [] = refl
@@ -34,46 +39,105 @@ logged_parts gs zero = refl
 logged_parts [] (suc m) = refl
 logged_parts (g ∷ gs) (suc m) = append_assoc g.entries (all_logged (take m gs)) (all_logged (drop m gs)) ∙ ap (λ es. g.entries ++ es) (logged_parts gs m)
 
+-- ---- one more of a list, kept or not
+
+abbrev item : LogEntry → ℕ → IndexedEntry
+item e i = record { entry = e; index = i }
+
+indexed_more : (m : ℕ) (es : List LogEntry) (k : ℕ) (d : LogEntry) → k < length es → indexed m (take (k + 1) es) ≡ indexed m (take k es) ++ item (slice_index_or es k d) (m + k) ∷ []
+indexed_more m es k d less =
+    let own : length (take k es) ≡ k = length-take-le k es (omega (arith, less)) in
+    let next : List IndexedEntry → List IndexedEntry = λ xs. indexed m (take k es) ++ xs in
+    ap (indexed m) (take_more es k d less)
+    ∙ (indexed_append m (take k es) (slice_index_or es k d ∷ []) ∙ ap (λ i. next (item (slice_index_or es k d) (m + i) ∷ [])) own)
+
+-- whether an entry is compared
+abbrev is_compared : ℕ → IndexedEntry → Bool
+is_compared n x = not (is_on_declared n x.entry.event)
+
+one_more : (n m : ℕ) (es : List LogEntry) (k : ℕ) (d : LogEntry) → k < length es → (b : Bool) → is_on_declared n (slice_index_or es k d).event ≡ b
+    → compared_indexed n (indexed m (take (k + 1) es)) ≡ compared_indexed n (indexed m (take k es)) ++ cond (not b) (record { entry = slice_index_or es k d; index = m + k } ∷ []) []
+one_more n m es k d less b is =
+    ap (compared_indexed n) (indexed_more m es k d less)
+    ∙ (filter-append (is_compared n) (indexed m (take k es)) (record { entry = slice_index_or es k d; index = m + k } ∷ [])
+    ∙ ap (λ t. compared_indexed n (indexed m (take k es)) ++ cond (not t) (record { entry = slice_index_or es k d; index = m + k } ∷ []) []) is)
+
+pub compared_more : (n m : ℕ) (es : List LogEntry) (k : ℕ) (d : LogEntry) (i : ℕ) → k < length es → i ≡ m + k → is_on_declared n (slice_index_or es k d).event ≡ false
+    → compared_indexed n (indexed m (take (k + 1) es)) ≡ compared_indexed n (indexed m (take k es)) ++ record { entry = slice_index_or es k d; index = i } ∷ []
+compared_more n m es k d i less at is =
+    one_more n m es k d less false is
+    ∙ ap (λ j. compared_indexed n (indexed m (take k es)) ++ item (slice_index_or es k d) j ∷ []) (sym at)
+
+pub compared_over : (n m : ℕ) (es : List LogEntry) (k : ℕ) (d : LogEntry) → k < length es → is_on_declared n (slice_index_or es k d).event ≡ true
+    → compared_indexed n (indexed m (take (k + 1) es)) ≡ compared_indexed n (indexed m (take k es))
+compared_over n m es k d less is = one_more n m es k d less true is ∙ append-nil (compared_indexed n (indexed m (take k es)))
+
+logged_append : (gs hs : List ActorLog) → all_logged (gs ++ hs) ≡ all_logged gs ++ all_logged hs
+logged_append [] hs = refl
+logged_append (g ∷ gs) hs = ap (λ es. g.entries ++ es) (logged_append gs hs) ∙ sym (append_assoc g.entries (all_logged gs) (all_logged hs))
+
+pub logged_more : (gs : List ActorLog) (k : ℕ) (d : ActorLog) → k < length gs → length (all_logged (take (k + 1) gs)) ≡ length (all_logged (take k gs)) + length (slice_index_or gs k d).entries
+logged_more gs k d less =
+    let one = slice_index_or gs k d in
+    let whole = ap (λ hs. length (all_logged hs)) (take_more gs k d less) in
+    let parts = ap length (logged_append (take k gs) (one ∷ [])) in
+    let both = length-append (all_logged (take k gs)) (one.entries ++ []) in
+    let last = ap length (append-nil one.entries) in
+    omega (arith, whole, parts, both, last)
+
 -- ---- the order of logs
 
-pub order_log : (n : ℕ) (es slice : List LogEntry) (all new : List IndexedEntry) → slice ≡ es → all ≡ indexed n slice → IsSortedBy indexed_before new → IsStableBy indexed_before all new → length new ≡ length all → AreInOrder n es new
-order_log n es slice all new a b up stable len =
-    let whole : all ≡ indexed n es = b ∙ ap (indexed n) a in
+pub order_log : (n m : ℕ) (es slice : List LogEntry) (all new : List IndexedEntry) → slice ≡ es → all ≡ compared_indexed n (indexed m slice) → IsSortedBy indexed_before new → IsStableBy indexed_before all new → AreInOrder n m es new
+order_log n m es slice all new a b up stable =
+    let whole : all ≡ compared_indexed n (indexed m es) = b ∙ ap (λ zs. compared_indexed n (indexed m zs)) a in
     record {
       sorted_ = up;
       stable = subst (λ zs. IsStableBy indexed_before zs new) whole stable;
-      len = len ∙ (ap length whole ∙ length_indexed n es);
     }
 
-pub order_none : (n : ℕ) (gs : List ActorLog) (xs : List IndexedEntry) → length gs < 1 → xs ≡ [] → AreInOrder n (all_logged gs) xs
-order_none n [] xs less e = subst (AreInOrder n []) (sym e) (record { sorted_ = λ k d from below. absurd (omega (arith, below)); stable = λ t. refl; len = refl })
-order_none n (g ∷ gs) xs less e = absurd (omega (arith, less))
+pub order_none : (n m : ℕ) (gs : List ActorLog) (xs : List IndexedEntry) → length gs < 1 → xs ≡ [] → AreInOrder n m (all_logged gs) xs
+order_none n m [] xs less e = subst (AreInOrder n m []) (sym e) (record { sorted_ = λ k d from below. absurd (omega (arith, below)); stable = λ t. refl })
+order_none n m (g ∷ gs) xs less e = absurd (omega (arith, less))
 
-pub order_one : (n : ℕ) (gs : List ActorLog) (g : ActorLog) (xs : List IndexedEntry) → length gs < 2 → 1 ≤ length gs → g ≡ get_or gs 0 g → AreInOrder n g.entries xs → AreInOrder n (all_logged gs) xs
-order_one n [] g xs less more is h = absurd (omega (arith, more))
-order_one n (f ∷ []) g xs less more is h = subst (λ es. AreInOrder n es xs) (ap (λ (x : ActorLog). x.entries) is ∙ sym (append-nil f.entries)) h
-order_one n (f ∷ (k ∷ gs)) g xs less more is h = absurd (omega (arith, less))
+pub order_one : (n m : ℕ) (gs : List ActorLog) (g : ActorLog) (xs : List IndexedEntry) → length gs < 2 → 1 ≤ length gs → g ≡ get_or gs 0 g → AreInOrder n m g.entries xs → AreInOrder n m (all_logged gs) xs
+order_one n m [] g xs less more is h = absurd (omega (arith, more))
+order_one n m (f ∷ []) g xs less more is h = subst (λ es. AreInOrder n m es xs) (ap (λ (x : ActorLog). x.entries) is ∙ sym (append-nil f.entries)) h
+order_one n m (f ∷ (k ∷ gs)) g xs less more is h = absurd (omega (arith, less))
 
-order_merged : (n : ℕ) (es fs : List LogEntry) (xs ys : List IndexedEntry) → AreInOrder n es xs → AreInOrder (n + length xs) fs ys → AreInOrder n (es ++ fs) (merged indexed_before xs ys)
-order_merged n es fs xs ys h k =
-    let parts : indexed n es ++ indexed (n + length xs) fs ≡ indexed n (es ++ fs) = ap (λ m. indexed n es ++ indexed (n + m) fs) h.len ∙ sym (indexed_append n es fs) in
-    record {
-      sorted_ = merged_sorted indexed_before indexed_ordered xs ys h.sorted_ k.sorted_;
-      stable = subst (λ zs. IsStableBy indexed_before zs (merged indexed_before xs ys)) parts (merged_stable indexed_before indexed_ordered (indexed n es) (indexed (n + length xs) fs) xs ys h.sorted_ k.sorted_ h.stable k.stable);
-      len = length_merged indexed_before indexed_ordered xs ys ∙ ((λ i. h.len i + k.len i) ∙ sym (length-append es fs));
-    }
+compared_append : (n m : ℕ) (es fs : List LogEntry) → compared_indexed n (indexed m es) ++ compared_indexed n (indexed (m + length es) fs) ≡ compared_indexed n (indexed m (es ++ fs))
+compared_append n m es fs = sym (ap (compared_indexed n) (indexed_append m es fs) ∙ filter-append (is_compared n) (indexed m es) (indexed (m + length es) fs))
 
-pub order_both : (n m : ℕ) (gs half others : List ActorLog) (c : ℕ) (xs ys us vs ws zs : List IndexedEntry) → half ≡ take c gs → others ≡ drop c gs → AreInOrder n (all_logged half) xs → us ≡ xs → m ≡ n + length us → AreInOrder m (all_logged others) ys → vs ≡ xs → ws ≡ ys → zs ≡ merged indexed_before vs ws → AreInOrder n (all_logged gs) zs
-order_both n m gs half others c xs ys us vs ws zs a b h left next k first second out =
+order_merged : (n m : ℕ) (es fs : List LogEntry) (xs ys : List IndexedEntry) → AreInOrder n m es xs → AreInOrder n (m + length es) fs ys → AreInOrder n m (es ++ fs) (merged indexed_before xs ys)
+order_merged n m es fs xs ys h k = record {
+  sorted_ = merged_sorted indexed_before indexed_ordered xs ys h.sorted_ k.sorted_;
+  stable = subst (λ zs. IsStableBy indexed_before zs (merged indexed_before xs ys)) (compared_append n m es fs)
+      (merged_stable indexed_before indexed_ordered (compared_indexed n (indexed m es)) (compared_indexed n (indexed (m + length es) fs)) xs ys h.sorted_ k.sorted_ h.stable k.stable);
+}
+
+pub order_both : (n m next : ℕ) (gs half others : List ActorLog) (c : ℕ) (xs ys vs ws zs : List IndexedEntry) → half ≡ take c gs → others ≡ drop c gs → AreInOrder n m (all_logged half) xs → next ≡ m + length (all_logged half) → AreInOrder n next (all_logged others) ys → vs ≡ xs → ws ≡ ys → zs ≡ merged indexed_before vs ws → AreInOrder n m (all_logged gs) zs
+order_both n m next gs half others c xs ys vs ws zs a b h from k first second out =
     let both : all_logged half ++ all_logged others ≡ all_logged gs = (λ i. all_logged (a i) ++ all_logged (b i)) ∙ logged_parts gs c in
-    let from : m ≡ n + length xs = next ∙ ap (λ ts. n + length ts) left in
     let is : zs ≡ merged indexed_before xs ys = out ∙ (λ i. merged indexed_before (first i) (second i)) in
-    subst (AreInOrder n (all_logged gs)) (sym is) (subst (λ es. AreInOrder n es (merged indexed_before xs ys)) both (order_merged n (all_logged half) (all_logged others) xs ys h (subst (λ p. AreInOrder p (all_logged others) ys) from k)))
+    subst (AreInOrder n m (all_logged gs)) (sym is) (subst (λ es. AreInOrder n m es (merged indexed_before xs ys)) both (order_merged n m (all_logged half) (all_logged others) xs ys h (subst (λ p. AreInOrder n p (all_logged others) ys) from k)))
 
-pub order_journal : (logs : List ActorLog) (xs : List IndexedEntry) → AreInOrder 0 (all_logged logs) xs → xs ≡ indexed_journal logs
-order_journal logs xs h = is_sorted indexed_before indexed_ordered (indexed 0 (all_logged logs)) xs h.sorted_ h.stable
+-- where nothing is left out, they are the journal
+not_below : (n : ℕ) (b : Bool) → nat_lt n 0 ≡ b → not b ≡ true
+not_below n false e = refl
+not_below n true e = let less = ltb-true n 0 e in absurd (omega (arith, less))
 
--- ---- the end of a merge
+none_out : (x : IndexedEntry) → is_compared 0 x ≡ true
+none_out x = by_event x.entry.event
+  where
+    by_event : (e : Event) → not (is_on_declared 0 e) ≡ true
+    by_event (event.Slot slot q r) = not_below slot (nat_lt slot 0) refl
+    by_event e = refl
+
+all_compared : (xs : List IndexedEntry) → compared_indexed 0 xs ≡ xs
+all_compared [] = refl
+all_compared (x ∷ xs) = ap (λ b. cond b (x ∷ compared_indexed 0 xs) (compared_indexed 0 xs)) (none_out x) ∙ ap (λ ys. x ∷ ys) (all_compared xs)
+
+pub order_journal : (logs : List ActorLog) (xs : List IndexedEntry) → AreInOrder 0 0 (all_logged logs) xs → xs ≡ indexed_journal logs
+order_journal logs xs h = is_sorted indexed_before indexed_ordered (indexed 0 (all_logged logs)) xs h.sorted_ (subst (λ zs. IsStableBy indexed_before zs xs) (all_compared (indexed 0 (all_logged logs))) h.stable)
 
 dropped_none : (n : ℕ) (xs : List IndexedEntry) → length xs ≤ n → drop n xs ≡ []
 dropped_none zero [] h = refl
@@ -140,6 +204,13 @@ journal_length logs =
     let sorted_length = length_onto [] (indexed 0 (all_logged logs)) in
     let whole = length_indexed 0 (all_logged logs) in
     omega (arith, sorted_length, whole)
+
+as_many : (xs : List IndexedEntry) → length (entries_without_index xs) ≡ length xs
+as_many [] = refl
+as_many (x ∷ xs) = ap suc (as_many xs)
+
+pub length_journal : (logs : List ActorLog) → length (journal_of logs) ≡ length (all_logged logs)
+length_journal logs = ap length (sym (journal_entries logs)) ∙ (as_many (indexed_journal logs) ∙ journal_length logs)
 
 -- ---- entries that are in their slots, each with an index of its own
 

@@ -34,5 +34,7 @@ pub mod Runs
 pub mod Merges
 -- Entries with their indices, sorted, merged, and taken by their indices.
 pub mod IndexedEntries
+-- The entries that are compared, put in order, are those of the journal.
+pub mod ComparedOrder
 -- The entries of a journal that are in its order, or still in logs.
 pub mod RunJournals

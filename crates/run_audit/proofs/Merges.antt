@@ -124,19 +124,7 @@ module _ {X : Type 0} (lt : X → X → Bool) (o : IsStrictWeakOrder lt) where
       turns_merged t xs (rises_if_sorted lt o xs u) ys (rises_if_sorted lt o ys v)
       ∙ ((λ i. s t i ++ r t i) ∙ sym (filter-append (ties lt t) us vs))
 
-  -- ---- lengths, and a merge with nothing
-
-  length_at : (x : X) (n : ℕ) (rest : List X → List X) → ((zs : List X) → length (rest zs) ≡ n + length zs) → (ys : List X) → length (merged_at lt x rest ys) ≡ suc n + length ys
-  length_at x n rest h [] = let e = h [] in omega (arith, e)
-  length_at x n rest h (y ∷ ys) = by_first (lt y x) (length_at x n rest h ys)
-    where
-      by_first : (b : Bool) → length (merged_at lt x rest ys) ≡ suc n + length ys → length (if b then y ∷ merged_at lt x rest ys else x ∷ rest (y ∷ ys)) ≡ suc n + suc (length ys)
-      by_first true r = omega (arith, r)
-      by_first false r = let e = h (y ∷ ys) in omega (arith, e)
-
-  pub length_merged : (xs ys : List X) → length (merged lt xs ys) ≡ length xs + length ys
-  length_merged [] ys = omega arith
-  length_merged (x ∷ xs) ys = length_at x (length xs) (merged lt xs) (λ zs. length_merged xs zs) ys
+  -- ---- a merge with nothing
 
   pub merged_nothing : (xs : List X) → merged lt xs [] ≡ xs
   merged_nothing [] = refl

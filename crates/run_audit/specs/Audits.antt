@@ -6,8 +6,6 @@ use Rattle.thread_laws.specs.Joining.{journal_of, AgreeOn, Agrees, outcome_gathe
 use Rattle.thread_laws.specs.declared.gathered.ActorLog.{ActorLog}
 use Rattle.thread_laws.specs.declared.gathered.CellHistory.{CellHistory}
 use Rattle.run_audit.specs.ComparedCells.{IsUndeclared}
-use Rattle.run_audit.specs.IndexedEntries.{indexed_journal}
-use Rattle.run_audit.specs.Rooms.{IsRoomFor}
 use Rattle.run_audit.specs.declared.auditing.Audited.{Audited}
 use Rattle.run_audit.specs.declared.auditing.Compared.{Compared}
 
@@ -21,11 +19,9 @@ pub record IsAudit (i : Image) (logs : List ActorLog) (cells : List CellHistory)
   pub caches : a.caches ≡ counts_in i logs
 
 -- logs and histories agree for every cell that is compared, the outcome is the one that is read off
--- both, the counts of caches are those of the logs, and there is all that it takes to make the
--- journal of the entries of the logs
+-- both, and the counts of caches are those of the logs
 pub record IsCompared (i : Image) (logs : List ActorLog) (cells : List CellHistory) (c : Compared)
     : Type 0 where
   pub agree : AgreeOn (IsUndeclared (length i.tags)) logs cells
   pub outcome : c.outcome ≡ outcome_gathered i logs cells
   pub caches : c.caches ≡ counts_in i logs
-  pub room : IsRoomFor (indexed_journal logs) c.room

@@ -1,7 +1,8 @@
 -- Entries with their indices among all, and the list that is taken by indices.
-use Rattle.std.specs.Prelude.{◌≡◌, ℕ, ◌+◌, Bool, List, [], ◌∷◌, length, map, Option, Some, None}
+use Rattle.std.specs.Prelude.{ℕ, ◌+◌, Bool, not, List, [], ◌∷◌, map, Option, Some, None}
 use Rattle.std.specs.Prelude.{slice_index_or, slice_set}
 use Rattle.std.specs.Cmp.{IsStrictWeakOrder}
+use Rattle.std.specs.List.{filter}
 use Rattle.std.specs.List.Sorted.{IsSortedBy, IsStableBy}
 use Rattle.std.specs.Cmp.Lexicographic.{nat_list_cmp_total}
 use Rattle.std.proofs.lemmas.Cmp.{then_total, on_total, nat_cmp_total}
@@ -11,6 +12,7 @@ use Rattle.wedge_events.specs.declared.events.LogEntry.{LogEntry}
 use Rattle.thread_laws.specs.Joining.{all_logged}
 use Rattle.thread_laws.specs.Sorting.{comes_before}
 use Rattle.thread_laws.specs.declared.gathered.ActorLog.{ActorLog}
+use Rattle.tag_laws.specs.DeclaredTags.{is_on_declared}
 
 -- an entry, and its index among all
 pub record IndexedEntry : Type 0 where
@@ -37,11 +39,15 @@ indexed_ordered = ranks_by
     (on_total (λ (e : LogEntry). e.actor) nat_list_cmp_total))
     (λ (x : IndexedEntry). x.entry)
 
--- all of these entries, in the order of their stamps; their indices are from a number on
-pub record AreInOrder (first : ℕ) (es : List LogEntry) (xs : List IndexedEntry) : Type 0 where
+-- those that are not on the first n slots, in their order
+abbrev pub compared_indexed : ℕ → List IndexedEntry → List IndexedEntry
+compared_indexed n xs = filter (λ (x : IndexedEntry). not (is_on_declared n x.entry.event)) xs
+
+-- those of these entries that are not on the first n slots, in the order of their stamps; the indices
+-- of all are from a number on
+pub record AreInOrder (n first : ℕ) (es : List LogEntry) (xs : List IndexedEntry) : Type 0 where
   pub sorted_ : IsSortedBy indexed_before xs
-  pub stable : IsStableBy indexed_before (indexed first es) xs
-  pub len : length xs ≡ length es
+  pub stable : IsStableBy indexed_before (compared_indexed n (indexed first es)) xs
 
 -- the entries of all logs in the order of the journal, each with its index among them, log by log
 abbrev pub indexed_journal : List ActorLog → List IndexedEntry

@@ -3,21 +3,18 @@
 ghost use Rattle.std.specs.Prelude.{◌≡◌, IfErr, IfOk};
 ghost use Rattle.std.specs.Result.{MatchResult};
 ghost use Rattle.thread_laws.specs.Joining.{AreWalked, IsJournalOfRun};
-ghost use Rattle.thread_laws.specs.Joining as joining;
+ghost use Rattle.thread_laws.specs.Joining.{journal_of};
 ghost use Rattle.thread_laws.specs.LookUps.{AreCountsOf};
 ghost use Rattle.thread_laws.specs.Replaying.{Legal};
 ghost use Rattle.run_audit.specs.Audits.{IsAudit, IsCompared};
 ghost use Rattle.run_audit.specs.ComparedCells.{compared_entries, compared_histories};
 ghost use Rattle.run_audit.specs.ComparedCells.{DeclaredAgree, IsAtCompared};
 ghost use Rattle.run_audit.specs.Differences.{IsComparison, IsFault};
-ghost use Rattle.run_audit.specs.IndexedEntries.{indexed_journal};
-ghost use Rattle.run_audit.specs.Rooms.{IsRoomFor};
 
 use crate::caches::counts_of;
 use crate::comparison::first_difference;
 use crate::fault::{AuditFault, Difference};
-use crate::merging::entries_in_order;
-use crate::moving::{Room, room_for};
+use crate::merging::compared_in_order;
 use crate::outcome::outcome_gathered;
 use crate::run_journal::RunJournal;
 use crate::sorts::{
@@ -50,27 +47,23 @@ pub struct AuditRefusal {
 pub(crate) struct Compared {
     outcome: Outcome,
     caches: Items<CacheLine>,
-    room: Room,
 }
 
-/// Returns references to all logged entries in the order of their stamps, those of one stamp by the
-/// names of their actors, and the memory that it takes to move the entries into that order.
-#[tactic(auto, using(crate::proofs::IndexedEntries::journal_entries))]
-fn journal_order<'a>(
+/// Returns references to the logged entries that are compared, which are those that are not on the first
+/// `declared` slots, in the order of their stamps, those of one stamp by the names of their actors.
+fn compared_journal<'a>(
     alloc: Global,
+    declared: usize,
     logs: &'a [ActorLog],
-) -> Result<(Vec<JournalEntry<'a>>, Room), NoMemory>
-    ensures journal { IfOk result (λ p. p.0.items ≡ joining.journal_of logs.now) }
-    ensures room { IfOk result (λ p. IsRoomFor (indexed_journal logs.now) p.1) }
+) -> Result<Vec<JournalEntry<'a>>, NoMemory>
+    ensures { IfOk result (λ v. v.items ≡ compared_entries declared (journal_of logs.now)) }
 {
-    let sorted = entries_in_order(alloc, logs)?;
-    let journal = journal_references(alloc, sorted.as_slice())?;
-    let room = room_for(alloc, sorted.as_slice())?;
-    Ok((journal, room))
+    let sorted = compared_in_order(alloc, declared, logs)?;
+    journal_references(alloc, sorted.as_slice())
 }
 
-/// Returns the first difference between histories and a journal, or none where all cells agree that
-/// are compared: all but the first `declared` slots.
+/// Returns the first difference between histories and the entries of a journal that are compared, or none
+/// where all cells agree that are compared: all but the first `declared` slots.
 #[tactic(auto, using(crate::proofs::Comparing::kept_ordered, crate::proofs::Comparing::sorted_ordered))]
 fn compare_cells(
     alloc: Global,
@@ -78,18 +71,17 @@ fn compare_cells(
     journal: &[JournalEntry<'_>],
     cells: &[CellHistory],
 ) -> Result<Option<Difference>, NoMemory>
-    ensures { IfOk result (λ r. IsComparison (compared_histories declared cells.now)
-        (compared_entries declared journal.now) r) }
+    ensures { IfOk result (λ r.
+        IsComparison (compared_histories declared cells.now) journal.now r) }
 {
     let histories = histories_by_cell(alloc, declared, cells)?;
     let kept = kept_of_histories(alloc, histories.as_slice())?;
-    let logged = logged_by_cell(alloc, declared, journal)?;
+    let logged = logged_by_cell(alloc, journal)?;
     first_difference(alloc, kept.as_slice(), logged.as_slice())
 }
 
 /// Returns the outcome of logs with which the histories of all cells agree that are compared, all
-/// but the slots of declared tags. With it come the counts of their caches, and what it takes to
-/// make the journal of their entries.
+/// but the slots of declared tags. With it come the counts of their caches.
 fn compare_gathered(
     alloc: Global,
     image: &Image,
@@ -101,9 +93,9 @@ fn compare_gathered(
         → IsFault gathered.now.logs gathered.now.cells f) }
     ensures cell { IfErr result (λ f. IsAtCompared image.now f) }
 {
-    let (journal, room) = journal_order(alloc, gathered.logs.as_slice())?;
-    let entries = journal.as_slice();
     let declared = image.tags().len();
+    let journal = compared_journal(alloc, declared, gathered.logs.as_slice())?;
+    let entries = journal.as_slice();
     if let Some(difference) = compare_cells(alloc, declared, entries, gathered.cells.as_slice())? {
         return Err(AuditFault::Disagree(difference));
     }
@@ -112,7 +104,6 @@ fn compare_gathered(
     Ok(Compared {
         outcome,
         caches: Items::new(caches),
-        room,
     })
 }
 
@@ -144,14 +135,10 @@ pub fn audit(alloc: Global, image: &Image, gathered: Gathered) -> Result<Audited
 {
     match compare_gathered(alloc, image, &gathered) {
         Ok(compared) => {
-            let Compared {
-                outcome,
-                caches,
-                room,
-            } = compared;
+            let Compared { outcome, caches } = compared;
             let Gathered { logs, .. } = gathered;
             Ok(Audited {
-                journal: RunJournal::of_logs(alloc, logs, room),
+                journal: RunJournal::of_logs(alloc, logs),
                 outcome,
                 caches,
             })

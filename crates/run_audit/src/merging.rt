@@ -1,11 +1,14 @@
-//! References to the entries of all logs, merged in the order of their stamps.
+//! References to the entries of all logs, or to those that are compared, merged in the order of their stamps.
 
 ghost use Rattle.std.specs.Prelude.{◌≡◌, ◌+◌, ◌++◌, length, IfOk};
-ghost use Rattle.thread_laws.specs.Joining.{all_logged};
+ghost use Rattle.thread_laws.specs.Joining.{all_logged, journal_of};
+ghost use Rattle.run_audit.specs.ComparedCells.{compared_entries};
 ghost use Rattle.run_audit.specs.IndexedEntries.{indexed, indexed_before, indexed_journal};
-ghost use Rattle.run_audit.specs.IndexedEntries.{AreInOrder};
+ghost use Rattle.run_audit.specs.IndexedEntries.{AreInOrder, compared_indexed};
+ghost use Rattle.run_audit.specs.IndexedEntries.{entries_without_index};
 ghost use Rattle.run_audit.specs.Merges.{merged};
 
+use crate::declared_slots::is_on_declared;
 use crate::sorts::sort_stably;
 use stable_sort::Sortable;
 use std::alloc::Global;
@@ -63,36 +66,44 @@ impl<'a> ByStamp<'a> {
     }
 }
 
-/// Returns references to entries, in their order, with indices from a number on.
+/// Returns references to those entries that are not on the first `declared` slots, in their order. The
+/// indices of all entries are from a number on.
+#[tactic(auto, using(crate::proofs::IndexedEntries::compared_more, crate::proofs::IndexedEntries::compared_over))]
 fn references_from<'a>(
     alloc: Global,
+    declared: usize,
     entries: &'a [LogEntry],
     first: usize,
 ) -> Result<Vec<ByStamp<'a>>, NoMemory>
-    ensures { IfOk result (λ v. v.items ≡ indexed first entries.now) }
+    ensures { IfOk result (λ v. v.items ≡ compared_indexed declared (indexed first entries.now)) }
 {
-    let mut all = Vec::with_capacity(alloc, entries.len())?;
+    let room = if declared == 0 { entries.len() } else { 0 };
+    let mut all = Vec::with_capacity(alloc, room)?;
+    let mut index = first;
     for entry in entries {
-        let index = first.checked_add(all.len()).ok_or(NoMemory)?;
-        all.push(ByStamp {
-            stamp: entry.stamp,
-            entry,
-            index,
-        })?;
+        if !is_on_declared(declared, &entry.event) {
+            all.push(ByStamp {
+                stamp: entry.stamp,
+                entry,
+                index,
+            })?;
+        }
+        index = index.checked_add(1).ok_or(NoMemory)?;
     }
     Ok(all)
 }
 
-/// Returns references to the entries of a log in the order of their stamps. The sort is one pass
-/// where they are in it.
+/// Returns the same references in the order of their stamps. The sort is one pass where the entries are
+/// in it.
 fn log_in_order<'a>(
     alloc: Global,
+    declared: usize,
     log: &'a ActorLog,
     first: usize,
 ) -> Result<Vec<ByStamp<'a>>, NoMemory>
-    ensures { IfOk result (λ v. AreInOrder first log.now.entries v.items) }
+    ensures { IfOk result (λ v. AreInOrder declared first log.now.entries v.items) }
 {
-    let mut all = references_from(alloc, log.entries.as_slice(), first)?;
+    let mut all = references_from(alloc, declared, log.entries.as_slice(), first)?;
     sort_stably(&mut all)?;
     Ok(all)
 }
@@ -135,33 +146,41 @@ fn merge<'a>(
     add_all(all, &second[j..])
 }
 
-/// Returns the index after those of entries that begin at one.
-fn index_after(first: usize, entries: &[ByStamp<'_>]) -> Result<usize, NoMemory>
-    ensures { IfOk result (λ n. n ≡ first + length entries.now) }
+/// Returns the index after those of all entries of logs, which begin at one.
+#[tactic(auto, using(crate::proofs::IndexedEntries::logged_more))]
+pub(crate) fn index_after(first: usize, logs: &[ActorLog]) -> Result<usize, NoMemory>
+    ensures { IfOk result (λ n. n ≡ first + length (all_logged logs.now)) }
 {
-    first.checked_add(entries.len()).ok_or(NoMemory)
+    let mut index = first;
+    for log in logs {
+        index = index
+            .checked_add(log.entries.as_slice().len())
+            .ok_or(NoMemory)?;
+    }
+    Ok(index)
 }
 
-/// Returns references to the entries of logs in the order of their stamps, with indices from a
-/// number on: those of each half of the logs, merged.
+/// Returns references to the entries of logs that are not on the first `declared` slots, in the order of
+/// their stamps: those of each half of the logs, merged. The indices of all entries are from a number on.
 ///
 /// std's stable sort of all references would give the same list, but it merges only those runs that
 /// are at least as long as the square root of their number, and sorts shorter logs from nothing.
 fn logs_merged<'a>(
     alloc: Global,
+    declared: usize,
     logs: &'a [ActorLog],
     first: usize,
 ) -> Result<Vec<ByStamp<'a>>, NoMemory>
-    ensures { IfOk result (λ v. AreInOrder first (all_logged logs.now) v.items) }
+    ensures { IfOk result (λ v. AreInOrder declared first (all_logged logs.now) v.items) }
 {
     match logs {
         [] => Ok(Vec::new(alloc)),
-        [log] => log_in_order(alloc, log, first),
+        [log] => log_in_order(alloc, declared, log, first),
         _ => {
             let (half, others) = logs.split_at(logs.len() / 2);
-            let left = logs_merged(alloc, half, first)?;
-            let next = index_after(first, left.as_slice())?;
-            let right = logs_merged(alloc, others, next)?;
+            let left = logs_merged(alloc, declared, half, first)?;
+            let next = index_after(first, half)?;
+            let right = logs_merged(alloc, declared, others, next)?;
             merge(alloc, left.as_slice(), right.as_slice())
         }
     }
@@ -174,5 +193,18 @@ pub(crate) fn entries_in_order<'a>(
 ) -> Result<Vec<ByStamp<'a>>, NoMemory>
     ensures { IfOk result (λ v. v.items ≡ indexed_journal logs.now) }
 {
-    logs_merged(alloc, logs, 0)
+    logs_merged(alloc, 0, logs, 0)
+}
+
+/// Returns references to the logged entries that are not on the first `declared` slots, in the order of the
+/// journal.
+pub(crate) fn compared_in_order<'a>(
+    alloc: Global,
+    declared: usize,
+    logs: &'a [ActorLog],
+) -> Result<Vec<ByStamp<'a>>, NoMemory>
+    ensures { IfOk result (λ v. entries_without_index v.items
+        ≡ compared_entries declared (journal_of logs.now)) }
+{
+    logs_merged(alloc, declared, logs, 0)
 }

@@ -6,7 +6,7 @@ ghost use Rattle.thread_laws.specs.Joining.{all_logged, journal_of};
 ghost use Rattle.run_audit.specs.IndexedEntries.{indices_of, indexed_journal, taken_by};
 ghost use Rattle.run_audit.specs.Rooms.{IsRoomFor};
 
-use crate::merging::ByStamp;
+use crate::merging::{ByStamp, entries_in_order};
 use std::alloc::Global;
 use thread_laws::ActorLog;
 use wedge_base::{Items, NoMemory};
@@ -15,30 +15,10 @@ use wedge_events::{Journal, LogEntry};
 /// The order of a journal, as indices of its entries among those of all logs, log by log, and the
 /// memory that it takes to move them.
 #[derive(Debug, Drop)]
-pub(crate) struct Room {
+struct Room {
     order: Vec<usize>,
     slots: Vec<Option<LogEntry>>,
     entries: Vec<LogEntry>,
-}
-
-impl Room {
-    /// Returns the number of entries that there is room for.
-    pub fn len(&self) -> usize
-        ensures { result ≡ length self.now.order.items }
-    {
-        self.order.len()
-    }
-}
-
-/// Returns the room for no entry. It takes no memory.
-pub(crate) fn no_room(alloc: Global) -> Room
-    ensures { IsRoomFor [] result }
-{
-    Room {
-        order: Vec::new(alloc),
-        slots: Vec::new(alloc),
-        entries: Vec::new(alloc),
-    }
 }
 
 /// Returns the indices of entries.
@@ -53,7 +33,7 @@ fn indices(alloc: Global, sorted: &[ByStamp<'_>]) -> Result<Vec<usize>, NoMemory
 }
 
 /// Returns the memory for a journal, and its order.
-pub(crate) fn room_for(alloc: Global, sorted: &[ByStamp<'_>]) -> Result<Room, NoMemory>
+fn room_for(alloc: Global, sorted: &[ByStamp<'_>]) -> Result<Room, NoMemory>
     ensures { IfOk result (λ r. IsRoomFor sorted.now r) }
 {
     Ok(Room {
@@ -83,8 +63,7 @@ fn slots_of(mut logs: Vec<ActorLog>, mut slots: Vec<Option<LogEntry>>) -> Vec<Op
 {
     logs.reverse();
     while let Some(log) = logs.pop() {
-        let ActorLog { entries, .. } = log;
-        add_slots(entries.into_vec(), &mut slots);
+        add_slots(log.into_entries().into_vec(), &mut slots);
     }
     slots
 }
@@ -118,8 +97,16 @@ fn take_all(
     entries
 }
 
+/// Returns what it takes to move the entries of logs into the order of the journal.
+fn room_of(alloc: Global, logs: &[ActorLog]) -> Result<Room, NoMemory>
+    ensures { IfOk result (λ r. IsRoomFor (indexed_journal logs.now) r) }
+{
+    let sorted = entries_in_order(alloc, logs)?;
+    room_for(alloc, sorted.as_slice())
+}
+
 /// Makes a journal of the entries of logs. It moves each entry twice, and copies none.
-pub(crate) fn journal_moved(logs: Items<ActorLog>, room: Room) -> Journal
+fn entries_moved(logs: Items<ActorLog>, room: Room) -> Journal
     requires { IsRoomFor (indexed_journal logs) room }
     ensures { result.entries ≡ journal_of logs }
 {
@@ -132,4 +119,12 @@ pub(crate) fn journal_moved(logs: Items<ActorLog>, room: Room) -> Journal
     Journal {
         entries: Items::new(take_all(order.as_slice(), slots, entries)),
     }
+}
+
+/// Puts the entries of logs in the order of the journal. Where it fails, out of memory, they are lost.
+pub(crate) fn journal_moved(alloc: Global, logs: Items<ActorLog>) -> Result<Journal, NoMemory>
+    ensures { IfOk result (λ j. j.entries ≡ journal_of logs) }
+{
+    let room = room_of(alloc, logs.as_slice())?;
+    Ok(entries_moved(logs, room))
 }

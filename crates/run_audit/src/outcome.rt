@@ -1,7 +1,8 @@
 //! The outcome, read off logs and histories.
 
-ghost use Rattle.std.specs.Prelude.{◌≡◌, IfOk};
+ghost use Rattle.std.specs.Prelude.{◌≡◌, IfOk, length};
 ghost use Rattle.thread_laws.specs.Joining.{journal_of, outcome_gathered};
+ghost use Rattle.run_audit.specs.ComparedCells.{compared_entries};
 
 use crate::actor_lines::lines_in;
 use crate::labels::labels_in;
@@ -14,14 +15,17 @@ use thread_laws::Gathered;
 use wedge_base::{Items, NoMemory, Outcome};
 
 /// Returns the outcome: the lines of the actors, in the order of their names, and those of the
-/// append streams, each as its history leaves it.
+/// append streams, each as its history leaves it. The entries of the journal that are compared are enough: no
+/// actor is created on a slot.
+#[tactic(auto, using(crate::proofs::ComparedOrder::names_compared))]
 pub(crate) fn outcome_gathered(
     alloc: Global,
     image: &Image,
     journal: &[JournalEntry<'_>],
     gathered: &Gathered,
 ) -> Result<Outcome, NoMemory>
-    requires { journal.now ≡ journal_of gathered.now.logs }
+    requires { journal.now
+        ≡ compared_entries (length image.now.tags) (journal_of gathered.now.logs) }
     ensures { IfOk result (λ o. o
         ≡ outcome_gathered image.now gathered.now.logs gathered.now.cells) }
 {

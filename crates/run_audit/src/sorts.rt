@@ -4,11 +4,11 @@ ghost use Rattle.std.specs.Prelude.{◌≡◌, ◌++◌, length, map, OnOk, IfOk
 ghost use Rattle.std.specs.List.Sorted.{IsSortedBy, IsStableBy};
 ghost use Rattle.std.specs.Option.{option_copied};
 ghost use Rattle.run_audit.specs.CellOrder.{by_cell};
-ghost use Rattle.run_audit.specs.ComparedCells.{compared_entries, compared_histories};
+ghost use Rattle.run_audit.specs.ComparedCells.{compared_histories};
 ghost use Rattle.run_audit.specs.IndexedEntries.{entries_without_index};
 ghost use Rattle.run_audit.specs.KeptEntries.{entries_kept, history_first, kept_as, new_after};
 
-use crate::declared_slots::{is_of_declared, is_on_declared};
+use crate::declared_slots::is_of_declared;
 use crate::kept::{KeptEntry, add_history};
 use crate::keys::{CellKey, event_key, history_key, key_order};
 use crate::merging::ByStamp;
@@ -118,23 +118,19 @@ pub(crate) fn journal_references<'a>(
     Ok(all)
 }
 
-/// Returns references to the entries that are not on the first `declared` slots, in their order.
-#[tactic(auto, using(crate::proofs::ComparedCells::entries_more, crate::proofs::ComparedCells::entries_over))]
+/// Returns references to entries, in their order.
 fn entry_references<'a>(
     alloc: Global,
-    declared: usize,
     entries: &[JournalEntry<'a>],
 ) -> Result<Vec<ByCell<'a>>, NoMemory>
-    ensures { IfOk result (λ v. v.items ≡ compared_entries declared entries.now) }
+    ensures { IfOk result (λ v. v.items ≡ entries.now) }
 {
     let mut all = Vec::with_capacity(alloc, entries.len())?;
     for item in entries {
-        if !is_on_declared(declared, &item.entry.event) {
-            all.push(ByCell {
-                key: event_key(&item.entry.event),
-                entry: item.entry,
-            })?;
-        }
+        all.push(ByCell {
+            key: event_key(&item.entry.event),
+            entry: item.entry,
+        })?;
     }
     Ok(all)
 }
@@ -157,18 +153,15 @@ fn history_references<'a>(
     Ok(all)
 }
 
-/// Returns the entries that are not on the first `declared` slots, in the order of their cells:
-/// those of each cell stay in their order.
+/// Returns entries in the order of their cells: those of each cell stay in their order.
 pub(crate) fn logged_by_cell<'a>(
     alloc: Global,
-    declared: usize,
     entries: &[JournalEntry<'a>],
 ) -> Result<Vec<ByCell<'a>>, NoMemory>
     ensures sorted { IfOk result (λ v. IsSortedBy by_cell v.items) }
-    ensures stable { IfOk result
-        (λ v. IsStableBy by_cell (compared_entries declared entries.now) v.items) }
+    ensures stable { IfOk result (λ v. IsStableBy by_cell entries.now v.items) }
 {
-    let mut all = entry_references(alloc, declared, entries)?;
+    let mut all = entry_references(alloc, entries)?;
     sort_stably(&mut all)?;
     Ok(all)
 }

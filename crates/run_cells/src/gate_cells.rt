@@ -35,7 +35,6 @@ impl<I: RunOf> Model for GateCell<I> {
 ///
 /// An actor's list of gates grows at its end only, and begins with those that its creator knew. So each gate
 /// behind those that were looked at before is the actor's own, and nobody else has made its cell.
-#[derive(Drop)]
 pub struct GateCells<I: RunOf> {
     alloc: Global,
     /// How many of the actor's gates were looked at.
@@ -43,6 +42,18 @@ pub struct GateCells<I: RunOf> {
     /// How many cells its creator shared with it.
     inherited: usize,
     list: Vec<GateCell<I>>,
+}
+
+// By hand: a derived drop would be proved again in each function that drops one.
+impl<I: RunOf> Drop for GateCells<I> {
+    fn drop(self) {
+        let Self {
+            alloc: _,
+            seen: _,
+            inherited: _,
+            list: _,
+        } = self;
+    }
 }
 
 impl<I: RunOf> Model for GateCells<I> {
@@ -151,9 +162,10 @@ impl<I: RunOf> GateCells<I> {
         ensures { All (IsLegalHistory I.image) histories.new.items }
     {
         let GateCells {
+            alloc: _alloc,
+            seen: _seen,
             inherited,
             mut list,
-            ..
         } = self;
         for _ in inherited..list.len() {
             if let Some(cell) = list.pop() {

@@ -98,7 +98,7 @@ fn checked(alloc: Global, image: &Image, gathered: Gathered) -> Result<CheckedRu
         ..
     } = audited;
     let run = CheckedRun {
-        journal: journal.into_journal(),
+        journal: journal.into_journal(alloc)?,
         outcome,
     };
     if is_a_run(alloc, image, &run)? {

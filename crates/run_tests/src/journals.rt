@@ -23,7 +23,10 @@ fn journal_of<R: Threads + Wait + Sync>(
     let mut out = MemSink::new(alloc, ROOM, Vec::new(alloc))?;
     let mut err = MemSink::new(alloc, ROOM, Vec::new(alloc))?;
     let ended = wedge(rt, alloc, words, &mut files, &mut out, &mut err, &NoPace);
-    Ok(ended.journal.map(|journal| journal.len()))
+    match &ended.journal {
+        Some(journal) => Ok(Some(journal.len()?)),
+        None => Ok(None),
+    }
 }
 
 #[test]

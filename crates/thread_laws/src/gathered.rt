@@ -1,5 +1,7 @@
 //! What a run on threads leaves: the logs of its actors, and the histories of its cells.
 
+ghost use Rattle.std.specs.Prelude.{◌≡◌};
+
 use grant_cache::CacheCount;
 use journal_cell::Entry;
 use machine::StreamLabel;
@@ -10,7 +12,7 @@ use wedge_events::{
 };
 
 /// The log of an actor: how it ended, and its entries, the oldest first.
-#[derive(Debug, Drop)]
+#[derive(Debug)]
 pub struct ActorLog {
     pub name: ActorName,
     /// The address of the procedure at which it began, in bytes.
@@ -29,8 +31,45 @@ pub struct ActorLog {
     pub cache: CacheCount,
 }
 
+// By hand: a derived drop would be proved again in each function that drops one.
+impl Drop for ActorLog {
+    fn drop(self) {
+        let Self {
+            name: _,
+            compartment: _,
+            end: _,
+            pc: _,
+            fuel: _,
+            denials: _,
+            labels: _,
+            entries: _,
+            cache: _,
+        } = self;
+    }
+}
+
+impl ActorLog {
+    /// Consumes a log, and returns its entries.
+    pub fn into_entries(self) -> Items<LogEntry>
+        ensures { result ≡ self.entries }
+    {
+        let Self {
+            name: _name,
+            compartment: _compartment,
+            end: _end,
+            pc: _pc,
+            fuel: _fuel,
+            denials: _denials,
+            labels: _labels,
+            entries,
+            cache: _cache,
+        } = self;
+        entries
+    }
+}
+
 /// The history of a cell, as the cell kept it: its entries, the oldest first.
-#[derive(Debug, Drop)]
+#[derive(Debug)]
 pub enum CellHistory {
     Slots {
         entries: Items<Entry<DirectoryAsk, DirectoryReply>>,
@@ -53,6 +92,29 @@ pub enum CellHistory {
         gate: GateId,
         entries: Items<Entry<GateAsk, GateReply>>,
     },
+}
+
+// By hand: a derived drop would be proved again in each function that drops one.
+impl Drop for CellHistory {
+    fn drop(self) {
+        match self {
+            CellHistory::Slots { entries: _entries } => {}
+            CellHistory::Slot {
+                slot: _slot,
+                entries: _entries,
+            } => {}
+            CellHistory::Fds { entries: _entries } => {}
+            CellHistory::Fd {
+                fd: _fd,
+                entries: _entries,
+            } => {}
+            CellHistory::Lives { entries: _entries } => {}
+            CellHistory::Gate {
+                gate: _gate,
+                entries: _entries,
+            } => {}
+        }
+    }
 }
 
 /// The logs of all actors, that of the root first, and the histories of the cells.

@@ -128,8 +128,9 @@ fn agreed(alloc: Global) -> Result<Audited, Fail> {
 fn histories_that_agree_have_a_journal(rt: HostRuntime) -> Result<(), Fail> {
     let Audited { journal, .. } = agreed(rt.alloc())?;
     let mut stamps = Vec::new(rt.alloc());
-    assert_eq!(rt; journal.len(), 13);
-    for entry in journal.into_journal().entries.as_slice() {
+    assert_eq!(rt; journal.len()?, 13);
+    let ordered = journal.into_journal(rt.alloc())?;
+    for entry in ordered.entries.as_slice() {
         stamps.push(entry.stamp.0)?;
     }
     assert_eq!(rt;

@@ -15,7 +15,7 @@ use Rattle.world_turns.proofs.Replays.{journals_replay}
 use Rattle.cli_inputs.specs.declared.loading.FileKind.TheVariants as kind
 use Rattle.cli_inputs.specs.Loading.{image_from_bytes, most_of}
 use Rattle.cli_inputs.specs.Replaying.{replay_text, report_made, text_of_read, schedule_by, text_made}
-use Rattle.wedge_cli.proofs.Replays.{text_within}
+use Rattle.command_texts.proofs.Replays.{text_within}
 
 -- the actors of entries are those of their turns
 actors_are : (entries : List LogEntry) → actors_of entries ≡ names_of (turns_of entries)

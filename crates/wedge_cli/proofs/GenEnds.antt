@@ -8,7 +8,7 @@ use Rattle.audited_run.specs.Texts.{difference_text}
 use Rattle.cli_inputs.specs.Words.{Gen}
 use Rattle.workload.specs.Workload.{workload}
 use Rattle.wedge_cli.specs.declared.writing.Text.{Text}
-use Rattle.wedge_cli.specs.Lines.{line, status_of}
+use Rattle.refusal_lines.specs.Lines.{line, status_of}
 use Rattle.wedge_cli.specs.Outside.{Sinks, Outside, Takes}
 use Rattle.wedge_cli.specs.Ended.{AreTaken, summary_line, IsSummaryOfKept, IsGenDone, IsGenMadeAgain, IsGenEnd, done_status}
 use Rattle.wedge_cli.specs.Causes.{IsRefusal}

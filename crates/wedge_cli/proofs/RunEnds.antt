@@ -10,7 +10,7 @@ use Rattle.cli_inputs.specs.declared.refusal.Refusal.{Refusal}
 use Rattle.cli_inputs.specs.declared.refusal.Refusal.TheVariants as refusal
 use Rattle.audited_run.specs.declared.run.Differs.{Differs}
 use Rattle.wedge_cli.specs.declared.writing.Text.{Text}
-use Rattle.wedge_cli.specs.Lines.{status_of}
+use Rattle.refusal_lines.specs.Lines.{status_of}
 use Rattle.cli_inputs.specs.Loading.{image_from_bytes, IsRefusedBy}
 use Rattle.cli_inputs.specs.Words.{Run}
 use Rattle.image_form.specs.Rules.{Encodes}

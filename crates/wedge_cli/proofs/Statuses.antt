@@ -8,7 +8,7 @@ use Rattle.cli_inputs.specs.declared.refusal.Refusal.TheVariants as refusal
 use Rattle.audited_run.specs.declared.run.Differs.{Differs}
 use Rattle.wedge_cli.specs.declared.writing.KeptRun.{KeptRun}
 use Rattle.wedge_cli.specs.declared.writing.Text.{Text}
-use Rattle.wedge_cli.specs.Lines.{line, usage_line, refusal_text, status_of}
+use Rattle.refusal_lines.specs.Lines.{line, usage_line, refusal_text, status_of}
 use Rattle.cli_inputs.specs.Loading.{image_from_bytes, built_of}
 use Rattle.cli_inputs.specs.declared.refusal.PartRefusal.{PartRefusal}
 use Rattle.cli_inputs.specs.declared.refusal.ScheduleRefusal.{ScheduleRefusal}
@@ -25,10 +25,12 @@ use Rattle.wedge_cli.specs.Outside.{Device, Sinks, Outside, Rises, Takes}
 use Rattle.trace_form.specs.Records.{records_of}
 use Rattle.cb_analyze.specs.Sheets.{sheets_of}
 use Rattle.cb_analyze.specs.Texts.{sheets_text}
-use Rattle.wedge_cli.specs.Ended.{AreTaken, IsPairAnswer, IsTripleAnswer, IsTraceAnswer, IsWritten, IsSaid, IsLinkDone, IsCutShort, IsAnswerEnd, done_status, no_run}
+use Rattle.command_texts.specs.Answers.{IsPairAnswer, IsTripleAnswer, IsTraceAnswer}
+use Rattle.command_texts.specs.Causes.{IsReplayRefused, IsCheckRefused, IsEnforceRefused, IsThreeFault}
+use Rattle.wedge_cli.specs.Ended.{AreTaken, IsAnswered, on_out, IsWritten, IsSaid, IsLinkDone, IsCutShort, IsAnswerEnd, done_status, no_run}
 use Rattle.cli_inputs.specs.declared.words.Query.{Query}
 use Rattle.cli_inputs.specs.Traces.{derive_text, analyze_text, query_lines, answer_to, unless_fault, IsTraceRefused, IsQueryRefused}
-use Rattle.wedge_cli.specs.Causes.{IsReplayRefused, IsCheckRefused, IsEnforceRefused, IsThreeFault, IsRefused, IsUnfit, IsRejected, IsElfRejected, IsUnknown, IsViolated, IsUnreadable, SaysRefusal, IsRefusal, IsCommandDone, IsUsage, IsCommandAnswer}
+use Rattle.wedge_cli.specs.Causes.{IsRefused, IsUnfit, IsRejected, IsElfRejected, IsUnknown, IsViolated, IsUnreadable, SaysRefusal, IsRefusal, IsCommandDone, IsUsage, IsCommandAnswer}
 use Rattle.wedge_cli.proofs.Written.{Rise, written_status, said_status, said_nothing, took_out, took_err}
 use Rattle.wedge_cli.proofs.Links.{unjoined, link_refusal}
 
@@ -531,10 +533,10 @@ ran_nothing kept is = ap (λ (k : KeptRun). done_status k.differs) is
 
 -- and one that is done, if its text is the answer
 answer_done : (meaning : List ℕ → Result (List ℕ) Refusal) (content : Option (List ℕ)) (bytes : List ℕ) (kept : KeptRun) (texts : List Text) (ended : Ended) (s u : Sinks)
-    → IsTraceAnswer meaning content kept texts → content ≡ Some bytes → IsWritten (done_status kept.differs) kept texts ended s u
+    → IsAnswered (IsTraceAnswer meaning content) kept texts → content ≡ Some bytes → IsWritten (done_status kept.differs) kept texts ended s u
     → IsCutShort ended.status ⊎ IsAnswerEnd (meaning bytes) ended.status s u
 answer_done meaning content bytes kept texts ended s u made exposed written =
-    let same : meaning bytes ≡ Ok made.text = ap meaning (sym (made.bytes_are bytes exposed)) ∙ made.meant in
+    let same : meaning bytes ≡ Ok made.text = ap meaning (sym (made.is.bytes_are bytes exposed)) ∙ made.is.meant in
     elim written.cases [
       | inl done ↦
           let took : Takes made.text s.out u.out × (u.err ≡ s.err) = took_out made.text s u (subst (λ ts. AreTaken ts s u) made.are done.0) in
@@ -544,15 +546,15 @@ answer_done meaning content bytes kept texts ended s u made exposed written =
 
 -- the same of an answer of two files
 pair_done : (meaning : List ℕ → List ℕ → Result (List ℕ) Refusal) (one other : Option (List ℕ)) (first second : List ℕ) (kept : KeptRun) (texts : List Text) (ended : Ended) (s u : Sinks)
-    → IsPairAnswer meaning one other kept texts → one ≡ Some first → other ≡ Some second → IsWritten (done_status kept.differs) kept texts ended s u
+    (text : List ℕ) → IsPairAnswer meaning one other text → kept ≡ no_run → texts ≡ on_out text → one ≡ Some first → other ≡ Some second → IsWritten (done_status kept.differs) kept texts ended s u
     → IsCutShort ended.status ⊎ IsAnswerEnd (meaning first second) ended.status s u
-pair_done meaning one other first second kept texts ended s u made one_is other_is written =
-    let same : meaning first second ≡ Ok made.text =
-    ap (λ b. meaning b second) (sym (made.first_is first one_is)) ∙ ap (λ n. meaning made.first n) (sym (made.second_is second other_is)) ∙ made.meant in
+pair_done meaning one other first second kept texts ended s u text answer none are one_is other_is written =
+    let same : meaning first second ≡ Ok text =
+    ap (λ b. meaning b second) (sym (answer.first_is first one_is)) ∙ ap (λ n. meaning answer.first n) (sym (answer.second_is second other_is)) ∙ answer.meant in
     elim written.cases [
       | inl done ↦
-          let took : Takes made.text s.out u.out × (u.err ≡ s.err) = took_out made.text s u (subst (λ ts. AreTaken ts s u) made.are done.0) in
-          inr (subst (λ m. IsAnswerEnd m ended.status s u) (sym same) (done.1 ∙ ran_nothing kept made.kept_is, took.0, took.1))
+          let took : Takes text s.out u.out × (u.err ≡ s.err) = took_out text s u (subst (λ ts. AreTaken ts s u) are done.0) in
+          inr (subst (λ m. IsAnswerEnd m ended.status s u) (sym same) (done.1 ∙ ran_nothing kept none, took.0, took.1))
       | inr fault ↦ inl (inr (inl fault.1))
     ]
 
@@ -563,7 +565,7 @@ replay_done image schedule bytes names ended before after (inl r) image_is sched
     answer_refused (replay_text bytes names) (Replay image schedule) ended before after r
     (replay_refusal report_made image schedule bytes names before.files before.reads after.reads r.why r.cause image_is schedule_is)
 replay_done image schedule bytes names ended before after (inr d) image_is schedule_is =
-    pair_done replay_text (before.files image) (before.files schedule) bytes names d.kept d.texts ended before.sinks after.sinks d.made image_is schedule_is d.written
+    pair_done replay_text (before.files image) (before.files schedule) bytes names d.kept d.texts ended before.sinks after.sinks d.made.text d.made.is d.made.kept_is d.made.are image_is schedule_is d.written
 
 -- ---- a log
 
@@ -574,7 +576,7 @@ log_done image schedule bytes names ended before after (inl r) image_is schedule
     answer_refused (log_text bytes names) (Log image schedule) ended before after r
     (replay_refusal trace_made image schedule bytes names before.files before.reads after.reads r.why r.cause image_is schedule_is)
 log_done image schedule bytes names ended before after (inr d) image_is schedule_is =
-    pair_done log_text (before.files image) (before.files schedule) bytes names d.kept d.texts ended before.sinks after.sinks d.made image_is schedule_is d.written
+    pair_done log_text (before.files image) (before.files schedule) bytes names d.kept d.texts ended before.sinks after.sinks d.made.text d.made.is d.made.kept_is d.made.are image_is schedule_is d.written
 
 -- ---- checks
 
@@ -607,12 +609,12 @@ enforce_refusal image schedule trace bytes names records files before after (ref
 
 -- one that is done, if its text is the answer of three files
 triple_done : (meaning : List ℕ → List ℕ → List ℕ → Result (List ℕ) Refusal) (one other third : Option (List ℕ)) (first second last : List ℕ) (kept : KeptRun) (texts : List Text) (ended : Ended) (s u : Sinks)
-    → IsTripleAnswer meaning one other third kept texts → one ≡ Some first → other ≡ Some second → third ≡ Some last → IsWritten (done_status kept.differs) kept texts ended s u
+    → IsAnswered (IsTripleAnswer meaning one other third) kept texts → one ≡ Some first → other ≡ Some second → third ≡ Some last → IsWritten (done_status kept.differs) kept texts ended s u
     → IsCutShort ended.status ⊎ IsAnswerEnd (meaning first second last) ended.status s u
 triple_done meaning one other third first second last kept texts ended s u made one_is other_is third_is written =
     let same : meaning first second last ≡ Ok made.text =
-    ap (λ b. meaning b second last) (sym (made.first_is first one_is)) ∙ ap (λ n. meaning made.first n last) (sym (made.second_is second other_is))
-    ∙ ap (λ n. meaning made.first made.second n) (sym (made.last_is last third_is)) ∙ made.meant in
+    ap (λ b. meaning b second last) (sym (made.is.first_is first one_is)) ∙ ap (λ n. meaning made.is.first n last) (sym (made.is.second_is second other_is))
+    ∙ ap (λ n. meaning made.is.first made.is.second n) (sym (made.is.last_is last third_is)) ∙ made.is.meant in
     elim written.cases [
       | inl done ↦
           let took : Takes made.text s.out u.out × (u.err ≡ s.err) = took_out made.text s u (subst (λ ts. AreTaken ts s u) made.are done.0) in
@@ -663,17 +665,17 @@ link_answered elf part bytes text ended before after (inl r) elf_is part_is =
     answer_refused (link_text bytes text) (Link elf part) ended before after r
     (link_refusal elf part before.files before.reads after.reads bytes text r.why r.cause elf_is part_is)
 link_answered elf part bytes text ended before after (inr d) elf_is part_is =
-    pair_done link_text (before.files elf) (before.files part) bytes text d.kept d.texts ended before.sinks after.sinks d.made.answer elf_is part_is d.written
+    pair_done link_text (before.files elf) (before.files part) bytes text d.kept d.texts ended before.sinks after.sinks d.made.text d.made.is.answer d.made.kept_is d.made.are elf_is part_is d.written
 
 linked_0 : (elf part bytes : List ℕ) (ended : Ended) (before after : Outside) → IsCommandDone (Link elf part) ended before after
     → before.files elf ≡ Some bytes → ended.status ≡ 0 → IsLinkDone bytes before.sinks after.sinks
 linked_0 elf part bytes ended before after d elf_is is =
-    let made = d.made.answer in
+    let made = d.made in
     elim d.written.cases [
       | inl done ↦
           let took : Takes made.text before.sinks.out after.sinks.out × (after.sinks.err ≡ before.sinks.err) =
           took_out made.text before.sinks after.sinks (subst (λ ts. AreTaken ts before.sinks after.sinks) made.are done.0) in
-          record { bytes = made.text; image = subst (λ b. IsLinkedImage b made.text) (made.first_is bytes elf_is) d.made.image; out = took.0; err = took.1 }
+          record { bytes = made.text; image = subst (λ b. IsLinkedImage b made.text) (made.is.answer.first_is bytes elf_is) made.is.image; out = took.0; err = took.1 }
       | inr fault ↦ absurd (omega (arith, fault.1, is))
     ]
 

@@ -6,7 +6,7 @@ use Rattle.wedge_cli.specs.declared.writing.SinkName.{SinkName}
 use Rattle.wedge_cli.specs.declared.writing.SinkName.TheVariants as sink
 use Rattle.wedge_cli.specs.declared.writing.KeptRun.{KeptRun}
 use Rattle.wedge_cli.specs.declared.writing.Text.{Text}
-use Rattle.wedge_cli.specs.Lines.{write_fault_line}
+use Rattle.refusal_lines.specs.Lines.{write_fault_line}
 use Rattle.wedge_cli.specs.Outside.{Device, Sinks, Rises, Takes, IsFailedWrite, Tried}
 use Rattle.wedge_cli.specs.Ended.{on_out, on_err, on_both, no_run, TakesOn, FailsOn, AreTaken, OneFails, TellsFault, IsWritten, IsSaid}
 

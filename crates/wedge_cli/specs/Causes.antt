@@ -1,5 +1,5 @@
 -- What the program answers to its arguments.
-use Rattle.std.specs.Prelude.{◌≡◌, ℕ, ◌<◌, ◌⊎◌, List, length, Option, Some, None, Result, Err, IsErr, ◌≤◌}
+use Rattle.std.specs.Prelude.{◌≡◌, ℕ, ◌<◌, ◌⊎◌, List, Option, Some, None, Err, IsErr}
 use Rattle.host_io.specs.Exposed.{WhereExposed}
 use Rattle.cli_inputs.specs.declared.refusal.Refusal.{Refusal}
 use Rattle.cli_inputs.specs.declared.refusal.Refusal.TheVariants as refusal
@@ -7,134 +7,25 @@ use Rattle.wedge_cli.specs.declared.status.Ended.{Ended}
 use Rattle.wedge_cli.specs.declared.writing.KeptRun.{KeptRun}
 use Rattle.wedge_cli.specs.declared.writing.Text.{Text}
 use Rattle.wedge_cli.specs.Outside.{Device, Outside}
-use Rattle.wedge_cli.specs.Lines.{line, usage_line, refusal_text, status_of}
-use Rattle.cli_inputs.specs.declared.loading.FileKind.TheVariants as kind
+use Rattle.refusal_lines.specs.Lines.{line, usage_line, refusal_text, status_of}
 use Rattle.cli_inputs.specs.declared.refusal.ScheduleRefusal.{ScheduleRefusal}
-use Rattle.cli_inputs.specs.Loading.{image_from_bytes, built_of, most_of, IsReadFault, IsRefusedBy}
+use Rattle.cli_inputs.specs.Loading.{image_from_bytes, built_of, IsRefusedBy}
 use Rattle.trace_form.specs.declared.fault.TraceFault.{TraceFault}
-use Rattle.cli_inputs.specs.Replaying.{Making, report_made, trace_made, text_of_replay}
-use Rattle.cli_inputs.specs.Enforcing.{Check, emulated, enforced, text_of_check}
+use Rattle.cli_inputs.specs.Replaying.{report_made, trace_made}
+use Rattle.cli_inputs.specs.Enforcing.{Check, emulated, enforced}
 use Rattle.sheet_enforce.specs.declared.violations.Violation.{Violation}
 use Rattle.elf_in.specs.declared.fault.Fault.{Fault as ElfFault}
-use Rattle.elf_in.specs.Reading.{elf_program as elf_reading}
-use Rattle.cli_inputs.specs.Linking.{link_text, IsUnjoined}
-use Rattle.cli_inputs.specs.Traces.{trace_fault, IsUnknownIn, IsTraceRefused, IsQueryRefused}
+use Rattle.cli_inputs.specs.Linking.{IsUnjoined}
+use Rattle.cli_inputs.specs.Traces.{trace_fault, IsUnknownIn}
 use Rattle.cli_inputs.specs.Words.{Asked, Run, Show, Build, Link, Replay, Log, Emulate, Enforce, Derive, Analyze, Gen}
+use Rattle.command_texts.specs.Causes.{IsReplayAnswer, IsElfFault, IsCheckAnswer, IsTextRefused}
 use Rattle.wedge_cli.specs.Ended.{IsCommandOutput, IsWritten, IsSaid, done_status}
-
--- a read of one of the two files failed; where it is the second, the first is not too long
-abbrev pub IsReplayFault : List ℕ → List ℕ → (List ℕ → Option (List ℕ)) → (List ℕ → ℕ) → (List ℕ → ℕ) → List ℕ → Type 0
-IsReplayFault image schedule files before after file =
-    IsReadFault image (before image) (after image) file
-    ⊎ (IsReadFault schedule (before schedule) (after schedule) file
-    × WhereExposed (files image) (λ bytes. length bytes ≤ most_of kind.Image))
-
--- where both files are exposed, that is the answer
-abbrev pub IsReplayAnswer : Making → List ℕ → List ℕ → (List ℕ → Option (List ℕ)) → Result (List ℕ) Refusal → Type 0
-IsReplayAnswer make image schedule files answer =
-    (bytes names : List ℕ) → files image ≡ Some bytes → files schedule ≡ Some names → text_of_replay make bytes names ≡ answer
-
--- why there is no replay
-abbrev pub IsReplayRefused : Making → List ℕ → List ℕ → (List ℕ → Option (List ℕ)) → (List ℕ → ℕ) → (List ℕ → ℕ) → Refusal → Type 0
-IsReplayRefused make image schedule files before after refusal.NoMemory = Unit {0}
-IsReplayRefused make image schedule files before after (refusal.Read file) = IsReplayFault image schedule files before after file
-IsReplayRefused make image schedule files before after (refusal.Image fault) =
-    IsReplayAnswer make image schedule files (Err (refusal.Image fault)) × WhereExposed (files image) (λ bytes. image_from_bytes bytes ≡ Err (refusal.Image fault))
-IsReplayRefused make image schedule files before after (refusal.Partition p) = ⊥
-IsReplayRefused make image schedule files before after (refusal.Schedule s) = IsReplayAnswer make image schedule files (Err (refusal.Schedule s))
-IsReplayRefused make image schedule files before after (refusal.Trace fault) = ⊥
-IsReplayRefused make image schedule files before after (refusal.Elf fault) = ⊥
-IsReplayRefused make image schedule files before after (refusal.NoSuchName item) = ⊥
-IsReplayRefused make image schedule files before after (refusal.Violation v) = ⊥
-
--- a read of one of the two files failed; where it is the second, the first is not too long
-abbrev pub IsLinkFault : List ℕ → List ℕ → (List ℕ → Option (List ℕ)) → (List ℕ → ℕ) → (List ℕ → ℕ) → List ℕ → Type 0
-IsLinkFault elf part files before after file =
-    IsReadFault elf (before elf) (after elf) file
-    ⊎ (IsReadFault part (before part) (after part) file × WhereExposed (files elf) (λ bytes. length bytes ≤ most_of kind.Elf))
-
--- where both files are exposed, that is the answer
-abbrev pub IsLinkAnswer : List ℕ → List ℕ → (List ℕ → Option (List ℕ)) → Result (List ℕ) Refusal → Type 0
-IsLinkAnswer elf part files answer =
-    (bytes text : List ℕ) → files elf ≡ Some bytes → files part ≡ Some text → link_text bytes text ≡ answer
-
--- the ELF file has this fault first
-abbrev pub IsElfFault : Option (List ℕ) → ElfFault → Type 0
-IsElfFault content fault = WhereExposed content (λ bytes. elf_reading bytes ≡ Err fault)
-
--- why there is no image of an ELF file and a partition
-abbrev pub IsLinkRefused : List ℕ → List ℕ → (List ℕ → Option (List ℕ)) → (List ℕ → ℕ) → (List ℕ → ℕ) → Refusal → Type 0
-IsLinkRefused elf part files before after refusal.NoMemory = Unit {0}
-IsLinkRefused elf part files before after (refusal.Read file) = IsLinkFault elf part files before after file
-IsLinkRefused elf part files before after (refusal.Image fault) = IsLinkAnswer elf part files (Err (refusal.Image fault))
-IsLinkRefused elf part files before after (refusal.Partition p) = IsLinkAnswer elf part files (Err (refusal.Partition p))
-IsLinkRefused elf part files before after (refusal.Schedule s) = ⊥
-IsLinkRefused elf part files before after (refusal.Trace fault) = ⊥
-IsLinkRefused elf part files before after (refusal.Elf fault) =
-    IsLinkAnswer elf part files (Err (refusal.Elf fault)) × IsElfFault (files elf) fault
-IsLinkRefused elf part files before after (refusal.NoSuchName item) = ⊥
-IsLinkRefused elf part files before after (refusal.Violation v) = ⊥
-
--- a read of one of three files failed; those before it are not too long
-abbrev pub IsThirdFault :
-    List ℕ → List ℕ → List ℕ → (List ℕ → Option (List ℕ)) → (List ℕ → ℕ) → (List ℕ → ℕ) → List ℕ → Type 0
-IsThirdFault image schedule trace files before after file =
-    IsReadFault trace (before trace) (after trace) file
-    × WhereExposed (files image) (λ bytes. length bytes ≤ most_of kind.Image)
-    × WhereExposed (files schedule) (λ bytes. length bytes ≤ most_of kind.Schedule)
-
-abbrev pub IsThreeFault :
-    List ℕ → List ℕ → List ℕ → (List ℕ → Option (List ℕ)) → (List ℕ → ℕ) → (List ℕ → ℕ) → List ℕ → Type 0
-IsThreeFault image schedule trace files before after file =
-    IsReplayFault image schedule files before after file
-    ⊎ IsThirdFault image schedule trace files before after file
-
--- where the three files are exposed, that is the answer
-abbrev pub IsCheckAnswer :
-    Check → List ℕ → List ℕ → List ℕ → (List ℕ → Option (List ℕ)) → Result (List ℕ) Refusal → Type 0
-IsCheckAnswer check image schedule trace files answer =
-    (bytes names records : List ℕ) → files image ≡ Some bytes → files schedule ≡ Some names
-    → files trace ≡ Some records → text_of_check check bytes names records ≡ answer
-
--- why there is no replay that is checked
-abbrev pub IsCheckRefused :
-    Check → List ℕ → List ℕ → List ℕ → (List ℕ → Option (List ℕ)) → (List ℕ → ℕ) → (List ℕ → ℕ) → Refusal → Type 0
-IsCheckRefused check image schedule trace files before after refusal.NoMemory = Unit {0}
-IsCheckRefused check image schedule trace files before after (refusal.Read file) =
-    IsThreeFault image schedule trace files before after file
-IsCheckRefused check image schedule trace files before after (refusal.Image fault) =
-    IsCheckAnswer check image schedule trace files (Err (refusal.Image fault))
-    × WhereExposed (files image) (λ bytes. image_from_bytes bytes ≡ Err (refusal.Image fault))
-IsCheckRefused check image schedule trace files before after (refusal.Partition p) = ⊥
-IsCheckRefused check image schedule trace files before after (refusal.Schedule s) =
-    IsCheckAnswer check image schedule trace files (Err (refusal.Schedule s))
-IsCheckRefused check image schedule trace files before after (refusal.Trace fault) =
-    IsCheckAnswer check image schedule trace files (Err (refusal.Trace fault))
-IsCheckRefused check image schedule trace files before after (refusal.Elf fault) = ⊥
-IsCheckRefused check image schedule trace files before after (refusal.NoSuchName item) = ⊥
-IsCheckRefused check image schedule trace files before after (refusal.Violation v) = ⊥
-
--- and none that is enforced
-abbrev pub IsEnforceRefused :
-    List ℕ → List ℕ → List ℕ → (List ℕ → Option (List ℕ)) → (List ℕ → ℕ) → (List ℕ → ℕ) → Refusal → Type 0
-IsEnforceRefused image schedule trace files before after (refusal.Violation v) =
-    IsCheckAnswer enforced image schedule trace files (Err (refusal.Violation v))
-IsEnforceRefused image schedule trace files before after other =
-    IsCheckRefused enforced image schedule trace files before after other
 
 -- why a command is not done, of the files and of their counts of failed reads before and after
 abbrev pub IsRefused : Asked → (List ℕ → Option (List ℕ)) → (List ℕ → ℕ) → (List ℕ → ℕ) → Refusal → Type 0
 IsRefused (Run image flag) files before after why = IsRefusedBy image_from_bytes image (files image) (before image) (after image) why
-IsRefused (Show image) files before after why = IsRefusedBy image_from_bytes image (files image) (before image) (after image) why
-IsRefused (Build part) files before after why = IsRefusedBy built_of part (files part) (before part) (after part) why
-IsRefused (Link elf part) files before after why = IsLinkRefused elf part files before after why
-IsRefused (Replay image schedule) files before after why = IsReplayRefused report_made image schedule files before after why
-IsRefused (Log image schedule) files before after why = IsReplayRefused trace_made image schedule files before after why
-IsRefused (Emulate image schedule trace) files before after why = IsCheckRefused emulated image schedule trace files before after why
-IsRefused (Enforce image schedule trace) files before after why = IsEnforceRefused image schedule trace files before after why
-IsRefused (Derive trace) files before after why = IsTraceRefused trace (files trace) (before trace) (after trace) why
-IsRefused (Analyze trace query name) files before after why = IsQueryRefused query name trace (files trace) (before trace) (after trace) why
 IsRefused (Gen workers) files before after why = why ≡ refusal.NoMemory
+IsRefused other files before after why = IsTextRefused other files before after why
 
 -- its image or its partition is rejected, or the two files of a link make no image
 abbrev pub IsUnfit : Asked → (List ℕ → Option (List ℕ)) → Type 0

@@ -2,7 +2,6 @@
 use Rattle.std.specs.Prelude.{◌≡◌, ◌≤◌, ◌++◌, ℕ, ◌⊎◌, List, [], ◌∷◌, length, Option, Some, None, Result, Ok, Err}
 use Rattle.wedge_base.specs.Images.{Image}
 use Rattle.image_form.specs.Rules.{Encodes}
-use Rattle.part_toml.specs.Partition.{partition}
 use Rattle.wedge_events.specs.declared.events.Journal.{Journal}
 use Rattle.wedge_base.specs.declared.outcome.Outcome.{Outcome}
 use Rattle.host_io.specs.Exposed.{WhereExposed}
@@ -27,14 +26,12 @@ use Rattle.wedge_cli.specs.declared.writing.SinkName.TheVariants as sink
 use Rattle.wedge_cli.specs.declared.writing.SinkName.{SinkName}
 use Rattle.wedge_cli.specs.declared.writing.Text.{Text}
 use Rattle.wedge_cli.specs.Outside.{Device, Sinks, Takes, IsFailedWrite, Tried}
-use Rattle.wedge_cli.specs.Lines.{line, write_fault_line, refusal_text, status_of}
-use Rattle.cli_inputs.specs.Listing.{listing}
-use Rattle.cli_inputs.specs.Loading.{image_from_bytes, built_of, most_of}
-use Rattle.cli_inputs.specs.Replaying.{replay_text, log_text}
-use Rattle.cli_inputs.specs.Enforcing.{emulate_text, enforce_text}
-use Rattle.cli_inputs.specs.Linking.{link_text, IsLinkedImage}
-use Rattle.cli_inputs.specs.Traces.{derive_text, analyze_text}
-use Rattle.cli_inputs.specs.Words.{Asked, Run, Show, Build, Link, Replay, Log, Emulate, Enforce, Derive, Analyze, Gen}
+use Rattle.refusal_lines.specs.Lines.{line, write_fault_line, refusal_text, status_of}
+use Rattle.cli_inputs.specs.Loading.{image_from_bytes, most_of}
+use Rattle.cli_inputs.specs.Replaying.{replay_text}
+use Rattle.cli_inputs.specs.Linking.{IsLinkedImage}
+use Rattle.cli_inputs.specs.Words.{Asked, Run, Gen}
+use Rattle.command_texts.specs.Answers.{IsTextOf}
 use Rattle.workload.specs.Workload.{workload}
 
 -- ---- what a command makes of its files
@@ -113,84 +110,25 @@ IsSummary i workers kept texts = IsSummaryOfKept i workers kept.journal kept.dif
 abbrev pub IsSummed : ℕ → KeptRun → List Text → Type 0
 IsSummed workers kept texts = IsSummary (workload workers) workers kept texts
 
--- a file is run or listed as an image, or built as a partition
+-- a file is run as an image
 pub record RunsImage (flag : RunFlag) (content : Option (List ℕ)) (kept : KeptRun) (texts : List Text) : Type 0 where
   pub image : Image
   pub encoded : WhereExposed content (λ bytes. Encodes image bytes)
   pub accepted : WhereExposed content (λ bytes. image_from_bytes bytes ≡ Ok image)
   pub reported : IsReported image flag kept texts
 
-pub record IsShown (content : Option (List ℕ)) (kept : KeptRun) (texts : List Text) : Type 0 where
-  pub image : Image
-  pub encoded : WhereExposed content (λ bytes. Encodes image bytes)
-  pub accepted : WhereExposed content (λ bytes. image_from_bytes bytes ≡ Ok image)
-  pub kept_is : kept ≡ no_run
-  pub are : texts ≡ on_out (listing image)
-
-pub record IsBuilt (content : Option (List ℕ)) (kept : KeptRun) (texts : List Text) : Type 0 where
-  pub image : Image
-  pub meant : WhereExposed content (λ bytes. partition bytes ≡ Ok image)
-  pub accepted : WhereExposed content (λ bytes. built_of bytes ≡ Ok image)
-  pub kept_is : kept ≡ no_run
-  pub bytes : List ℕ
-  pub encoded : Encodes image bytes
-  pub are : texts ≡ on_out bytes
-
--- two files are answered: what was read of each is its bytes, where they are exposed, and the text
--- is what is meant by both
-pub record IsPairAnswer (meaning : List ℕ → List ℕ → Result (List ℕ) Refusal) (one other : Option (List ℕ)) (kept : KeptRun) (texts : List Text) : Type 0 where
-  pub first : List ℕ
-  pub second : List ℕ
-  pub first_is : WhereExposed one (λ exposed. first ≡ exposed)
-  pub second_is : WhereExposed other (λ exposed. second ≡ exposed)
-  pub kept_is : kept ≡ no_run
+-- a command that runs nothing writes one text, on the output
+pub record IsAnswered (IsText : List ℕ → Type 0) (kept : KeptRun) (texts : List Text) : Type 0 where
   pub text : List ℕ
-  pub meant : meaning first second ≡ Ok text
-  pub are : texts ≡ on_out text
-
--- three files are answered
-pub record IsTripleAnswer (meaning : List ℕ → List ℕ → List ℕ → Result (List ℕ) Refusal) (one other third : Option (List ℕ)) (kept : KeptRun) (texts : List Text) : Type 0 where
-  pub first : List ℕ
-  pub second : List ℕ
-  pub last : List ℕ
-  pub first_is : WhereExposed one (λ exposed. first ≡ exposed)
-  pub second_is : WhereExposed other (λ exposed. second ≡ exposed)
-  pub last_is : WhereExposed third (λ exposed. last ≡ exposed)
+  pub is : IsText text
   pub kept_is : kept ≡ no_run
-  pub text : List ℕ
-  pub meant : meaning first second last ≡ Ok text
-  pub are : texts ≡ on_out text
-
--- an ELF file is linked with a partition
-pub record IsLinked (elf part : Option (List ℕ)) (kept : KeptRun) (texts : List Text) : Type 0 where
-  pub answer : IsPairAnswer link_text elf part kept texts
-  pub image : IsLinkedImage answer.first answer.text
-
--- a trace's file is answered: what was read of it is its bytes, where they are exposed, and the
--- text is what is meant by them
-pub record IsTraceAnswer (meaning : List ℕ → Result (List ℕ) Refusal) (trace : Option (List ℕ)) (kept : KeptRun) (texts : List Text) : Type 0 where
-  pub bytes : List ℕ
-  pub bytes_are : WhereExposed trace (λ exposed. bytes ≡ exposed)
-  pub kept_is : kept ≡ no_run
-  pub text : List ℕ
-  pub meant : meaning bytes ≡ Ok text
   pub are : texts ≡ on_out text
 
 -- the journal that a command keeps, and the texts that it writes
 abbrev pub IsCommandOutput : Asked → (List ℕ → Option (List ℕ)) → KeptRun → List Text → Type 0
 IsCommandOutput (Run image flag) files kept texts = RunsImage flag (files image) kept texts
-IsCommandOutput (Show image) files kept texts = IsShown (files image) kept texts
-IsCommandOutput (Build part) files kept texts = IsBuilt (files part) kept texts
-IsCommandOutput (Link elf part) files kept texts = IsLinked (files elf) (files part) kept texts
-IsCommandOutput (Replay image schedule) files kept texts = IsPairAnswer replay_text (files image) (files schedule) kept texts
-IsCommandOutput (Log image schedule) files kept texts = IsPairAnswer log_text (files image) (files schedule) kept texts
-IsCommandOutput (Emulate image schedule trace) files kept texts =
-    IsTripleAnswer emulate_text (files image) (files schedule) (files trace) kept texts
-IsCommandOutput (Enforce image schedule trace) files kept texts =
-    IsTripleAnswer enforce_text (files image) (files schedule) (files trace) kept texts
-IsCommandOutput (Derive trace) files kept texts = IsTraceAnswer derive_text (files trace) kept texts
-IsCommandOutput (Analyze trace query name) files kept texts = IsTraceAnswer (analyze_text query name) (files trace) kept texts
 IsCommandOutput (Gen workers) files kept texts = IsSummed workers kept texts
+IsCommandOutput other files kept texts = IsAnswered (IsTextOf other files) kept texts
 
 -- ---- how texts are written
 

@@ -2,29 +2,23 @@
 
 ghost use Rattle.std.specs.Prelude.{◌≡◌, ◌≤◌, ◌++◌, ℕ, List, Some, None, IfOk, IfErr, OnOk};
 ghost use Rattle.cli_inputs.specs.Words as asking;
-ghost use Rattle.cli_inputs.specs.Loading.{IsRefusedBy, image_from_bytes, built_of};
-ghost use Rattle.wedge_cli.specs.Causes.{IsLinkRefused, IsReplayRefused, IsRefused};
-ghost use Rattle.wedge_cli.specs.Ended.{on_out, run_texts, differs_texts, no_run, IsReported, IsScheduleReadAgain, RunsImage, IsShown, IsBuilt, IsLinked, IsPairAnswer, IsTraceAnswer, IsCommandOutput};
-ghost use Rattle.cli_inputs.specs.Replaying as replays;
-ghost use Rattle.cli_inputs.specs.Replaying.{report_made, trace_made};
-ghost use Rattle.cli_inputs.specs.Traces.{derive_text, analyze_text, IsTraceRefused, IsQueryRefused};
+ghost use Rattle.cli_inputs.specs.Loading.{IsRefusedBy, image_from_bytes};
+ghost use Rattle.audited_run.specs.Texts.{difference_text};
+ghost use Rattle.command_texts.specs.Answers.{RunsNothing, IsTextOf};
+ghost use Rattle.refusal_lines.specs.Lines as lines;
+ghost use Rattle.wedge_cli.specs.Causes.{IsRefused};
+ghost use Rattle.wedge_cli.specs.Ended.{on_out, run_texts, differs_texts, no_run, IsAnswered, IsReported, IsScheduleReadAgain, RunsImage, IsCommandOutput};
 
-use crate::checks::{emulate, enforce};
-use crate::lines::difference_line;
 use crate::workloads::run_workload;
 use crate::writing::{KeptRun, Ready, SinkName, Text};
-use audited_run::{AuditedRun, Differs, run_audited};
-use cb_analyze::QueryFault;
-use cli_inputs::{
-    Command, FileKind, PartRefusal, Query, Refusal, RunFlag, link_text, listing, load_built,
-    load_image, load_trace, log_text, program_of, query_text, read_file, read_partition_file,
-    replay_text, sheets_text,
-};
+use audited_run::{AuditedRun, Differs, run_audited, write_difference};
+use cli_inputs::{Command, Refusal, RunFlag, load_image};
+use command_texts::command_text;
 use grant_cache::CacheLine;
 use host_io::{Files, Pace};
-use image_form::{Image, write_image};
+use image_form::Image;
 use report_text::{report, write_caches, write_schedule};
-use run_audit::RunJournal;
+use run_audit::{Difference, RunJournal};
 use std::alloc::Global;
 use std::sync::Wait;
 use std::thread::Threads;
@@ -49,28 +43,36 @@ pub(crate) fn prepare<R: Threads + Wait + Sync, F: Files, P: Pace + Sync>(
 {
     match command {
         Command::Run { image, flag } => run(rt, alloc, files, image, flag, pace),
-        Command::Show { image } => show(alloc, files, image),
-        Command::Build { part } => build(alloc, files, part),
-        Command::Link { elf, part } => link(alloc, files, elf, part),
-        Command::Replay { image, schedule } => replay(alloc, files, image, schedule),
-        Command::Log { image, schedule } => log(alloc, files, image, schedule),
-        Command::Emulate {
-            image,
-            schedule,
-            trace,
-        } => emulate(alloc, files, image, schedule, trace),
-        Command::Enforce {
-            image,
-            schedule,
-            trace,
-        } => enforce(alloc, files, image, schedule, trace),
-        Command::Derive { trace } => derive(alloc, files, trace),
-        Command::Analyze { trace, query, name } => analyze(alloc, files, trace, query, name),
         Command::Gen { workers } => {
             let ready = run_workload(rt, alloc, workers, pace)?;
             Ok(ready)
         }
+        Command::Show { .. }
+        | Command::Build { .. }
+        | Command::Link { .. }
+        | Command::Replay { .. }
+        | Command::Log { .. }
+        | Command::Emulate { .. }
+        | Command::Enforce { .. }
+        | Command::Derive { .. }
+        | Command::Analyze { .. } => one_text(alloc, command, files),
     }
+}
+
+/// The text of a command that runs nothing on threads.
+fn one_text<F: Files>(alloc: Global, command: Command<'_>, files: &mut F) -> Result<Ready, Refusal>
+    requires { RunsNothing (asking.asked_by command) }
+    ensures made { IfOk result (λ r. IsAnswered
+        (IsTextOf (asking.asked_by command.entry) (F.content files.old)) r.kept r.texts.items) }
+    ensures refused { IfErr result (IsRefused (asking.asked_by command.entry) (F.content files.old)
+        (F.faults files.old) (F.faults files.new)) }
+    ensures content { (other : List ℕ) → F.content files.new other
+        ≡ F.content files.old other }
+    ensures rises { (other : List ℕ) → F.faults files.old other ≤ F.faults files.new other }
+{
+    let text = command_text(alloc, command, files)?;
+    let ready = on_out(alloc, text)?;
+    Ok(ready)
 }
 
 /// Runs an image on threads.
@@ -143,7 +145,7 @@ fn texts_of(
             Ok((journal, texts))
         }
         RunFlag::Schedule => {
-            let ordered = journal.into_journal();
+            let ordered = journal.into_journal(alloc)?;
             let schedule = write_schedule(alloc, &ordered)?;
             let texts = vec![in alloc;
                 text_on(SinkName::Out, schedule),
@@ -174,153 +176,14 @@ pub(crate) fn add_difference(
     Ok(())
 }
 
-/// Lists the text of an image.
-fn show<F: Files>(alloc: Global, files: &mut F, name: &str) -> Result<Ready, Refusal>
-    ensures made { IfOk result
-        (λ r. IsShown (F.content files.old name.now) r.kept r.texts.items) }
-    ensures refused { IfErr result
-        (IsRefusedBy image_from_bytes name.now (F.content files.old name.now)
-        (F.faults files.old name.now) (F.faults files.new name.now)) }
-    ensures content { (other : List ℕ) → F.content files.new other
-        ≡ F.content files.old other }
-    ensures rises { (other : List ℕ) → F.faults files.old other ≤ F.faults files.new other }
+/// Returns the line of a run whose logs and histories differ.
+fn difference_line(alloc: Global, difference: &Difference) -> Result<Vec<u8>, NoMemory>
+    ensures { IfOk result (λ v. v.items ≡ lines.line (difference_text difference.now)) }
 {
-    let image = load_image(alloc, files, name)?;
-    let text = listing(alloc, &image)?;
-    let ready = on_out(alloc, text)?;
-    Ok(ready)
-}
-
-/// Makes the bytes of the image of a partition.
-fn build<F: Files>(alloc: Global, files: &mut F, name: &str) -> Result<Ready, Refusal>
-    ensures made { IfOk result
-        (λ r. IsBuilt (F.content files.old name.now) r.kept r.texts.items) }
-    ensures refused { IfErr result (IsRefusedBy built_of name.now (F.content files.old name.now)
-        (F.faults files.old name.now) (F.faults files.new name.now)) }
-    ensures content { (other : List ℕ) → F.content files.new other
-        ≡ F.content files.old other }
-    ensures rises { (other : List ℕ) → F.faults files.old other ≤ F.faults files.new other }
-{
-    let image = load_built(alloc, files, name)?;
-    let bytes = write_image(alloc, &image)?;
-    let ready = on_out(alloc, bytes)?;
-    Ok(ready)
-}
-
-/// Makes the bytes of the image that an ELF file and a partition are joined to. Both files are read first, in this order.
-fn link<F: Files>(alloc: Global, files: &mut F, elf: &str, part: &str) -> Result<Ready, Refusal>
-    ensures made { IfOk result (λ r. IsLinked (F.content files.old elf.now)
-        (F.content files.old part.now) r.kept r.texts.items) }
-    ensures refused { IfErr result (IsLinkRefused elf.now part.now (F.content files.old)
-        (F.faults files.old) (F.faults files.new)) }
-    ensures content { (other : List ℕ) → F.content files.new other
-        ≡ F.content files.old other }
-    ensures rises { (other : List ℕ) → F.faults files.old other ≤ F.faults files.new other }
-{
-    let elf = read_file(alloc, files, FileKind::Elf, elf)?;
-    let bytes = read_partition_file(alloc, files, part)?;
-    let program = program_of(alloc, elf.as_slice())?;
-    let Some(bytes) = bytes else {
-        return Err(Refusal::Partition(PartRefusal::Limit));
-    };
-    let text = link_text(alloc, &program, bytes.as_slice())?;
-    let ready = on_out(alloc, text)?;
-    Ok(ready)
-}
-
-/// Replays a schedule over an image. Both files are read first, in this order.
-fn replay<F: Files>(
-    alloc: Global,
-    files: &mut F,
-    image: &str,
-    schedule: &str,
-) -> Result<Ready, Refusal>
-    ensures made { IfOk result
-        (λ r. IsPairAnswer replays.replay_text (F.content files.old image.now)
-        (F.content files.old schedule.now) r.kept r.texts.items) }
-    ensures refused { IfErr result (IsReplayRefused report_made image.now schedule.now
-        (F.content files.old)
-        (F.faults files.old) (F.faults files.new)) }
-    ensures content { (other : List ℕ) → F.content files.new other
-        ≡ F.content files.old other }
-    ensures rises { (other : List ℕ) → F.faults files.old other ≤ F.faults files.new other }
-{
-    let bytes = read_file(alloc, files, FileKind::Image, image)?;
-    let names = read_file(alloc, files, FileKind::Schedule, schedule)?;
-    let text = replay_text(alloc, bytes.as_slice(), names.as_slice())?;
-    let ready = on_out(alloc, text)?;
-    Ok(ready)
-}
-
-/// Logs the replay of a schedule over an image. Both files are read first, in this order.
-fn log<F: Files>(
-    alloc: Global,
-    files: &mut F,
-    image: &str,
-    schedule: &str,
-) -> Result<Ready, Refusal>
-    ensures made { IfOk result
-        (λ r. IsPairAnswer replays.log_text (F.content files.old image.now)
-        (F.content files.old schedule.now) r.kept r.texts.items) }
-    ensures refused { IfErr result (IsReplayRefused trace_made image.now schedule.now
-        (F.content files.old)
-        (F.faults files.old) (F.faults files.new)) }
-    ensures content { (other : List ℕ) → F.content files.new other
-        ≡ F.content files.old other }
-    ensures rises { (other : List ℕ) → F.faults files.old other ≤ F.faults files.new other }
-{
-    let bytes = read_file(alloc, files, FileKind::Image, image)?;
-    let names = read_file(alloc, files, FileKind::Schedule, schedule)?;
-    let text = log_text(alloc, bytes.as_slice(), names.as_slice())?;
-    let ready = on_out(alloc, text)?;
-    Ok(ready)
-}
-
-/// Derives the sheets that a trace needs.
-fn derive<F: Files>(alloc: Global, files: &mut F, trace: &str) -> Result<Ready, Refusal>
-    ensures made { IfOk result (λ r. IsTraceAnswer derive_text (F.content files.old trace.now)
-        r.kept r.texts.items) }
-    ensures refused { IfErr result (IsTraceRefused trace.now (F.content files.old trace.now)
-        (F.faults files.old trace.now) (F.faults files.new trace.now)) }
-    ensures content { (other : List ℕ) → F.content files.new other
-        ≡ F.content files.old other }
-    ensures rises { (other : List ℕ) → F.faults files.old other ≤ F.faults files.new other }
-{
-    let bytes = load_trace(alloc, files, trace)?;
-    let text = sheets_text(alloc, bytes.as_slice())?;
-    let ready = on_out(alloc, text)?;
-    Ok(ready)
-}
-
-/// Answers a query of a trace.
-fn analyze<F: Files>(
-    alloc: Global,
-    files: &mut F,
-    trace: &str,
-    query: Query,
-    name: &str,
-) -> Result<Ready, Refusal>
-    ensures made { IfOk result (λ r. IsTraceAnswer (analyze_text query name.now)
-        (F.content files.old trace.now) r.kept r.texts.items) }
-    ensures refused { IfErr result (IsQueryRefused query name.now trace.now
-        (F.content files.old trace.now) (F.faults files.old trace.now)
-        (F.faults files.new trace.now)) }
-    ensures content { (other : List ℕ) → F.content files.new other
-        ≡ F.content files.old other }
-    ensures rises { (other : List ℕ) → F.faults files.old other ≤ F.faults files.new other }
-{
-    let bytes = load_trace(alloc, files, trace)?;
-    match query_text(alloc, bytes.as_slice(), query, name.as_bytes()) {
-        Ok(text) => {
-            let ready = on_out(alloc, text)?;
-            Ok(ready)
-        }
-        Err(QueryFault::NoMemory) => Err(Refusal::NoMemory),
-        Err(QueryFault::NoSuchName) => {
-            let name = Bytes::from_slice(alloc, name.as_bytes())?;
-            Err(Refusal::NoSuchName { name })
-        }
-    }
+    let mut line = Vec::from_slice(alloc, b"wedge: ")?;
+    write_difference(&mut line, difference)?;
+    line.push(b'\n')?;
+    Ok(line)
 }
 
 /// One text, on the output, of a command that runs nothing.

@@ -1,9 +1,7 @@
 //! The program: from the arguments of the command line to what is written.
 #![tactic(auto)]
 
-mod checks;
 mod commands;
-mod lines;
 mod status;
 mod top;
 mod workloads;

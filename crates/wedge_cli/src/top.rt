@@ -4,7 +4,7 @@ ghost use Rattle.std.specs.Prelude.{◌≡◌, ◌≤◌, ◌<◌, ◌⊎◌, �
 ghost use Rattle.cli_inputs.specs.Words as asking;
 ghost use Rattle.cli_inputs.specs.Words.{Asked, command_of, texts};
 ghost use Rattle.wedge_cli.specs.Outside.{outside, sinks, device};
-ghost use Rattle.wedge_cli.specs.Lines as lines;
+ghost use Rattle.refusal_lines.specs.Lines as lines;
 ghost use Rattle.wedge_cli.specs.Ended.{IsSaid, IsRunDone, IsScheduleDone, IsStatsDone, IsMadeAgain, IsRunEnd, IsLinkDone, IsGenDone, IsGenMadeAgain, IsGenEnd, IsCutShort, IsAnswerEnd, HasEnd};
 ghost use Rattle.cli_inputs.specs.Loading.{image_from_bytes};
 ghost use Rattle.cli_inputs.specs.Linking.{link_text};
@@ -14,13 +14,13 @@ ghost use Rattle.cli_inputs.specs.Traces.{derive_text, analyze_text};
 ghost use Rattle.wedge_cli.specs.Causes.{IsUnfit, IsRejected, IsElfRejected, IsUnknown, IsViolated, IsUnreadable, SaysRefusal, IsCommandAnswer};
 
 use crate::commands::prepare;
-use crate::lines::{no_memory_line, refusal_line, usage_line};
 use crate::status::{
     ELF_REFUSED, ENFORCED, Ended, NO_MEMORY, NO_SUCH_NAME, READ_FAULT, REFUSED, REJECTED, USAGE,
 };
 use crate::writing::{finish, say};
 use cli_inputs::{Query, Refusal, RunFlag, WordsFault, read_words};
 use host_io::{Files, Pace, Sink};
+use refusal_lines::{no_memory_line, refusal_line, usage_line};
 use std::alloc::Global;
 use std::sync::Wait;
 use std::thread::Threads;

@@ -69,7 +69,7 @@ fn summary_texts(
     ensures { IfOk result
         (λ t. t.items ≡ on_out (summary_line workers journal.now outcome.now)) }
 {
-    let entries = journal.len() as u64;
+    let entries = journal.len()? as u64;
     let line = summary(alloc, workers, outcome, entries)?;
     let texts = vec![in alloc; text_on(SinkName::Out, line)]?;
     Ok(texts)

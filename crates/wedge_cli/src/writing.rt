@@ -1,14 +1,14 @@
 //! Texts, and their writing.
 
-ghost use Rattle.std.specs.Prelude.{◌≡◌, None, IfOk, MatchResult};
+ghost use Rattle.std.specs.Prelude.{◌≡◌, None, MatchResult};
 ghost use Rattle.wedge_cli.specs.Outside.{device, sinks, Tried};
-ghost use Rattle.wedge_cli.specs.Lines as lines;
+ghost use Rattle.refusal_lines.specs.Lines as lines;
 ghost use Rattle.wedge_cli.specs.Ended.{TakesText, FailsText, AreTaken, OneFails, IsSaid, IsWritten, done_status};
 
-use crate::lines::write_fault_line;
 use crate::status::{DISAGREED, DONE, Ended, WRITE_FAULT};
 use audited_run::Differs;
 use host_io::{Sink, WriteFault, write_whole};
+use refusal_lines::write_fault_line;
 use run_audit::RunJournal;
 use wedge_base::Bytes;
 

@@ -29,7 +29,6 @@ use wedge_events::{
 /// The cells of a world: the directory of slots, 4,096 slots with the tag that lives in each, the directory of
 /// descriptors, 1,024 descriptors with the stream behind each, the count of live sthreads, and the recycled
 /// gates.
-#[derive(Drop)]
 pub struct Cells {
     alloc: Global,
     places: Directory,
@@ -38,6 +37,21 @@ pub struct Cells {
     streams: Vec<Stream>,
     lives: Lives,
     gates: Vec<GateCell>,
+}
+
+// By hand: a derived drop would be proved again in each function that drops one.
+impl Drop for Cells {
+    fn drop(self) {
+        let Self {
+            alloc: _,
+            places: _,
+            slots: _,
+            numbers: _,
+            streams: _,
+            lives: _,
+            gates: _,
+        } = self;
+    }
 }
 
 impl Model for Cells {

@@ -19,13 +19,25 @@ use world_cells::Cells;
 /// The world of a run: every actor and every cell, and the turns taken so far. Its turns are always a
 /// run from the initial state of its image, and its state is where that run leads, but for local steps
 /// of its actors, unless it has stopped because it ran out of memory.
-#[derive(Drop)]
 pub struct World<'a> {
     pub program: Program<'a>,
     pub cells: Cells,
     pub residents: Residents,
     pub entries: Vec<LogEntry>,
     pub stopped: bool,
+}
+
+// By hand: a derived drop would be proved again in each function that drops one.
+impl<'a> Drop for World<'a> {
+    fn drop(self) {
+        let Self {
+            program: _,
+            cells: _,
+            residents: _,
+            entries: _,
+            stopped: _,
+        } = self;
+    }
 }
 
 impl<'a> Model for World<'a> {
@@ -79,7 +91,13 @@ impl<'a> World<'a> {
         ensures run { self.entry.stopped ≡ false
             → LeadsTo (turns_of result.items) self.entry.state }
     {
-        let World { entries, .. } = self;
+        let World {
+            program: _program,
+            cells: _cells,
+            residents: _residents,
+            entries,
+            stopped: _stopped,
+        } = self;
         entries
     }
 }

@@ -9,7 +9,7 @@ returns-in-Some-clause-found c =
     let logs = c.args.gathered.now.logs in
     let cells = c.args.gathered.now.cells in
     let h = of_gathered c.args.image.now c.tags-declared.result.now logs c.as_slice.result.now cells c.as_slice-2.result.now c.as_slice-entries.result.now c.in_ok-journal.journal.items c.in_ok-difference.field-0 (Some c.in-Some.difference)
-    c.tags-declared.ensures.is c.as_slice.ensures c.as_slice-2.ensures c.as_slice-entries.ensures.value c.in_ok-journal.ensures.journal c.in-Some.is c.in_ok-difference.ensures in
+    c.tags-declared.ensures.is c.as_slice.ensures c.as_slice-2.ensures c.as_slice-entries.ensures.value c.in_ok-journal.ensures c.in-Some.is c.in_ok-difference.ensures in
     first_of_all (length c.args.image.now.tags) cells (journal_of logs) c.in-Some.difference h
 
 pub returns-in-Some-clause-cell : goal.returns-in-Some-clause-cell
@@ -17,7 +17,7 @@ returns-in-Some-clause-cell c =
     let logs = c.args.gathered.now.logs in
     let cells = c.args.gathered.now.cells in
     let h = of_gathered c.args.image.now c.tags-declared.result.now logs c.as_slice.result.now cells c.as_slice-2.result.now c.as_slice-entries.result.now c.in_ok-journal.journal.items c.in_ok-difference.field-0 (Some c.in-Some.difference)
-    c.tags-declared.ensures.is c.as_slice.ensures c.as_slice-2.ensures c.as_slice-entries.ensures.value c.in_ok-journal.ensures.journal c.in-Some.is c.in_ok-difference.ensures in
+    c.tags-declared.ensures.is c.as_slice.ensures c.as_slice-2.ensures c.as_slice-entries.ensures.value c.in_ok-journal.ensures c.in-Some.is c.in_ok-difference.ensures in
     at_another (length c.args.image.now.tags) cells (journal_of logs) c.in-Some.difference h
 
 pub returns-clause-found : goal.returns-clause-found
@@ -25,10 +25,9 @@ returns-clause-found c =
     let logs = c.args.gathered.now.logs in
     let cells = c.args.gathered.now.cells in
     let h = of_gathered c.args.image.now c.tags-declared.result.now logs c.as_slice.result.now cells c.as_slice-2.result.now c.as_slice-entries.result.now c.in_ok-journal.journal.items c.in_ok-difference.field-0 None
-    c.tags-declared.ensures.is c.as_slice.ensures c.as_slice-2.ensures c.as_slice-entries.ensures.value c.in_ok-journal.ensures.journal c.in_default.is c.in_ok-difference.ensures in
+    c.tags-declared.ensures.is c.as_slice.ensures c.as_slice-2.ensures c.as_slice-entries.ensures.value c.in_ok-journal.ensures c.in_default.is c.in_ok-difference.ensures in
     record {
       agree = others_agree (length c.args.image.now.tags) cells (journal_of logs) h;
       outcome = search rules;
       caches = search rules;
-      room = search rules;
     }

@@ -1,6 +1,5 @@
 use Rattle.std.proofs.Common.{◌≡◌, take}
-use Rattle.run_audit.specs.ComparedCells.{compared_entries}
 use Rattle.run_audit.proofs.sorts.entry_references.Given as goal
 
 abbrev pub invariant-loop-item : goal.invariant-loop-item
-invariant-loop-item l = l.all.items ≡ compared_entries l.declared (take l.item-index l.entries)
+invariant-loop-item l = l.all.items ≡ take l.item-index l.entries

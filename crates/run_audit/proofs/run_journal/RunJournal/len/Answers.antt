@@ -1,10 +1,13 @@
-use Rattle.std.proofs.Common.{ap, ◌∙◌, arith, length}
+use Rattle.std.proofs.Common.{◌+◌, ap, sym, ◌∙◌, arith, length}
 use Rattle.wedge_events.specs.declared.events.Journal.{Journal}
+use Rattle.thread_laws.specs.Joining.{all_logged}
 use Rattle.run_audit.proofs.RunJournals.{length_in_logs}
+use Rattle.run_audit.proofs.TwoHeads.{ok_map}
 use Rattle.run_audit.proofs.run_journal.RunJournal.len.Goals as goal
 
 pub returns-else-is_empty : goal.returns-else-is_empty
 returns-else-is_empty c =
     let r = c.self.inside in
-    c.len.ensures ∙ length_in_logs r.ordered r.logs r.room.order.items (grind arith) c.self.invariant.0 c.self.invariant.1.order
-    ∙ ap (λ (j : Journal). length j.entries) c.self.view_is
+    ok_map c.index_after.result c.index_after.ensures
+    (λ n is. is ∙ (ap (λ gs. 0 + length (all_logged gs)) c.as_slice-else-is_empty.ensures
+    ∙ (sym (length_in_logs r.ordered r.logs (grind arith) c.self.invariant) ∙ ap (λ (j : Journal). length j.entries) c.self.view_is)))

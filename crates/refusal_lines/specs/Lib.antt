@@ -1,0 +1,2 @@
+-- The lines of refusals.
+pub mod Lines
