@@ -246,6 +246,7 @@ RUN = [
                 "journal_cell/Histories",
                 "Read `IsHistory` and `entry_at`: the stamp is one above the greater of two clocks.",
             ),
+            ("journal_cell/GhostLists", "One function: the items of a list of no bytes, as it grew."),
             (
                 "thread_laws/Executions",
                 "See that `at_next_event` is the machine's own `rest` and `has_joined`, and that `IsNext` asks "
@@ -258,7 +259,7 @@ RUN = [
             ("thread_laws/Merging", "See that `AreExecutions` leaves no actor out, and adds none."),
             ("thread_laws/Forests", "`IsForestOf` goes over the creations one by one."),
             ("thread_laws/Sorting", "Two comparisons, and std's order on lists."),
-            ("thread_laws/Replaying", "One line for each of the six kinds of cell."),
+            ("thread_laws/Replaying", "One line for each of the six kinds of cell; `all_histories` is those of both fields."),
             ("tag_laws/DeclaredTags", "The clause on the status 7 uses `IsDeclared`, two lines."),
             ("grant_cache/Caches", "A log has the counts of a cache; the clause uses nothing else of it."),
             ("grant_cache/Hits", "Five short functions."),

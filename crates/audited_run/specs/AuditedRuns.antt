@@ -13,7 +13,7 @@ use Rattle.grant_cache.specs.declared.count.CacheLine.{CacheLine}
 use Rattle.thread_laws.specs.Joining.{AreWalked, Agrees, journal_of, outcome_gathered}
 use Rattle.thread_laws.specs.LookUps.{AreCountsOf}
 use Rattle.thread_laws.specs.Merging.{IsNondecreasing}
-use Rattle.thread_laws.specs.Replaying.{AreLegalHistories, Legal}
+use Rattle.thread_laws.specs.Replaying.{all_histories, AreLegalHistories, Legal}
 use Rattle.thread_laws.specs.declared.gathered.Gathered.{Gathered}
 use Rattle.gate_runner.specs.Gathering.{IsOfRoot}
 use Rattle.run_audit.specs.ComparedCells.{IsUndeclared}
@@ -28,11 +28,11 @@ pub record IsOfThreads (i : Image) (entries : List LogEntry) (outcome : Outcome)
   pub gathered : Gathered
   pub walked : AreWalked i gathered.logs
   pub of_root : IsOfRoot i gathered.logs
-  pub kept : AreLegalHistories i gathered.cells
-  pub agrees : Agrees gathered.logs gathered.cells
+  pub kept : AreLegalHistories i (all_histories gathered)
+  pub agrees : Agrees gathered.logs (all_histories gathered)
   pub entries_are : entries ≡ journal_of gathered.logs
   pub rising : IsNondecreasing entries
-  pub outcome_is : outcome ≡ outcome_gathered i gathered.logs gathered.cells
+  pub outcome_is : outcome ≡ outcome_gathered i gathered.logs (all_histories gathered)
 
 -- The history of a cell that threads left differs from the entries of that cell that they logged: the logs are those
 -- of whole executions and the histories legal, the cell is the first of which this holds, and the entries are the
@@ -40,8 +40,8 @@ pub record IsOfThreads (i : Image) (entries : List LogEntry) (outcome : Outcome)
 pub record IsDiffering (i : Image) (d : Differs) : Type 0 where
   pub walked : AreWalked i d.gathered.logs
   pub of_root : IsOfRoot i d.gathered.logs
-  pub legal : Legal i d.gathered.cells
-  pub first : IsFirstDifference (journal_of d.gathered.logs) d.gathered.cells d.disagree
+  pub legal : Legal i (all_histories d.gathered)
+  pub first : IsFirstDifference (journal_of d.gathered.logs) (all_histories d.gathered) d.disagree
   pub undeclared : IsUndeclared (length i.tags) d.disagree.cell
 
 -- Each turn was that of the actor that was started last and had not ended; the stamp of an entry is its index, from 1.
@@ -68,5 +68,5 @@ pub record IsAuditedRun (i : Image) (r : AuditedRun) : Type 0 where
 
 -- something differs exactly where logs and histories do not agree, and then it is these that differ
 abbrev pub IsAudited : Gathered → Option Differs → Type 0
-IsAudited g None = Agrees g.logs g.cells
-IsAudited g (Some d) = (d.gathered ≡ g) × (Agrees g.logs g.cells → ⊥)
+IsAudited g None = Agrees g.logs (all_histories g)
+IsAudited g (Some d) = (d.gathered ≡ g) × (Agrees g.logs (all_histories g) → ⊥)

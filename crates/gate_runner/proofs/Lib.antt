@@ -4,3 +4,7 @@ pub mod Roots
 pub mod RuledSlots
 -- What an actor does with others is on no slot.
 pub mod BesideSlots
+-- What the thread of the root returned, and what the cells kept.
+pub mod Gathered
+-- What threads are given and return.
+pub mod Crossing

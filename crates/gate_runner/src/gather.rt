@@ -32,8 +32,5 @@ pub(crate) fn gathered<I: RunOf, T: TableOf>(
     let mut logs = Vec::with_capacity(alloc, others.len().saturating_add(1))?;
     logs.push(log)?;
     logs.append(&mut others)?;
-    Ok(Gathered {
-        logs: Items::new(logs),
-        cells: cells.into_histories(alloc, gates, passes)?,
-    })
+    cells.into_gathered(alloc, Items::new(logs), gates, passes)
 }

@@ -189,7 +189,7 @@ fn start<
 
 /// Runs a child on a thread of its own; where none can be made, here.
 #[cycle(run)]
-#[tactic(auto, using(crate::proofs::BesideSlots::beside_then, crate::proofs::BesideSlots::beside_same, crate::proofs::BesideSlots::tracked_beside))]
+#[tactic(auto, using(crate::proofs::BesideSlots::beside_then, crate::proofs::BesideSlots::beside_same, crate::proofs::BesideSlots::tracked_beside, crate::proofs::Crossing::Returned_send, crate::proofs::Crossing::Shared_sync))]
 fn launch<
     's,
     'e,

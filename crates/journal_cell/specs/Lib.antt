@@ -1,2 +1,3 @@
--- Histories of cells: entries, the states to which they lead, and the stamps.
+-- Histories of cells: entries, the states to which they lead, and the stamps; lists that only proofs read.
 pub mod Histories
+pub mod GhostLists

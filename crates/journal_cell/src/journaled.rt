@@ -136,7 +136,7 @@ impl<O: Object, I: RunOf> Journaled<O, I> {
 }
 
 /// Returns the greater of two clocks.
-fn later(a: Stamp, b: Stamp) -> Stamp
+pub(crate) fn later(a: Stamp, b: Stamp) -> Stamp
     ensures { result ≡ greater a b }
 {
     if a.0 < b.0 { b } else { a }

@@ -8,3 +8,5 @@ pub mod PassSteps
 pub mod TicketSteps
 -- A whole turn at a cell.
 pub mod WholeTurn
+-- Which passes and cells may go to another thread.
+pub mod Crossing

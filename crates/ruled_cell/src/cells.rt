@@ -12,7 +12,7 @@ ghost use Rattle.ruled_cell.specs.Passes.{first_view, after_splitting, after_joi
 use crate::order::{CellTable, JoinPass, LearnNumber, SplitPass};
 use crate::passes::RuledPass;
 use atomic_table::Table;
-use journal_cell::{Journaled, RunOf};
+use journal_cell::{GhostJournaled, RunOf};
 use std::alloc::Global;
 use std::marker::Model;
 use wedge_base::NoMemory;
@@ -26,7 +26,7 @@ pub struct RuledCells<O: Object, I: RunOf> {
     pub(crate) table: CellTable<O, I>,
     pub(crate) count: usize,
     // Has room for the cells at the end, so that closing takes no memory.
-    spare: Vec<Journaled<O, I>>,
+    spare: Vec<GhostJournaled<O, I>>,
 }
 
 impl<O: Object, I: RunOf> Model for RuledCells<O, I> {
@@ -49,7 +49,7 @@ impl<O: Object, I: RunOf> RuledCells<O, I> {
     /// entries. Fails only where out of memory; then the cells are dropped.
     pub fn new(
         alloc: Global,
-        cells: Vec<Journaled<O, I>>,
+        cells: Vec<GhostJournaled<O, I>>,
     ) -> Result<(RuledCells<O, I>, RuledPass<O, I>), NoMemory>
         requires few { length cells.items ≤ most_slots }
         requires initial { (c : ℕ) (k : CellState O O.Ask O.Reply)
@@ -119,7 +119,7 @@ impl<O: Object, I: RunOf> RuledCells<O, I> {
     }
 
     /// Ends the cells, once every pass is joined to the first, and returns them in their order. It takes no memory.
-    pub fn close(self, pass: RuledPass<O, I>) -> Vec<Journaled<O, I>>
+    pub fn close(self, pass: RuledPass<O, I>) -> Vec<GhostJournaled<O, I>>
         requires table { pass.table ≡ self }
         requires first { pass.view.origin ≡ First }
         requires all_joined { pass.view.unjoined ≡ 0 }

@@ -35,7 +35,7 @@ pub trait AskMaker<O: Object> {
 
 impl<O: Object, I: RunOf> RuledCells<O, I> {
     /// Waits until it is the turn of a pass at a cell, asks the cell what `maker` makes of its state, adds the
-    /// entry that comes of it to the history, and returns an equal one, as `Journaled::enter` does. The next
+    /// entry that comes of it to the history, and returns an equal one, as `GhostJournaled::enter` does. The next
     /// ticket is served then.
     ///
     /// Fails only where out of memory, where no stamp is left, or where 2^64 - 1 tickets of the cell were drawn.

@@ -6,14 +6,14 @@
 
 use crate::passes::PassView;
 use atomic_table::{Join, Play, Split, Table, TableRule};
-use journal_cell::{Journaled, RunOf};
+use journal_cell::{GhostJournaled, RunOf};
 use std::alloc::Global;
 use wedge_events::Object;
 
 /// The rule that tickets of a cell are served one after another, in the order in which they were drawn.
 pub(crate) struct TicketOrder;
 
-impl<O: Object, I: RunOf> TableRule<Journaled<O, I>, PassView<O::Ask, O::Reply>, ()>
+impl<O: Object, I: RunOf> TableRule<GhostJournaled<O, I>, PassView<O::Ask, O::Reply>, ()>
     for TicketOrder {
     ghost use Rattle.ruled_cell.specs.Order.{IsTicketOrder};
     ghost use Rattle.ruled_cell.specs.Passes.{first_view};
@@ -25,7 +25,7 @@ impl<O: Object, I: RunOf> TableRule<Journaled<O, I>, PassView<O::Ask, O::Reply>,
 
 /// The table of the cells.
 pub(crate) type CellTable<O: Object, I: RunOf> = Table<
-    Journaled<O, I>,
+    GhostJournaled<O, I>,
     PassView<O::Ask, O::Reply>,
     (),
     TicketOrder,
@@ -35,7 +35,7 @@ pub(crate) type CellTable<O: Object, I: RunOf> = Table<
 /// Draws a ticket, where none was drawn since the count was read.
 pub(crate) struct Draw;
 
-impl<O: Object, I: RunOf> Play<Journaled<O, I>, PassView<O::Ask, O::Reply>> for Draw {
+impl<O: Object, I: RunOf> Play<GhostJournaled<O, I>, PassView<O::Ask, O::Reply>> for Draw {
     ghost use Rattle.ruled_cell.specs.Order.{DrawsTicket};
 
     ghost then = { DrawsTicket };
@@ -44,7 +44,7 @@ impl<O: Object, I: RunOf> Play<Journaled<O, I>, PassView<O::Ask, O::Reply>> for 
 /// Looks which ticket is served, and has the cell where it is its own.
 pub(crate) struct Look;
 
-impl<O: Object, I: RunOf> Play<Journaled<O, I>, PassView<O::Ask, O::Reply>> for Look {
+impl<O: Object, I: RunOf> Play<GhostJournaled<O, I>, PassView<O::Ask, O::Reply>> for Look {
     ghost use Rattle.ruled_cell.specs.Order.{LooksAtServing};
 
     ghost then = { LooksAtServing };
@@ -53,7 +53,7 @@ impl<O: Object, I: RunOf> Play<Journaled<O, I>, PassView<O::Ask, O::Reply>> for 
 /// Returns the cell, and serves the next ticket.
 pub(crate) struct PassOn;
 
-impl<O: Object, I: RunOf> Play<Journaled<O, I>, PassView<O::Ask, O::Reply>> for PassOn {
+impl<O: Object, I: RunOf> Play<GhostJournaled<O, I>, PassView<O::Ask, O::Reply>> for PassOn {
     ghost use Rattle.ruled_cell.specs.Order.{PassesOn};
 
     ghost then = { PassesOn };
@@ -62,7 +62,7 @@ impl<O: Object, I: RunOf> Play<Journaled<O, I>, PassView<O::Ask, O::Reply>> for 
 /// Changes a word of which the rule says nothing.
 pub(crate) struct Ring;
 
-impl<O: Object, I: RunOf> Play<Journaled<O, I>, PassView<O::Ask, O::Reply>> for Ring {
+impl<O: Object, I: RunOf> Play<GhostJournaled<O, I>, PassView<O::Ask, O::Reply>> for Ring {
     ghost use Rattle.ruled_cell.specs.Order.{LeavesSeat};
 
     ghost then = { LeavesSeat };
@@ -71,7 +71,7 @@ impl<O: Object, I: RunOf> Play<Journaled<O, I>, PassView<O::Ask, O::Reply>> for 
 /// Learns the number of its own seat.
 pub(crate) struct LearnNumber;
 
-impl<O: Object, I: RunOf> Play<Journaled<O, I>, PassView<O::Ask, O::Reply>> for LearnNumber {
+impl<O: Object, I: RunOf> Play<GhostJournaled<O, I>, PassView<O::Ask, O::Reply>> for LearnNumber {
     ghost use Rattle.ruled_cell.specs.Order.{LearnsNumber};
 
     ghost then = { LearnsNumber };

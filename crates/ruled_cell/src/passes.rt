@@ -4,7 +4,7 @@ ghost use Rattle.std.specs.Prelude.{◌≡◌};
 
 use crate::visits::{OwnVisit, Visit};
 use atomic_table::Seat;
-use journal_cell::{Journaled, RunOf};
+use journal_cell::{GhostJournaled, RunOf};
 use std::collections::LinkedList;
 use std::marker::Model;
 use wedge_events::Object;
@@ -51,7 +51,10 @@ pub struct PassView<Q, R> {
 }
 
 /// A seat at the table of the cells.
-pub(crate) type PassSeat<O: Object, I: RunOf> = Seat<Journaled<O, I>, PassView<O::Ask, O::Reply>>;
+pub(crate) type PassSeat<O: Object, I: RunOf> = Seat<
+    GhostJournaled<O, I>,
+    PassView<O::Ask, O::Reply>,
+>;
 
 /// Knows what a thread has seen of the cells of a table, and what it entered there: with it the thread comes to the
 /// cells. At run time it is one count, and has no other bytes.

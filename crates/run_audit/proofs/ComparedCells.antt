@@ -3,8 +3,8 @@ use Rattle.std.proofs.Common.{◌≡◌, ℕ, ◌+◌, ◌<◌, Bool, true, fals
 use Rattle.std.proofs.lemmas.Bool.{eqb-true, lt-ltb, ltb-true}
 use Rattle.std.proofs.lemmas.List.Elements.{filter_more}
 use Rattle.std.specs.Prelude.{Option, Some, None, nat_lt, find, slice_get, slice_index_or, if◌then◌else◌}
-use Rattle.wedge_base.specs.Images.{Image}
-use Rattle.wedge_base.specs.declared.image.TagEntry.{TagEntry}
+use Rattle.wedge_events.specs.declared.cells.SlotAsk.{SlotAsk}
+use Rattle.wedge_events.specs.declared.cells.SlotReply.{SlotReply}
 use Rattle.wedge_events.specs.declared.events.CellName.{CellName}
 use Rattle.wedge_events.specs.declared.events.CellName.TheVariants as cell
 use Rattle.wedge_events.specs.declared.events.Event.{Event}
@@ -12,17 +12,20 @@ use Rattle.wedge_events.specs.declared.events.Event.TheVariants as event
 use Rattle.wedge_events.specs.declared.events.LogEntry.{LogEntry}
 use Rattle.thread_laws.specs.Auditing.{DifferAt}
 use Rattle.thread_laws.specs.Histories.{is_of, entries_on}
-use Rattle.thread_laws.specs.Replaying.{cell_in, same_cell, entries_kept_in, history_of}
+use Rattle.journal_cell.specs.declared.entry.Entry.{Entry}
+use Rattle.thread_laws.specs.Replaying.{cell_in, same_cell, entries_kept_in, history_of, all_histories}
 use Rattle.thread_laws.specs.Joining.{AgreeOn, Agrees, journal_of}
 use Rattle.thread_laws.specs.declared.gathered.ActorLog.{ActorLog}
 use Rattle.thread_laws.specs.declared.gathered.CellHistory.{CellHistory}
 use Rattle.thread_laws.specs.declared.gathered.CellHistory.TheVariants as history
+use Rattle.thread_laws.specs.declared.gathered.Gathered.{Gathered}
 use Rattle.thread_laws.proofs.Replaying.{cell_is}
 use Rattle.tag_laws.specs.DeclaredTags.{IsDeclared, is_on_declared}
 use Rattle.run_audit.specs.CellOrder.{comes_first}
 use Rattle.run_audit.specs.ComparedCells.{is_of_declared, compared_histories, compared_entries, IsUndeclared, DeclaredAgree}
 use Rattle.run_audit.specs.Differences.{IsComparison, IsFirstDifference}
 use Rattle.run_audit.specs.declared.fault.Difference.{Difference}
+use Rattle.run_audit.proofs.DeclaredHistories.{compared_of_all}
 
 -- ---- the cells that are left out
 
@@ -148,12 +151,12 @@ others_agree n cells es same name other =
     sym (history_kept n name left_in cells) ∙ (same name ∙ entries_kept n name left_in es)
 
 -- where the first slots agree as well, all do
-pub all_agree : (i : Image) (logs : List ActorLog) (cells : List CellHistory) → DeclaredAgree i logs cells → AgreeOn (IsUndeclared (length i.tags)) logs cells → Agrees logs cells
-all_agree i logs cells first others name all = by_test (is_declared_slot (length i.tags) name) refl
+pub all_agree : (g : Gathered) → DeclaredAgree g → AgreeOn (IsUndeclared (length g.declared)) g.logs (all_histories g) → Agrees g.logs (all_histories g)
+all_agree g first others name all = by_test (is_declared_slot (length g.declared) name) refl
   where
-    by_test : (t : Bool) → is_declared_slot (length i.tags) name ≡ t → history_of cells name ≡ entries_on name (journal_of logs)
-    by_test true own = first name (true_declared (length i.tags) name own)
-    by_test false other = others name (λ own. true≢false (sym (declared_true (length i.tags) name own) ∙ other))
+    by_test : (t : Bool) → is_declared_slot (length g.declared) name ≡ t → history_of (all_histories g) name ≡ entries_on name (journal_of g.logs)
+    by_test true own = first name (true_declared (length g.declared) name own)
+    by_test false other = others name (λ own. true≢false (sym (declared_true (length g.declared) name own) ∙ other))
 
 -- a difference is at another cell
 pub at_another : (n : ℕ) (cells : List CellHistory) (es : List LogEntry) (d : Difference) → IsComparison (compared_histories n cells) (compared_entries n es) (Some d) → IsUndeclared n d.cell
@@ -177,11 +180,13 @@ first_of_all n cells es d h agree =
 
 -- ---- of what was gathered, by the slices of it
 
-pub of_gathered : (i : Image) (tags : List TagEntry) (logs slices : List ActorLog) (cells listed : List CellHistory) (es items : List LogEntry) (o r : Option Difference) → tags ≡ i.tags → slices ≡ logs → listed ≡ cells → es ≡ items
-    → items ≡ compared_entries (length tags) (journal_of slices) → o ≡ r → IsComparison (compared_histories (length tags) listed) es o → IsComparison (compared_histories (length i.tags) cells) (compared_entries (length i.tags) (journal_of logs)) r
-of_gathered i tags logs slices cells listed es items o r a b c d e f h =
-    let whole : es ≡ compared_entries (length i.tags) (journal_of logs) = d ∙ (e ∙ (λ k. compared_entries (length (a k)) (journal_of (b k)))) in
-    subst (λ x. IsComparison (compared_histories (length i.tags) cells) (compared_entries (length i.tags) (journal_of logs)) x) f
-    (subst (λ x. IsComparison (compared_histories (length i.tags) cells) x o) whole
-    (subst (λ x. IsComparison (compared_histories (length i.tags) x) es o) c
-    (subst (λ x. IsComparison (compared_histories (length x) listed) es o) a h)))
+pub of_gathered : (g : Gathered) (ess : List (List (Entry SlotAsk SlotReply))) (slices : List ActorLog) (listed : List CellHistory) (es items : List LogEntry) (o r : Option Difference) → ess ≡ g.declared → slices ≡ g.logs → listed ≡ g.others → es ≡ items
+    → items ≡ compared_entries (length ess) (journal_of slices) → o ≡ r → IsComparison (compared_histories (length ess) listed) es o → IsComparison (compared_histories (length g.declared) (all_histories g)) (compared_entries (length g.declared) (journal_of g.logs)) r
+of_gathered g ess slices listed es items o r a b c d e f h =
+    let n = length g.declared in
+    let whole : es ≡ compared_entries n (journal_of g.logs) = d ∙ (e ∙ (λ k. compared_entries (length (a k)) (journal_of (b k)))) in
+    subst (λ hs. IsComparison hs (compared_entries n (journal_of g.logs)) r) (sym (compared_of_all g))
+    (subst (λ x. IsComparison (compared_histories n g.others) (compared_entries n (journal_of g.logs)) x) f
+    (subst (λ x. IsComparison (compared_histories n g.others) x o) whole
+    (subst (λ x. IsComparison (compared_histories n x) es o) c
+    (subst (λ x. IsComparison (compared_histories (length x) listed) es o) a h))))

@@ -16,6 +16,8 @@ pub mod Whole
 pub mod Histories
 -- What the first difference of two lists says of histories and the journal.
 pub mod Comparing
+-- The histories of the slots of declared tags come before the others, and neither a comparison nor a stream reads them.
+pub mod DeclaredHistories
 -- What a comparison of all cells but the slots of declared tags says of all cells.
 pub mod ComparedCells
 -- All first differences are of one cell.

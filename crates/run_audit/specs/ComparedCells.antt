@@ -1,13 +1,14 @@
--- The cells that an audit compares: all but the slots of declared tags, which are the first ones.
+-- The cells that an audit compares: all but the slots of declared tags, which are the first ones, and of which only
+-- proofs know the histories.
 use Rattle.std.specs.Prelude.{ℕ, nat_lt, Bool, false, not, List, length}
 use Rattle.std.specs.List.{filter}
-use Rattle.wedge_base.specs.Images.{Image}
 use Rattle.wedge_events.specs.declared.events.CellName.{CellName}
 use Rattle.wedge_events.specs.declared.events.LogEntry.{LogEntry}
 use Rattle.thread_laws.specs.Joining.{AgreeOn}
-use Rattle.thread_laws.specs.declared.gathered.ActorLog.{ActorLog}
+use Rattle.thread_laws.specs.Replaying.{all_histories}
 use Rattle.thread_laws.specs.declared.gathered.CellHistory.{CellHistory}
 use Rattle.thread_laws.specs.declared.gathered.CellHistory.TheVariants as history
+use Rattle.thread_laws.specs.declared.gathered.Gathered.{Gathered}
 use Rattle.tag_laws.specs.DeclaredTags.{IsDeclared, is_on_declared}
 use Rattle.run_audit.specs.declared.fault.AuditFault.{AuditFault}
 use Rattle.run_audit.specs.declared.fault.AuditFault.TheVariants as fault
@@ -29,10 +30,10 @@ abbrev pub IsUndeclared : ℕ → CellName → Type 0
 IsUndeclared n name = IsDeclared n name → ⊥
 
 -- each slot of a declared tag has the history that the journal has
-abbrev pub DeclaredAgree : Image → List ActorLog → List CellHistory → Type 0
-DeclaredAgree i logs cells = AgreeOn (IsDeclared (length i.tags)) logs cells
+abbrev pub DeclaredAgree : Gathered → Type 0
+DeclaredAgree g = AgreeOn (IsDeclared (length g.declared)) g.logs (all_histories g)
 
 -- a difference is at a cell that is compared
-abbrev pub IsAtCompared : Image → AuditFault → Type 0
-IsAtCompared i fault.NoMemory = Unit {0}
-IsAtCompared i (fault.Disagree d) = IsUndeclared (length i.tags) d.cell
+abbrev pub IsAtCompared : Gathered → AuditFault → Type 0
+IsAtCompared g fault.NoMemory = Unit {0}
+IsAtCompared g (fault.Disagree d) = IsUndeclared (length g.declared) d.cell

@@ -5,7 +5,7 @@ ghost use Rattle.std.specs.Result.{MatchResult};
 ghost use Rattle.thread_laws.specs.Joining.{AreWalked, IsJournalOfRun};
 ghost use Rattle.thread_laws.specs.Joining.{journal_of};
 ghost use Rattle.thread_laws.specs.LookUps.{AreCountsOf};
-ghost use Rattle.thread_laws.specs.Replaying.{Legal};
+ghost use Rattle.thread_laws.specs.Replaying.{all_histories, Legal};
 ghost use Rattle.run_audit.specs.Audits.{IsAudit, IsCompared};
 ghost use Rattle.run_audit.specs.ComparedCells.{compared_entries, compared_histories};
 ghost use Rattle.run_audit.specs.ComparedCells.{DeclaredAgree, IsAtCompared};
@@ -87,16 +87,15 @@ fn compare_gathered(
     image: &Image,
     gathered: &Gathered,
 ) -> Result<Compared, AuditFault>
-    ensures found { MatchResult result
-        (λ c. IsCompared image.now gathered.now.logs gathered.now.cells c)
-        (λ f. DeclaredAgree image.now gathered.now.logs gathered.now.cells
-        → IsFault gathered.now.logs gathered.now.cells f) }
-    ensures cell { IfErr result (λ f. IsAtCompared image.now f) }
+    ensures found { MatchResult result (λ c. IsCompared image.now gathered.now c)
+        (λ f. DeclaredAgree gathered.now
+        → IsFault gathered.now.logs (all_histories gathered.now) f) }
+    ensures cell { IfErr result (λ f. IsAtCompared gathered.now f) }
 {
-    let declared = image.tags().len();
+    let declared = gathered.declared.as_slice().len();
     let journal = compared_journal(alloc, declared, gathered.logs.as_slice())?;
     let entries = journal.as_slice();
-    if let Some(difference) = compare_cells(alloc, declared, entries, gathered.cells.as_slice())? {
+    if let Some(difference) = compare_cells(alloc, declared, entries, gathered.others.as_slice())? {
         return Err(AuditFault::Disagree(difference));
     }
     let outcome = outcome_gathered(alloc, image, entries, gathered)?;
@@ -113,8 +112,8 @@ fn compare_gathered(
 /// exactly where the history of a cell that is compared differs from the logged entries of that
 /// cell, at the first such difference in the order of cells, and hands back what it was given.
 ///
-/// The slots of the image's declared tags are not compared: the histories that their locks keep
-/// need no audit. Where these agree with the logs, which the caller has to know, Ok says that all
+/// The slots of declared tags are not compared: only proofs know their histories, which need no
+/// audit. Where these agree with the logs, which the caller has to know, Ok says that all
 /// cells do, and `Disagree` is the first difference of all cells.
 ///
 /// Where moreover the logs are those of whole executions and the histories are legal, Ok says that
@@ -122,13 +121,14 @@ fn compare_gathered(
 /// says that there are counts for each actor of the outcome, which are those for its entries in the
 /// journal.
 pub fn audit(alloc: Global, image: &Image, gathered: Gathered) -> Result<Audited, AuditRefusal>
-    ensures result { DeclaredAgree image.now gathered.logs gathered.cells → MatchResult result
-        (λ a. IsAudit image.now gathered.logs gathered.cells a)
-        (λ r. (r.gathered ≡ gathered) × IsFault gathered.logs gathered.cells r.fault) }
+    ensures result { DeclaredAgree gathered → MatchResult result
+        (λ a. IsAudit image.now gathered.logs (all_histories gathered) a)
+        (λ r. (r.gathered ≡ gathered)
+        × IsFault gathered.logs (all_histories gathered) r.fault) }
     ensures given { IfErr result (λ r. r.gathered ≡ gathered) }
-    ensures cell { IfErr result (λ r. IsAtCompared image.now r.fault) }
-    ensures run { AreWalked image.now gathered.logs → Legal image.now gathered.cells
-        → DeclaredAgree image.now gathered.logs gathered.cells
+    ensures cell { IfErr result (λ r. IsAtCompared gathered r.fault) }
+    ensures run { AreWalked image.now gathered.logs → Legal image.now (all_histories gathered)
+        → DeclaredAgree gathered
         → IfOk result (λ a. IsJournalOfRun image.now a.journal.entries a.outcome) }
     ensures caches { AreWalked image.now gathered.logs
         → IfOk result (λ a. AreCountsOf a.journal.entries a.outcome.actors a.caches) }

@@ -2,6 +2,7 @@
 
 ghost use Rattle.std.specs.Prelude.{◌≡◌, IfOk, length};
 ghost use Rattle.thread_laws.specs.Joining.{journal_of, outcome_gathered};
+ghost use Rattle.thread_laws.specs.Replaying.{all_histories};
 ghost use Rattle.run_audit.specs.ComparedCells.{compared_entries};
 
 use crate::actor_lines::lines_in;
@@ -17,7 +18,7 @@ use wedge_base::{Items, NoMemory, Outcome};
 /// Returns the outcome: the lines of the actors, in the order of their names, and those of the
 /// append streams, each as its history leaves it. The entries of the journal that are compared are enough: no
 /// actor is created on a slot.
-#[tactic(auto, using(crate::proofs::ComparedOrder::names_compared))]
+#[tactic(auto, using(crate::proofs::ComparedOrder::names_compared, crate::proofs::DeclaredHistories::streams_of_others))]
 pub(crate) fn outcome_gathered(
     alloc: Global,
     image: &Image,
@@ -25,9 +26,9 @@ pub(crate) fn outcome_gathered(
     gathered: &Gathered,
 ) -> Result<Outcome, NoMemory>
     requires { journal.now
-        ≡ compared_entries (length image.now.tags) (journal_of gathered.now.logs) }
+        ≡ compared_entries (length gathered.now.declared) (journal_of gathered.now.logs) }
     ensures { IfOk result (λ o. o
-        ≡ outcome_gathered image.now gathered.now.logs gathered.now.cells) }
+        ≡ outcome_gathered image.now gathered.now.logs (all_histories gathered.now)) }
 {
     let logs = logs_in_order(alloc, gathered.logs.as_slice(), journal)?;
     let labels = labels_in(alloc, logs.as_slice())?;
@@ -37,7 +38,7 @@ pub(crate) fn outcome_gathered(
             alloc,
             image,
             labels.as_slice(),
-            gathered.cells.as_slice(),
+            gathered.others.as_slice(),
         )?),
     })
 }

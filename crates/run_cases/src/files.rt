@@ -6,10 +6,16 @@ use std::alloc::Global;
 use std::io;
 
 /// The files that the commands of a case file may name: those of its folder, and those that it made.
-#[derive(Drop)]
 pub(crate) struct FileSet {
     pub alloc: Global,
     pub files: Vec<MemFile>,
+}
+
+// By hand, as that of each struct here: a derived drop would be proved again in each function that drops one.
+impl Drop for FileSet {
+    fn drop(self) {
+        let Self { alloc: _, files: _ } = self;
+    }
 }
 
 impl FileSet {
@@ -41,11 +47,20 @@ impl FileSet {
 }
 
 /// A file that is made: its name, its bytes so far, and those behind where more are put.
-#[derive(Drop)]
 pub(crate) struct MadeFile {
     name: String,
     bytes: Vec<u8>,
     behind: Vec<u8>,
+}
+
+impl Drop for MadeFile {
+    fn drop(self) {
+        let Self {
+            name: _,
+            bytes: _,
+            behind: _,
+        } = self;
+    }
 }
 
 impl MadeFile {
@@ -84,9 +99,14 @@ impl MadeFile {
     }
 
     /// Puts the file among the others.
-    pub(crate) fn put_into(mut self, files: &mut FileSet) -> io::Result<()> {
-        self.bytes.extend_from_slice(self.behind.as_slice())?;
-        files.put(self.name, self.bytes)
+    pub(crate) fn put_into(self, files: &mut FileSet) -> io::Result<()> {
+        let Self {
+            name,
+            mut bytes,
+            behind,
+        } = self;
+        bytes.extend_from_slice(behind.as_slice())?;
+        files.put(name, bytes)
     }
 }
 

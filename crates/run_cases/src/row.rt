@@ -15,20 +15,40 @@ use wedge_cli::exit_status;
 const ROOM: u32 = 2_000_000;
 
 /// What a command leaves: its status, and the bytes on the output and on the error stream.
-#[derive(Drop)]
 struct Left {
     status: u8,
     out: Vec<u8>,
     err: Vec<u8>,
 }
 
+// By hand, as that of each struct here: a derived drop would be proved again in each function that drops one.
+impl Drop for Left {
+    fn drop(self) {
+        let Self {
+            status: _,
+            out: _,
+            err: _,
+        } = self;
+    }
+}
+
 /// What a command left and what it should leave. Its output may have gone to a file, and a line may have said its status.
-#[derive(Drop)]
 pub(crate) struct Row {
     left: Left,
     wanted: Left,
     is_kept: bool,
     has_status: bool,
+}
+
+impl Drop for Row {
+    fn drop(self) {
+        let Self {
+            left: _,
+            wanted: _,
+            is_kept: _,
+            has_status: _,
+        } = self;
+    }
 }
 
 impl Row {
@@ -107,12 +127,22 @@ fn shown(alloc: Global, left: &Left) -> io::Result<String> {
 }
 
 /// The arguments of `wedge`; the calls that fail under it, by their numbers from 1; and how many bytes the output takes.
-#[derive(Drop)]
 struct Command {
     arguments: Vec<String>,
     read_fails: Vec<u64>,
     err_fails: Vec<u64>,
     out_room: u32,
+}
+
+impl Drop for Command {
+    fn drop(self) {
+        let Self {
+            arguments: _,
+            read_fails: _,
+            err_fails: _,
+            out_room: _,
+        } = self;
+    }
 }
 
 impl Command {
@@ -156,14 +186,19 @@ impl Command {
 
     /// Calls `wedge` over copies of files in memory.
     fn run<R: Threads + Wait + Sync>(self, rt: &R, files: &FileSet) -> io::Result<Left> {
-        let (read_fails, err_fails) = (self.read_fails, self.err_fails);
-        let (alloc, words) = (files.alloc, self.arguments.as_slice());
+        let Self {
+            arguments,
+            read_fails,
+            err_fails,
+            out_room,
+        } = self;
+        let (alloc, words) = (files.alloc, arguments.as_slice());
         let named = files.named(words)?;
         if !MemFiles::names_differ(named.as_slice()) {
             return Err(malformed("two files have one name"));
         }
         let mut files = MemFiles::new(named, read_fails);
-        let mut out = sink(alloc, self.out_room, Vec::new(alloc))?;
+        let mut out = sink(alloc, out_room, Vec::new(alloc))?;
         let mut err = sink(alloc, ROOM, err_fails)?;
         let status = exit_status(rt, alloc, words, &mut files, &mut out, &mut err, &NoPace);
         let out = Vec::from_slice(alloc, out.bytes())?;

@@ -1,4 +1,6 @@
--- Entries that cells keep, the gates that an actor knows, histories, and entries on the slots of declared tags.
+-- What may go to other threads; entries that cells keep, the gates that an actor knows, histories, and entries on the
+-- slots of declared tags.
+pub mod Crossing
 pub mod EntriesFit
 pub mod Kept
 pub mod LookingAt

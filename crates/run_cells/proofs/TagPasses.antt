@@ -18,14 +18,14 @@ use Rattle.ruled_cell.specs.declared.passes.PassView.{PassView}
 use Rattle.ruled_cell.specs.Passes.{IsVisit, IsClosing, first_view, after_splitting, after_joining, IsSplitPass}
 use Rattle.ruled_cell.specs.declared.passes.PassOrigin.TheVariants.{First, SplitFrom}
 use Rattle.atomic_table.specs.Seated.{TableId}
-use Rattle.thread_laws.specs.Replaying.{logged_as, logged, entries_kept_in, cell_in, same_cell, history_of}
+use Rattle.thread_laws.specs.Replaying.{logged_as, logged, entries_kept_in, cell_in, same_cell, history_of, slot_histories}
 use Rattle.thread_laws.specs.Histories.{entries_on}
 use Rattle.thread_laws.specs.declared.gathered.CellHistory.{CellHistory}
 use Rattle.thread_laws.specs.declared.gathered.CellHistory.TheVariants as history
 use Rattle.tag_laws.proofs.ClosedCells.{closed_cells_are_ruled}
 use Rattle.tag_laws.specs.DeclaredTags.{entries_by, IsRuledCell, AreRuled}
 use Rattle.run_cells.specs.Entries.{slot_entry_of}
-use Rattle.run_cells.specs.TagPasses.{SlotPass, IsFirstPass, IsActorPass, AreClosed, AreNamedFrom, AreUnentered, slot_histories}
+use Rattle.run_cells.specs.TagPasses.{SlotPass, IsFirstPass, IsActorPass, AreClosed, AreNamedFrom, AreUnentered, histories_in}
 
 abbrev SlotCell : Type 0
 SlotCell = CellState (Option Segment) SlotAsk SlotReply
@@ -102,13 +102,13 @@ closed_named count entered ks h = named_from 0 ks (λ c k at.
 
 -- ---- their histories
 
-pub histories_last : (n : ℕ) (ks : List SlotCell) (k : SlotCell) → slot_histories n (ks ++ k ∷ []) ≡ slot_histories n ks ++ history.Slot (n + length ks) k.history ∷ []
-histories_last n [] k = ap (λ m. history.Slot m k.history ∷ []) (omega arith)
-histories_last n (j ∷ ks) k = ap (λ hs. history.Slot n j.history ∷ hs) (histories_last (n + 1) ks k ∙ ap (λ m. slot_histories (n + 1) ks ++ history.Slot m k.history ∷ []) (omega arith))
+pub histories_last : (n : ℕ) (ess : List (List (Entry SlotAsk SlotReply))) (es : List (Entry SlotAsk SlotReply)) → slot_histories n (ess ++ es ∷ []) ≡ slot_histories n ess ++ history.Slot (n + length ess) es ∷ []
+histories_last n [] es = ap (λ m. history.Slot m es ∷ []) (omega arith)
+histories_last n (fs ∷ ess) es = ap (λ hs. history.Slot n fs ∷ hs) (histories_last (n + 1) ess es ∙ ap (λ m. slot_histories (n + 1) ess ++ history.Slot m es ∷ []) (omega arith))
 
-pub histories_length : (n : ℕ) (ks : List SlotCell) → length (slot_histories n ks) ≡ length ks
-histories_length n [] = refl
-histories_length n (k ∷ ks) = ap suc (histories_length (n + 1) ks)
+pub histories_length : (ks : List SlotCell) → length (histories_in ks) ≡ length ks
+histories_length [] = refl
+histories_length (k ∷ ks) = ap suc (histories_length ks)
 
 same_number : (m n : ℕ) → m ≡ n → (m == n) ≡ true
 same_number m n is = grind (arith, nat_tests, is)
@@ -118,18 +118,18 @@ other_number m n h = grind (arith, nat_tests, h)
 
 -- the history of a slot is found under its number
 found_slot : (n : ℕ) (ks : List SlotCell) (others : List CellHistory) (c m : ℕ) (k : SlotCell) → get_elem? ks c ≡ some k → m ≡ n + c
-    → find (λ j. same_cell (cell_in j) (cell.Slot m)) (slot_histories n ks ++ others) ≡ Some (history.Slot m k.history)
+    → find (λ j. same_cell (cell_in j) (cell.Slot m)) (slot_histories n (histories_in ks) ++ others) ≡ Some (history.Slot m k.history)
 found_slot n [] others c m k at is = absurd cc
 found_slot n (j ∷ ks) others zero m k at is =
     let same : j ≡ k = cc in
     let here : n ≡ m = omega (arith, is) in
-    ap (λ t. cond t (Some (history.Slot n j.history)) (find (λ j. same_cell (cell_in j) (cell.Slot m)) (slot_histories (n + 1) ks ++ others))) (same_number n m here)
+    ap (λ t. cond t (Some (history.Slot n j.history)) (find (λ j. same_cell (cell_in j) (cell.Slot m)) (slot_histories (n + 1) (histories_in ks) ++ others))) (same_number n m here)
     ∙ (ap (λ x. Some (history.Slot x j.history)) here ∙ ap (λ (x : SlotCell). Some (history.Slot m x.history)) same)
 found_slot n (j ∷ ks) others (suc c) m k at is =
-    ap (λ t. cond t (Some (history.Slot n j.history)) (find (λ j. same_cell (cell_in j) (cell.Slot m)) (slot_histories (n + 1) ks ++ others))) (other_number n m (omega (arith, is)))
+    ap (λ t. cond t (Some (history.Slot n j.history)) (find (λ j. same_cell (cell_in j) (cell.Slot m)) (slot_histories (n + 1) (histories_in ks) ++ others))) (other_number n m (omega (arith, is)))
     ∙ found_slot (n + 1) ks others c m k at (omega (arith, is))
 
-pub closed_ruled : (count : ℕ) (entered : List LogEntry) (ks : List SlotCell) (others all : List CellHistory) → AreClosed count entered ks → all ≡ slot_histories 0 ks ++ others → AreRuled count entered all
+pub closed_ruled : (count : ℕ) (entered : List LogEntry) (ks : List SlotCell) (others all : List CellHistory) → AreClosed count entered ks → all ≡ slot_histories 0 (histories_in ks) ++ others → AreRuled count entered all
 closed_ruled count entered ks others all h is = λ slot inside.
     let r = h.ruled slot inside in
     let there : history_of all (cell.Slot slot) ≡ logged_as (event.Slot slot) r.state.history = ap (λ hs. history_of hs (cell.Slot slot)) is ∙ ap entries_kept_in (found_slot 0 ks others slot slot r.state r.there (omega arith)) in

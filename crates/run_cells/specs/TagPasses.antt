@@ -10,13 +10,12 @@ use Rattle.wedge_events.specs.declared.events.Event.TheVariants as event
 use Rattle.wedge_events.specs.declared.events.LogEntry.{LogEntry}
 use Rattle.wedge_events.specs.declared.events.SlotWant.{SlotWant}
 use Rattle.journal_cell.specs.Histories.{CellState}
+use Rattle.journal_cell.specs.declared.entry.Entry.{Entry}
 use Rattle.machine.specs.Actors.{ActorState}
 use Rattle.machine.specs.Between.{IsInBounds}
 use Rattle.machine.specs.Take.{pair}
 use Rattle.ruled_cell.specs.Passes.{PassState}
 use Rattle.ruled_cell.specs.declared.passes.PassOrigin.TheVariants.{First, SplitFrom}
-use Rattle.thread_laws.specs.declared.gathered.CellHistory.{CellHistory}
-use Rattle.thread_laws.specs.declared.gathered.CellHistory.TheVariants as history
 use Rattle.tag_laws.specs.DeclaredTags.{IsRuledCell}
 
 -- no table: it has no words and no slots
@@ -69,10 +68,10 @@ abbrev pub AreUnentered : ℕ → List (CellState (Option Segment) SlotAsk SlotR
 AreUnentered n [] = Unit {0}
 AreUnentered n (k ∷ ks) = (k.name ≡ cell.Slot n) × (k.history ≡ []) × AreUnentered (n + 1) ks
 
--- their histories, as those of the slots from this number on
-abbrev pub slot_histories : ℕ → List (CellState (Option Segment) SlotAsk SlotReply) → List CellHistory
-slot_histories n [] = []
-slot_histories n (k ∷ ks) = history.Slot n k.history ∷ slot_histories (n + 1) ks
+-- their histories, in their order
+abbrev pub histories_in : List (CellState (Option Segment) SlotAsk SlotReply) → List (List (Entry SlotAsk SlotReply))
+histories_in [] = []
+histories_in (k ∷ ks) = k.history ∷ histories_in ks
 
 -- an actor that wants this of a slot
 pub record SlotAsker : Type 0 where

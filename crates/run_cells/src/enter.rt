@@ -31,7 +31,7 @@ use wedge_events::{DirectoryAsk, LivesAsk, LogEntry, SlotAsk, SlotWant, StreamAs
 impl<I: RunOf, T: TableOf> RunCells<I, T> {
     /// Asks the cell of what an actor at rest wants, and returns the entry that the cell keeps of it. The cell is
     /// locked while it is asked; the slot of a declared tag is entered by the actor's pass, which then has one entry
-    /// more, and which `into_histories` asks for at the end. Fails only where out of memory, or where no stamp is left;
+    /// more, and which `into_gathered` asks for at the end. Fails only where out of memory, or where no stamp is left;
     /// then nothing is entered.
     #[inline(always)]
     pub fn enter<R: Wait>(

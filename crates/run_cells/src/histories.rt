@@ -4,37 +4,41 @@ ghost use Rattle.std.specs.Prelude.{◌≡◌, ◌<◌, ◌≤◌, ◌++◌, ◌
 ghost use Rattle.wedge_base.specs.Images.{slots as most_slots};
 ghost use Rattle.wedge_events.specs.declared.events.CellName.TheVariants.{Slot as SlotName};
 ghost use Rattle.thread_laws.specs.Replaying.{AreLegalHistories, IsLegalHistory};
-ghost use Rattle.thread_laws.specs.declared.gathered.CellHistory.TheVariants as AHistory;
+ghost use Rattle.thread_laws.specs.Replaying.{all_histories, slot_histories};
 ghost use Rattle.tag_laws.specs.DeclaredTags.{AreRuled};
-ghost use Rattle.run_cells.specs.TagPasses.{all_entered, AreNamedFrom, slot_histories};
+ghost use Rattle.run_cells.specs.TagPasses.{all_entered, histories_in, AreNamedFrom};
 
 use crate::locked_cell::LockedCell;
 use crate::opening::RunCells;
 use crate::tag_cells::{TableOf, TagPass};
 use fd_table::Stream;
-use journal_cell::{JournalParts, Journaled, RunOf};
+use journal_cell::{Entry, GhostJournaled, GhostList, JournalParts, RunOf};
 use machine::Lives;
 use std::alloc::Global;
 use std::sync::Mutex;
 use tag_directory::{FdDirectory, SlotDirectory};
 use tag_segment::SlotState;
-use thread_laws::CellHistory;
-use wedge_base::{Items, NoMemory, Slot};
-use wedge_events::CellName;
+use thread_laws::{ActorLog, CellHistory, Gathered};
+use wedge_base::{Items, NoMemory};
+use wedge_events::{CellName, SlotAsk, SlotReply};
 
 impl<I: RunOf, T: TableOf> RunCells<I, T> {
-    /// Consumes the cells, and returns the histories of the slots of declared tags, and then of all other cells in which
-    /// something happened, these of recycled gates among them: each as its cell kept it. Those of declared tags have
-    /// just what these passes entered. Fails only where out of memory, and where a pass is missing.
-    pub fn into_histories(
+    /// Consumes the cells, and returns with these logs the histories of the slots of declared tags, and of all other
+    /// cells in which something happened, these of recycled gates among them: each as its cell kept it. Those of
+    /// declared tags have just what these passes entered. Fails only where out of memory, and where a pass is missing.
+    pub fn into_gathered(
         self,
         alloc: Global,
+        logs: Items<ActorLog>,
         gates: Vec<CellHistory>,
         passes: Vec<TagPass<I, T>>,
-    ) -> Result<Items<CellHistory>, NoMemory>
+    ) -> Result<Gathered, NoMemory>
         requires { All (IsLegalHistory I.image) gates.items }
-        ensures kept { IfOk result (AreLegalHistories I.image) }
-        ensures ruled { IfOk result (AreRuled T.table.slots (all_entered passes.items)) }
+        ensures logs { IfOk result (λ g. g.logs ≡ logs) }
+        ensures count { IfOk result (λ g. length g.declared ≡ T.table.slots) }
+        ensures kept { IfOk result (λ g. AreLegalHistories I.image (all_histories g)) }
+        ensures ruled { IfOk result (λ g.
+            AreRuled T.table.slots (all_entered passes.items) (all_histories g)) }
     {
         let RunCells {
             slot_directory,
@@ -51,21 +55,23 @@ impl<I: RunOf, T: TableOf> RunCells<I, T> {
         add_fd_directory(&mut others, fd_directory)?;
         add_streams(&mut others, streams)?;
         add_lives(&mut others, lives)?;
-        let mut cells = tag_histories(alloc, tags.close(passes)?)?;
-        cells.append(&mut others)?;
-        Ok(Items::new(cells))
+        Ok(Gathered {
+            logs,
+            declared: Items::new(tag_histories(alloc, tags.close(passes)?)?),
+            others: Items::new(others),
+        })
     }
 }
 
-/// Returns the histories of the slots of declared tags, each under its number.
+/// Returns the histories of the slots of declared tags, in their order.
 fn tag_histories<I: RunOf>(
     alloc: Global,
-    cells: Vec<Journaled<SlotState, I>>,
-) -> Result<Vec<CellHistory>, NoMemory>
+    cells: Vec<GhostJournaled<SlotState, I>>,
+) -> Result<Vec<GhostList<Entry<SlotAsk, SlotReply>>>, NoMemory>
     requires few { length cells.items ≤ most_slots }
     requires named { AreNamedFrom 0 cells.items }
-    ensures histories { IfOk result (λ v. v.items ≡ slot_histories 0 cells.items) }
-    ensures kept { IfOk result (λ v. All (IsLegalHistory I.image) v.items) }
+    ensures histories { IfOk result (λ v. v.items ≡ histories_in cells.items) }
+    ensures kept { IfOk result (λ v. All (IsLegalHistory I.image) (slot_histories 0 v.items)) }
 {
     let mut all = Vec::with_capacity(alloc, cells.len())?;
     for cell in cells {
@@ -76,22 +82,16 @@ fn tag_histories<I: RunOf>(
 
 /// Adds the history of the slot of a declared tag, behind those before it.
 fn add_tag<I: RunOf>(
-    all: &mut Vec<CellHistory>,
-    cell: Journaled<SlotState, I>,
+    all: &mut Vec<GhostList<Entry<SlotAsk, SlotReply>>>,
+    cell: GhostJournaled<SlotState, I>,
 ) -> Result<(), NoMemory>
     requires inside { length all.old.items < most_slots }
     requires named { cell.name ≡ SlotName (length all.old.items) }
-    requires kept { All (IsLegalHistory I.image) all.old.items }
-    ensures history { OnOk result (all.new.items ≡ all.old.items
-        ++ AHistory.Slot (length all.old.items) cell.history ∷ []) }
-    ensures kept { OnOk result (All (IsLegalHistory I.image) all.new.items) }
+    requires kept { All (IsLegalHistory I.image) (slot_histories 0 all.old.items) }
+    ensures history { OnOk result (all.new.items ≡ all.old.items ++ cell.history ∷ []) }
+    ensures kept { OnOk result (All (IsLegalHistory I.image) (slot_histories 0 all.new.items)) }
 {
-    let slot = Slot(all.len() as u32);
-    let JournalParts { history, .. } = cell.into_parts();
-    all.push(CellHistory::Slot {
-        slot,
-        entries: Items::new(history),
-    })?;
+    all.push(cell.into_history())?;
     Ok(())
 }
 

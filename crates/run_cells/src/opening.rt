@@ -12,7 +12,7 @@ use crate::locked_cell::LockedCell;
 use crate::tag_cells::{TableOf, TagCells, TagPass};
 use fd_table::Stream;
 use image_form::Image;
-use journal_cell::{Journaled, RunOf};
+use journal_cell::{GhostJournaled, RunOf};
 use machine::Lives;
 use ruled_cell::{RuledCells, RuledPass};
 use std::alloc::Global;
@@ -62,7 +62,7 @@ impl<I: RunOf, T: TableOf> RunCells<I, T> {
         })
     }
 
-    /// Returns a pass for an actor, which has entered nothing. It is to be given back to `into_histories`, which fails
+    /// Returns a pass for an actor, which has entered nothing. It is to be given back to `into_gathered`, which fails
     /// where one is missing. Fails only where 2^64 - 1 were returned.
     pub fn pass<R: Wait>(&self, rt: &R) -> Result<TagPass<I, T>, NoMemory>
         ensures { IfOk result (λ p. p ≡ []) }
@@ -88,7 +88,7 @@ pub fn open_tags<I: RunOf>(
 fn tag_cells<I: RunOf>(
     alloc: Global,
     image: &Image,
-) -> Result<Vec<Journaled<SlotState, I>>, NoMemory>
+) -> Result<Vec<GhostJournaled<SlotState, I>>, NoMemory>
     requires { image.now ≡ I.image }
     ensures count { IfOk result (λ v. length v.items ≡ length image.now.tags) }
     ensures few { IfOk result (λ v. length v.items ≤ most_slots) }
@@ -107,12 +107,12 @@ fn tag_cell<I: RunOf>(
     alloc: Global,
     image: &Image,
     slot: u32,
-) -> Result<Journaled<SlotState, I>, NoMemory>
+) -> Result<GhostJournaled<SlotState, I>, NoMemory>
     requires { image.now ≡ I.image }
     ensures { IfOk result (λ c. (c.name ≡ SlotName slot) × (c.history ≡ [])) }
 {
     let state = slot_state(alloc, image, slot)?;
-    Ok(Journaled::new(alloc, CellName::Slot { slot: Slot(slot) }, state))
+    Ok(GhostJournaled::new(CellName::Slot { slot: Slot(slot) }, state))
 }
 
 /// Returns the cells of the slots from a number on.

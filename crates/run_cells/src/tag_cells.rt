@@ -13,7 +13,7 @@ use crate::enter::pass_of;
 use crate::entries::slot_entry;
 use crate::slot_maker::SlotMaker;
 use actor_run::ActorRun;
-use journal_cell::{Journaled, RunOf};
+use journal_cell::{GhostJournaled, RunOf};
 use ruled_cell::{RuledCells, RuledPass};
 use std::marker::{Brand, Model, PhantomData};
 use std::sync::{Mutex, Wait};
@@ -150,7 +150,7 @@ impl<I: RunOf, T: TableOf> TagCells<I, T> {
     pub(crate) fn close(
         self,
         passes: Vec<TagPass<I, T>>,
-    ) -> Result<Vec<Journaled<SlotState, I>>, NoMemory>
+    ) -> Result<Vec<GhostJournaled<SlotState, I>>, NoMemory>
         ensures { IfOk result (λ v. AreClosed T.table.slots (all_entered passes.items) v.items) }
     {
         let TagCells { cells, first, .. } = self;

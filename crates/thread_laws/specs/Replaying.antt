@@ -1,5 +1,5 @@
 -- Histories as locked cells keep them, and as entries of the journal.
-use Rattle.std.specs.Prelude.{◌<◌, ◌==◌, Bool, true, false, List, [], ◌∷◌, map, find, Option, Some, None}
+use Rattle.std.specs.Prelude.{ℕ, ◌+◌, ◌<◌, ◌==◌, ◌++◌, Bool, true, false, List, [], ◌∷◌, map, find, Option, Some, None}
 use Rattle.wedge_base.specs.Identities.{same_gate}
 use Rattle.wedge_base.specs.Images.{Image, slots as most_slots}
 use Rattle.wedge_events.specs.Directories.{DirectoryFits, directory_reply, directory_next, slots_opening, fds_opening}
@@ -7,6 +7,8 @@ use Rattle.wedge_events.specs.Gates.{GateFits, gate_reply, gate_next, gate_openi
 use Rattle.wedge_events.specs.Lives.{lives_reply, lives_next, lives_opening}
 use Rattle.wedge_events.specs.Slots.{SlotFits, slot_reply, slot_next, slot_opening}
 use Rattle.wedge_events.specs.Streams.{StreamFits, stream_reply, stream_next, stream_opening, most_fds}
+use Rattle.wedge_events.specs.declared.cells.SlotAsk.{SlotAsk}
+use Rattle.wedge_events.specs.declared.cells.SlotReply.{SlotReply}
 use Rattle.wedge_events.specs.declared.events.CellName.{CellName}
 use Rattle.wedge_events.specs.declared.events.CellName.TheVariants as cell
 use Rattle.wedge_events.specs.declared.events.Event.{Event}
@@ -17,6 +19,7 @@ use Rattle.journal_cell.specs.declared.entry.Entry.{Entry}
 use Rattle.thread_laws.specs.Histories.{IsLegal}
 use Rattle.thread_laws.specs.declared.gathered.CellHistory.{CellHistory}
 use Rattle.thread_laws.specs.declared.gathered.CellHistory.TheVariants as history
+use Rattle.thread_laws.specs.declared.gathered.Gathered.{Gathered}
 
 -- the entries of a cell as entries of the journal: ask and reply make the event
 abbrev pub logged_as : {Q R : Type 0} → (Q → R → Event) → List (Entry Q R) → List LogEntry
@@ -56,6 +59,15 @@ entries_kept_in (Some h) = logged h
 -- the history of a cell is that of the first item that names it, and is empty where none does
 abbrev pub history_of : List CellHistory → CellName → List LogEntry
 history_of cells name = entries_kept_in (find (λ h. same_cell (cell_in h) name) cells)
+
+-- the histories of slots, one after another, from this number on
+abbrev pub slot_histories : ℕ → List (List (Entry SlotAsk SlotReply)) → List CellHistory
+slot_histories n [] = []
+slot_histories n (es ∷ ess) = history.Slot n es ∷ slot_histories (n + 1) ess
+
+-- the histories of all cells: those of the slots of declared tags, which are the first ones, and the others
+abbrev pub all_histories : Gathered → List CellHistory
+all_histories g = slot_histories 0 g.declared ++ g.others
 
 -- the history of each cell, listed or not, is legal
 abbrev pub Legal : Image → List CellHistory → Type 0

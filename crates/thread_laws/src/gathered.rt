@@ -3,7 +3,7 @@
 ghost use Rattle.std.specs.Prelude.{◌≡◌};
 
 use grant_cache::CacheCount;
-use journal_cell::Entry;
+use journal_cell::{Entry, GhostList};
 use machine::StreamLabel;
 use wedge_base::{ActorName, DenialAt, End, FdNo, GateId, Items, Slot, Stamp};
 use wedge_events::{
@@ -121,7 +121,10 @@ impl Drop for CellHistory {
 #[derive(Debug, Drop)]
 pub struct Gathered {
     pub logs: Items<ActorLog>,
-    pub cells: Items<CellHistory>,
+    /// Those of the slots of declared tags, which are the first ones, in their order. Only proofs read them.
+    pub declared: Items<GhostList<Entry<SlotAsk, SlotReply>>>,
+    /// Those of the other cells.
+    pub others: Items<CellHistory>,
 }
 
 /// What an actor learns of one that it created: how it ended, the units of fuel that were left, and the

@@ -104,7 +104,8 @@ fn gathered(alloc: Global, kind: u32, change: Option<Change>) -> Result<Gathered
     logs.push(log(alloc, ActorName::root(alloc)?, 50, own))?;
     Ok(Gathered {
         logs: Items::new(logs),
-        cells: histories.into_cells(alloc)?,
+        declared: Items::new(Vec::new(alloc)),
+        others: histories.into_cells(alloc)?,
     })
 }
 
@@ -217,7 +218,8 @@ fn emptied_histories_disagree(rt: HostRuntime) -> Result<(), Fail> {
     let full = gathered(alloc, 0, None)?;
     let emptied = Gathered {
         logs: full.logs,
-        cells: Histories::new(alloc).into_cells(alloc)?,
+        declared: Items::new(Vec::new(alloc)),
+        others: Histories::new(alloc).into_cells(alloc)?,
     };
     let difference = difference_of(alloc, emptied)?;
     assert_eq!(rt; kind_of(&difference.cell), 0);

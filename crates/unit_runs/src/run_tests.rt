@@ -140,9 +140,13 @@ fn differs_at_once(refusal: &AuditRefusal) -> bool {
 fn emptied_histories_disagree(rt: HostRuntime) -> Result<(), Fail> {
     let alloc = rt.alloc();
     let image = image_of(alloc, 1000, REUSED)?;
-    let Gathered { logs, .. } = run_image(&rt, alloc, &image, &NoPace)?;
-    let cells = Items::new(Vec::new(alloc));
-    let Err(refusal) = audit_of(alloc, &image, Gathered { logs, cells }) else {
+    let Gathered { logs, declared, .. } = run_image(&rt, alloc, &image, &NoPace)?;
+    let emptied = Gathered {
+        logs,
+        declared,
+        others: Items::new(Vec::new(alloc)),
+    };
+    let Err(refusal) = audit_of(alloc, &image, emptied) else {
         return Err("no difference".into());
     };
     assert!(&rt; differs_at_once(&refusal));

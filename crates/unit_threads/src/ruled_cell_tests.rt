@@ -5,8 +5,8 @@ ghost use Rattle.wedge_events.specs.declared.events.CellName.TheVariants.{Slot a
 ghost use Rattle.ruled_cell.specs.Passes.{first_view};
 ghost use Rattle.ruled_cell.specs.declared.passes.PassOrigin.TheVariants.{First};
 
-use crate::journal_cell_tests::{Bare, SlotEntry, entry_of, has_entries, is_same};
-use journal_cell::{Entry, Journaled, Pass};
+use crate::journal_cell_tests::{Bare, SlotEntry, entry_of, is_same};
+use journal_cell::{GhostJournaled, Pass};
 use ruled_cell::{AskMaker, RuledCells, RuledPass};
 use std::alloc::Global;
 use std::process::Abort;
@@ -17,8 +17,8 @@ use tag_segment::SlotState;
 use wedge_base::{ActorName, NoMemory, Slot, Stamp, TagNo};
 use wedge_events::{CellName, SlotAsk, SlotReply};
 
-/// A slot, with its history.
-type SlotCell = Journaled<SlotState, Bare>;
+/// A slot, whose history only proofs see.
+type SlotCell = GhostJournaled<SlotState, Bare>;
 
 /// Slots under locks.
 type SlotCells = RuledCells<SlotState, Bare>;
@@ -49,7 +49,7 @@ fn new_slot(alloc: Global, slot: u32) -> SlotCell
     ensures { (result.history ≡ []) × (result.name ≡ SlotName slot) }
 {
     let name = CellName::Slot { slot: Slot(slot) };
-    Journaled::new(alloc, name, SlotState::empty(alloc))
+    GhostJournaled::new(name, SlotState::empty(alloc))
 }
 
 /// Returns the first two slots, and the first pass.
@@ -108,24 +108,27 @@ fn enters_as<R: Wait + Abort>(
     Ok(())
 }
 
-/// Enters slot 0 so many times, each time with the clock 0, and returns the pass.
+/// Enters slot 0 so many times, each time with the clock 0, and returns the pass and the stamps.
 fn enters_often<R: Wait>(
     rt: &R,
+    alloc: Global,
     cells: &SlotCells,
     pass: SlotPass,
     actor: &ActorName,
     tag: u32,
     times: u32,
-) -> Result<SlotPass, NoMemory>
+) -> Result<(SlotPass, Vec<u64>), NoMemory>
     requires { (pass.table ≡ cells.now) × (0 < cells.now.slots) }
-    ensures { IfOk result (λ p. (p.table ≡ pass.table) × (p.view.origin ≡ pass.view.origin)
-        × (p.view.number ≡ pass.view.number) × (p.view.unjoined ≡ pass.view.unjoined)) }
+    ensures { IfOk result (λ p. (p.0.table ≡ pass.table) × (p.0.view.origin ≡ pass.view.origin)
+        × (p.0.view.number ≡ pass.view.number) × (p.0.view.unjoined ≡ pass.view.unjoined)) }
 {
     let mut pass = pass;
+    let mut stamps = Vec::new(alloc);
     for _ in 0..times {
-        enters(rt, cells, &mut pass, 0, actor, 0, tag)?;
+        let entry = enters(rt, cells, &mut pass, 0, actor, 0, tag)?;
+        stamps.push(entry.stamp.0)?;
     }
-    Ok(pass)
+    Ok((pass, stamps))
 }
 
 /// Returns the entry in which an actor asks to close a tag that does not live in the slot.
@@ -171,31 +174,16 @@ fn takes_turns<R: Wait + Abort>(
     Ok(())
 }
 
-/// Compares the name and the history of a slot.
-fn compares_slot(rt: &impl Abort, cell: SlotCell, slot: u32, wanted: &[SlotEntry]) {
-    let parts = cell.into_parts();
-    assert!(rt; parts.name == CellName::Slot { slot: Slot(slot) });
-    assert!(rt; has_entries(&parts.history, wanted));
-}
-
-/// Closes the slots, which have to be two, with these histories.
-fn closes_two<R: Abort>(
-    rt: &R,
-    cells: SlotCells,
-    pass: SlotPass,
-    first: &[SlotEntry],
-    second: &[SlotEntry],
-)
+/// Closes the slots, which have to be two.
+fn closes_two<R: Abort>(rt: &R, cells: SlotCells, pass: SlotPass)
     requires table { pass.table ≡ cells }
     requires all_joined { (pass.view.origin ≡ First) × (pass.view.unjoined ≡ 0) }
 {
-    let mut closed = cells.close(pass).into_iter();
-    compares_slot(rt, closed.next().expect(rt, "slot 0"), 0, first);
-    compares_slot(rt, closed.next().expect(rt, "slot 1"), 1, second);
-    assert!(rt; closed.next().is_none());
+    let closed = cells.close(pass);
+    assert!(rt; closed.len() == 2);
 }
 
-/// Two passes enter two slots in turn: each slot has a history of its own, and stamps rise.
+/// Two passes enter two slots in turn: each entry has the stamp above the greater of the clocks of slot and actor.
 #[test]
 fn passes_take_turns(rt: HostRuntime) -> Result<(), Fail> {
     let alloc = rt.alloc();
@@ -203,8 +191,7 @@ fn passes_take_turns(rt: HostRuntime) -> Result<(), Fail> {
     let (cells, mut pass) = two_slots(alloc)?;
     assert!(rt; cells.count() == 2);
     takes_turns(&rt, &cells, &mut pass, &wanted)?;
-    let (first, second) = wanted.split_at(2);
-    closes_two(&rt, cells, pass, first, second);
+    closes_two(&rt, cells, pass);
     Ok(())
 }
 
@@ -240,48 +227,36 @@ fn turn_is_passed_on_without_an_entry(rt: HostRuntime) -> Result<(), Fail> {
     Ok(())
 }
 
-/// Returns how many entries of a history are of an actor.
-fn count_of(history: &[SlotEntry], actor: &ActorName) -> usize {
-    history.iter().filter(|e| e.actor == *actor).count()
-}
-
 /// How often each of two threads enters.
 const TIMES: u32 = 50_000;
 
 /// Enters slot 0 by two threads at the same time, each with a pass of its own, and returns the first pass,
-/// which the other is joined to.
+/// which the other is joined to, and the stamps of both.
 fn enters_by_two<R: Threads + Wait + Sync>(
     rt: &R,
+    alloc: Global,
     cells: &SlotCells,
     pass: SlotPass,
     actors: &[ActorName; 2],
-) -> Result<SlotPass, NoMemory>
+) -> Result<(SlotPass, Vec<u64>), NoMemory>
     requires table { (pass.table ≡ cells.now) × (cells.now.slots ≡ 2) }
     requires first { pass.view ≡ first_view }
-    ensures { IfOk result (λ p. (p.table ≡ cells.now) × (p.view.origin ≡ First)
-        × (p.view.unjoined ≡ 0)) }
+    ensures { IfOk result (λ p. (p.0.table ≡ cells.now) × (p.0.view.origin ≡ First)
+        × (p.0.view.unjoined ≡ 0)) }
 {
     let mut pass = pass;
     let other = cells.split(&mut pass)?;
     let [root, child] = actors;
-    let (other, pass) = thread::join(
+    let (second, first) = thread::join(
         rt,
-        || enters_often(rt, cells, other, child, 7, TIMES),
-        || enters_often(rt, cells, pass, root, 8, TIMES),
+        || enters_often(rt, alloc, cells, other, child, 7, TIMES),
+        || enters_often(rt, alloc, cells, pass, root, 8, TIMES),
     );
-    let mut pass = pass?;
-    cells.join(&mut pass, other?);
-    Ok(pass)
-}
-
-/// Compares the stamps of a slot, and how often each of two actors entered it.
-fn compares_stamps(rt: &impl Abort, cell: SlotCell, actors: &[ActorName; 2]) {
-    let parts = cell.into_parts();
-    let stamps = parts.history.iter().map(|e| e.stamp.0);
-    assert!(rt; stamps.eq(1..=2 * TIMES as u64));
-    for actor in actors {
-        assert!(rt; count_of(&parts.history, actor) == TIMES as usize);
-    }
+    let (mut pass, mut stamps) = first?;
+    let (other, mut others) = second?;
+    cells.join(&mut pass, other);
+    stamps.append(&mut others)?;
+    Ok((pass, stamps))
 }
 
 /// Returns the names of the root and of its first child.
@@ -297,8 +272,9 @@ fn threads_take_turns(rt: HostRuntime) -> Result<(), Fail> {
     let alloc = rt.alloc();
     let actors = two_actors(alloc)?;
     let (cells, pass) = two_slots(alloc)?;
-    let pass = enters_by_two(&rt, &cells, pass, &actors)?;
-    let mut closed = cells.close(pass).into_iter();
-    compares_stamps(&rt, closed.next().expect(&rt, "slot 0"), &actors);
+    let (pass, mut stamps) = enters_by_two(&rt, alloc, &cells, pass, &actors)?;
+    closes_two(&rt, cells, pass);
+    stamps.sort()?;
+    assert!(&rt; stamps.into_iter().eq(1..=2 * TIMES as u64));
     Ok(())
 }

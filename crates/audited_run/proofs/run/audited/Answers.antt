@@ -2,6 +2,7 @@ use Rattle.std.proofs.Common.{subst}
 use Rattle.run_audit.specs.ComparedCells.{IsAtCompared}
 use Rattle.run_audit.specs.Differences.{IsFault, IsFirstDifference}
 use Rattle.thread_laws.specs.Joining.{journal_of}
+use Rattle.thread_laws.specs.Replaying.{all_histories}
 use Rattle.thread_laws.proofs.Auditing.{different_disagree}
 use Rattle.audited_run.proofs.Audits.{agreed, declared_agree, differing, differing_audited}
 use Rattle.audited_run.proofs.run.audited.Goals as goal
@@ -11,9 +12,9 @@ again-requires c =
     let i = c.args.image.now in
     let gathered = c.args.gathered in
     let refused = c.in-Err.ensures.result (declared_agree i gathered c.requires) in
-    let first : IsFirstDifference (journal_of gathered.logs) gathered.cells c.in-Disagree.disagree =
-    subst (IsFault gathered.logs gathered.cells) c.in-Disagree.is refused.1 in
-    let undeclared = subst (IsAtCompared i) c.in-Disagree.is c.in-Err.ensures.cell in
+    let first : IsFirstDifference (journal_of gathered.logs) (all_histories gathered) c.in-Disagree.disagree =
+    subst (IsFault gathered.logs (all_histories gathered)) c.in-Disagree.is refused.1 in
+    let undeclared = subst (IsAtCompared gathered) c.in-Disagree.is c.in-Err.ensures.cell in
     rw refused.0 (differing i gathered c.in-Disagree.disagree c.requires first undeclared)
 
 pub returns-in-Ok-clause-run : goal.returns-in-Ok-clause-run
@@ -30,8 +31,8 @@ pub returns-in-Disagree-clause-of : goal.returns-in-Disagree-clause-of
 returns-in-Disagree-clause-of c =
     let gathered = c.args.gathered in
     let refused = c.in-Err.ensures.result (declared_agree c.args.image.now gathered c.requires) in
-    let first : IsFirstDifference (journal_of gathered.logs) gathered.cells c.in-Disagree.disagree =
-    subst (IsFault gathered.logs gathered.cells) c.in-Disagree.is refused.1 in
+    let first : IsFirstDifference (journal_of gathered.logs) (all_histories gathered) c.in-Disagree.disagree =
+    subst (IsFault gathered.logs (all_histories gathered)) c.in-Disagree.is refused.1 in
     let d = c.in-Disagree.disagree in
     differing_audited gathered (record { gathered = c.in-Err.field-0.gathered; disagree = d }) c.again.result refused.0
-    (λ agree. different_disagree gathered.logs gathered.cells d.cell d.index d.kept d.logged first.differ agree) c.again.ensures.differs
+    (λ agree. different_disagree gathered.logs (all_histories gathered) d.cell d.index d.kept d.logged first.differ agree) c.again.ensures.differs

@@ -1,0 +1,26 @@
+use denote.Param.{param}
+use denote.Ref.{NamedLft}
+use denote.Param.Send.{IsSend, IsSync, param_send, sendable}
+use Rattle.std.proofs.result.Result.TheSendSync as result
+use Rattle.wedge_base.proofs.errors.NoMemory.TheSendSync as no_memory
+use Rattle.actor_task.proofs.creating.NewActor.TheSendSync as new
+use Rattle.gate_runner.specs.contracts.runner.Shared as Shared
+use Rattle.gate_runner.proofs.Crossing.{Returned_send, Shared_sync}
+use Rattle.gate_runner.proofs.runner.+run.Lts-launch as lts
+use Rattle.gate_runner.proofs.runner.+run.Goals as goal
+
+-- What the bounds of the types say is named by its place, since a search does not come to it.
+pub launch-spawn_with-requires-send-F : goal.launch-spawn_with-requires-send-F
+launch-spawn_with-requires-send-F g t c κs within =
+    let i : IsSend (param 0 g.row.I) = search (sendable, c.requires-raw) in
+    let j : IsSync (param 0 g.row.I) = search (sendable, c.requires-raw) in
+    let u : IsSend (param 1 g.row.T) = search (sendable, c.requires-raw) in
+    let v : IsSync (param 1 g.row.T) = search (sendable, c.requires-raw) in
+    let r : IsSync (param 2 g.row.R) = c.requires-raw.1.1.1.1.1.1.1.1.1.0 in
+    let p : IsSync (param 3 g.row.P) = c.requires-raw.1.1.1.1.1.1.1.1.1.1.0 in
+    let s : (ℓ : NamedLft) → IsSync (Shared.the_row ℓ (param 0 g.row.I) (param 1 g.row.T) (param 2 g.row.R) (param 3 g.row.P) g.I.RunOf g.T.TableOf) = λ ℓ. Shared_sync ℓ _ _ _ _ _ _ i j u v r p in
+    let job = lts.arg-1-2 g.row.I g.row.T g.row.R g.row.P g.I.laws g.T.laws g.R.laws g.P.laws g.I.RunOf g.I.RunOf-dict g.T.TableOf g.T.TableOf-dict g.R.Threads g.R.Threads-dict g.R.Wait g.R.Wait-dict g.P.Pace g.P.Pace-dict κs in
+    param_send 2 job (search (sendable, new.the_send, s) depth 20)
+
+pub launch-spawn_with-requires-send-T : goal.launch-spawn_with-requires-send-T
+launch-spawn_with-requires-send-T g t c κs within = search (sendable, Returned_send, no_memory.the_send, result.the_send, c.requires-raw) depth 40 fits 100000
