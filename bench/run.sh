@@ -210,5 +210,5 @@ accesses() {
     awk 'BEGIN { for (k = 0; k < 16; k++) print "lw a0, 0(t0)\nsw a0, 4(t0)" }'
     printf 'j again\n'
 }
-accesses | count 'a shared access' shared 33000 66000 32000 660 || exit 1
-accesses | count 'a shared access, before the audit' shared 33000 66000 32000 630 gate_runner::runner::run_whole
+accesses | count 'a shared access' shared 33000 66000 32000 545 || exit 1
+accesses | count 'a shared access, before the audit' shared 33000 66000 32000 535 gate_runner::runner::run_whole
