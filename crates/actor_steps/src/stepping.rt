@@ -103,9 +103,9 @@ fn step_next<I: RunOf, T: TableOf, R: Wait, P: Pace>(
     }
 }
 
-/// A load. Out of line, and with the kind of what is wanted known: so the compiler leaves out of the most frequent events
-/// what only others need.
-#[inline(never)]
+/// A load, with the kind of what is wanted known: so the compiler leaves out of the most frequent events what only others
+/// need.
+#[inline(always)]
 fn load<I: RunOf, T: TableOf, R: Wait, P: Pace>(
     task: &mut ActorTask<I, T>,
     pass: &mut TagPass<I, T>,
@@ -138,8 +138,8 @@ fn load<I: RunOf, T: TableOf, R: Wait, P: Pace>(
     )
 }
 
-/// A store, out of line for the same reason.
-#[inline(never)]
+/// A store, by itself for the same reason.
+#[inline(always)]
 fn store<I: RunOf, T: TableOf, R: Wait, P: Pace>(
     task: &mut ActorTask<I, T>,
     pass: &mut TagPass<I, T>,

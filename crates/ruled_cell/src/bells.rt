@@ -24,7 +24,6 @@ const TURNS: u64 = 64;
 impl<O: Object, I: RunOf> RuledCells<O, I> {
     /// Stays outside while many wait for a cell, until it is let in. Returns how many of its tickets were drawn, as it
     /// looked.
-    #[inline(always)]
     pub(crate) fn come_in<R: Wait>(&self, rt: &R, seat: &mut PassSeat<O, I>, cell: usize) -> u64
         requires { (seat.old.table_id ≡ self.now) × (cell < seat.old.table_id.slots) }
         ensures same { (seat.new.table_id ≡ seat.old.table_id) × (seat.new.id ≡ seat.old.id) }
@@ -39,7 +38,7 @@ impl<O: Object, I: RunOf> RuledCells<O, I> {
 
     /// Returns how many tickets of a cell were drawn, and whether many of them are out.
     #[inline(always)]
-    fn look(&self, cell: usize) -> (u64, bool)
+    pub(crate) fn look(&self, cell: usize) -> (u64, bool)
         requires { cell < self.now.slots }
     {
         let served = self.table.shared.peek(16 * cell + 8);

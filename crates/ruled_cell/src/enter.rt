@@ -69,10 +69,48 @@ impl<O: Object, I: RunOf> RuledCells<O, I> {
         self.take_turn(rt, &mut pass.seat, cell, ticket, actor, maker)
     }
 
-    /// Draws a ticket for a cell, and returns it, unless none is left. The count is raised only where it is still
-    /// what was read, so that it never wraps.
+    /// Draws a ticket for a cell, and returns it, unless none is left.
     #[inline(always)]
     fn draw<R: Wait>(&self, rt: &R, seat: &mut PassSeat<O, I>, cell: usize) -> Option<u64>
+        requires table { (seat.old.table_id ≡ self.now) × (cell < seat.old.table_id.slots) }
+        requires idle { IsIdle seat.old.me.0 }
+        ensures same { (seat.new.table_id ≡ seat.old.table_id) × (seat.new.id ≡ seat.old.id) }
+        ensures ticket { MatchOption result (seat.new.me ≡ seat.old.me)
+            (λ n. (seat.new.me ≡ with_ticket cell n seat.old.me) × (n < highest_ticket)) }
+    {
+        match self.draw_at_once(seat, cell) {
+            Some(ticket) => Some(ticket),
+            None => self.draw_in_a_crowd(rt, seat, cell),
+        }
+    }
+
+    /// Draws a ticket, if few are out and nobody else draws one meanwhile.
+    #[inline(always)]
+    fn draw_at_once(&self, seat: &mut PassSeat<O, I>, cell: usize) -> Option<u64>
+        requires table { (seat.old.table_id ≡ self.now) × (cell < seat.old.table_id.slots) }
+        requires idle { IsIdle seat.old.me.0 }
+        ensures same { (seat.new.table_id ≡ seat.old.table_id) × (seat.new.id ≡ seat.old.id) }
+        ensures ticket { MatchOption result (seat.new.me ≡ seat.old.me)
+            (λ n. (seat.new.me ≡ with_ticket cell n seat.old.me) × (n < highest_ticket)) }
+    {
+        let (next, is_crowded) = self.look(cell);
+        if is_crowded || next == u64::MAX {
+            return None;
+        }
+        let shared = &self.table.shared;
+        let found = shared.compare_exchange::<Draw>(seat, 16 * cell, next, next + 1);
+        if found == next { Some(next) } else { None }
+    }
+
+    /// Draws a ticket, unless none is left. Stays outside first where many wait. The count is raised only where it is
+    /// still what was read, so that it never wraps.
+    #[inline(never)]
+    fn draw_in_a_crowd<R: Wait>(
+        &self,
+        rt: &R,
+        seat: &mut PassSeat<O, I>,
+        cell: usize,
+    ) -> Option<u64>
         requires table { (seat.old.table_id ≡ self.now) × (cell < seat.old.table_id.slots) }
         requires idle { IsIdle seat.old.me.0 }
         ensures same { (seat.new.table_id ≡ seat.old.table_id) × (seat.new.id ≡ seat.old.id) }

@@ -50,34 +50,16 @@ impl<I: RunOf, T: TableOf> RunCells<I, T> {
         ensures err { OnErr result (pass.new ≡ pass.old) }
     {
         match want {
-            Want::Slot { slot, want } => self.enter_slot(rt, run, pass, slot, want),
+            Want::Slot { slot, want } => {
+                let index = slot.0 as usize;
+                let declared = self.tags.count();
+                if index < declared {
+                    return self.tags.enter(rt, pass, run, slot, want);
+                }
+                enter_locked_slot(rt, &self.slots[index - declared], run, slot, want)
+            }
             _ => self.enter_other(rt, run, want),
         }
-    }
-
-    /// The same of a slot.
-    #[inline(always)]
-    fn enter_slot<R: Wait>(
-        &self,
-        rt: &R,
-        run: &ActorRun<I>,
-        pass: &mut TagPass<I, T>,
-        slot: Slot,
-        want: SlotWant,
-    ) -> Result<LogEntry, NoMemory>
-        requires wants { current_want run.now.progress.state ≡ Some (AWant.Slot slot want) }
-        requires fits { WantFits run.now.progress.state (AWant.Slot slot want) }
-        ensures plain { IfOk result (IsPlainEntry I.image run.now.progress) }
-        ensures entered { IfOk result (λ e.
-            pass.new ≡ pass.old ++ entries_on_declared T.table.slots (e ∷ [])) }
-        ensures err { OnErr result (pass.new ≡ pass.old) }
-    {
-        let index = slot.0 as usize;
-        let declared = self.tags.count();
-        if index < declared {
-            return self.tags.enter(rt, pass, run, slot, want);
-        }
-        enter_locked_slot(rt, &self.slots[index - declared], run, slot, want)
     }
 
     /// The same of a cell that is no slot: kept out of line, as slots are entered most often.

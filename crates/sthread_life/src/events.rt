@@ -20,7 +20,7 @@ use rv_hart::Reply;
 use wedge_base::{Code, Denial, End, NoMemory, Right, Slot, TagNo, address_of};
 use wedge_events::{
     DirectoryAsk, DirectoryReply, Event, GateAsk, GateReply, LivesAsk, LivesReply, SlotAsk,
-    SlotReply,
+    SlotReply, Want,
 };
 
 /// What the event that it wanted makes of the actor. Returns the actor that the event begins, a
@@ -237,13 +237,14 @@ fn take_slot(
         ≡ taking.takes_slot program.now (whole actor.old memory.old) slot ask.now reply.now) }
     ensures name { OnOk result (actor.new.name ≡ actor.old.name) }
 {
-    match reply {
-        SlotReply::Loaded { value } => {
+    // What it wanted is looked at first, so that the compiler knows what it releases: nothing.
+    match (reply, &actor.phase) {
+        (SlotReply::Loaded { value }, Phase::Within(Want::Slot { .. })) => {
             actor.phase = Phase::Running;
             take_load(actor, program, *value);
             Ok(())
         }
-        SlotReply::Stored => {
+        (SlotReply::Stored, Phase::Within(Want::Slot { .. })) => {
             actor.phase = Phase::Running;
             actor.hart.advance();
             Ok(())

@@ -157,7 +157,7 @@ impl Object for SlotState {
                 value,
                 live,
             } => self.store(*offset, *width, *value, *live),
-            _ => self.act_other(ask),
+            _ => self.act_other(*ask),
         }
     }
 
@@ -169,31 +169,32 @@ impl Object for SlotState {
 }
 
 impl SlotState {
-    /// Does what is asked, which may be of any kind, as `act_once` does.
+    /// Does what is asked, which may be of any kind, as `act_once` does. It is passed by value: so the ask of a load or a
+    /// store is never in memory, and the compiler knows its kind.
     #[inline(never)]
-    fn act_other(&mut self, ask: &SlotAsk) -> Result<SlotReply, NoMemory>
-        requires { slots.SlotFits self.old ask.now }
-        ensures is { IfOk result (λ r. r ≡ slots.slot_reply self.old ask.now) }
-        ensures after { OnOk result (self.new ≡ slots.slot_next self.old ask.now) }
+    fn act_other(&mut self, ask: SlotAsk) -> Result<SlotReply, NoMemory>
+        requires { slots.SlotFits self.old ask }
+        ensures is { IfOk result (λ r. r ≡ slots.slot_reply self.old ask) }
+        ensures after { OnOk result (self.new ≡ slots.slot_next self.old ask) }
         ensures err { OnErr result (self.new ≡ self.old) }
     {
         match ask {
-            SlotAsk::Open { tag, pages } => self.begin(*tag, *pages),
-            SlotAsk::Close { tag } => Ok(self.close(*tag)),
+            SlotAsk::Open { tag, pages } => self.begin(tag, pages),
+            SlotAsk::Close { tag } => Ok(self.close(tag)),
             SlotAsk::Load {
                 offset,
                 width,
                 live,
-            } => Ok(self.load(*offset, *width, *live)),
+            } => Ok(self.load(offset, width, live)),
             SlotAsk::Store {
                 offset,
                 width,
                 value,
                 live,
-            } => self.store(*offset, *width, *value, *live),
-            SlotAsk::Smalloc { tag, size } => self.smalloc(*tag, *size),
-            SlotAsk::Sfree { offset, live } => Ok(self.sfree(*offset, *live)),
-            SlotAsk::Snap { tag } => self.snap(*tag),
+            } => self.store(offset, width, value, live),
+            SlotAsk::Smalloc { tag, size } => self.smalloc(tag, size),
+            SlotAsk::Sfree { offset, live } => Ok(self.sfree(offset, live)),
+            SlotAsk::Snap { tag } => self.snap(tag),
         }
     }
 

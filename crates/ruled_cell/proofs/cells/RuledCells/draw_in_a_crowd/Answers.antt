@@ -2,7 +2,7 @@ use Rattle.std.proofs.Common.{rules, refl, ap, ◌∙◌}
 use Rattle.ruled_cell.specs.Passes.{is_unspent}
 use Rattle.ruled_cell.specs.Order.{with_ticket}
 use Rattle.ruled_cell.proofs.TicketSteps.{draws}
-use Rattle.ruled_cell.proofs.cells.RuledCells.draw.Goals as goal
+use Rattle.ruled_cell.proofs.cells.RuledCells.draw_in_a_crowd.Goals as goal
 
 pub compare_exchange-found-requires : goal.compare_exchange-found-requires
 compare_exchange-found-requires g c = let same = c.loop.invariant.2 ∙ c.come_in-next.ensures.me in let was = c.requires.idle in
