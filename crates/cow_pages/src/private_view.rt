@@ -209,7 +209,8 @@ impl PrivateView {
 
     /// Writes the low 1, 2 or 4 bytes of a number, little-endian, at an offset of the copy at a slot, a
     /// multiple of that width: none where no copy is there, else whether its pages have these bytes. When
-    /// out of memory, nothing is changed.
+    /// out of memory, nothing is changed. Most actors have no copy at all, which is seen in line.
+    #[inline(always)]
     pub fn store_copy(
         &mut self,
         place: Place,
@@ -225,6 +226,9 @@ impl PrivateView {
             in OnOk result (self.new ≡ record self.old { copies = all }) }
         ensures err { OnErr result (self.new ≡ self.old) }
     {
+        if self.copies.is_empty() {
+            return Ok(None);
+        }
         store_at(&mut self.copies, place.slot.0, place.offset, width, value)
     }
 
@@ -284,6 +288,7 @@ fn load_in(pages: &Pages, offset: u32, width: u8) -> Option<u32>
 
 /// Writes the low 1, 2 or 4 bytes of a number at an offset of the copy at a slot: none where no copy is
 /// there, else whether its pages have these bytes. When out of memory, nothing is changed.
+#[inline(never)]
 fn store_at(
     all: &mut BTreeMap<u32, Pages>,
     slot: u32,

@@ -1,5 +1,5 @@
-use Rattle.std.proofs.Common.{rules, arith}
-use Rattle.std.specs.Prelude.{◌≡◌, ◌+◌}
+use Rattle.std.proofs.Common.{rules}
+use Rattle.std.specs.Prelude.{◌+◌}
 use Rattle.journal_cell.proofs.Histories.{entry-keeps}
 use Rattle.journal_cell.proofs.journaled.Journaled.enter.Goals as goal
 
