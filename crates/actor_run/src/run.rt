@@ -84,6 +84,9 @@ impl<I: RunOf> Model for ActorRun<I> {
     ghost invariant = { λ r. KeepsCache r.actor r.entries.items r.cache };
 }
 
+/// The place of the instructions of actors on threads.
+struct OnThread;
+
 impl<I: RunOf> ActorRun<I> {
     /// Returns an actor as it is created, with the stamp of the event that creates it. Its cache is empty.
     pub fn new(alloc: Global, resident: Resident, clock: Stamp) -> Result<ActorRun<I>, NoMemory>
@@ -113,7 +116,7 @@ impl<I: RunOf> ActorRun<I> {
         ensures going { OnOk result (self.old.stopped ≡ false) }
         ensures stops { OnErr result (self.new.stopped ≡ true) }
     {
-        sthread_life::rest(&mut self.actor, program, &mut self.memory)
+        sthread_life::rest::<OnThread>(&mut self.actor, program, &mut self.memory)
     }
 
     /// Returns what an actor at rest wants, its end, or the run of a gate for which it waits. An actor that runs out of

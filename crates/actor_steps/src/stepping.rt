@@ -7,8 +7,8 @@ ghost use Rattle.machine.specs.Local.{is_running};
 ghost use Rattle.run_cells.specs.Entries.{IsOfCell};
 ghost use Rattle.machine.specs.declared.next.Next.TheVariants as next;
 ghost use Rattle.actor_task.specs.Steps.{IsStep, IsAtRest, IsJoint, WantsNone};
-ghost use Rattle.actor_task.specs.Tasks.{TaskState, IsSame, IsTracked};
-ghost use Rattle.thread_laws.specs.ActorProgresses.{ActorProgress};
+ghost use Rattle.actor_task.specs.Tasks.{TaskState, IsSame, IsTracked, going_on};
+ghost use Rattle.thread_laws.specs.ActorProgresses.{ActorProgress, after_rest};
 ghost use Rattle.wedge_base.specs.Images.{Image};
 ghost use Rattle.actor_steps.specs.Logged.{HasLogged, HasStepped, IsLoggedBy};
 
@@ -43,7 +43,7 @@ pub fn step<I: RunOf, T: TableOf, R: Wait, P: Pace>(
         task.new.progress) }
 {
     for _ in rt.forever() {
-        task.rest(program)?;
+        rest(task, program)?;
         task.run.wants_fit();
         if let Phase::Within(Want::Slot { slot, want }) = task.run.phase() {
             match want {
@@ -69,6 +69,21 @@ pub fn step<I: RunOf, T: TableOf, R: Wait, P: Pace>(
         return step_next(task, pass, rt, program, cells, pace);
     }
     unreachable!()
+}
+
+/// The actor makes its local events, up to its next shared event. Out of line, so that the loop over instructions has the
+/// registers of the processor to itself.
+#[inline(never)]
+fn rest<I: RunOf, T: TableOf>(
+    task: &mut ActorTask<I, T>,
+    program: &Program<'_>,
+) -> Result<(), NoMemory>
+    requires { program.now ≡ I.image }
+    ensures rests { OnOk result (task.new
+        ≡ going_on (after_rest I.image task.old.progress) task.old.created) }
+    ensures still { OnOk result (is_running task.new.progress.state.phase ≡ false) }
+{
+    task.rest(program)
 }
 
 /// Makes the next shared event of an actor at rest, if no other actor has part in that.

@@ -28,7 +28,7 @@ struct Logged;
 /// The place where an instruction is looked at before it is made.
 struct Looked;
 
-/// Brings an actor to rest, as `local` of `sthread_life` does, and notes its accesses to private copies of tags. An actor
+/// Brings an actor to rest, as `rest` of `sthread_life` does, and notes its accesses to private copies of tags. An actor
 /// that runs out of memory has stopped.
 pub fn note_rest(
     context: &Context<'_, '_>,

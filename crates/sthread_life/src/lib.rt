@@ -12,4 +12,4 @@ mod wants;
 pub use entering::resume;
 pub use events::{take, take_alone};
 pub use machine::{Actor, Next};
-pub use resting::{local, next, rest, wants_fit};
+pub use resting::{next, rest, wants_fit};

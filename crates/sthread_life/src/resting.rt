@@ -19,64 +19,10 @@ use machine::{Actor, Next, Phase};
 use ready_text::Program;
 use wedge_base::NoMemory;
 
-/// Makes the actor's local events up to its next shared event, and returns which it wants, its
-/// end, or the run of a gate for which it waits. An actor that runs out of memory has stopped:
-/// from then on `local` and `take` answer `NoMemory`.
-#[inline(always)]
-pub fn local(
-    actor: &mut Actor,
-    program: &Program<'_>,
-    memory: &mut PrivateView,
-) -> Result<Next, NoMemory>
-    ensures rests { OnOk result (whole actor.new memory.new
-        ≡ local.rest program.now (whole actor.old memory.old)) }
-    ensures next { IfOk result (λ n. want_in n ≡ current_want (whole actor.new memory.new)) }
-    ensures ended { IfOk result (λ n. end_in n ≡ end_reached actor.new.phase) }
-    ensures waits { IfOk result (λ n. run_in n ≡ run_awaited actor.new.phase) }
-    ensures name { OnOk result (actor.new.name ≡ actor.old.name) }
-    ensures live { OnOk result (local.has_ended actor.new.phase
-        ≡ local.has_ended actor.old.phase) }
-    ensures fits { IfOk result (NextFits (whole actor.new no_memory)) }
-    ensures going { OnOk result ((actor.old.stopped ≡ false) × (actor.new.stopped ≡ false)) }
-    ensures stops { OnErr result (actor.new.stopped ≡ true) }
-    ensures stays { local.has_ended actor.old.phase ≡ true
-        → OnOk result (whole actor.new memory.new ≡ whole actor.old memory.old) }
-{
-    if actor.stopped {
-        return Err(NoMemory);
-    }
-    let next = come_to_rest(actor, program, memory);
-    actor.stopped = next.is_err();
-    next
-}
-
-/// Runs to the next shared event.
-#[inline(always)]
-fn come_to_rest(
-    actor: &mut Actor,
-    program: &Program<'_>,
-    memory: &mut PrivateView,
-) -> Result<Next, NoMemory>
-    ensures rests { OnOk result (whole actor.new memory.new
-        ≡ local.rest program.now (whole actor.old memory.old)) }
-    ensures next { IfOk result (λ n. want_in n ≡ current_want (whole actor.new memory.new)) }
-    ensures ended { IfOk result (λ n. end_in n ≡ end_reached actor.new.phase) }
-    ensures waits { IfOk result (λ n. run_in n ≡ run_awaited actor.new.phase) }
-    ensures name { OnOk result (actor.new.name ≡ actor.old.name) }
-    ensures live { OnOk result (local.has_ended actor.new.phase
-        ≡ local.has_ended actor.old.phase) }
-    ensures fits { IfOk result (NextFits (whole actor.new no_memory)) }
-    ensures stays { local.has_ended actor.old.phase ≡ true
-        → OnOk result (whole actor.new memory.new ≡ whole actor.old memory.old) }
-{
-    run(actor, program, memory)?;
-    next_of(actor, memory)
-}
-
 /// Makes the actor's local events up to its next shared event. An actor that runs out of memory has stopped: from then on
-/// `rest`, `next` and `take` answer `NoMemory`.
+/// `rest`, `next` and `take` answer `NoMemory`. `Site` stands for the place of the call, as for `Hart::begin`.
 #[inline(always)]
-pub fn rest(
+pub fn rest<Site>(
     actor: &mut Actor,
     program: &Program<'_>,
     memory: &mut PrivateView,
@@ -90,7 +36,7 @@ pub fn rest(
     if actor.stopped {
         return Err(NoMemory);
     }
-    let rested = run(actor, program, memory);
+    let rested = run::<Site>(actor, program, memory);
     actor.stopped = rested.is_err();
     rested
 }
@@ -122,18 +68,19 @@ pub fn wants_fit(actor: &Actor)
     let _ = matches!(actor.phase, Phase::Within(_));
 }
 
-/// The place of the instructions of runs that are not logged.
-struct Unlogged;
-
 /// Runs instructions until it no longer runs: each takes a unit of fuel.
-#[inline(never)]
-fn run(actor: &mut Actor, program: &Program<'_>, memory: &mut PrivateView) -> Result<(), NoMemory>
+#[inline(always)]
+fn run<Site>(
+    actor: &mut Actor,
+    program: &Program<'_>,
+    memory: &mut PrivateView,
+) -> Result<(), NoMemory>
     ensures rests { OnOk result (whole actor.new memory.new
         ≡ local.rest program.now (whole actor.old memory.old)) }
     ensures stops { OnOk result (local.is_running actor.new.phase ≡ false) }
 {
     while is_running(actor) {
-        step::<Unlogged>(actor, program, memory)?;
+        step::<Site>(actor, program, memory)?;
     }
     Ok(())
 }

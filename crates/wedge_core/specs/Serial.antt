@@ -1,5 +1,5 @@
 -- Runs in serial order: who takes the next turn, and what is kept of who lives.
-use Rattle.std.specs.Prelude.{◌≡◌, ◌+◌, ◌<◌, ◌≤◌, ◌++◌, ◌∷◌, [], length, map, slice_get, ℕ, true, false, List, Option, Some, None, is_some, ◌⊎◌, if◌then◌else◌}
+use Rattle.std.specs.Prelude.{◌≡◌, ◌<◌, ◌≤◌, ◌++◌, ◌∷◌, [], length, map, slice_get, ℕ, true, false, List, Option, Some, None, is_some, ◌⊎◌, if◌then◌else◌}
 use Rattle.wedge_base.specs.Images.{Image}
 use Rattle.wedge_base.specs.Names.{root_name}
 use Rattle.world_turns.specs.Indices.{index_in}

@@ -9,7 +9,7 @@ ghost use Rattle.run_laws.specs.CompleteRuns.{IsCompleteRun};
 use image_form::Image;
 use std::alloc::Global;
 use wedge_base::{ActorName, NoMemory};
-use world_turns::{NoTurn, ReplayFault, Why, World, open_world, turn};
+use world_turns::{ReplayFault, Went, Why, World, advance, open_world};
 
 /// Replays a schedule over an image: the actors that it names take their turns in its order, and the last of
 /// these is the end of the root. The turns of the world that is returned are a complete run by these names, and
@@ -61,33 +61,41 @@ fn follow(
             why: Why::Extra,
         });
     }
-    match turn(world, name) {
-        Ok(_) => Ok(()),
-        Err(NoTurn::NoMemory) => Err(ReplayFault::NoMemory),
-        Err(NoTurn::Unknown) => Err(ReplayFault::BadSchedule {
+    let Some(index) = world.residents.index_of(name) else {
+        return Err(ReplayFault::BadSchedule {
             at,
             why: Why::Unknown,
-        }),
-        Err(NoTurn::Ended) => Err(ReplayFault::BadSchedule {
+        });
+    };
+    match advance(world, name, index) {
+        Ok(Went::Took) => Ok(()),
+        Ok(Went::Ended) => Err(ReplayFault::BadSchedule {
             at,
             why: Why::Ended,
         }),
-        Err(NoTurn::Waits) => Err(ReplayFault::BadSchedule {
+        Ok(Went::Waits) => Err(ReplayFault::BadSchedule {
             at,
             why: Why::Waits,
         }),
-        Err(NoTurn::Busy) => Err(ReplayFault::BadSchedule { at, why: Why::Busy }),
+        Ok(Went::Busy) => Err(ReplayFault::BadSchedule { at, why: Why::Busy }),
+        Err(NoMemory) => Err(ReplayFault::NoMemory),
     }
 }
 
-/// Whether the root of a world has ended.
+/// Whether the root of a world has ended. It is the first of the actors, and is looked up by its name only were it not.
 fn root_has_ended(world: &World<'_>, root: &ActorName) -> bool
     requires { root.now ≡ root_name }
     ensures { result ≡ is_complete world.now.state }
 {
+    let actors = world.residents.as_slice();
+    if let Some(first) = actors.first() {
+        if first.name().is_same(root) {
+            return first.actor.has_ended();
+        }
+    }
     match world.residents.index_of(root) {
         Some(index) => {
-            let resident = &world.residents.as_slice()[index];
+            let resident = &actors[index];
             resident.actor.has_ended()
         }
         None => false,

@@ -9,7 +9,7 @@ ghost use Rattle.machine.specs.Cells.{Cells as SomeCells, cells_after};
 ghost use Rattle.machine.specs.Children.{child_name};
 ghost use Rattle.run_laws.specs.Laws.{IsLawful};
 ghost use Rattle.run_laws.specs.FamilyTrees.{Family};
-ghost use Rattle.machine.specs.Local.{rest, has_ended, run_awaited};
+ghost use Rattle.machine.specs.Local.{rest, has_ended, is_running, run_awaited};
 ghost use Rattle.run_laws.specs.Moments.{TurnHas};
 ghost use Rattle.machine.specs.Take.{current_want, takes};
 ghost use Rattle.machine.specs.Worlds.{actor_named, is_ended};
@@ -22,9 +22,9 @@ use crate::error::NoTurn;
 use crate::residents::{Residents, drop_all};
 use crate::world::World;
 use cow_pages::PrivateView;
-use machine::Resident;
+use machine::{Phase, Resident};
 use ready_text::Program;
-use sthread_life::{Actor, Next, local, resume, take};
+use sthread_life::{Actor, Next, resume, take, take_alone, wants_fit};
 use wedge_base::{ActorName, GateId, NoMemory, Slot, Stamp};
 use wedge_events::{Ask, Event, GateAsk, LogEntry, SlotWant, Want};
 use world_cells::Cells;
@@ -231,8 +231,8 @@ fn advance_awake(
     }
 }
 
-/// The turn of an actor that has not ended and waits for no run, up to what other actors have part in. Loads and stores
-/// have a function of their own, since they are the most.
+/// The turn of an actor that has not ended and waits for no run, up to what other actors have part in. Loads and stores of
+/// slots, which are the most, are found by the actor's phase: what it wants is not copied for them.
 fn advance_one(
     program: &Program<'_>,
     cells: &mut Cells,
@@ -252,7 +252,72 @@ fn advance_one(
         (cells.new ≡ cells.old) × (entries.new.items ≡ entries.old.items))) }
     ensures kept { OnErr result (entries.new.items ≡ entries.old.items) }
 {
-    match local(&mut resident.actor, program, &mut resident.memory)? {
+    bring_to_rest(program, resident)?;
+    let still = &*resident;
+    wants_fit(&still.actor);
+    if let Phase::Within(Want::Slot { slot, want }) = &still.actor.phase {
+        match want {
+            SlotWant::Load { offset, width } => {
+                let (slot, offset, width) = (*slot, *offset, *width);
+                load(program, cells, resident, entries, name, slot, offset, width)?;
+                return Ok(None);
+            }
+            SlotWant::Store {
+                offset,
+                width,
+                value,
+            } => {
+                let (slot, offset, width, value) = (*slot, *offset, *width, *value);
+                store(
+                    program, cells, resident, entries, name, slot, offset, width, value,
+                )?;
+                return Ok(None);
+            }
+            _ => {}
+        }
+    }
+    advance_next(program, cells, resident, entries, name)
+}
+
+/// The place of the instructions of turns that are not logged.
+struct InTurn;
+
+/// An actor makes its local events, up to its next shared event. Out of line, so that the loop over instructions has the
+/// registers of the processor to itself.
+#[inline(never)]
+fn bring_to_rest(program: &Program<'_>, resident: &mut Resident) -> Result<(), NoMemory>
+    ensures rests { OnOk result (resident.new ≡ rest program.now resident.old) }
+    ensures still { OnOk result (is_running resident.new.phase ≡ false) }
+{
+    sthread_life::rest::<InTurn>(&mut resident.actor, program, &mut resident.memory)
+}
+
+/// The turn of an actor at rest, up to what other actors have part in. Out of line, so that it is in no load's or store's way.
+#[inline(never)]
+fn advance_next(
+    program: &Program<'_>,
+    cells: &mut Cells,
+    resident: &mut Resident,
+    entries: &mut Vec<LogEntry>,
+    name: &ActorName,
+) -> Result<Option<Want>, NoMemory>
+    requires still { is_running resident.old.phase ≡ false }
+    requires lives { has_ended resident.old.phase ≡ false }
+    requires awake { run_awaited resident.old.phase ≡ None }
+    ensures made { IfOk result (λ o. IfNone o ((q : AWant)
+        × (current_want resident.old ≡ Some q) × IsOfCell q
+        × IsEventDone program.now cells.old resident.old q entries.old.items name.now
+        cells.new resident.new entries.new.items)) }
+    ensures left { IfOk result (λ o. IfSome o (λ q. (current_want resident.old ≡ Some q)
+        × WantFits resident.old q × IsOfFamily q × (resident.new ≡ resident.old))) }
+    ensures same { IfOk result (λ o. IfSome o (λ q.
+        (cells.new ≡ cells.old) × (entries.new.items ≡ entries.old.items))) }
+    ensures kept { OnErr result (entries.new.items ≡ entries.old.items) }
+{
+    if resident.actor.stopped {
+        return Err(NoMemory);
+    }
+    match sthread_life::next(&mut resident.actor, &resident.memory)? {
         Next::Ended(_) => unreachable!(),
         Next::Waiting { .. } => unreachable!(),
         Next::Shared(want) => do_want(program, cells, resident, entries, name, want),
@@ -280,17 +345,13 @@ fn do_want(
     ensures kept { OnErr result (entries.new.items ≡ entries.old.items) }
 {
     match want {
-        Want::Slot { slot, want } => {
-            do_slot(program, cells, resident, entries, name, slot, want)?;
-            Ok(None)
-        }
         Want::Start { child } => Ok(Some(Want::Start { child })),
         Want::Join { child } => Ok(Some(Want::Join { child })),
         Want::Enter { run } => Ok(Some(Want::Enter { run })),
         Want::Leave { end } => Ok(Some(Want::Leave { end })),
         Want::Gate { gate, ask } => Ok(Some(Want::Gate { gate, ask })),
         _ => {
-            do_other(program, cells, resident, entries, name, want)?;
+            do_and_note(program, cells, resident, entries, name, want)?;
             Ok(None)
         }
     }
@@ -495,48 +556,9 @@ fn join(
     Ok(Went::Took)
 }
 
-/// What an actor at rest wants of a slot.
+/// A load of an actor at rest, with the kind of what is wanted known: so the compiler leaves out of the most frequent events
+/// what only others need.
 #[inline(always)]
-fn do_slot(
-    program: &Program<'_>,
-    cells: &mut Cells,
-    resident: &mut Resident,
-    entries: &mut Vec<LogEntry>,
-    name: &ActorName,
-    slot: Slot,
-    want: SlotWant,
-) -> Result<(), NoMemory>
-    requires { WantFits resident.old (AWant.Slot slot want) }
-    ensures made { OnOk result (IsEventDone program.now cells.old resident.old
-        (AWant.Slot slot want) entries.old.items name.now cells.new resident.new
-        entries.new.items) }
-    ensures kept { OnErr result (entries.new.items ≡ entries.old.items) }
-{
-    match want {
-        SlotWant::Load { offset, width } => {
-            load(program, cells, resident, entries, name, slot, offset, width)
-        }
-        SlotWant::Store {
-            offset,
-            width,
-            value,
-        } => store(
-            program, cells, resident, entries, name, slot, offset, width, value,
-        ),
-        _ => do_other(
-            program,
-            cells,
-            resident,
-            entries,
-            name,
-            Want::Slot { slot, want },
-        ),
-    }
-}
-
-/// A load of an actor at rest. Out of line, and with the kind of what is wanted known: so the compiler leaves out of the most
-/// frequent events what only others need.
-#[inline(never)]
 fn load(
     program: &Program<'_>,
     cells: &mut Cells,
@@ -564,8 +586,8 @@ fn load(
     )
 }
 
-/// A store of an actor at rest, out of line for the same reason.
-#[inline(never)]
+/// A store of an actor at rest, by itself for the same reason.
+#[inline(always)]
 fn store(
     program: &Program<'_>,
     cells: &mut Cells,
@@ -596,26 +618,6 @@ fn store(
         name,
         Want::Slot { slot, want },
     )
-}
-
-/// Any event that an actor at rest wants, out of line so that it is in nobody's way.
-#[inline(never)]
-fn do_other(
-    program: &Program<'_>,
-    cells: &mut Cells,
-    resident: &mut Resident,
-    entries: &mut Vec<LogEntry>,
-    name: &ActorName,
-    want: Want,
-) -> Result<(), NoMemory>
-    requires fits { WantFits resident.old want }
-    requires of_cell { IsOfCell want }
-    ensures made { OnOk result
-        (IsEventDone program.now cells.old resident.old want entries.old.items name.now
-        cells.new resident.new entries.new.items) }
-    ensures kept { OnErr result (entries.new.items ≡ entries.old.items) }
-{
-    do_and_note(program, cells, resident, entries, name, want)
 }
 
 /// The event that an actor at rest wants, done and noted.
@@ -656,7 +658,7 @@ fn do_event(
 {
     let live = cells.live(&want);
     let event = cells.act(resident.actor.ask(want, live))?;
-    take(&mut resident.actor, program, &mut resident.memory, &event)?;
+    take_alone(&mut resident.actor, program, &mut resident.memory, &event)?;
     Ok(event)
 }
 
@@ -666,11 +668,12 @@ fn note(entries: &mut Vec<LogEntry>, name: &ActorName, event: Event) -> Result<(
     ensures ok { OnOk result (Notes entries.old.items name.now event entries.new.items) }
     ensures err { OnErr result (entries.new.items ≡ entries.old.items) }
 {
+    entries.reserve(1)?;
     let entry = LogEntry {
         stamp: Stamp(entries.len() as u64 + 1),
         actor: name.copy()?,
         event,
     };
-    entries.push(entry)?;
+    entries.push_reserved(entry);
     Ok(())
 }

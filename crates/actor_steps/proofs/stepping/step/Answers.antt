@@ -11,7 +11,7 @@ loop-preserved-in-Load g c =
     let inv = c.loop.invariant in
     let new = c.load.new.task.progress in
     let did = c.in_ok-load-in-Load.ensures in
-    let rested : c.rest.new.self.progress ≡ after_rest i was = ap (λ (k : TaskState). k.progress) c.in_ok-rest.ensures.rests in (
+    let rested : c.rest.new.task.progress ≡ after_rest i was = ap (λ (k : TaskState). k.progress) c.in_ok-rest.ensures.rests in (
       record { began = did.same.began ∙ (ap (λ (r : ActorProgress). r.began) rested ∙ inv.0.began); low = did.same.low ∙ (ap (λ (r : ActorProgress). r.low) rested ∙ inv.0.low) },
       did.tracked,
       suc inv.2,
@@ -25,7 +25,7 @@ loop-preserved g c =
     let inv = c.loop.invariant in
     let new = c.store.new.task.progress in
     let did = c.in_ok-store-in-Store.ensures in
-    let rested : c.rest.new.self.progress ≡ after_rest i was = ap (λ (k : TaskState). k.progress) c.in_ok-rest.ensures.rests in (
+    let rested : c.rest.new.task.progress ≡ after_rest i was = ap (λ (k : TaskState). k.progress) c.in_ok-rest.ensures.rests in (
       record { began = did.same.began ∙ (ap (λ (r : ActorProgress). r.began) rested ∙ inv.0.began); low = did.same.low ∙ (ap (λ (r : ActorProgress). r.low) rested ∙ inv.0.low) },
       did.tracked,
       suc inv.2,

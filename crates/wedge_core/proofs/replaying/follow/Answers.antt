@@ -1,38 +1,28 @@
-use Rattle.std.proofs.Common.{◌≡◌, false, ap, Err, rules}
-use Rattle.machine.specs.Worlds.{is_complete}
-use Rattle.world_turns.proofs.Replays.{not_true, replayed_unknown, replayed_ended, replayed_waits, replayed_busy}
+use Rattle.std.proofs.Common.{◌≡◌, None, false, ap, subst, rules}
+use Rattle.machine.specs.Worlds.{actor_named, is_complete}
+use Rattle.world_turns.specs.Progress.{Progress}
+use Rattle.world_turns.proofs.Replays.{replayed_unknown, replayed_ended, replayed_waits, replayed_busy}
 use Rattle.wedge_core.proofs.replaying.follow.Goals as goal
-use Rattle.wedge_core.proofs.replaying.follow.Goals.{in-Ok, in-Err-NoMemory, in-Err-Unknown, in-Err-Ended, in-Err-Waits, in-Err-Busy}
 
-pub returns-clause-rejected : goal.returns-clause-rejected
-returns-clause-rejected c =
+pub returns-in_default-clause-rejected : goal.returns-in_default-clause-rejected
+returns-in_default-clause-rejected c = λ names.
     let w = c.args.world.now.state in
-    let at = c.args.at in
     let name = c.args.name.now in
     let going : is_complete w ≡ false = search rules in
-    elim c.match-turn.branch [
-      | in-Ok b ↦ rw b.result-is tt
-      | in-Err-NoMemory b ↦ rw b.result-is (λ names. tt)
-      | in-Err-Unknown b ↦ rw b.result-is (λ names. replayed_unknown w at name names going (b.in-Err-Unknown.ensures.unknown.0 (ap (λ x. Err x) b.in-Err-Unknown.field-0-is)).1)
-      | in-Err-Ended b ↦ rw b.result-is (λ names. replayed_ended w at name names going (b.in-Err-Ended.ensures.ended.0 (ap (λ x. Err x) b.in-Err-Ended.field-0-is)).1)
-      | in-Err-Waits b ↦ rw b.result-is (λ names. replayed_waits w at name names going (b.in-Err-Waits.ensures.waits (ap (λ x. Err x) b.in-Err-Waits.field-0-is)).1)
-      | in-Err-Busy b ↦ rw b.result-is (λ names. replayed_busy w at name names going (b.in-Err-Busy.ensures.busy (ap (λ x. Err x) b.in-Err-Busy.field-0-is)).1)
-    ]
+    let unknown : actor_named w.actors name ≡ None = subst (λ as_. actor_named as_ name ≡ None) (ap (λ (p : Progress). p.state.actors) c.world.view_is) c.in_default.ensures.unknown in
+    replayed_unknown w c.args.at name names going unknown
 
-pub returns-clause-ok : goal.returns-clause-ok
-returns-clause-ok c =
-    let lives : is_complete c.args.world.now.state ≡ false = search rules in
-    elim c.match-turn.branch [
-      | in-Ok b ↦ rw b.result-is (record {
-        event = b.in-Ok.field-0.event;
-        goes_on = lives;
-        turn = b.in-Ok.ensures.took;
-        noted = b.in-Ok.ensures.noted;
-        going = not_true c.turn.new.world.stopped (λ e. let f = b.in-Ok.ensures.stops.1 e in cc);
-      })
-      | in-Err-NoMemory b ↦ rw b.result-is tt
-      | in-Err-Unknown b ↦ rw b.result-is tt
-      | in-Err-Ended b ↦ rw b.result-is tt
-      | in-Err-Waits b ↦ rw b.result-is tt
-      | in-Err-Busy b ↦ rw b.result-is tt
-    ]
+pub returns-in-Ok-Ended-clause-rejected : goal.returns-in-Ok-Ended-clause-rejected
+returns-in-Ok-Ended-clause-rejected c = λ names.
+    let going : is_complete c.args.world.now.state ≡ false = search rules in
+    replayed_ended c.args.world.now.state c.args.at c.args.name.now names going (c.in-Ok-Ended.ensures.ended c.in-Ok-Ended.field-0-is).0
+
+pub returns-in-Ok-Waits-clause-rejected : goal.returns-in-Ok-Waits-clause-rejected
+returns-in-Ok-Waits-clause-rejected c = λ names.
+    let going : is_complete c.args.world.now.state ≡ false = search rules in
+    replayed_waits c.args.world.now.state c.args.at c.args.name.now names going (c.in-Ok-Waits.ensures.waits c.in-Ok-Waits.field-0-is).0
+
+pub returns-in-Ok-Busy-clause-rejected : goal.returns-in-Ok-Busy-clause-rejected
+returns-in-Ok-Busy-clause-rejected c = λ names.
+    let going : is_complete c.args.world.now.state ≡ false = search rules in
+    replayed_busy c.args.world.now.state c.args.at c.args.name.now names going (c.in-Ok-Busy.ensures.busy c.in-Ok-Busy.field-0-is).0

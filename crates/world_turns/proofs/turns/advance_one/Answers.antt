@@ -1,16 +1,14 @@
-use Rattle.std.proofs.Common.{◌≡◌, ◌∙◌, ap, sym}
-use Rattle.std.specs.Prelude.{Some, None}
-use Rattle.machine.specs.Actors.{ActorState, whole}
-use Rattle.machine.specs.Local.{rest, run_awaited}
-use Rattle.machine.specs.Resting.{run_in}
+use Rattle.std.proofs.Common.{◌≡◌, ◌∙◌, ap}
+use Rattle.machine.specs.Actors.{ActorState}
+use Rattle.machine.specs.Local.{has_ended, run_awaited}
+use Rattle.machine.proofs.Resting.{rest-ended}
 use Rattle.world_turns.proofs.AtRest.{rest_none}
 use Rattle.world_turns.proofs.turns.advance_one.Goals as goal
 
-pub unreachable-requires-in-Waiting : goal.unreachable-requires-in-Waiting
-unreachable-requires-in-Waiting c =
-    let a = c.args.resident.now in
-    let i = c.args.program.now in
-    let new : whole c.local.new.actor c.local.new.memory ≡ rest i a = c.in_ok-local.ensures.rests ∙ ap (rest i) c.resident.view_is in
-    let none : run_in c.in_ok-local.field-0 ≡ None = c.in_ok-local.ensures.waits ∙ (ap (λ (x : ActorState). run_awaited x.phase) new ∙ rest_none i a c.requires.awake) in
-    let f : Some c.in-Waiting.run' ≡ None = sym (ap run_in c.in-Waiting.is) ∙ none in
-    cc
+pub advance_next-requires-clause-lives : goal.advance_next-requires-clause-lives
+advance_next-requires-clause-lives c =
+    ap (λ (x : ActorState). has_ended x.phase) c.in_ok-bring_to_rest.ensures.rests ∙ (rest-ended c.args.program.now c.args.resident.now ∙ c.requires.lives)
+
+pub advance_next-requires-clause-awake : goal.advance_next-requires-clause-awake
+advance_next-requires-clause-awake c =
+    ap (λ (x : ActorState). run_awaited x.phase) c.in_ok-bring_to_rest.ensures.rests ∙ rest_none c.args.program.now c.args.resident.now c.requires.awake
