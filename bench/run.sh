@@ -169,17 +169,27 @@ if command -v python3 > /dev/null; then
     measure_trace 450000 5000
 fi
 
+# Counts the host instructions of a command.
+callgrind() {
+    valgrind --tool=callgrind --callgrind-out-file="$work/callgrind" "$program" "$@" > /dev/null 2>&1 || exit 1
+}
+
 # Host instructions for each instruction of a loop: what a run with more fuel counts more than one with less, over
 # the instructions that it makes more. What is counted, the name of the loop, less and more fuel, how many
 # instructions that is, the bound, and the function whose instructions alone are counted, with those of what it calls; of
-# all, if none is named. The loop is read from the standard input.
+# all, if none is named. The loop is read from the standard input. With a last word `replay`, a replay of the run is counted
+# in place of it.
 count() {
     cat > "$work/loop"
     for fuel in "$3" "$4"; do
         partition "$fuel" < "$work/loop" > "$work/$2$fuel.toml"
         "$wedge" build "$work/$2$fuel.toml" > "$work/$2$fuel.wedge" || exit 1
-        valgrind --tool=callgrind --callgrind-out-file="$work/callgrind" "$program" run "$work/$2$fuel.wedge" \
-            > /dev/null 2>&1 || exit 1
+        if [ "$8" = replay ]; then
+            "$program" run "$work/$2$fuel.wedge" --schedule > "$work/$2.schedule" 2> /dev/null || exit 1
+            callgrind replay "$work/$2$fuel.wedge" "$work/$2.schedule"
+        else
+            callgrind run "$work/$2$fuel.wedge"
+        fi
         callgrind_annotate --inclusive=yes "$work/callgrind" > "$work/$2$fuel.count" || exit 1
     done
     awk -v what="$1" -v made="$5" -v bound="$6" -v of="${7:-PROGRAM TOTALS}" '
@@ -204,11 +214,12 @@ printf '.proc main\nagain:\naddi a0, a0, 1\nxor a1, a1, a0\nsub a2, a1, a0\nj ag
 } | count 'the same, two in ten private' private 100000 200000 100000 55 || exit 1
 
 # Loads and stores of a tag, 32 of 33 instructions: each is counted with its part of the jump. First with the audit and
-# the report of the run, and then what its threads alone do.
+# the report of the run, then what its threads alone do, and last a turn of a replay, on one thread and under no lock.
 accesses() {
     printf '.proc main\nli t0, seg_box\nagain:\n'
     awk 'BEGIN { for (k = 0; k < 16; k++) print "lw a0, 0(t0)\nsw a0, 4(t0)" }'
     printf 'j again\n'
 }
-accesses | count 'a shared access' shared 33000 66000 32000 545 || exit 1
-accesses | count 'a shared access, before the audit' shared 33000 66000 32000 535 gate_runner::runner::run_whole
+accesses | count 'a shared access' shared 33000 66000 32000 475 || exit 1
+accesses | count 'a shared access, before the audit' shared 33000 66000 32000 465 gate_runner::runner::run_whole
+accesses | count 'a shared access, a turn of a replay' turn 33000 66000 32000 355 world_turns::turns::advance replay || exit 1
