@@ -1,18 +1,16 @@
 //! An actor with its log.
 
-ghost use Rattle.std.specs.Prelude.{◌≡◌, ◌≤◌, ◌⊎◌, IfOk, OnOk, OnErr, IfSome, IsSomeAnd, Some, None, is_some, true, false, map, option_map};
+ghost use Rattle.std.specs.Prelude.{◌≡◌, ◌≤◌, ◌⊎◌, IfOk, OnOk, OnErr, IsSomeAnd, Some, None, is_some, true, false, map};
 ghost use Rattle.machine.specs.Actors.{right_of};
 ghost use Rattle.machine.specs.Between.{TakesFit};
 ghost use Rattle.machine.specs.Children.{fuel_given};
-ghost use Rattle.machine.specs.Local.{end_reached, has_ended, is_running, rest, run_awaited};
+ghost use Rattle.machine.specs.Local.{end_reached, has_ended, is_running, run_awaited};
 ghost use Rattle.machine.specs.Resting.{want_in, end_in, run_in, NextFits};
-ghost use Rattle.machine.specs.Take.{asks, pair, current_want, actor_begun, takes};
-ghost use Rattle.machine.specs.Actors.{whole};
-ghost use Rattle.actor_step.specs.Reached.{reached, IsAccess, IsReached};
-ghost use Rattle.wedge_events.specs.declared.events.Want.{Want as AWant};
+ghost use Rattle.machine.specs.Take.{asks, pair, current_want, actor_begun};
 ghost use Rattle.std.specs.Arc.{arc_value};
 ghost use Rattle.machine.specs.declared.phase.Phase.TheVariants as phase;
 ghost use Rattle.run_laws.specs.Walks.{IsEntryOf};
+ghost use Rattle.sthread_life.specs.Within.{FitsWithin};
 ghost use Rattle.thread_laws.specs.Joining.{IsEndOf};
 ghost use Rattle.thread_laws.specs.ActorProgresses.{at_creation, after_rest, after_entry, after_run};
 ghost use Rattle.actor_run.specs.Runs.{going, AffordsGate};
@@ -22,16 +20,15 @@ use callgate::Gate;
 use cow_pages::PrivateView;
 use grant_cache::GrantCache;
 use journal_cell::RunOf;
-use machine::{Actor, EndedActor, Next, Resident};
+use machine::{Actor, EndedActor, Next, Phase, Resident};
 use ready_text::Program;
 use std::alloc::Global;
 use std::marker::{Model, PhantomData};
 use std::snapshot::Snapshot;
 use std::sync::Arc;
-use sthread_life::{Access, want_access};
 use thread_laws::{ActorEnd, ActorLog};
 use wedge_base::{ActorName, Items, NoMemory, Right, Stamp, TagNo};
-use wedge_events::{Ask, Event, Live, LogEntry, Want};
+use wedge_events::{Ask, Live, LogEntry, Want};
 
 /// An actor with its private memory, its cache of rights, and the log of what it did since it was created. It takes part in a run
 /// of the image for which `I` stands. Where it ran out of memory it has stopped, and does nothing more.
@@ -48,8 +45,6 @@ pub struct ActorRun<I: RunOf> {
     /// For proofs alone: how it began, and the clock then.
     pub(crate) began: Snapshot<Resident>,
     pub(crate) low: Stamp,
-    /// The load or the store of a slot to which it has come: it wants that, and the actor itself still runs.
-    pub(crate) access: Option<Access>,
     run: PhantomData<I>,
 }
 
@@ -64,16 +59,13 @@ impl<I: RunOf> Drop for ActorRun<I> {
             cache: _,
             began: _,
             low: _,
-            access: _,
             run: _,
         } = self;
     }
 }
 
 impl<I: RunOf> Model for ActorRun<I> {
-    ghost use Rattle.std.specs.Prelude.{IfSome};
     ghost use Rattle.machine.specs.Actors.{whole};
-    ghost use Rattle.actor_step.specs.Reached.{reached, IsReached};
     ghost use Rattle.actor_run.specs.Runs.{RunState, KeepsCache};
 
     ghost Value = { RunState };
@@ -83,16 +75,13 @@ impl<I: RunOf> Model for ActorRun<I> {
         began = r.began.value;
         low = r.low;
         entries = r.entries.items;
-        state = reached (whole r.actor r.memory) r.access;
+        state = whole r.actor r.memory;
         clock = r.clock;
       };
       stopped = r.actor.stopped;
     } };
 
-    ghost invariant = { λ r. record {
-      cache : KeepsCache r.actor r.entries.items r.cache;
-      comes : IfSome r.access (IsReached r.actor.phase);
-    } };
+    ghost invariant = { λ r. KeepsCache r.actor r.entries.items r.cache };
 }
 
 /// The place of the instructions of actors on threads.
@@ -114,7 +103,6 @@ impl<I: RunOf> ActorRun<I> {
             cache,
             began,
             low: clock,
-            access: None,
             run: PhantomData,
         })
     }
@@ -128,10 +116,7 @@ impl<I: RunOf> ActorRun<I> {
         ensures going { OnOk result (self.old.stopped ≡ false) }
         ensures stops { OnErr result (self.new.stopped ≡ true) }
     {
-        let access = self.access;
-        self.access = None;
-        self.access = rest_from(&mut self.actor, program, &mut self.memory, access)?;
-        Ok(())
+        sthread_life::rest::<OnThread>(&mut self.actor, program, &mut self.memory)
     }
 
     /// Returns what an actor at rest wants, its end, or the run of a gate for which it waits. An actor that runs out of
@@ -147,20 +132,22 @@ impl<I: RunOf> ActorRun<I> {
         ensures waits { IfOk result (λ n. run_in n ≡ run_awaited self.old.progress.state.phase) }
         ensures fits { IfOk result (NextFits self.old.progress.state) }
     {
-        if let Some(access) = self.access {
-            self.access = None;
-            want_access(&mut self.actor, access);
-        }
         sthread_life::next(&mut self.actor, &self.memory)
     }
 
-    /// Returns the load or the store of a slot that it wants, if it has come to one.
+    /// Returns a reference to its phase.
     #[inline(always)]
-    pub fn access(&self) -> Option<Access>
-        ensures { IfSome result (λ x. (self.now.progress.state.phase
-            ≡ phase.Within (AWant.Slot x.slot x.want)) × IsAccess x.slot x.want) }
+    pub fn phase(&self) -> &Phase
+        ensures { result.now ≡ self.now.progress.state.phase }
     {
-        self.access
+        &self.actor.phase
+    }
+
+    /// For proofs alone: at a shared event it wants what it may want.
+    pub fn wants_fit(&self)
+        ensures { FitsWithin self.now.progress.state self.now.progress.state.phase }
+    {
+        sthread_life::wants_fit(&self.actor);
     }
 
     /// Makes the actor's part of an event, and adds the event's entry to the log. Returns the actor that the event
@@ -185,15 +172,7 @@ impl<I: RunOf> ActorRun<I> {
         ensures err { OnErr result ((self.new ≡ self.old) ⊎ (self.new.stopped ≡ true)) }
     {
         self.entries.reserve(1)?;
-        let access = self.access;
-        self.access = None;
-        let begun = take_any(
-            &mut self.actor,
-            program,
-            &mut self.memory,
-            access,
-            &entry.event,
-        )?;
+        let begun = sthread_life::take(&mut self.actor, program, &mut self.memory, &entry.event)?;
         self.clock = entry.stamp;
         note_entry(&mut self.cache, &self.actor, &entry);
         self.entries.push_reserved(entry);
@@ -216,19 +195,12 @@ impl<I: RunOf> ActorRun<I> {
         ensures going { OnOk result (self.old.stopped ≡ false) }
         ensures err { OnErr result ((self.new ≡ self.old) ⊎ (self.new.stopped ≡ true)) }
     {
-        self.entries.reserve(1)?;
-        let access = self.access;
-        self.access = None;
-        take_one(
-            &mut self.actor,
-            program,
-            &mut self.memory,
-            access,
-            &entry.event,
-        )?;
+        let log = &mut self.entries;
+        log.reserve(1)?;
+        sthread_life::take_alone(&mut self.actor, program, &mut self.memory, &entry.event)?;
         note_entry(&mut self.cache, &self.actor, &entry);
         let stamp = entry.stamp;
-        self.entries.push_reserved(entry);
+        log.push_reserved(entry);
         self.clock = stamp;
         Ok(())
     }
@@ -265,10 +237,7 @@ impl<I: RunOf> ActorRun<I> {
             (λ given. end.fuel ≤ given) }
         ensures { self.new ≡ record self.old { progress = after_run self.old.progress number end } }
     {
-        match self.access {
-            Some(_) => unreachable!(),
-            None => sthread_life::resume(&mut self.actor, number, end.how, end.fuel),
-        }
+        sthread_life::resume(&mut self.actor, number, end.how, end.fuel);
         self.clock = end.last;
     }
 
@@ -340,91 +309,12 @@ impl<I: RunOf> ActorRun<I> {
     }
 }
 
-/// An actor's local events up to its next shared event, where it may have come to this access already. Returns the access
-/// to which it has come, if it has.
-#[inline(always)]
-fn rest_from(
-    actor: &mut Actor,
-    program: &Program<'_>,
-    memory: &mut PrivateView,
-    access: Option<Access>,
-) -> Result<Option<Access>, NoMemory>
-    requires comes { IfSome access (IsReached actor.old.phase) }
-    ensures rests { IfOk result (λ o. reached (whole actor.new memory.new) o
-        ≡ rest program.now (reached (whole actor.old memory.old) access)) }
-    ensures still { IfOk result (λ o.
-        is_running (reached (whole actor.new memory.new) o).phase ≡ false) }
-    ensures comes { IfOk result (λ o. IfSome o (IsReached actor.new.phase)) }
-    ensures going { OnOk result ((actor.old.stopped ≡ false) × (actor.new.stopped ≡ false)) }
-    ensures stops { OnErr result (actor.new.stopped ≡ true) }
-{
-    if access.is_some() {
-        if actor.stopped {
-            return Err(NoMemory);
-        }
-        return Ok(access);
-    }
-    sthread_life::rest::<OnThread>(actor, program, memory)
-}
-
-/// An actor's part of any event, where it may have come to this access.
-fn take_any(
-    actor: &mut Actor,
-    program: &Program<'_>,
-    memory: &mut PrivateView,
-    access: Option<Access>,
-    event: &Event,
-) -> Result<Option<(Actor, PrivateView)>, NoMemory>
-    requires comes { IfSome access (IsReached actor.old.phase) }
-    requires fits { TakesFit (reached (whole actor.old memory.old) access) event.now }
-    ensures takes { OnOk result (whole actor.new memory.new
-        ≡ takes program.now (reached (whole actor.old memory.old) access) event.now) }
-    ensures begun { IfOk result (λ c. option_map (λ p. whole p.0 p.1) c
-        ≡ actor_begun program.now (reached (whole actor.old memory.old) access) event.now) }
-    ensures going { OnOk result ((actor.old.stopped ≡ false) × (actor.new.stopped ≡ false)) }
-    ensures stops { OnErr result (actor.new.stopped ≡ true) }
-{
-    if let Some(access) = access {
-        want_access(actor, access);
-    }
-    sthread_life::take(actor, program, memory, event)
-}
-
-/// An actor's part of an event that creates no actor, where it may have come to this access.
-#[inline(always)]
-#[tactic(auto, unfolding(machine::specs::Take::takes))]
-fn take_one(
-    actor: &mut Actor,
-    program: &Program<'_>,
-    memory: &mut PrivateView,
-    access: Option<Access>,
-    event: &Event,
-) -> Result<(), NoMemory>
-    requires comes { IfSome access (IsReached actor.old.phase) }
-    requires fits { TakesFit (reached (whole actor.old memory.old) access) event.now }
-    requires alone { actor_begun program.now (reached (whole actor.old memory.old) access)
-        event.now ≡ None }
-    ensures takes { OnOk result (whole actor.new memory.new
-        ≡ takes program.now (reached (whole actor.old memory.old) access) event.now) }
-    ensures going { OnOk result ((actor.old.stopped ≡ false) × (actor.new.stopped ≡ false)) }
-    ensures stops { OnErr result (actor.new.stopped ≡ true) }
-{
-    let Some(access) = access else {
-        return sthread_life::take_alone(actor, program, memory, event);
-    };
-    if let Event::Slot { slot, ask, reply } = event {
-        return sthread_life::take_access(actor, program, memory, access, *slot, ask, reply);
-    }
-    want_access(actor, access);
-    sthread_life::take_alone(actor, program, memory, event)
-}
-
 /// For proofs alone: the same of an actor.
 fn affords_gate(actor: &Actor)
     ensures { AffordsGate actor.now.phase actor.now.fuel }
 {
     // The phase is read here, so that what the actor's type keeps is at hand.
-    let _ = matches!(actor.phase, machine::Phase::Entering(_));
+    let _ = matches!(actor.phase, Phase::Entering(_));
 }
 
 impl<I: RunOf> ActorRun<I> {
@@ -449,7 +339,6 @@ impl<I: RunOf> ActorRun<I> {
             cache,
             began: _began,
             low: _low,
-            access: _access,
             run: _run,
         } = self;
         let EndedActor {

@@ -1,24 +1,22 @@
 //! Loads and stores.
 
-ghost use Rattle.std.specs.Prelude.{◌≡◌, ◌%◌, IfOk, IfSome};
+ghost use Rattle.std.specs.Prelude.{◌≡◌, ◌%◌, OnOk};
 ghost use Rattle.wedge_base.specs.Images.{slot_of};
 ghost use Rattle.rv_isa.specs.Table.{HasRegisters};
 ghost use Rattle.rv_hart.specs.Local as hart;
 ghost use Rattle.machine.specs.declared.phase.Phase.TheVariants as phase;
 ghost use Rattle.machine.specs.Accesses as accesses;
 ghost use Rattle.machine.specs.Actors.{whole};
-ghost use Rattle.actor_step.specs.Reached.{reached, IsReached};
 
-use crate::access::Access;
 use cow_pages::PrivateView;
-use machine::Actor;
+use machine::{Actor, Phase};
 use ready_text::Program;
 use rv_hart::{Need, Reply};
 use rv_isa::Instr;
 use wedge_base::{End, NoMemory, Place, WINDOWS_BASE, slot_of};
-use wedge_events::SlotWant;
+use wedge_events::{SlotWant, Want};
 
-/// A load that the instruction at hand needs. Returns the access of a slot to which the actor comes, if it does.
+/// A load that the instruction at hand needs.
 #[inline(always)]
 pub(crate) fn load(
     actor: &mut Actor,
@@ -28,36 +26,33 @@ pub(crate) fn load(
     signed: bool,
     address: u32,
     width: u8,
-) -> Option<Access>
+)
     requires running { actor.old.phase ≡ phase.Running }
     requires registers { HasRegisters instr }
     requires width { accesses.IsWidth width }
     requires needed { (hart.local instr actor.old.hart).need ≡ Need.Load address width signed }
-    ensures is { reached (whole actor.new memory.now) result
+    ensures { whole actor.new memory.now
         ≡ accesses.loads program.now instr signed (whole actor.old memory.now) address width }
-    ensures runs { IfSome result (IsReached actor.new.phase) }
 {
     if address % u32::from(width) != 0 {
         actor.end(End::Misaligned);
-        return None;
+        return;
     }
     if address >= WINDOWS_BASE {
         // Neither text nor private memory lies there.
         program.has_no_text(address, u32::from(width));
         memory.has_no_range(address, u32::from(width));
-        return load_window(actor, memory, instr, signed, address, width);
+        load_window(actor, memory, instr, signed, address, width);
+        return;
     }
     if program.image().is_in_text(address, u32::from(width)) {
         let value = program.image().text_number(address, width);
         actor.hart.finish(instr, Reply::Loaded(value));
-        return None;
+        return;
     }
     match memory.load(address, width) {
         None => load_window(actor, memory, instr, signed, address, width),
-        Some(value) => {
-            actor.hart.finish(instr, Reply::Loaded(value));
-            None
-        }
+        Some(value) => actor.hart.finish(instr, Reply::Loaded(value)),
     }
 }
 
@@ -70,33 +65,26 @@ fn load_window(
     signed: bool,
     address: u32,
     width: u8,
-) -> Option<Access>
+)
     requires running { actor.old.phase ≡ phase.Running }
     requires registers { HasRegisters instr }
     requires width { accesses.IsWidth width }
     requires aligned { address % width ≡ 0 }
     requires needed { (hart.local instr actor.old.hart).need ≡ Need.Load address width signed }
-    ensures is { reached (whole actor.new memory.now) result ≡ accesses.load_window instr signed
+    ensures { whole actor.new memory.now ≡ accesses.load_window instr signed
         (whole actor.old memory.now) width (slot_of address) }
-    ensures runs { IfSome result (IsReached actor.new.phase) }
 {
     let Some(Place { slot, offset }) = slot_of(address) else {
         actor.end(End::Unmapped);
-        return None;
+        return;
     };
     match memory.load_copy(Place { slot, offset }, width) {
         None => {
             let want = SlotWant::Load { offset, width };
-            Some(Access { slot, want })
+            actor.phase = Phase::Within(Want::Slot { slot, want });
         }
-        Some(None) => {
-            actor.end(End::Unmapped);
-            None
-        }
-        Some(Some(value)) => {
-            actor.hart.finish(instr, Reply::Loaded(value));
-            None
-        }
+        Some(None) => actor.end(End::Unmapped),
+        Some(Some(value)) => actor.hart.finish(instr, Reply::Loaded(value)),
     }
 }
 
@@ -108,17 +96,16 @@ fn store_window(
     address: u32,
     width: u8,
     value: u32,
-) -> Result<Option<Access>, NoMemory>
+) -> Result<(), NoMemory>
     requires running { actor.old.phase ≡ phase.Running }
     requires width { accesses.IsWidth width }
     requires aligned { address % width ≡ 0 }
-    ensures is { IfOk result (λ o. reached (whole actor.new memory.new) o ≡ accesses.store_window
+    ensures { OnOk result (whole actor.new memory.new ≡ accesses.store_window
         (whole actor.old memory.old) width value (slot_of address)) }
-    ensures runs { IfOk result (λ o. IfSome o (IsReached actor.new.phase)) }
 {
     let Some(Place { slot, offset }) = slot_of(address) else {
         actor.end(End::Unmapped);
-        return Ok(None);
+        return Ok(());
     };
     match memory.store_copy(Place { slot, offset }, width, value)? {
         None => {
@@ -127,15 +114,15 @@ fn store_window(
                 width,
                 value,
             };
-            return Ok(Some(Access { slot, want }));
+            actor.phase = Phase::Within(Want::Slot { slot, want });
         }
         Some(false) => actor.end(End::Unmapped),
         Some(true) => actor.hart.advance(),
     }
-    Ok(None)
+    Ok(())
 }
 
-/// A store that the instruction at hand needs. Returns the access of a slot to which the actor comes, if it does.
+/// A store that the instruction at hand needs.
 #[inline(always)]
 pub(crate) fn store(
     actor: &mut Actor,
@@ -144,16 +131,15 @@ pub(crate) fn store(
     address: u32,
     width: u8,
     value: u32,
-) -> Result<Option<Access>, NoMemory>
+) -> Result<(), NoMemory>
     requires running { actor.old.phase ≡ phase.Running }
     requires width { accesses.IsWidth width }
-    ensures is { IfOk result (λ o. reached (whole actor.new memory.new) o
+    ensures { OnOk result (whole actor.new memory.new
         ≡ accesses.stores program.now (whole actor.old memory.old) address width value) }
-    ensures runs { IfOk result (λ o. IfSome o (IsReached actor.new.phase)) }
 {
     if address % u32::from(width) != 0 {
         actor.end(End::Misaligned);
-        return Ok(None);
+        return Ok(());
     }
     if address >= WINDOWS_BASE {
         // Neither text nor private memory lies there.
@@ -163,11 +149,11 @@ pub(crate) fn store(
     }
     if program.image().is_in_text(address, u32::from(width)) {
         actor.end(End::TextStore);
-        return Ok(None);
+        return Ok(());
     }
     if !memory.store(address, width, value)? {
         return store_window(actor, memory, address, width, value);
     }
     actor.hart.advance();
-    Ok(None)
+    Ok(())
 }

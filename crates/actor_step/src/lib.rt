@@ -2,7 +2,6 @@
 //! defined in `machine`.
 #![tactic(auto)]
 
-mod access;
 mod accesses;
 mod calls;
 mod drafting;
@@ -15,7 +14,6 @@ mod steps;
 mod streams;
 mod tags;
 
-pub use access::Access;
 pub use making::go_on_making;
 pub use starting::preparation;
 pub use steps::step;

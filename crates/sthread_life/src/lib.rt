@@ -9,8 +9,7 @@ mod starting;
 mod streams;
 mod wants;
 
-pub use actor_step::Access;
 pub use entering::resume;
-pub use events::{take, take_access, take_alone, want_access};
+pub use events::{take, take_alone};
 pub use machine::{Actor, Next};
 pub use resting::{next, rest, wants_fit};

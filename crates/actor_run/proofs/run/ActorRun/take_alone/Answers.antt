@@ -6,8 +6,8 @@ use Rattle.actor_run.proofs.run.ActorRun.take_alone.Goals as goal
 
 pub note_entry-requires-clause-of_sheet : goal.note_entry-requires-clause-of_sheet
 note_entry-requires-clause-of_sheet g c =
-    let k = keeps_taken c.self.inside.actor c.take_one.new.actor c.self.inside.entries.items c.self.inside.cache c.self.invariant.cache c.args.program.now c.self.inside.memory c.take_one.new.memory c.self.inside.access c.args.entry.event c.in_ok-take_one.ensures.takes c.in_ok-take_one.ensures.going in
-    k.rights c.in_ok-take_one.ensures.going.1
+    let k = keeps_taken _ _ _ _ c.self.invariant c.args.program.now c.self.inside.memory c.take_alone.new.memory c.args.entry.event c.in_ok-take_alone.ensures.takes c.in_ok-take_alone.ensures.going in
+    k.rights c.in_ok-take_alone.ensures.going.1
 
 pub note_entry-requires-clause-room : goal.note_entry-requires-clause-room
 note_entry-requires-clause-room g c =
@@ -15,13 +15,10 @@ note_entry-requires-clause-room g c =
     let same = c.reserve.ensures.len in
     let room = c.in_ok-reserve.ensures.ok in
     let small = c.reserve.new.self.small in
-    look_up_room c.self.inside.entries.items c.self.inside.cache c.self.invariant.cache.after (omega arith)
+    look_up_room c.self.inside.entries.items c.self.inside.cache c.self.invariant.after (omega arith)
 
 pub invariant_of-self-2 : goal.invariant_of-self-2
-invariant_of-self-2 g c = record {
-  cache =
-      subst (λ (es : List LogEntry). KeepsCache c.take_one.new.actor es c.note_entry.new.cache)
-      (ap (λ (es : List LogEntry). es ++ c.args.entry ∷ []) (sym c.reserve.ensures.items) ∙ sym c.push_reserved.ensures.items)
-      (c.note_entry.ensures _ (keeps_taken c.self.inside.actor c.take_one.new.actor c.self.inside.entries.items c.self.inside.cache c.self.invariant.cache c.args.program.now c.self.inside.memory c.take_one.new.memory c.self.inside.access c.args.entry.event c.in_ok-take_one.ensures.takes c.in_ok-take_one.ensures.going));
-  comes = tt;
-}
+invariant_of-self-2 g c =
+    subst (λ (es : List LogEntry). KeepsCache c.take_alone.new.actor es c.note_entry.new.cache)
+    (ap (λ (es : List LogEntry). es ++ c.args.entry ∷ []) (sym c.reserve.ensures.items) ∙ sym c.push_reserved.ensures.items)
+    (c.note_entry.ensures _ (keeps_taken _ _ _ _ c.self.invariant c.args.program.now c.self.inside.memory c.take_alone.new.memory c.args.entry.event c.in_ok-take_alone.ensures.takes c.in_ok-take_alone.ensures.going))

@@ -1,2 +1,0 @@
--- Accesses of slots to which a running actor comes.
-pub mod Reached
