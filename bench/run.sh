@@ -221,5 +221,5 @@ accesses() {
     printf 'j again\n'
 }
 accesses | count 'a shared access' shared 33000 66000 32000 475 || exit 1
-accesses | count 'a shared access, before the audit' shared 33000 66000 32000 465 gate_runner::runner::run_whole
+accesses | count 'a shared access, before the audit' shared 33000 66000 32000 465 gate_runner::runner::run_whole || exit 1
 accesses | count 'a shared access, a turn of a replay' turn 33000 66000 32000 355 world_turns::turns::advance replay || exit 1
