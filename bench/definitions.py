@@ -265,6 +265,7 @@ RUN = [
             ("grant_cache/Hits", "Five short functions."),
             ("thread_laws/LookUps", "`IsCounted` is what a log says of its counts."),
             ("thread_laws/Joining", "The theorem is `GatheredIsRun`, and `IsJournalOfRun` is what it promises."),
+            ("run_audit/RunJournals", "The clause uses `entries`; `kept` is what of them is in memory."),
             (
                 "audited_run/AuditedRuns",
                 "The clause uses `IsOfThreads`; `IsDiffering` and `IsInSerialOrder` are for the status 7.",
@@ -498,7 +499,8 @@ OTHERS = [
             ("ruled_cell/Enter", "The parts of a turn; no public contract cites them."),
             ("thread_laws/Auditing", "Two folds over lists."),
             ("thread_laws/ActorWalks", "The walk is `IsWalk` of run_laws."),
-            ("gate_runner/Gathering", "What `run_image` returns: `AreWalked`, `IsOfRoot`, `AreLegalHistories` and `AreRuled`, nothing else."),
+            ("thread_laws/KeptEntries", "What a log keeps in memory is a filter over its entries."),
+            ("gate_runner/Gathering", "What `run_image` returns: `AreWalked`, `IsOfRoot`, `AreLegalHistories`, `AreRuled` and `AreKept`, nothing else."),
             ("run_audit/Audits", "What `audit` returns."),
             (
                 "run_audit/ComparedCells",
@@ -515,6 +517,7 @@ OTHERS = [
             ("run_audit/Rooms", ""),
             ("run_audit/StreamsLeft", ""),
             ("grant_cache/LatestEntries", ""),
+            ("actor_step/Reached", "An actor that comes to an access is, to the machine, one that wants it."),
             ("sthread_life/Within", ""),
             ("actor_run/Runs", ""),
             ("run_cells/Names", ""),

@@ -14,6 +14,7 @@ ghost use Rattle.run_cells.specs.TagPasses.{all_entered};
 ghost use Rattle.thread_laws.specs.Joining.{all_logged};
 ghost use Rattle.actor_ends.specs.Leaving.{HasLeftGate, LeavesCell};
 
+use actor_run::KeptLog;
 use actor_task::{ActorTask, Created, Last, Returned, cellless_entry};
 use host_io::Pace;
 use journal_cell::RunOf;
@@ -22,7 +23,7 @@ use recycled_gate::Kept;
 use run_cells::{LockedCell, TableOf, TagPass, leave_gate};
 use std::alloc::Global;
 use std::thread::Threads;
-use thread_laws::{ActorLog, CellHistory};
+use thread_laws::CellHistory;
 use wedge_base::{End, GateId, NoMemory};
 use wedge_events::{Event, SavedView};
 
@@ -30,7 +31,7 @@ use wedge_events::{Event, SavedView};
 /// actor and of these.
 #[derive(Drop)]
 struct Gathering<I: RunOf, T: TableOf> {
-    others: Vec<ActorLog>,
+    others: Vec<KeptLog<I>>,
     gates: Vec<CellHistory>,
     passes: Vec<TagPass<I, T>>,
 }

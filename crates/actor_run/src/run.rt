@@ -1,34 +1,39 @@
 //! An actor with its log.
 
-ghost use Rattle.std.specs.Prelude.{◌≡◌, ◌≤◌, ◌⊎◌, IfOk, OnOk, OnErr, IsSomeAnd, Some, None, is_some, true, false, map};
+ghost use Rattle.std.specs.Prelude.{◌≡◌, ◌+◌, ◌<◌, ◌≤◌, ◌^◌, ◌⊎◌, ◌++◌, ◌∷◌, [], vec_len, vec_capacity, IfOk, OnOk, OnErr, IfSome, IsSomeAnd, Some, None, is_some, true, false, map, option_map};
 ghost use Rattle.machine.specs.Actors.{right_of};
 ghost use Rattle.machine.specs.Between.{TakesFit};
 ghost use Rattle.machine.specs.Children.{fuel_given};
-ghost use Rattle.machine.specs.Local.{end_reached, has_ended, is_running, run_awaited};
+ghost use Rattle.machine.specs.Local.{end_reached, has_ended, is_running, rest, run_awaited};
 ghost use Rattle.machine.specs.Resting.{want_in, end_in, run_in, NextFits};
-ghost use Rattle.machine.specs.Take.{asks, pair, current_want, actor_begun};
+ghost use Rattle.machine.specs.Take.{asks, pair, current_want, actor_begun, takes};
+ghost use Rattle.machine.specs.Actors.{whole};
+ghost use Rattle.actor_step.specs.Reached.{reached, IsAccess, IsReached};
+ghost use Rattle.wedge_events.specs.declared.events.Want.{Want as AWant};
 ghost use Rattle.std.specs.Arc.{arc_value};
 ghost use Rattle.machine.specs.declared.phase.Phase.TheVariants as phase;
 ghost use Rattle.run_laws.specs.Walks.{IsEntryOf};
-ghost use Rattle.sthread_life.specs.Within.{FitsWithin};
 ghost use Rattle.thread_laws.specs.Joining.{IsEndOf};
+ghost use Rattle.thread_laws.specs.KeptEntries.{entries_elsewhere};
 ghost use Rattle.thread_laws.specs.ActorProgresses.{at_creation, after_rest, after_entry, after_run};
 ghost use Rattle.actor_run.specs.Runs.{going, AffordsGate};
 
+use crate::kept_log::KeptLog;
 use crate::looking::note_entry;
+use actor_step::{Access, want_access};
 use callgate::Gate;
 use cow_pages::PrivateView;
 use grant_cache::GrantCache;
-use journal_cell::RunOf;
-use machine::{Actor, EndedActor, Next, Phase, Resident};
+use journal_cell::{GhostList, RunOf};
+use machine::{Actor, EndedActor, Next, Resident};
 use ready_text::Program;
 use std::alloc::Global;
 use std::marker::{Model, PhantomData};
 use std::snapshot::Snapshot;
 use std::sync::Arc;
-use thread_laws::{ActorEnd, ActorLog};
+use thread_laws::{ActorEnd, ActorLog, is_on_declared};
 use wedge_base::{ActorName, Items, NoMemory, Right, Stamp, TagNo};
-use wedge_events::{Ask, Live, LogEntry, Want};
+use wedge_events::{Ask, Event, Live, LogEntry, Want};
 
 /// An actor with its private memory, its cache of rights, and the log of what it did since it was created. It takes part in a run
 /// of the image for which `I` stands. Where it ran out of memory it has stopped, and does nothing more.
@@ -39,12 +44,20 @@ use wedge_events::{Ask, Live, LogEntry, Want};
 pub struct ActorRun<I: RunOf> {
     pub(crate) actor: Actor,
     pub(crate) memory: PrivateView,
-    pub(crate) entries: Vec<LogEntry>,
+    /// For proofs alone: its entries, all of them.
+    pub(crate) entries: GhostList<LogEntry>,
+    /// Those of its entries that its log keeps: all but those on so many slots, the first ones.
+    pub(crate) kept: Vec<LogEntry>,
+    pub(crate) unkept: usize,
+    /// How many entries it has in all.
+    pub(crate) count: u64,
     pub(crate) clock: Stamp,
     pub(crate) cache: GrantCache,
     /// For proofs alone: how it began, and the clock then.
     pub(crate) began: Snapshot<Resident>,
     pub(crate) low: Stamp,
+    /// The load or the store of a slot to which it has come: it wants that, and the actor itself still runs.
+    pub(crate) access: Option<Access>,
     run: PhantomData<I>,
 }
 
@@ -55,18 +68,24 @@ impl<I: RunOf> Drop for ActorRun<I> {
             actor: _,
             memory: _,
             entries: _,
+            kept: _,
+            unkept: _,
+            count: _,
             clock: _,
             cache: _,
             began: _,
             low: _,
+            access: _,
             run: _,
         } = self;
     }
 }
 
 impl<I: RunOf> Model for ActorRun<I> {
+    ghost use Rattle.std.specs.Prelude.{◌≡◌, IfSome};
     ghost use Rattle.machine.specs.Actors.{whole};
-    ghost use Rattle.actor_run.specs.Runs.{RunState, KeepsCache};
+    ghost use Rattle.actor_step.specs.Reached.{reached, IsReached};
+    ghost use Rattle.actor_run.specs.Runs.{RunState, KeepsCache, KeepsEntries};
 
     ghost Value = { RunState };
 
@@ -74,22 +93,34 @@ impl<I: RunOf> Model for ActorRun<I> {
       progress = record {
         began = r.began.value;
         low = r.low;
-        entries = r.entries.items;
-        state = whole r.actor r.memory;
+        entries = r.entries;
+        state = reached (whole r.actor r.memory) r.access;
         clock = r.clock;
       };
       stopped = r.actor.stopped;
     } };
 
-    ghost invariant = { λ r. KeepsCache r.actor r.entries.items r.cache };
+    ghost invariant = { λ r. record {
+      cache : KeepsCache r.actor r.entries r.cache;
+      comes : IfSome r.access (IsReached r.actor.phase);
+      entries : KeepsEntries I.unkept r.entries r.kept.items r.count;
+      unkept : r.unkept ≡ I.unkept;
+    } };
 }
 
 /// The place of the instructions of actors on threads.
 struct OnThread;
 
 impl<I: RunOf> ActorRun<I> {
-    /// Returns an actor as it is created, with the stamp of the event that creates it. Its cache is empty.
-    pub fn new(alloc: Global, resident: Resident, clock: Stamp) -> Result<ActorRun<I>, NoMemory>
+    /// Returns an actor as it is created, with the stamp of the event that creates it. Its cache is empty. Its log keeps no
+    /// entries on the first `unkept` slots.
+    pub fn new(
+        alloc: Global,
+        resident: Resident,
+        clock: Stamp,
+        unkept: usize,
+    ) -> Result<ActorRun<I>, NoMemory>
+        requires { unkept ≡ I.unkept }
         ensures { IfOk result (λ r. r.progress ≡ at_creation resident clock) }
     {
         let cache = GrantCache::of_actor(alloc)?;
@@ -98,11 +129,15 @@ impl<I: RunOf> ActorRun<I> {
         Ok(ActorRun {
             actor,
             memory,
-            entries: Vec::new(alloc),
+            entries: GhostList::new(),
+            kept: Vec::new(alloc),
+            unkept,
+            count: 0,
             clock,
             cache,
             began,
             low: clock,
+            access: None,
             run: PhantomData,
         })
     }
@@ -116,7 +151,10 @@ impl<I: RunOf> ActorRun<I> {
         ensures going { OnOk result (self.old.stopped ≡ false) }
         ensures stops { OnErr result (self.new.stopped ≡ true) }
     {
-        sthread_life::rest::<OnThread>(&mut self.actor, program, &mut self.memory)
+        let access = self.access;
+        self.access = None;
+        self.access = rest_from(&mut self.actor, program, &mut self.memory, access)?;
+        Ok(())
     }
 
     /// Returns what an actor at rest wants, its end, or the run of a gate for which it waits. An actor that runs out of
@@ -132,22 +170,20 @@ impl<I: RunOf> ActorRun<I> {
         ensures waits { IfOk result (λ n. run_in n ≡ run_awaited self.old.progress.state.phase) }
         ensures fits { IfOk result (NextFits self.old.progress.state) }
     {
+        if let Some(access) = self.access {
+            self.access = None;
+            want_access(&mut self.actor, access);
+        }
         sthread_life::next(&mut self.actor, &self.memory)
     }
 
-    /// Returns a reference to its phase.
+    /// Returns the load or the store of a slot that it wants, if it has come to one.
     #[inline(always)]
-    pub fn phase(&self) -> &Phase
-        ensures { result.now ≡ self.now.progress.state.phase }
+    pub fn access(&self) -> Option<Access>
+        ensures { IfSome result (λ x. (self.now.progress.state.phase
+            ≡ phase.Within (AWant.Slot x.slot x.want)) × IsAccess x.slot x.want) }
     {
-        &self.actor.phase
-    }
-
-    /// For proofs alone: at a shared event it wants what it may want.
-    pub fn wants_fit(&self)
-        ensures { FitsWithin self.now.progress.state self.now.progress.state.phase }
-    {
-        sthread_life::wants_fit(&self.actor);
+        self.access
     }
 
     /// Makes the actor's part of an event, and adds the event's entry to the log. Returns the actor that the event
@@ -171,11 +207,21 @@ impl<I: RunOf> ActorRun<I> {
             c ≡ actor_begun I.image self.old.progress.state entry.event) }
         ensures err { OnErr result ((self.new ≡ self.old) ⊎ (self.new.stopped ≡ true)) }
     {
-        self.entries.reserve(1)?;
-        let begun = sthread_life::take(&mut self.actor, program, &mut self.memory, &entry.event)?;
-        self.clock = entry.stamp;
+        self.kept.reserve(1)?;
+        let count = count_after(self.count)?;
+        let access = self.access;
+        self.access = None;
+        let begun = take_any(
+            &mut self.actor,
+            program,
+            &mut self.memory,
+            access,
+            &entry.event,
+        )?;
         note_entry(&mut self.cache, &self.actor, &entry);
-        self.entries.push_reserved(entry);
+        self.clock = entry.stamp;
+        self.count = count;
+        add_entry(&mut self.entries, &mut self.kept, self.unkept, entry);
         match begun {
             None => Ok(None),
             Some((actor, memory)) => Ok(Some(Resident { actor, memory })),
@@ -195,12 +241,21 @@ impl<I: RunOf> ActorRun<I> {
         ensures going { OnOk result (self.old.stopped ≡ false) }
         ensures err { OnErr result ((self.new ≡ self.old) ⊎ (self.new.stopped ≡ true)) }
     {
-        let log = &mut self.entries;
-        log.reserve(1)?;
-        sthread_life::take_alone(&mut self.actor, program, &mut self.memory, &entry.event)?;
+        self.kept.reserve(1)?;
+        let count = count_after(self.count)?;
+        let access = self.access;
+        self.access = None;
+        take_one(
+            &mut self.actor,
+            program,
+            &mut self.memory,
+            access,
+            &entry.event,
+        )?;
         note_entry(&mut self.cache, &self.actor, &entry);
         let stamp = entry.stamp;
-        log.push_reserved(entry);
+        add_entry(&mut self.entries, &mut self.kept, self.unkept, entry);
+        self.count = count;
         self.clock = stamp;
         Ok(())
     }
@@ -237,7 +292,10 @@ impl<I: RunOf> ActorRun<I> {
             (λ given. end.fuel ≤ given) }
         ensures { self.new ≡ record self.old { progress = after_run self.old.progress number end } }
     {
-        sthread_life::resume(&mut self.actor, number, end.how, end.fuel);
+        match self.access {
+            Some(_) => unreachable!(),
+            None => sthread_life::resume(&mut self.actor, number, end.how, end.fuel),
+        }
         self.clock = end.last;
     }
 
@@ -278,6 +336,13 @@ impl<I: RunOf> ActorRun<I> {
         self.actor.name()
     }
 
+    /// Returns on how many slots, the first ones, its log keeps no entries.
+    pub fn unkept(&self) -> usize
+        ensures { result ≡ I.unkept }
+    {
+        self.unkept
+    }
+
     /// Returns its clock.
     #[inline(always)]
     pub fn clock(&self) -> Stamp
@@ -309,19 +374,125 @@ impl<I: RunOf> ActorRun<I> {
     }
 }
 
+/// An actor's local events up to its next shared event, where it may have come to this access already. Returns the access
+/// to which it has come, if it has.
+#[inline(always)]
+fn rest_from(
+    actor: &mut Actor,
+    program: &Program<'_>,
+    memory: &mut PrivateView,
+    access: Option<Access>,
+) -> Result<Option<Access>, NoMemory>
+    requires comes { IfSome access (IsReached actor.old.phase) }
+    ensures rests { IfOk result (λ o. reached (whole actor.new memory.new) o
+        ≡ rest program.now (reached (whole actor.old memory.old) access)) }
+    ensures still { IfOk result (λ o.
+        is_running (reached (whole actor.new memory.new) o).phase ≡ false) }
+    ensures comes { IfOk result (λ o. IfSome o (IsReached actor.new.phase)) }
+    ensures going { OnOk result ((actor.old.stopped ≡ false) × (actor.new.stopped ≡ false)) }
+    ensures stops { OnErr result (actor.new.stopped ≡ true) }
+{
+    if access.is_some() {
+        if actor.stopped {
+            return Err(NoMemory);
+        }
+        return Ok(access);
+    }
+    sthread_life::rest::<OnThread>(actor, program, memory)
+}
+
+/// An actor's part of any event, where it may have come to this access.
+fn take_any(
+    actor: &mut Actor,
+    program: &Program<'_>,
+    memory: &mut PrivateView,
+    access: Option<Access>,
+    event: &Event,
+) -> Result<Option<(Actor, PrivateView)>, NoMemory>
+    requires comes { IfSome access (IsReached actor.old.phase) }
+    requires fits { TakesFit (reached (whole actor.old memory.old) access) event.now }
+    ensures takes { OnOk result (whole actor.new memory.new
+        ≡ takes program.now (reached (whole actor.old memory.old) access) event.now) }
+    ensures begun { IfOk result (λ c. option_map (λ p. whole p.0 p.1) c
+        ≡ actor_begun program.now (reached (whole actor.old memory.old) access) event.now) }
+    ensures going { OnOk result ((actor.old.stopped ≡ false) × (actor.new.stopped ≡ false)) }
+    ensures stops { OnErr result (actor.new.stopped ≡ true) }
+{
+    if let Some(access) = access {
+        want_access(actor, access);
+    }
+    sthread_life::take(actor, program, memory, event)
+}
+
+/// An actor's part of an event that creates no actor, where it may have come to this access.
+#[inline(always)]
+#[tactic(auto, unfolding(machine::specs::Take::takes))]
+fn take_one(
+    actor: &mut Actor,
+    program: &Program<'_>,
+    memory: &mut PrivateView,
+    access: Option<Access>,
+    event: &Event,
+) -> Result<(), NoMemory>
+    requires comes { IfSome access (IsReached actor.old.phase) }
+    requires fits { TakesFit (reached (whole actor.old memory.old) access) event.now }
+    requires alone { actor_begun program.now (reached (whole actor.old memory.old) access)
+        event.now ≡ None }
+    ensures takes { OnOk result (whole actor.new memory.new
+        ≡ takes program.now (reached (whole actor.old memory.old) access) event.now) }
+    ensures going { OnOk result ((actor.old.stopped ≡ false) × (actor.new.stopped ≡ false)) }
+    ensures stops { OnErr result (actor.new.stopped ≡ true) }
+{
+    let Some(access) = access else {
+        return sthread_life::take_alone(actor, program, memory, event);
+    };
+    if let Event::Slot { slot, ask, reply } = event {
+        return sthread_life::take_access(actor, program, memory, access, *slot, ask, reply);
+    }
+    want_access(actor, access);
+    sthread_life::take_alone(actor, program, memory, event)
+}
+
+/// Returns the count of one entry more. Fails where there are as many as can be counted.
+#[inline(always)]
+fn count_after(count: u64) -> Result<u64, NoMemory>
+    ensures { IfOk result (λ n. (n ≡ count + 1) × (n < 2 ^ 64)) }
+{
+    count.checked_add(1).ok_or(NoMemory)
+}
+
+/// Adds an entry to those of an actor, and to those that its log keeps if it is on none of the first `unkept` slots. There
+/// is room for it.
+#[inline(always)]
+fn add_entry(
+    entries: &mut GhostList<LogEntry>,
+    kept: &mut Vec<LogEntry>,
+    unkept: usize,
+    entry: LogEntry,
+)
+    requires { vec_len kept.old + 1 ≤ vec_capacity kept.old }
+    ensures entries { entries.new ≡ entries.old ++ entry ∷ [] }
+    ensures kept { kept.new.items ≡ kept.old.items ++ entries_elsewhere unkept (entry ∷ []) }
+{
+    entries.push(&entry);
+    if !is_on_declared(unkept, &entry.event) {
+        kept.push_reserved(entry);
+    }
+}
+
 /// For proofs alone: the same of an actor.
 fn affords_gate(actor: &Actor)
     ensures { AffordsGate actor.now.phase actor.now.fuel }
 {
     // The phase is read here, so that what the actor's type keeps is at hand.
-    let _ = matches!(actor.phase, Phase::Entering(_));
+    let _ = matches!(actor.phase, machine::Phase::Entering(_));
 }
 
 impl<I: RunOf> ActorRun<I> {
     /// Consumes an actor that has ended, and returns its log, and what another learns of its end. It takes no
     /// memory.
     #[tactic(auto, using(crate::proofs::Phases::ended_so))]
-    pub fn finish(self) -> (ActorLog, ActorEnd)
+    pub fn finish(self) -> (KeptLog<I>, ActorEnd)
         requires { has_ended self.progress.state.phase ≡ true }
         ensures entries { result.0.entries ≡ self.progress.entries }
         ensures log { IsEndOf self.progress.state result.0 }
@@ -335,10 +506,14 @@ impl<I: RunOf> ActorRun<I> {
             actor,
             memory: _memory,
             entries,
+            kept,
+            unkept: _unkept,
+            count,
             clock: last_stamp,
             cache,
             began: _began,
             low: _low,
+            access: _access,
             run: _run,
         } = self;
         let EndedActor {
@@ -363,9 +538,11 @@ impl<I: RunOf> ActorRun<I> {
             fuel,
             denials,
             labels,
-            entries: Items::new(entries),
+            entries,
+            kept: Items::new(kept),
+            count,
             cache: cache.count(),
         };
-        (log, learned)
+        (KeptLog::new(log), learned)
     }
 }

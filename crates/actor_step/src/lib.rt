@@ -2,6 +2,7 @@
 //! defined in `machine`.
 #![tactic(auto)]
 
+mod access;
 mod accesses;
 mod calls;
 mod drafting;
@@ -14,6 +15,7 @@ mod steps;
 mod streams;
 mod tags;
 
+pub use access::{Access, want_access};
 pub use making::go_on_making;
 pub use starting::preparation;
 pub use steps::step;

@@ -15,7 +15,7 @@ ghost use Rattle.actor_steps.specs.Logged.{HasLogged, HasStepped, IsLoggedBy};
 use actor_task::{ActorTask, GateEntry, Last, Step};
 use host_io::Pace;
 use journal_cell::RunOf;
-use machine::{Next, Phase};
+use machine::Next;
 use ready_text::Program;
 use run_cells::{RunCells, TableOf, TagPass, is_of_cell};
 use std::sync::Wait;
@@ -23,8 +23,8 @@ use wedge_base::{NoMemory, Slot};
 use wedge_events::{GateAsk, SlotWant, Want};
 
 /// Makes the actor's local events and its next shared event, if no other actor has part in that: all loads and stores of
-/// slots one after another, and then one other event, or none. Loads and stores, which are the most, are found by the
-/// actor's phase: what it wants is not copied for them. Out of line, so that what a caller holds is not in the way of them.
+/// slots one after another, and then one other event, or none. Loads and stores, which are the most, are made while the actor
+/// still runs: nothing is written of what it wants. Out of line, so that what a caller holds is not in the way of them.
 #[inline(never)]
 pub fn step<I: RunOf, T: TableOf, R: Wait, P: Pace>(
     task: &mut ActorTask<I, T>,
@@ -44,11 +44,10 @@ pub fn step<I: RunOf, T: TableOf, R: Wait, P: Pace>(
 {
     for _ in rt.forever() {
         rest(task, program)?;
-        task.run.wants_fit();
-        if let Phase::Within(Want::Slot { slot, want }) = task.run.phase() {
-            match want {
+        if let Some(access) = task.run.access() {
+            let slot = access.slot;
+            match access.want {
                 SlotWant::Load { offset, width } => {
-                    let (slot, offset, width) = (*slot, *offset, *width);
                     load(task, pass, rt, program, cells, pace, slot, offset, width)?;
                     continue;
                 }
@@ -57,7 +56,6 @@ pub fn step<I: RunOf, T: TableOf, R: Wait, P: Pace>(
                     width,
                     value,
                 } => {
-                    let (slot, offset, width, value) = (*slot, *offset, *width, *value);
                     store(
                         task, pass, rt, program, cells, pace, slot, offset, width, value,
                     )?;

@@ -4,6 +4,7 @@ ghost use Rattle.std.specs.Prelude.{◌≡◌, IfOk, OnErr, Some, None};
 ghost use Rattle.thread_laws.specs.ActorProgresses.{created_actor};
 ghost use Rattle.actor_task.specs.Returning.{IsReturned, HasWaited, IsReturnedOf};
 
+use actor_run::KeptLog;
 use journal_cell::RunOf;
 use machine::Resident;
 use run_cells::{TableOf, TagPass};
@@ -11,7 +12,7 @@ use std::marker::{Model, PhantomData};
 use std::mem;
 use std::snapshot::Snapshot;
 use std::thread::{Promise, PromisedHandle, Threads};
-use thread_laws::{ActorEnd, ActorLog, CellHistory};
+use thread_laws::{ActorEnd, CellHistory};
 use wedge_base::{NoMemory, Stamp};
 
 /// What the run of an actor returns once the actor has ended: its log and how it ended, the logs of all that it
@@ -19,9 +20,9 @@ use wedge_base::{NoMemory, Stamp};
 /// came to the slots of declared tags.
 #[derive(Drop)]
 pub struct Returned<I: RunOf, T: TableOf> {
-    pub log: ActorLog,
+    pub log: KeptLog<I>,
     pub end: ActorEnd,
-    pub others: Vec<ActorLog>,
+    pub others: Vec<KeptLog<I>>,
     pub gates: Vec<CellHistory>,
     /// One for each log, in the order of the logs.
     pub passes: Vec<TagPass<I, T>>,

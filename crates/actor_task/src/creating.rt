@@ -25,13 +25,15 @@ use std::snapshot::Snapshot;
 use wedge_base::{ActorName, NoMemory, Stamp};
 use wedge_events::{Event, LogEntry};
 
-/// An actor as it is created: with the stamp of the event that creates it, and the cells of the recycled gates
-/// that it knows.
+/// An actor as it is created: with the stamp of the event that creates it, the cells of the recycled gates that it knows, and
+/// on how many slots, the first ones, its log keeps no entries.
 #[derive(Drop)]
 pub struct NewActor<I: RunOf> {
     pub resident: Resident,
     pub stamp: Stamp,
     pub gates: GateCells<I>,
+    pub unkept: usize,
+    pub ghost of_run: { unkept ≡ I.unkept },
     pub ghost begins: { IsNew resident },
     pub ghost cells: { HasCells gates resident.gates },
     pub ghost few: { length resident.name < 33 },
@@ -238,6 +240,7 @@ impl<I: RunOf, T: TableOf> ActorTask<I, T> {
             resident,
             stamp,
             gates: cells,
+            unkept: run.unkept(),
         };
         let creating = Creating {
             alloc,

@@ -59,10 +59,11 @@ impl<I: RunOf, T: TableOf> ActorTask<I, T> {
             resident,
             stamp,
             gates,
+            unkept,
         } = new;
         Ok(ActorTask {
             alloc,
-            run: ActorRun::new(alloc, resident, stamp)?,
+            run: ActorRun::new(alloc, resident, stamp, unkept)?,
             created: Vec::new(alloc),
             gates,
         })

@@ -1,6 +1,7 @@
 //! A run on threads, its audit, and the run that is made again.
 
-ghost use Rattle.std.specs.Prelude.{◌≡◌, IfOk, Some, None};
+ghost use Rattle.std.specs.Prelude.{◌≡◌, true, All, IfOk, Some, None};
+ghost use Rattle.thread_laws.specs.KeptEntries.{IsKept};
 ghost use Rattle.gate_runner.specs.Gathering.{IsGathered};
 ghost use Rattle.audited_run.specs.AuditedRuns.{IsAudited, IsAuditedRun, IsDiffering};
 
@@ -50,16 +51,21 @@ pub struct AuditedRun {
 /// Where they differ, the image is run again on one thread, each turn that of the actor that was started last and has
 /// not ended, and `differs` has what differed.
 ///
+/// `is_whole` says whether the logs keep all entries, so that the journal can be asked for. If not, they do not keep
+/// those on the slots of declared tags.
+///
 /// Fails only where out of memory or of stamps, after all threads have ended.
 pub fn run_audited<R: Threads + Wait + Sync, P: Pace + Sync>(
     rt: &R,
     alloc: Global,
     image: &Image,
     pace: &P,
+    is_whole: bool,
 ) -> Result<AuditedRun, NoMemory>
-    ensures { IfOk result (IsAuditedRun image.now) }
+    ensures run { IfOk result (IsAuditedRun image.now) }
+    ensures whole { is_whole ≡ true → IfOk result (λ r. r.journal.kept ≡ r.journal.entries) }
 {
-    let gathered = run_image(rt, alloc, image, pace)?;
+    let gathered = run_image(rt, alloc, image, pace, is_whole)?;
     audited(alloc, image, gathered)
 }
 
@@ -68,6 +74,8 @@ pub fn audited(alloc: Global, image: &Image, gathered: Gathered) -> Result<Audit
     requires { IsGathered image.now gathered }
     ensures run { IfOk result (IsAuditedRun image.now) }
     ensures of { IfOk result (λ r. IsAudited gathered r.differs) }
+    ensures whole { All (IsKept 0) gathered.logs
+        → IfOk result (λ r. r.journal.kept ≡ r.journal.entries) }
 {
     match audit(alloc, image, gathered) {
         Ok(audited) => Ok(without_difference(audited)),
@@ -105,6 +113,7 @@ fn again(alloc: Global, image: &Image, differs: Differs) -> Result<AuditedRun, N
     requires { IsDiffering image.now differs }
     ensures run { IfOk result (IsAuditedRun image.now) }
     ensures differs { IfOk result (λ r. r.differs ≡ Some differs) }
+    ensures whole { IfOk result (λ r. r.journal.kept ≡ r.journal.entries) }
 {
     let (journal, outcome) = serial(alloc, image)?;
     Ok(AuditedRun {

@@ -5,6 +5,7 @@ use Rattle.tag_laws.specs.DeclaredTags.{AreRuled}
 use Rattle.machine.specs.Actors.{root}
 use Rattle.thread_laws.specs.ActorProgresses.{AreReturned}
 use Rattle.thread_laws.specs.Joining.{AreWalked, all_logged}
+use Rattle.thread_laws.specs.KeptEntries.{AreKept}
 use Rattle.thread_laws.specs.Replaying.{all_histories, AreLegalHistories}
 use Rattle.thread_laws.specs.declared.gathered.ActorEnd.{ActorEnd}
 use Rattle.thread_laws.specs.declared.gathered.ActorLog.{ActorLog}
@@ -20,10 +21,11 @@ pub record IsOfRoot (i : Image) (logs : List ActorLog) : Type 0 where
 
 -- the logs are those of whole executions, one for each actor that the root created or that these
 -- created, and no other; the histories are those that cells kept; and those of the slots of declared tags, which
--- only proofs know, have just the logged entries
+-- only proofs know, have just the logged entries; and the logs keep what an audit compares
 pub record IsGathered (i : Image) (g : Gathered) : Type 0 where
   pub walked : AreWalked i g.logs
   pub of_root : IsOfRoot i g.logs
   pub declared_ : length g.declared ≡ length i.tags
   pub kept : AreLegalHistories i (all_histories g)
   pub ruled : AreRuled (length i.tags) (all_logged g.logs) (all_histories g)
+  pub logs_kept : AreKept g

@@ -1,8 +1,9 @@
 //! The threads of a run.
 
-ghost use Rattle.std.specs.Prelude.{◌≡◌, IfOk, true, length};
+ghost use Rattle.std.specs.Prelude.{◌≡◌, ◌≤◌, All, IfOk, true, length};
 ghost use Rattle.ruled_cell.specs.Passes.{first_view};
 ghost use Rattle.wedge_events.specs.declared.events.Want.{Want as AWant};
+ghost use Rattle.thread_laws.specs.KeptEntries.{IsKept};
 ghost use Rattle.gate_runner.specs.Gathering.{IsGathered};
 ghost use Rattle.actor_task.specs.Returning.{IsReturned};
 ghost use Rattle.gate_runner.specs.Endings.{IsAtEnd};
@@ -369,18 +370,21 @@ fn leave_inside<'e, I: RunOf, T: TableOf, R: Threads, P: Pace>(
     creating.adopt_ended(returned)
 }
 
-/// Returns the logs and the histories of a run of an image on threads.
+/// Returns the logs and the histories of a run of an image on threads. The logs keep no entries on the first `unkept` slots.
 fn run_of<'x, I: RunOf + Send + Sync, R: Threads + Wait + Sync, P: Pace + Sync>(
     rt: &'x R,
     alloc: Global,
     image: &'x Image,
     pace: &'x P,
+    unkept: usize,
 ) -> Result<Gathered, NoMemory>
-    requires { image.now ≡ I.image }
-    ensures { IfOk result (IsGathered image.now) }
+    requires image { image.now ≡ I.image }
+    requires unkept { (unkept ≡ I.unkept) × (unkept ≤ length image.now.tags) }
+    ensures gathered { IfOk result (IsGathered image.now) }
+    ensures kept { IfOk result (λ g. All (IsKept unkept) g.logs) }
 {
     let (cells, first) = open_tags::<I>(alloc, image)?;
-    run_over::<I, Brand, R, P>(rt, alloc, image, pace, cells, first)
+    run_over::<I, Brand, R, P>(rt, alloc, image, pace, unkept, cells, first)
 }
 
 /// The same, over these slots of its declared tags.
@@ -395,14 +399,17 @@ fn run_over<
     alloc: Global,
     image: &'x Image,
     pace: &'x P,
+    unkept: usize,
     tags: RuledCells<SlotState, I>,
     first: RuledPass<SlotState, I>,
 ) -> Result<Gathered, NoMemory>
     requires image { image.now ≡ I.image }
+    requires unkept { (unkept ≡ I.unkept) × (unkept ≤ length image.now.tags) }
     requires table { (tags ≡ T.table) × (first.table ≡ T.table) }
     requires first { first.view ≡ first_view }
     requires count { tags.slots ≡ length image.now.tags }
-    ensures { IfOk result (IsGathered image.now) }
+    ensures gathered { IfOk result (IsGathered image.now) }
+    ensures kept { IfOk result (λ g. All (IsKept unkept) g.logs) }
 {
     let ready = Program::new(alloc, image)?;
     let cells: RunCells<I, T> = RunCells::new(alloc, image, TagCells::new(tags, first))?;
@@ -422,6 +429,7 @@ fn run_over<
         resident: Resident { actor, memory },
         stamp: Stamp(0),
         gates: GateCells::none(alloc),
+        unkept,
     };
     let returned = run_whole(&all, root)?;
     gathered(alloc, returned, cells)
@@ -432,6 +440,9 @@ fn run_over<
 /// all actors, that of the root first, each followed by those of all that it created, and the histories of the slots
 /// of declared tags and of all other cells in which something happened.
 ///
+/// The logs keep all entries where `is_whole` says so. Where not, they keep all but those on the slots of declared tags, which
+/// no audit reads: so the many loads and stores of these take no memory.
+///
 /// `pace` is called before each shared event. Fails only where out of memory or of stamps, or where the pass of an actor
 /// is missing at the end, after all threads have ended.
 pub fn run_image<R: Threads + Wait + Sync, P: Pace + Sync>(
@@ -439,8 +450,11 @@ pub fn run_image<R: Threads + Wait + Sync, P: Pace + Sync>(
     alloc: Global,
     image: &Image,
     pace: &P,
+    is_whole: bool,
 ) -> Result<Gathered, NoMemory>
-    ensures { IfOk result (IsGathered image.now) }
+    ensures gathered { IfOk result (IsGathered image.now) }
+    ensures whole { is_whole ≡ true → IfOk result (λ g. All (IsKept 0) g.logs) }
 {
-    run_of::<Brand, R, P>(rt, alloc, image, pace)
+    let unkept = if is_whole { 0 } else { image.tags().len() };
+    run_of::<Brand, R, P>(rt, alloc, image, pace, unkept)
 }

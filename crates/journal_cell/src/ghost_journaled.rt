@@ -118,8 +118,7 @@ impl<O: Object, I: RunOf> GhostJournaled<O, I> {
             ask,
             reply,
         };
-        let history = mem::replace(&mut self.history, GhostList::new());
-        self.history = history.with(&entry);
+        self.history.push(&entry);
         self.clock = stamp;
         pass.clock = stamp;
         Ok(entry)

@@ -4,6 +4,7 @@ ghost use Rattle.std.specs.Prelude.{◌≡◌, ◌++◌, ◌∷◌, []};
 
 use std::fmt::{self, Debug, Formatter, Write};
 use std::marker::Model;
+use std::mem;
 use std::snapshot::Snapshot;
 
 /// How a list grew. No value of it is kept.
@@ -72,5 +73,14 @@ impl<T> GhostList<T> {
         GhostList {
             grown: Snapshot::of(&Grown::With(grown, Snapshot::of(last))),
         }
+    }
+
+    /// Adds an item at its end.
+    #[inline(always)]
+    pub fn push(&mut self, last: &T)
+        ensures { self.new ≡ self.old ++ last.now ∷ [] }
+    {
+        let before = mem::replace(self, GhostList::new());
+        *self = before.with(last);
     }
 }

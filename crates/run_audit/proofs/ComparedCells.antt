@@ -20,12 +20,14 @@ use Rattle.thread_laws.specs.declared.gathered.CellHistory.{CellHistory}
 use Rattle.thread_laws.specs.declared.gathered.CellHistory.TheVariants as history
 use Rattle.thread_laws.specs.declared.gathered.Gathered.{Gathered}
 use Rattle.thread_laws.proofs.Replaying.{cell_is}
-use Rattle.tag_laws.specs.DeclaredTags.{IsDeclared, is_on_declared}
+use Rattle.thread_laws.specs.KeptEntries.{is_on_declared, entries_elsewhere, AreKept}
+use Rattle.tag_laws.specs.DeclaredTags.{IsDeclared}
 use Rattle.run_audit.specs.CellOrder.{comes_first}
-use Rattle.run_audit.specs.ComparedCells.{is_of_declared, compared_histories, compared_entries, IsUndeclared, DeclaredAgree}
+use Rattle.run_audit.specs.ComparedCells.{is_of_declared, compared_histories, KeepCompared, IsUndeclared, DeclaredAgree}
 use Rattle.run_audit.specs.Differences.{IsComparison, IsFirstDifference}
 use Rattle.run_audit.specs.declared.fault.Difference.{Difference}
 use Rattle.run_audit.proofs.DeclaredHistories.{compared_of_all}
+use Rattle.run_audit.proofs.KeptInLogs.{run_compared}
 
 -- ---- the cells that are left out
 
@@ -90,27 +92,27 @@ histories_over n hs k d less here =
 -- ---- entries
 
 -- those on another cell are all there
-entries_kept : (n : ℕ) (name : CellName) → is_declared_slot n name ≡ false → (es : List LogEntry) → entries_on name (compared_entries n es) ≡ entries_on name es
+entries_kept : (n : ℕ) (name : CellName) → is_declared_slot n name ≡ false → (es : List LogEntry) → entries_on name (entries_elsewhere n es) ≡ entries_on name es
 entries_kept n name other [] = refl
 entries_kept n name other (e ∷ es) = by_test (is_on_declared n e.event) refl (entries_kept n name other es)
   where
-    by_test : (t : Bool) → is_on_declared n e.event ≡ t → entries_on name (compared_entries n es) ≡ entries_on name es
-        → entries_on name (cond (not t) (e ∷ compared_entries n es) (compared_entries n es)) ≡ entries_on name (e ∷ es)
+    by_test : (t : Bool) → is_on_declared n e.event ≡ t → entries_on name (entries_elsewhere n es) ≡ entries_on name es
+        → entries_on name (cond (not t) (e ∷ entries_elsewhere n es) (entries_elsewhere n es)) ≡ entries_on name (e ∷ es)
     by_test false is rest = ap (λ zs. if is_of name e.event then e ∷ zs else zs) rest
     by_test true is rest =
         let not_own = not_true (is_of name e.event) (λ own. true≢false (sym is ∙ (on_declared n name e.event own ∙ other))) in
         rest ∙ sym (ap (λ t. if t then e ∷ entries_on name es else entries_on name es) not_own)
 
 -- and those on one of the first slots are not
-entries_out : (n : ℕ) (name : CellName) → is_declared_slot n name ≡ true → (es : List LogEntry) → entries_on name (compared_entries n es) ≡ []
+entries_out : (n : ℕ) (name : CellName) → is_declared_slot n name ≡ true → (es : List LogEntry) → entries_on name (entries_elsewhere n es) ≡ []
 entries_out n name own [] = refl
 entries_out n name own (e ∷ es) = by_test (is_on_declared n e.event) refl (entries_out n name own es)
   where
-    by_test : (t : Bool) → is_on_declared n e.event ≡ t → entries_on name (compared_entries n es) ≡ []
-        → entries_on name (cond (not t) (e ∷ compared_entries n es) (compared_entries n es)) ≡ []
+    by_test : (t : Bool) → is_on_declared n e.event ≡ t → entries_on name (entries_elsewhere n es) ≡ []
+        → entries_on name (cond (not t) (e ∷ entries_elsewhere n es) (entries_elsewhere n es)) ≡ []
     by_test false is rest =
         let not_own = not_true (is_of name e.event) (λ here. true≢false (sym own ∙ (sym (on_declared n name e.event here) ∙ is))) in
-        ap (λ t. if t then e ∷ entries_on name (compared_entries n es) else entries_on name (compared_entries n es)) not_own ∙ rest
+        ap (λ t. if t then e ∷ entries_on name (entries_elsewhere n es) else entries_on name (entries_elsewhere n es)) not_own ∙ rest
     by_test true is rest = rest
 
 -- ---- histories
@@ -145,7 +147,7 @@ history_out n name own (h ∷ hs) = by_test (is_of_declared n h) refl (history_o
 -- ---- the comparison
 
 -- where it finds no difference, all other cells agree
-pub others_agree : (n : ℕ) (cells : List CellHistory) (es : List LogEntry) → IsComparison (compared_histories n cells) (compared_entries n es) None → (name : CellName) → IsUndeclared n name → history_of cells name ≡ entries_on name es
+pub others_agree : (n : ℕ) (cells : List CellHistory) (es : List LogEntry) → IsComparison (compared_histories n cells) (entries_elsewhere n es) None → (name : CellName) → IsUndeclared n name → history_of cells name ≡ entries_on name es
 others_agree n cells es same name other =
     let left_in = undeclared_false n name other in
     sym (history_kept n name left_in cells) ∙ (same name ∙ entries_kept n name left_in es)
@@ -159,13 +161,13 @@ all_agree g first others name all = by_test (is_declared_slot (length g.declared
     by_test false other = others name (λ own. true≢false (sym (declared_true (length g.declared) name own) ∙ other))
 
 -- a difference is at another cell
-pub at_another : (n : ℕ) (cells : List CellHistory) (es : List LogEntry) (d : Difference) → IsComparison (compared_histories n cells) (compared_entries n es) (Some d) → IsUndeclared n d.cell
+pub at_another : (n : ℕ) (cells : List CellHistory) (es : List LogEntry) (d : Difference) → IsComparison (compared_histories n cells) (entries_elsewhere n es) (Some d) → IsUndeclared n d.cell
 at_another n cells es d h own =
     let left_out = declared_true n d.cell own in
     h.differ.apart (sym h.differ.first_ ∙ (ap (λ zs. slice_get zs d.index) (history_out n d.cell left_out cells ∙ sym (entries_out n d.cell left_out es)) ∙ h.differ.second_))
 
 -- and it is the first of all where the first slots agree
-pub first_of_all : (n : ℕ) (cells : List CellHistory) (es : List LogEntry) (d : Difference) → IsComparison (compared_histories n cells) (compared_entries n es) (Some d) → ((name : CellName) → IsDeclared n name → history_of cells name ≡ entries_on name es) → IsFirstDifference es cells d
+pub first_of_all : (n : ℕ) (cells : List CellHistory) (es : List LogEntry) (d : Difference) → IsComparison (compared_histories n cells) (entries_elsewhere n es) (Some d) → ((name : CellName) → IsDeclared n name → history_of cells name ≡ entries_on name es) → IsFirstDifference es cells d
 first_of_all n cells es d h agree =
     let left_in = undeclared_false n d.cell (at_another n cells es d h) in
     record {
@@ -181,12 +183,17 @@ first_of_all n cells es d h agree =
 -- ---- of what was gathered, by the slices of it
 
 pub of_gathered : (g : Gathered) (ess : List (List (Entry SlotAsk SlotReply))) (slices : List ActorLog) (listed : List CellHistory) (es items : List LogEntry) (o r : Option Difference) → ess ≡ g.declared → slices ≡ g.logs → listed ≡ g.others → es ≡ items
-    → items ≡ compared_entries (length ess) (journal_of slices) → o ≡ r → IsComparison (compared_histories (length ess) listed) es o → IsComparison (compared_histories (length g.declared) (all_histories g)) (compared_entries (length g.declared) (journal_of g.logs)) r
+    → items ≡ entries_elsewhere (length ess) (journal_of slices) → o ≡ r → IsComparison (compared_histories (length ess) listed) es o → IsComparison (compared_histories (length g.declared) (all_histories g)) (entries_elsewhere (length g.declared) (journal_of g.logs)) r
 of_gathered g ess slices listed es items o r a b c d e f h =
     let n = length g.declared in
-    let whole : es ≡ compared_entries n (journal_of g.logs) = d ∙ (e ∙ (λ k. compared_entries (length (a k)) (journal_of (b k)))) in
-    subst (λ hs. IsComparison hs (compared_entries n (journal_of g.logs)) r) (sym (compared_of_all g))
-    (subst (λ x. IsComparison (compared_histories n g.others) (compared_entries n (journal_of g.logs)) x) f
+    let whole : es ≡ entries_elsewhere n (journal_of g.logs) = d ∙ (e ∙ (λ k. entries_elsewhere (length (a k)) (journal_of (b k)))) in
+    subst (λ hs. IsComparison hs (entries_elsewhere n (journal_of g.logs)) r) (sym (compared_of_all g))
+    (subst (λ x. IsComparison (compared_histories n g.others) (entries_elsewhere n (journal_of g.logs)) x) f
     (subst (λ x. IsComparison (compared_histories n g.others) x o) whole
     (subst (λ x. IsComparison (compared_histories n x) es o) c
     (subst (λ x. IsComparison (compared_histories (length x) listed) es o) a h))))
+
+-- the logs keep what is compared of them
+pub keep_gathered : (g : Gathered) (ess : List (List (Entry SlotAsk SlotReply))) (slices : List ActorLog) → ess ≡ g.declared → slices ≡ g.logs → AreKept g → KeepCompared (length ess) slices
+keep_gathered g ess slices a b kept =
+    subst (λ x. KeepCompared (length x) slices) (sym a) (subst (λ x. KeepCompared (length g.declared) x) (sym b) (run_compared g kept))

@@ -10,9 +10,11 @@ use Rattle.wedge_events.specs.declared.events.Event.TheVariants as event
 use Rattle.wedge_events.specs.declared.events.LogEntry.{LogEntry}
 use Rattle.thread_laws.specs.Executions.{name_begun, with_named, names_begun}
 use Rattle.thread_laws.specs.Joining.{all_logged, journal_of}
+use Rattle.thread_laws.specs.Sorting.{comes_before, in_order}
 use Rattle.thread_laws.specs.declared.gathered.ActorLog.{ActorLog}
-use Rattle.tag_laws.specs.DeclaredTags.{is_on_declared}
-use Rattle.run_audit.specs.ComparedCells.{compared_entries}
+use Rattle.thread_laws.specs.KeptEntries.{is_on_declared, entries_elsewhere, all_kept}
+use Rattle.tag_laws.proofs.SlotHistories.{journal_order}
+use Rattle.run_audit.specs.ComparedCells.{KeepCompared}
 use Rattle.run_audit.specs.IndexedEntries.{IndexedEntry, indexed, entries_without_index, indexed_before, indexed_ordered, compared_indexed, AreInOrder, indexed_journal}
 use Rattle.run_audit.proofs.IndexedEntries.{journal_entries}
 
@@ -77,22 +79,28 @@ module _ {X : Type 0} (lt : X → X → Bool) (o : IsStrictWeakOrder lt) (keep :
 
 -- ---- so of entries with their indices
 
-without_index : (n : ℕ) (xs : List IndexedEntry) → entries_without_index (compared_indexed n xs) ≡ compared_entries n (entries_without_index xs)
+without_index : (n : ℕ) (xs : List IndexedEntry) → entries_without_index (compared_indexed n xs) ≡ entries_elsewhere n (entries_without_index xs)
 without_index n [] = refl
 without_index n (x ∷ xs) = by_test (is_on_declared n x.entry.event) (without_index n xs)
   where
-    by_test : (b : Bool) → entries_without_index (compared_indexed n xs) ≡ compared_entries n (entries_without_index xs)
-        → entries_without_index (cond (not b) (x ∷ compared_indexed n xs) (compared_indexed n xs)) ≡ cond (not b) (x.entry ∷ compared_entries n (entries_without_index xs)) (compared_entries n (entries_without_index xs))
+    by_test : (b : Bool) → entries_without_index (compared_indexed n xs) ≡ entries_elsewhere n (entries_without_index xs)
+        → entries_without_index (cond (not b) (x ∷ compared_indexed n xs) (compared_indexed n xs)) ≡ cond (not b) (x.entry ∷ entries_elsewhere n (entries_without_index xs)) (entries_elsewhere n (entries_without_index xs))
     by_test true r = r
     by_test false r = ap (λ es. x.entry ∷ es) r
 
-pub order_compared : (n : ℕ) (logs : List ActorLog) (xs : List IndexedEntry) → AreInOrder n 0 (all_logged logs) xs → entries_without_index xs ≡ compared_entries n (journal_of logs)
-order_compared n logs xs h =
-    let all = indexed 0 (all_logged logs) in
+-- what is compared of the entries that logs keep is what is compared of all, if they keep that
+in_order_compared : (n : ℕ) (logs : List ActorLog) → KeepCompared n logs → entries_elsewhere n (in_order (all_kept logs)) ≡ entries_elsewhere n (journal_of logs)
+in_order_compared n logs same =
+    let keep = λ (e : LogEntry). not (is_on_declared n e.event) in
+    kept_sorted comes_before journal_order keep (all_kept logs) ∙ (ap in_order same ∙ sym (kept_sorted comes_before journal_order keep (all_logged logs)))
+
+pub order_compared : (n : ℕ) (logs : List ActorLog) (xs : List IndexedEntry) → KeepCompared n logs → AreInOrder n 0 (all_kept logs) xs → entries_without_index xs ≡ entries_elsewhere n (journal_of logs)
+order_compared n logs xs same h =
+    let all = indexed 0 (all_kept logs) in
     let is : xs ≡ compared_indexed n (indexed_journal logs) =
     is_sorted indexed_before indexed_ordered (compared_indexed n all) xs h.sorted_ h.stable
     ∙ sym (kept_sorted indexed_before indexed_ordered (λ (x : IndexedEntry). not (is_on_declared n x.entry.event)) all) in
-    ap entries_without_index is ∙ (without_index n (indexed_journal logs) ∙ ap (compared_entries n) (journal_entries logs))
+    ap entries_without_index is ∙ (without_index n (indexed_journal logs) ∙ (ap (entries_elsewhere n) (journal_entries logs) ∙ in_order_compared n logs same))
 
 -- ---- no actor is created on a slot
 
@@ -100,11 +108,11 @@ none_begun : (n : ℕ) (e : Event) → is_on_declared n e ≡ true → name_begu
 none_begun n (event.Slot slot q r) h = refl
 none_begun n e h = absurd cc
 
-pub names_compared : (n : ℕ) (es : List LogEntry) → names_begun (compared_entries n es) ≡ names_begun es
+pub names_compared : (n : ℕ) (es : List LogEntry) → names_begun (entries_elsewhere n es) ≡ names_begun es
 names_compared n [] = refl
 names_compared n (e ∷ es) = by_test (is_on_declared n e.event) refl (names_compared n es)
   where
-    by_test : (b : Bool) → is_on_declared n e.event ≡ b → names_begun (compared_entries n es) ≡ names_begun es
-        → names_begun (cond (not b) (e ∷ compared_entries n es) (compared_entries n es)) ≡ with_named (name_begun e.event) (names_begun es)
+    by_test : (b : Bool) → is_on_declared n e.event ≡ b → names_begun (entries_elsewhere n es) ≡ names_begun es
+        → names_begun (cond (not b) (e ∷ entries_elsewhere n es) (entries_elsewhere n es)) ≡ with_named (name_begun e.event) (names_begun es)
     by_test false is r = ap (with_named (name_begun e.event)) r
     by_test true is r = r ∙ sym (ap (λ o. with_named o (names_begun es)) (none_begun n e.event is))

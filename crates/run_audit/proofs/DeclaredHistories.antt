@@ -1,7 +1,6 @@
 -- The histories of the slots of declared tags come before the others, and neither a comparison nor a stream reads them.
-use Rattle.std.proofs.Common.{◌≡◌, ℕ, zero, suc, ◌+◌, ◌≤◌, ◌<◌, not, cond, List, [], ◌∷◌, ◌++◌, length, refl, ap, ◌∙◌, arith}
+use Rattle.std.proofs.Common.{◌≡◌, ℕ, zero, suc, ◌+◌, ◌≤◌, not, cond, List, [], ◌∷◌, ◌++◌, length, refl, ap, ◌∙◌, arith}
 use Rattle.std.proofs.lemmas.Bool.{lt-ltb}
-use Rattle.std.specs.Prelude.{find}
 use Rattle.wedge_base.specs.Images.{Image}
 use Rattle.wedge_events.specs.declared.cells.SlotAsk.{SlotAsk}
 use Rattle.wedge_events.specs.declared.cells.SlotReply.{SlotReply}
@@ -10,7 +9,7 @@ use Rattle.journal_cell.specs.declared.entry.Entry.{Entry}
 use Rattle.machine.specs.Cells.{opening_cells, stream_in}
 use Rattle.thread_laws.specs.Histories.{left_by_history}
 use Rattle.thread_laws.specs.Joining.{streams_from, streams_left}
-use Rattle.thread_laws.specs.Replaying.{cell_in, same_cell, entries_kept_in, history_of, slot_histories, all_histories}
+use Rattle.thread_laws.specs.Replaying.{history_of, slot_histories, all_histories}
 use Rattle.thread_laws.specs.declared.gathered.CellHistory.{CellHistory}
 use Rattle.thread_laws.specs.declared.gathered.CellHistory.TheVariants as history
 use Rattle.thread_laws.specs.declared.gathered.Gathered.{Gathered}

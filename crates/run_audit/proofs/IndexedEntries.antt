@@ -1,22 +1,19 @@
 -- Entries with their indices, sorted, merged, and taken by their indices.
 use Rattle.std.proofs.Common.{◌≡◌, ◌≢◌, ◌⊎◌, inl, inr, ℕ, zero, suc, ◌+◌, ◌-◌, ◌<◌, ◌≤◌, Bool, true, false, cond, not, List, [], ◌∷◌, ◌++◌, length, take, drop, map, get_or, Option, Some, None, refl, ap, sym, subst, ◌∙◌, append-nil, append_assoc, arith}
-use Rattle.std.specs.Prelude.{if◌then◌else◌, nat_lt, slice_index_or, slice_set}
-use Rattle.std.proofs.lemmas.Bool.{ltb-true}
+use Rattle.std.specs.Prelude.{if◌then◌else◌, slice_index_or, slice_set}
 use Rattle.std.proofs.lemmas.List.{length-append, length-take-le, get_or-set_other, take_more}
 use Rattle.std.proofs.Math.Seq.{get_or-append_seam}
 use Rattle.std.specs.List.Sorted.{IsSortedBy, IsStableBy}
 use Rattle.std.proofs.lemmas.List.Elements.{filter-append}
 use Rattle.stable_sort.specs.Sorting.{insert_sorted, sorted_onto, sorted}
 use Rattle.stable_sort.proofs.Sorted.{is_sorted}
-use Rattle.wedge_events.specs.declared.events.Event.{Event}
-use Rattle.wedge_events.specs.declared.events.Event.TheVariants as event
 use Rattle.wedge_events.specs.declared.events.LogEntry.{LogEntry}
-use Rattle.thread_laws.specs.Joining.{all_logged, journal_of}
-use Rattle.thread_laws.specs.Sorting.{comes_before}
+use Rattle.thread_laws.specs.Sorting.{comes_before, in_order}
 use Rattle.thread_laws.specs.declared.gathered.ActorLog.{ActorLog}
-use Rattle.tag_laws.specs.DeclaredTags.{is_on_declared}
+use Rattle.thread_laws.specs.KeptEntries.{is_on_declared, all_kept}
 use Rattle.run_audit.specs.IndexedEntries.{IndexedEntry, indexed, entries_without_index, indices_of, indexed_before, indexed_ordered, compared_indexed, AreInOrder, indexed_journal, with_taken, taken_by}
 use Rattle.run_audit.specs.Merges.{merged}
+use Rattle.run_audit.proofs.KeptInLogs.{none_declared}
 use Rattle.run_audit.proofs.Merges.{merged_sorted, merged_stable, merged_nothing}
 
 pub length_indexed : (n : ℕ) (es : List LogEntry) → length (indexed n es) ≡ length es
@@ -34,10 +31,10 @@ indexed_append n (e ∷ es) fs =
     let first : IndexedEntry = record { entry = e; index = n } in
     ap (λ xs. first ∷ xs) (indexed_append (n + 1) es fs ∙ ap (λ m. indexed (n + 1) es ++ indexed m fs) same)
 
-logged_parts : (gs : List ActorLog) (m : ℕ) → all_logged (take m gs) ++ all_logged (drop m gs) ≡ all_logged gs
-logged_parts gs zero = refl
-logged_parts [] (suc m) = refl
-logged_parts (g ∷ gs) (suc m) = append_assoc g.entries (all_logged (take m gs)) (all_logged (drop m gs)) ∙ ap (λ es. g.entries ++ es) (logged_parts gs m)
+kept_parts : (gs : List ActorLog) (m : ℕ) → all_kept (take m gs) ++ all_kept (drop m gs) ≡ all_kept gs
+kept_parts gs zero = refl
+kept_parts [] (suc m) = refl
+kept_parts (g ∷ gs) (suc m) = append_assoc g.kept (all_kept (take m gs)) (all_kept (drop m gs)) ∙ ap (λ es. g.kept ++ es) (kept_parts gs m)
 
 -- ---- one more of a list, kept or not
 
@@ -72,17 +69,17 @@ pub compared_over : (n m : ℕ) (es : List LogEntry) (k : ℕ) (d : LogEntry) �
     → compared_indexed n (indexed m (take (k + 1) es)) ≡ compared_indexed n (indexed m (take k es))
 compared_over n m es k d less is = one_more n m es k d less true is ∙ append-nil (compared_indexed n (indexed m (take k es)))
 
-logged_append : (gs hs : List ActorLog) → all_logged (gs ++ hs) ≡ all_logged gs ++ all_logged hs
-logged_append [] hs = refl
-logged_append (g ∷ gs) hs = ap (λ es. g.entries ++ es) (logged_append gs hs) ∙ sym (append_assoc g.entries (all_logged gs) (all_logged hs))
+kept_append : (gs hs : List ActorLog) → all_kept (gs ++ hs) ≡ all_kept gs ++ all_kept hs
+kept_append [] hs = refl
+kept_append (g ∷ gs) hs = ap (λ es. g.kept ++ es) (kept_append gs hs) ∙ sym (append_assoc g.kept (all_kept gs) (all_kept hs))
 
-pub logged_more : (gs : List ActorLog) (k : ℕ) (d : ActorLog) → k < length gs → length (all_logged (take (k + 1) gs)) ≡ length (all_logged (take k gs)) + length (slice_index_or gs k d).entries
-logged_more gs k d less =
+pub kept_more : (gs : List ActorLog) (k : ℕ) (d : ActorLog) → k < length gs → length (all_kept (take (k + 1) gs)) ≡ length (all_kept (take k gs)) + length (slice_index_or gs k d).kept
+kept_more gs k d less =
     let one = slice_index_or gs k d in
-    let whole = ap (λ hs. length (all_logged hs)) (take_more gs k d less) in
-    let parts = ap length (logged_append (take k gs) (one ∷ [])) in
-    let both = length-append (all_logged (take k gs)) (one.entries ++ []) in
-    let last = ap length (append-nil one.entries) in
+    let whole = ap (λ hs. length (all_kept hs)) (take_more gs k d less) in
+    let parts = ap length (kept_append (take k gs) (one ∷ [])) in
+    let both = length-append (all_kept (take k gs)) (one.kept ++ []) in
+    let last = ap length (append-nil one.kept) in
     omega (arith, whole, parts, both, last)
 
 -- ---- the order of logs
@@ -95,13 +92,13 @@ order_log n m es slice all new a b up stable =
       stable = subst (λ zs. IsStableBy indexed_before zs new) whole stable;
     }
 
-pub order_none : (n m : ℕ) (gs : List ActorLog) (xs : List IndexedEntry) → length gs < 1 → xs ≡ [] → AreInOrder n m (all_logged gs) xs
+pub order_none : (n m : ℕ) (gs : List ActorLog) (xs : List IndexedEntry) → length gs < 1 → xs ≡ [] → AreInOrder n m (all_kept gs) xs
 order_none n m [] xs less e = subst (AreInOrder n m []) (sym e) (record { sorted_ = λ k d from below. absurd (omega (arith, below)); stable = λ t. refl })
 order_none n m (g ∷ gs) xs less e = absurd (omega (arith, less))
 
-pub order_one : (n m : ℕ) (gs : List ActorLog) (g : ActorLog) (xs : List IndexedEntry) → length gs < 2 → 1 ≤ length gs → g ≡ get_or gs 0 g → AreInOrder n m g.entries xs → AreInOrder n m (all_logged gs) xs
+pub order_one : (n m : ℕ) (gs : List ActorLog) (g : ActorLog) (xs : List IndexedEntry) → length gs < 2 → 1 ≤ length gs → g ≡ get_or gs 0 g → AreInOrder n m g.kept xs → AreInOrder n m (all_kept gs) xs
 order_one n m [] g xs less more is h = absurd (omega (arith, more))
-order_one n m (f ∷ []) g xs less more is h = subst (λ es. AreInOrder n m es xs) (ap (λ (x : ActorLog). x.entries) is ∙ sym (append-nil f.entries)) h
+order_one n m (f ∷ []) g xs less more is h = subst (λ es. AreInOrder n m es xs) (ap (λ (x : ActorLog). x.kept) is ∙ sym (append-nil f.kept)) h
 order_one n m (f ∷ (k ∷ gs)) g xs less more is h = absurd (omega (arith, less))
 
 compared_append : (n m : ℕ) (es fs : List LogEntry) → compared_indexed n (indexed m es) ++ compared_indexed n (indexed (m + length es) fs) ≡ compared_indexed n (indexed m (es ++ fs))
@@ -114,30 +111,22 @@ order_merged n m es fs xs ys h k = record {
       (merged_stable indexed_before indexed_ordered (compared_indexed n (indexed m es)) (compared_indexed n (indexed (m + length es) fs)) xs ys h.sorted_ k.sorted_ h.stable k.stable);
 }
 
-pub order_both : (n m next : ℕ) (gs half others : List ActorLog) (c : ℕ) (xs ys vs ws zs : List IndexedEntry) → half ≡ take c gs → others ≡ drop c gs → AreInOrder n m (all_logged half) xs → next ≡ m + length (all_logged half) → AreInOrder n next (all_logged others) ys → vs ≡ xs → ws ≡ ys → zs ≡ merged indexed_before vs ws → AreInOrder n m (all_logged gs) zs
+pub order_both : (n m next : ℕ) (gs half others : List ActorLog) (c : ℕ) (xs ys vs ws zs : List IndexedEntry) → half ≡ take c gs → others ≡ drop c gs → AreInOrder n m (all_kept half) xs → next ≡ m + length (all_kept half) → AreInOrder n next (all_kept others) ys → vs ≡ xs → ws ≡ ys → zs ≡ merged indexed_before vs ws → AreInOrder n m (all_kept gs) zs
 order_both n m next gs half others c xs ys vs ws zs a b h from k first second out =
-    let both : all_logged half ++ all_logged others ≡ all_logged gs = (λ i. all_logged (a i) ++ all_logged (b i)) ∙ logged_parts gs c in
+    let both : all_kept half ++ all_kept others ≡ all_kept gs = (λ i. all_kept (a i) ++ all_kept (b i)) ∙ kept_parts gs c in
     let is : zs ≡ merged indexed_before xs ys = out ∙ (λ i. merged indexed_before (first i) (second i)) in
-    subst (AreInOrder n m (all_logged gs)) (sym is) (subst (λ es. AreInOrder n m es (merged indexed_before xs ys)) both (order_merged n m (all_logged half) (all_logged others) xs ys h (subst (λ p. AreInOrder n p (all_logged others) ys) from k)))
+    subst (AreInOrder n m (all_kept gs)) (sym is) (subst (λ es. AreInOrder n m es (merged indexed_before xs ys)) both (order_merged n m (all_kept half) (all_kept others) xs ys h (subst (λ p. AreInOrder n p (all_kept others) ys) from k)))
 
--- where nothing is left out, they are the journal
-not_below : (n : ℕ) (b : Bool) → nat_lt n 0 ≡ b → not b ≡ true
-not_below n false e = refl
-not_below n true e = let less = ltb-true n 0 e in absurd (omega (arith, less))
-
+-- where nothing is left out, they are all that is kept
 none_out : (x : IndexedEntry) → is_compared 0 x ≡ true
-none_out x = by_event x.entry.event
-  where
-    by_event : (e : Event) → not (is_on_declared 0 e) ≡ true
-    by_event (event.Slot slot q r) = not_below slot (nat_lt slot 0) refl
-    by_event e = refl
+none_out x = ap not (none_declared x.entry.event)
 
 all_compared : (xs : List IndexedEntry) → compared_indexed 0 xs ≡ xs
 all_compared [] = refl
 all_compared (x ∷ xs) = ap (λ b. cond b (x ∷ compared_indexed 0 xs) (compared_indexed 0 xs)) (none_out x) ∙ ap (λ ys. x ∷ ys) (all_compared xs)
 
-pub order_journal : (logs : List ActorLog) (xs : List IndexedEntry) → AreInOrder 0 0 (all_logged logs) xs → xs ≡ indexed_journal logs
-order_journal logs xs h = is_sorted indexed_before indexed_ordered (indexed 0 (all_logged logs)) xs h.sorted_ (subst (λ zs. IsStableBy indexed_before zs xs) (all_compared (indexed 0 (all_logged logs))) h.stable)
+pub order_journal : (logs : List ActorLog) (xs : List IndexedEntry) → AreInOrder 0 0 (all_kept logs) xs → xs ≡ indexed_journal logs
+order_journal logs xs h = is_sorted indexed_before indexed_ordered (indexed 0 (all_kept logs)) xs h.sorted_ (subst (λ zs. IsStableBy indexed_before zs xs) (all_compared (indexed 0 (all_kept logs))) h.stable)
 
 dropped_none : (n : ℕ) (xs : List IndexedEntry) → length xs ≤ n → drop n xs ≡ []
 dropped_none zero [] h = refl
@@ -170,7 +159,7 @@ merge_ended i j xs ys all next out end a b whole =
     none (inl h) = inl (dropped_none i xs h)
     none (inr h) = inr (dropped_none j ys h)
 
--- ---- what is sorted with its indices is the journal
+-- ---- what is sorted with its indices is what is kept, in the order of the journal
 
 entries_insert : (x : IndexedEntry) (ys : List IndexedEntry) → entries_without_index (insert_sorted indexed_before x ys) ≡ insert_sorted comes_before x.entry (entries_without_index ys)
 entries_insert x [] = refl
@@ -184,8 +173,11 @@ entries_onto : (done xs : List IndexedEntry) → entries_without_index (sorted_o
 entries_onto done [] = refl
 entries_onto done (x ∷ xs) = entries_onto (insert_sorted indexed_before x done) xs ∙ ap (λ ds. sorted_onto comes_before ds (entries_without_index xs)) (entries_insert x done)
 
-pub journal_entries : (logs : List ActorLog) → entries_without_index (indexed_journal logs) ≡ journal_of logs
-journal_entries logs = entries_onto [] (indexed 0 (all_logged logs)) ∙ ap (sorted comes_before) (entries_indexed 0 (all_logged logs))
+entries_sorted : (es : List LogEntry) → entries_without_index (sorted indexed_before (indexed 0 es)) ≡ in_order es
+entries_sorted es = entries_onto [] (indexed 0 es) ∙ ap (sorted comes_before) (entries_indexed 0 es)
+
+pub journal_entries : (logs : List ActorLog) → entries_without_index (indexed_journal logs) ≡ in_order (all_kept logs)
+journal_entries logs = entries_sorted (all_kept logs)
 
 length_insert : (x : IndexedEntry) (ys : List IndexedEntry) → length (insert_sorted indexed_before x ys) ≡ suc (length ys)
 length_insert x [] = refl
@@ -199,18 +191,21 @@ length_onto : (done xs : List IndexedEntry) → length (sorted_onto indexed_befo
 length_onto done [] = omega arith
 length_onto done (x ∷ xs) = let more = length_insert x done in length_onto (insert_sorted indexed_before x done) xs ∙ omega (arith, more)
 
-pub journal_length : (logs : List ActorLog) → length (indexed_journal logs) ≡ length (all_logged logs)
-journal_length logs =
-    let sorted_length = length_onto [] (indexed 0 (all_logged logs)) in
-    let whole = length_indexed 0 (all_logged logs) in
+length_sorted : (es : List LogEntry) → length (sorted indexed_before (indexed 0 es)) ≡ length es
+length_sorted es =
+    let sorted_length = length_onto [] (indexed 0 es) in
+    let whole = length_indexed 0 es in
     omega (arith, sorted_length, whole)
+
+journal_length : (logs : List ActorLog) → length (indexed_journal logs) ≡ length (all_kept logs)
+journal_length logs = length_sorted (all_kept logs)
 
 as_many : (xs : List IndexedEntry) → length (entries_without_index xs) ≡ length xs
 as_many [] = refl
 as_many (x ∷ xs) = ap suc (as_many xs)
 
-pub length_journal : (logs : List ActorLog) → length (journal_of logs) ≡ length (all_logged logs)
-length_journal logs = ap length (sym (journal_entries logs)) ∙ (as_many (indexed_journal logs) ∙ journal_length logs)
+pub length_in_order : (es : List LogEntry) → length (in_order es) ≡ length es
+length_in_order es = ap length (sym (entries_sorted es)) ∙ (as_many (sorted indexed_before (indexed 0 es)) ∙ length_sorted es)
 
 -- ---- entries that are in their slots, each with an index of its own
 
@@ -278,18 +273,18 @@ left_indexed pre (e ∷ es) = (
   ),
 )
 
-pub taken_journal : (logs : List ActorLog) → taken_by (indices_of (indexed_journal logs)) (map Some (all_logged logs)) ≡ journal_of logs
+pub taken_journal : (logs : List ActorLog) → taken_by (indices_of (indexed_journal logs)) (map Some (all_kept logs)) ≡ in_order (all_kept logs)
 taken_journal logs =
-    taken_left (indexed_journal logs) (map Some (all_logged logs)) (left_onto (map Some (all_logged logs)) [] (indexed 0 (all_logged logs)) (left_indexed [] (all_logged logs)))
+    taken_left (indexed_journal logs) (map Some (all_kept logs)) (left_onto (map Some (all_kept logs)) [] (indexed 0 (all_kept logs)) (left_indexed [] (all_kept logs)))
     ∙ journal_entries logs
 
-pub journal_fits : (logs vec : List ActorLog) (slots : List (Option LogEntry)) (len cap : ℕ) → vec ≡ logs → slots ≡ [] → len ≡ length slots → length (indexed_journal logs) ≤ cap → len + length (all_logged vec) ≤ cap
+pub journal_fits : (logs vec : List ActorLog) (slots : List (Option LogEntry)) (len cap : ℕ) → vec ≡ logs → slots ≡ [] → len ≡ length slots → length (indexed_journal logs) ≤ cap → len + length (all_kept vec) ≤ cap
 journal_fits logs vec slots len cap same none is fit =
     let empty : len ≡ 0 = is ∙ ap length none in
-    let all : length (all_logged vec) ≡ length (indexed_journal logs) = ap (λ gs. length (all_logged gs)) same ∙ sym (journal_length logs) in
+    let all : length (all_kept vec) ≡ length (indexed_journal logs) = ap (λ gs. length (all_kept gs)) same ∙ sym (journal_length logs) in
     omega (arith, empty, all, fit)
 
-pub journal_taken : (logs vec : List ActorLog) (order slice : List ℕ) (slots filled : List (Option LogEntry)) (entries out : List LogEntry) → vec ≡ logs → order ≡ indices_of (indexed_journal logs) → slice ≡ order → slots ≡ [] → filled ≡ slots ++ map Some (all_logged vec) → entries ≡ [] → out ≡ entries ++ taken_by slice filled → out ≡ journal_of logs
+pub journal_taken : (logs vec : List ActorLog) (order slice : List ℕ) (slots filled : List (Option LogEntry)) (entries out : List LogEntry) → vec ≡ logs → order ≡ indices_of (indexed_journal logs) → slice ≡ order → slots ≡ [] → filled ≡ slots ++ map Some (all_kept vec) → entries ≡ [] → out ≡ entries ++ taken_by slice filled → out ≡ in_order (all_kept logs)
 journal_taken logs vec order slice slots filled entries out same indices of_order no_slots fills none is =
-    let all : filled ≡ map Some (all_logged logs) = fills ∙ (ap (λ s. s ++ map Some (all_logged vec)) no_slots ∙ ap (λ gs. map Some (all_logged gs)) same) in
+    let all : filled ≡ map Some (all_kept logs) = fills ∙ (ap (λ s. s ++ map Some (all_kept vec)) no_slots ∙ ap (λ gs. map Some (all_kept gs)) same) in
     is ∙ (ap (λ es. es ++ taken_by slice filled) none ∙ ((λ i. taken_by ((of_order ∙ indices) i) (all i)) ∙ taken_journal logs))

@@ -34,6 +34,8 @@ pub mod StreamsOver
 pub mod Runs
 -- Two lists in order, merged.
 pub mod Merges
+-- What logs keep of their entries is enough for a comparison.
+pub mod KeptInLogs
 -- Entries with their indices, sorted, merged, and taken by their indices.
 pub mod IndexedEntries
 -- The entries that are compared, put in order, are those of the journal.

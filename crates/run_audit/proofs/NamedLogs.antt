@@ -20,7 +20,7 @@ use Rattle.run_audit.specs.LogOrder.{log_before, logs_sortable, IsCountBefore}
 
 -- a log of each name
 abbrev log_on : List ℕ → ActorLog
-log_on name = record { name = name; compartment = 0; end = end.Exited 0; pc = 0; fuel = 0; denials = []; labels = []; entries = []; cache = zero_count }
+log_on name = record { name = name; compartment = 0; end = end.Exited 0; pc = 0; fuel = 0; denials = []; labels = []; entries = []; kept = []; count = 0; cache = zero_count }
 
 -- ---- two names, by how they compare
 

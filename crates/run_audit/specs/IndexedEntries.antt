@@ -9,10 +9,9 @@ use Rattle.std.proofs.lemmas.Cmp.{then_total, on_total, nat_cmp_total}
 use Rattle.std.proofs.lemmas.List.Sorted.{ranks_by}
 use Rattle.stable_sort.specs.Sorting.{sorted}
 use Rattle.wedge_events.specs.declared.events.LogEntry.{LogEntry}
-use Rattle.thread_laws.specs.Joining.{all_logged}
 use Rattle.thread_laws.specs.Sorting.{comes_before}
 use Rattle.thread_laws.specs.declared.gathered.ActorLog.{ActorLog}
-use Rattle.tag_laws.specs.DeclaredTags.{is_on_declared}
+use Rattle.thread_laws.specs.KeptEntries.{is_on_declared, all_kept}
 
 -- an entry, and its index among all
 pub record IndexedEntry : Type 0 where
@@ -49,9 +48,9 @@ pub record AreInOrder (n first : ℕ) (es : List LogEntry) (xs : List IndexedEnt
   pub sorted_ : IsSortedBy indexed_before xs
   pub stable : IsStableBy indexed_before (compared_indexed n (indexed first es)) xs
 
--- the entries of all logs in the order of the journal, each with its index among them, log by log
+-- the entries that logs keep, in the order of the journal, each with its index among them, log by log
 abbrev pub indexed_journal : List ActorLog → List IndexedEntry
-indexed_journal logs = sorted indexed_before (indexed 0 (all_logged logs))
+indexed_journal logs = sorted indexed_before (indexed 0 (all_kept logs))
 
 -- ---- entries taken by their indices
 

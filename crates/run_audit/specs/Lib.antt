@@ -20,5 +20,7 @@ pub mod Audits
 pub mod IndexedEntries
 -- The merge of two lists.
 pub mod Merges
--- What it takes to move the entries of logs into a journal.
+-- What it takes to move the entries that logs keep into a journal.
 pub mod Rooms
+-- The journal of a run, and what of it is in memory.
+pub mod RunJournals

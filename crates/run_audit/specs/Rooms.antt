@@ -1,4 +1,4 @@
--- What it takes to move the entries of logs into a journal.
+-- What it takes to move the entries that logs keep into a journal.
 use Rattle.std.specs.Prelude.{◌≡◌, ◌≤◌, List, [], length, vec_capacity}
 use Rattle.run_audit.specs.IndexedEntries.{IndexedEntry, indices_of}
 use Rattle.run_audit.specs.declared.moving.Room.{Room}

@@ -1,14 +1,16 @@
 //! The audit.
 
-ghost use Rattle.std.specs.Prelude.{◌≡◌, IfErr, IfOk};
+ghost use Rattle.std.specs.Prelude.{◌≡◌, All, IfErr, IfOk};
 ghost use Rattle.std.specs.Result.{MatchResult};
 ghost use Rattle.thread_laws.specs.Joining.{AreWalked, IsJournalOfRun};
 ghost use Rattle.thread_laws.specs.Joining.{journal_of};
+ghost use Rattle.thread_laws.specs.KeptEntries.{all_kept, entries_elsewhere, AreKept, IsKept};
 ghost use Rattle.thread_laws.specs.LookUps.{AreCountsOf};
 ghost use Rattle.thread_laws.specs.Replaying.{all_histories, Legal};
 ghost use Rattle.run_audit.specs.Audits.{IsAudit, IsCompared};
-ghost use Rattle.run_audit.specs.ComparedCells.{compared_entries, compared_histories};
-ghost use Rattle.run_audit.specs.ComparedCells.{DeclaredAgree, IsAtCompared};
+ghost use Rattle.thread_laws.specs.Sorting.{in_order};
+ghost use Rattle.run_audit.specs.ComparedCells.{compared_histories, DeclaredAgree};
+ghost use Rattle.run_audit.specs.ComparedCells.{IsAtCompared, KeepCompared};
 ghost use Rattle.run_audit.specs.Differences.{IsComparison, IsFault};
 
 use crate::caches::counts_of;
@@ -50,13 +52,15 @@ pub(crate) struct Compared {
 }
 
 /// Returns references to the logged entries that are compared, which are those that are not on the first
-/// `declared` slots, in the order of their stamps, those of one stamp by the names of their actors.
+/// `declared` slots, in the order of their stamps, those of one stamp by the names of their actors. The logs keep
+/// all of these.
 fn compared_journal<'a>(
     alloc: Global,
     declared: usize,
     logs: &'a [ActorLog],
 ) -> Result<Vec<JournalEntry<'a>>, NoMemory>
-    ensures { IfOk result (λ v. v.items ≡ compared_entries declared (journal_of logs.now)) }
+    requires { KeepCompared declared logs.now }
+    ensures { IfOk result (λ v. v.items ≡ entries_elsewhere declared (journal_of logs.now)) }
 {
     let sorted = compared_in_order(alloc, declared, logs)?;
     journal_references(alloc, sorted.as_slice())
@@ -87,6 +91,7 @@ fn compare_gathered(
     image: &Image,
     gathered: &Gathered,
 ) -> Result<Compared, AuditFault>
+    requires { AreKept gathered.now }
     ensures found { MatchResult result (λ c. IsCompared image.now gathered.now c)
         (λ f. DeclaredAgree gathered.now
         → IsFault gathered.now.logs (all_histories gathered.now) f) }
@@ -120,7 +125,11 @@ fn compare_gathered(
 /// the journal is a complete run of the image, with this outcome. Of logs of whole executions it
 /// says that there are counts for each actor of the outcome, which are those for its entries in the
 /// journal.
+///
+/// The logs may keep less than all their entries, but have to keep all that is compared, and to count all. Where they
+/// keep all entries, the journal has them all in memory, and can be asked for.
 pub fn audit(alloc: Global, image: &Image, gathered: Gathered) -> Result<Audited, AuditRefusal>
+    requires { AreKept gathered }
     ensures result { DeclaredAgree gathered → MatchResult result
         (λ a. IsAudit image.now gathered.logs (all_histories gathered) a)
         (λ r. (r.gathered ≡ gathered)
@@ -132,6 +141,9 @@ pub fn audit(alloc: Global, image: &Image, gathered: Gathered) -> Result<Audited
         → IfOk result (λ a. IsJournalOfRun image.now a.journal.entries a.outcome) }
     ensures caches { AreWalked image.now gathered.logs
         → IfOk result (λ a. AreCountsOf a.journal.entries a.outcome.actors a.caches) }
+    ensures kept { IfOk result (λ a. a.journal.kept ≡ in_order (all_kept gathered.logs)) }
+    ensures whole { All (IsKept 0) gathered.logs
+        → IfOk result (λ a. a.journal.kept ≡ a.journal.entries) }
 {
     match compare_gathered(alloc, image, &gathered) {
         Ok(compared) => {

@@ -1,24 +1,24 @@
-//! References to the entries of all logs, or to those that are compared, merged in the order of their stamps.
+//! References to the entries that logs keep, or to those of them that are compared, merged in the order of their stamps.
 
 ghost use Rattle.std.specs.Prelude.{◌≡◌, ◌+◌, ◌++◌, length, IfOk};
-ghost use Rattle.thread_laws.specs.Joining.{all_logged, journal_of};
-ghost use Rattle.run_audit.specs.ComparedCells.{compared_entries};
+ghost use Rattle.thread_laws.specs.Joining.{journal_of};
+ghost use Rattle.thread_laws.specs.KeptEntries.{all_kept, entries_elsewhere};
+ghost use Rattle.run_audit.specs.ComparedCells.{KeepCompared};
 ghost use Rattle.run_audit.specs.IndexedEntries.{indexed, indexed_before, indexed_journal};
 ghost use Rattle.run_audit.specs.IndexedEntries.{AreInOrder, compared_indexed};
 ghost use Rattle.run_audit.specs.IndexedEntries.{entries_without_index};
 ghost use Rattle.run_audit.specs.Merges.{merged};
 
-use crate::declared_slots::is_on_declared;
 use crate::sorts::sort_stably;
 use stable_sort::Sortable;
 use std::alloc::Global;
 use std::cmp::Ordering;
 use std::marker::Model;
-use thread_laws::ActorLog;
+use thread_laws::{ActorLog, is_on_declared};
 use wedge_base::{NoMemory, Stamp};
 use wedge_events::LogEntry;
 
-/// An entry by reference, with its index among the entries of all logs, log by log. Its stamp is
+/// An entry by reference, with its index among the entries that the logs keep, log by log. Its stamp is
 /// beside it, so that most comparisons read no entry. Contracts see it as the entry with its index.
 #[derive(Drop)]
 pub(crate) struct ByStamp<'a> {
@@ -101,9 +101,9 @@ fn log_in_order<'a>(
     log: &'a ActorLog,
     first: usize,
 ) -> Result<Vec<ByStamp<'a>>, NoMemory>
-    ensures { IfOk result (λ v. AreInOrder declared first log.now.entries v.items) }
+    ensures { IfOk result (λ v. AreInOrder declared first log.now.kept v.items) }
 {
-    let mut all = references_from(alloc, declared, log.entries.as_slice(), first)?;
+    let mut all = references_from(alloc, declared, log.kept.as_slice(), first)?;
     sort_stably(&mut all)?;
     Ok(all)
 }
@@ -146,22 +146,23 @@ fn merge<'a>(
     add_all(all, &second[j..])
 }
 
-/// Returns the index after those of all entries of logs, which begin at one.
-#[tactic(auto, using(crate::proofs::IndexedEntries::logged_more))]
-pub(crate) fn index_after(first: usize, logs: &[ActorLog]) -> Result<usize, NoMemory>
-    ensures { IfOk result (λ n. n ≡ first + length (all_logged logs.now)) }
+/// Returns the index after those of all entries that logs keep, which begin at one.
+#[tactic(auto, using(crate::proofs::IndexedEntries::kept_more))]
+fn index_after(first: usize, logs: &[ActorLog]) -> Result<usize, NoMemory>
+    ensures { IfOk result (λ n. n ≡ first + length (all_kept logs.now)) }
 {
     let mut index = first;
     for log in logs {
         index = index
-            .checked_add(log.entries.as_slice().len())
+            .checked_add(log.kept.as_slice().len())
             .ok_or(NoMemory)?;
     }
     Ok(index)
 }
 
-/// Returns references to the entries of logs that are not on the first `declared` slots, in the order of
-/// their stamps: those of each half of the logs, merged. The indices of all entries are from a number on.
+/// Returns references to the entries that logs keep and that are not on the first `declared` slots, in the
+/// order of their stamps: those of each half of the logs, merged. The indices of all kept entries are from a
+/// number on.
 ///
 /// std's stable sort of all references would give the same list, but it merges only those runs that
 /// are at least as long as the square root of their number, and sorts shorter logs from nothing.
@@ -171,7 +172,7 @@ fn logs_merged<'a>(
     logs: &'a [ActorLog],
     first: usize,
 ) -> Result<Vec<ByStamp<'a>>, NoMemory>
-    ensures { IfOk result (λ v. AreInOrder declared first (all_logged logs.now) v.items) }
+    ensures { IfOk result (λ v. AreInOrder declared first (all_kept logs.now) v.items) }
 {
     match logs {
         [] => Ok(Vec::new(alloc)),
@@ -186,7 +187,7 @@ fn logs_merged<'a>(
     }
 }
 
-/// Returns references to all logged entries in the order of the journal.
+/// Returns references to all entries that logs keep, in the order of the journal.
 pub(crate) fn entries_in_order<'a>(
     alloc: Global,
     logs: &'a [ActorLog],
@@ -197,14 +198,15 @@ pub(crate) fn entries_in_order<'a>(
 }
 
 /// Returns references to the logged entries that are not on the first `declared` slots, in the order of the
-/// journal.
+/// journal. The logs keep all of these.
 pub(crate) fn compared_in_order<'a>(
     alloc: Global,
     declared: usize,
     logs: &'a [ActorLog],
 ) -> Result<Vec<ByStamp<'a>>, NoMemory>
+    requires { KeepCompared declared logs.now }
     ensures { IfOk result (λ v. entries_without_index v.items
-        ≡ compared_entries declared (journal_of logs.now)) }
+        ≡ entries_elsewhere declared (journal_of logs.now)) }
 {
     logs_merged(alloc, declared, logs, 0)
 }

@@ -1,8 +1,9 @@
-//! The journal, made of the entries of the logs themselves.
+//! The journal, made of the entries themselves that the logs keep.
 
 ghost use Rattle.std.specs.Prelude.{◌≡◌, ◌+◌, ◌≤◌, ◌++◌, [], length, map, slice_index_or, slice_set};
 ghost use Rattle.std.specs.Prelude.{Some, None, IfOk, vec_len, vec_capacity};
-ghost use Rattle.thread_laws.specs.Joining.{all_logged, journal_of};
+ghost use Rattle.thread_laws.specs.KeptEntries.{all_kept};
+ghost use Rattle.thread_laws.specs.Sorting.{in_order};
 ghost use Rattle.run_audit.specs.IndexedEntries.{indices_of, indexed_journal, taken_by};
 ghost use Rattle.run_audit.specs.Rooms.{IsRoomFor};
 
@@ -12,8 +13,8 @@ use thread_laws::ActorLog;
 use wedge_base::{Items, NoMemory};
 use wedge_events::{Journal, LogEntry};
 
-/// The order of a journal, as indices of its entries among those of all logs, log by log, and the
-/// memory that it takes to move them.
+/// The order of a journal, as indices of its entries among those that all logs keep, log by log, and
+/// the memory that it takes to move them.
 #[derive(Debug, Drop)]
 struct Room {
     order: Vec<usize>,
@@ -56,14 +57,14 @@ fn add_slots(mut entries: Vec<LogEntry>, slots: &mut Vec<Option<LogEntry>>)
     }
 }
 
-/// Puts each entry of these logs, log by log, into a slot after others. The capacity is there.
+/// Puts each entry that these logs keep, log by log, into a slot after others. The capacity is there.
 fn slots_of(mut logs: Vec<ActorLog>, mut slots: Vec<Option<LogEntry>>) -> Vec<Option<LogEntry>>
-    requires { vec_len slots + length (all_logged logs.items) ≤ vec_capacity slots }
-    ensures { result.items ≡ slots.items ++ map Some (all_logged logs.items) }
+    requires { vec_len slots + length (all_kept logs.items) ≤ vec_capacity slots }
+    ensures { result.items ≡ slots.items ++ map Some (all_kept logs.items) }
 {
     logs.reverse();
     while let Some(log) = logs.pop() {
-        add_slots(log.into_entries().into_vec(), &mut slots);
+        add_slots(log.into_kept().into_vec(), &mut slots);
     }
     slots
 }
@@ -97,7 +98,7 @@ fn take_all(
     entries
 }
 
-/// Returns what it takes to move the entries of logs into the order of the journal.
+/// Returns what it takes to move the entries that logs keep into the order of the journal.
 fn room_of(alloc: Global, logs: &[ActorLog]) -> Result<Room, NoMemory>
     ensures { IfOk result (λ r. IsRoomFor (indexed_journal logs.now) r) }
 {
@@ -105,10 +106,10 @@ fn room_of(alloc: Global, logs: &[ActorLog]) -> Result<Room, NoMemory>
     room_for(alloc, sorted.as_slice())
 }
 
-/// Makes a journal of the entries of logs. It moves each entry twice, and copies none.
+/// Makes a journal of the entries that logs keep. It moves each entry twice, and copies none.
 fn entries_moved(logs: Items<ActorLog>, room: Room) -> Journal
     requires { IsRoomFor (indexed_journal logs) room }
-    ensures { result.entries ≡ journal_of logs }
+    ensures { result.entries ≡ in_order (all_kept logs) }
 {
     let Room {
         order,
@@ -121,9 +122,9 @@ fn entries_moved(logs: Items<ActorLog>, room: Room) -> Journal
     }
 }
 
-/// Puts the entries of logs in the order of the journal. Where it fails, out of memory, they are lost.
+/// Puts the entries that logs keep in the order of the journal. Where it fails, out of memory, they are lost.
 pub(crate) fn journal_moved(alloc: Global, logs: Items<ActorLog>) -> Result<Journal, NoMemory>
-    ensures { IfOk result (λ j. j.entries ≡ journal_of logs) }
+    ensures { IfOk result (λ j. j.entries ≡ in_order (all_kept logs)) }
 {
     let room = room_of(alloc, logs.as_slice())?;
     Ok(entries_moved(logs, room))

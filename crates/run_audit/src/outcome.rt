@@ -3,7 +3,7 @@
 ghost use Rattle.std.specs.Prelude.{◌≡◌, IfOk, length};
 ghost use Rattle.thread_laws.specs.Joining.{journal_of, outcome_gathered};
 ghost use Rattle.thread_laws.specs.Replaying.{all_histories};
-ghost use Rattle.run_audit.specs.ComparedCells.{compared_entries};
+ghost use Rattle.thread_laws.specs.KeptEntries.{entries_elsewhere};
 
 use crate::actor_lines::lines_in;
 use crate::labels::labels_in;
@@ -26,7 +26,7 @@ pub(crate) fn outcome_gathered(
     gathered: &Gathered,
 ) -> Result<Outcome, NoMemory>
     requires { journal.now
-        ≡ compared_entries (length gathered.now.declared) (journal_of gathered.now.logs) }
+        ≡ entries_elsewhere (length gathered.now.declared) (journal_of gathered.now.logs) }
     ensures { IfOk result (λ o. o
         ≡ outcome_gathered image.now gathered.now.logs (all_histories gathered.now)) }
 {

@@ -12,7 +12,8 @@ use Rattle.wedge_events.specs.Journals.{cell_of}
 use Rattle.machine.specs.Take.{actor_begun}
 use Rattle.thread_laws.specs.Joining.{all_logged}
 use Rattle.thread_laws.specs.declared.gathered.ActorLog.{ActorLog}
-use Rattle.tag_laws.specs.DeclaredTags.{is_on_declared, entries_on_declared}
+use Rattle.thread_laws.specs.KeptEntries.{is_on_declared}
+use Rattle.tag_laws.specs.DeclaredTags.{entries_on_declared}
 use Rattle.thread_laws.specs.ActorProgresses.{ActorProgress}
 use Rattle.run_cells.specs.Entries.{IsOnSlot, IsOnNoSlot, IsCreatingEntry, IsNextActor}
 use Rattle.run_cells.specs.TagPasses.{all_entered}

@@ -1,5 +1,8 @@
 //! Runs on threads, audited, and checked by replays in the core.
 
+ghost use Rattle.std.specs.Prelude.{All};
+ghost use Rattle.thread_laws.specs.KeptEntries.{AreKept, IsKept};
+
 use gate_runner::run_image;
 use image_form::Image;
 use meeting_pace::Meeting;
@@ -88,7 +91,10 @@ fn is_a_run(alloc: Global, image: &Image, run: &CheckedRun) -> Result<bool, Fail
 }
 
 /// Audits what was gathered of a run, and checks that it is one.
-fn checked(alloc: Global, image: &Image, gathered: Gathered) -> Result<CheckedRun, Fail> {
+fn checked(alloc: Global, image: &Image, gathered: Gathered) -> Result<CheckedRun, Fail>
+    requires kept { AreKept gathered }
+    requires whole { All (IsKept 0) gathered.logs }
+{
     let Ok(audited) = audit(alloc, image, gathered) else {
         return Err("no audit".into());
     };
@@ -117,7 +123,7 @@ pub fn run_at_once<R: Threads + Wait + Clock + Sync>(
     wanted: u32,
 ) -> Result<CheckedRun, Fail> {
     let meeting = Meeting::new(rt, wanted);
-    let gathered = run_image(rt, alloc, image, &meeting)?;
+    let gathered = run_image(rt, alloc, image, &meeting, true)?;
     if meeting.took_place() {
         checked(alloc, image, gathered)
     } else {

@@ -6,6 +6,7 @@ ghost use Rattle.rv_isa.specs.Table.{HasRegisters};
 ghost use Rattle.rv_hart.specs.Local as hart;
 ghost use Rattle.machine.specs.Accesses.{IsWidth};
 ghost use Rattle.machine.specs.Actors.{whole};
+ghost use Rattle.machine.specs.declared.phase.Phase.TheVariants as phase;
 ghost use Rattle.machine.specs.Local as local;
 ghost use Rattle.run_notes.specs.Notes as notes;
 ghost use Rattle.run_notes.specs.Procedures.{AreProceduresOf};
@@ -13,7 +14,7 @@ ghost use Rattle.run_notes.specs.Procedures.{AreProceduresOf};
 use crate::chain::{CallChain, is_call, is_return};
 use crate::context::Context;
 use crate::note::Note;
-use actor_step::step;
+use actor_step::{Access, step, want_access};
 use cow_pages::PrivateView;
 use machine::{Actor, Phase};
 use ready_text::Program;
@@ -21,6 +22,7 @@ use rv_hart::{Hart, Need};
 use rv_isa::{Instr, Op};
 use trace_form::{Kind, Mode};
 use wedge_base::{NoMemory, Place, Slot, WINDOWS_BASE, slot_of};
+use wedge_events::SlotWant;
 
 /// The place of the instructions of runs that are logged.
 struct Logged;
@@ -71,7 +73,24 @@ fn run_noted(
 {
     while is_running(actor) {
         note_step(context, actor, memory, chain, list)?;
-        step::<Logged>(actor, context.program, memory)?;
+        make_step(actor, context.program, memory)?;
+    }
+    Ok(())
+}
+
+/// Makes an instruction. An actor that comes by it to an access of a slot wants it then.
+fn make_step(
+    actor: &mut Actor,
+    program: &Program<'_>,
+    memory: &mut PrivateView,
+) -> Result<(), NoMemory>
+    requires { actor.old.phase ≡ phase.Running }
+    ensures { OnOk result (whole actor.new memory.new
+        ≡ local.step program.now (whole actor.old memory.old)) }
+{
+    if let Some(Access { slot, want }) = step::<Logged>(actor, program, memory)? {
+        let want: SlotWant = want;
+        want_access(actor, Access { slot, want });
     }
     Ok(())
 }

@@ -1,18 +1,20 @@
 //! An actor's part of a shared event.
 
-ghost use Rattle.std.specs.Prelude.{◌≡◌, ◌<◌, IfOk, IfSome, OnOk, OnErr, None, true, false, option_map, option_and_then};
+ghost use Rattle.std.specs.Prelude.{◌≡◌, ◌<◌, IfOk, IfSome, OnOk, OnErr, Some, None, true, false, option_map, option_and_then};
 ghost use Rattle.cow_pages.specs.PrivateMemory.{PrivateMemory, no_memory};
 ghost use Rattle.wedge_base.specs.Images.{fetch, slots};
 ghost use Rattle.wedge_events.specs.declared.events.Event.{Event as AnEvent};
 ghost use Rattle.rv_isa.specs.Table.{decode};
 ghost use Rattle.machine.specs.declared.phase.Phase.TheVariants as phase;
 ghost use Rattle.machine.specs.Take as taking;
+ghost use Rattle.actor_step.specs.Reached.{reached, IsReached};
 ghost use Rattle.machine.specs.Actors.{whole};
 ghost use Rattle.machine.specs.Between.{IsInBounds, SuitsActor, TakesFit};
 
 use crate::entering::{enter, leave};
 use crate::starting::{begin_child, go_on_copying, start, take_join};
 use crate::streams::{take_number, take_stream};
+use actor_step::{Access, want_access};
 use cow_pages::{Pages, PrivateView};
 use machine::{Actor, Phase};
 use ready_text::Program;
@@ -218,6 +220,68 @@ fn take_gate(
         (GateAsk::Leave { end, .. }, _) => {
             leave(actor, memory, *end);
             Ok(None)
+        }
+    }
+}
+
+/// What the reply of a slot makes of an actor that came to this access and still runs. It takes the reply as one that wants
+/// the access. An actor that runs out of memory has stopped.
+#[inline(always)]
+pub fn take_access(
+    actor: &mut Actor,
+    program: &Program<'_>,
+    memory: &mut PrivateView,
+    access: Access,
+    slot: Slot,
+    ask: &SlotAsk,
+    reply: &SlotReply,
+) -> Result<(), NoMemory>
+    requires comes { IsReached actor.old.phase access }
+    requires bounds { IsInBounds (AnEvent.Slot slot ask.now reply.now) }
+    ensures takes { OnOk result (whole actor.new memory.new ≡ taking.takes_slot program.now
+        (reached (whole actor.old memory.old) (Some access)) slot ask.now reply.now) }
+    ensures name { OnOk result (actor.new.name ≡ actor.old.name) }
+    ensures going { OnOk result ((actor.old.stopped ≡ false) × (actor.new.stopped ≡ false)) }
+    ensures stops { OnErr result (actor.new.stopped ≡ true) }
+{
+    if actor.stopped {
+        return Err(NoMemory);
+    }
+    let taken = take_reply(actor, program, memory, access, slot, ask, reply);
+    actor.stopped = taken.is_err();
+    taken
+}
+
+/// The same of an actor that has not stopped. A load and a store that took place have their arms here, since they are the
+/// most: nothing is written but what they change.
+#[inline(always)]
+fn take_reply(
+    actor: &mut Actor,
+    program: &Program<'_>,
+    memory: &mut PrivateView,
+    access: Access,
+    slot: Slot,
+    ask: &SlotAsk,
+    reply: &SlotReply,
+) -> Result<(), NoMemory>
+    requires comes { IsReached actor.old.phase access }
+    requires bounds { IsInBounds (AnEvent.Slot slot ask.now reply.now) }
+    ensures takes { OnOk result (whole actor.new memory.new ≡ taking.takes_slot program.now
+        (reached (whole actor.old memory.old) (Some access)) slot ask.now reply.now) }
+    ensures name { OnOk result (actor.new.name ≡ actor.old.name) }
+{
+    match reply {
+        SlotReply::Loaded { value } => {
+            take_load(actor, program, *value);
+            Ok(())
+        }
+        SlotReply::Stored => {
+            actor.hart.advance();
+            Ok(())
+        }
+        _ => {
+            want_access(actor, access);
+            take_other(actor, program, memory, slot, ask, reply)
         }
     }
 }

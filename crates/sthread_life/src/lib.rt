@@ -10,6 +10,6 @@ mod streams;
 mod wants;
 
 pub use entering::resume;
-pub use events::{take, take_alone};
+pub use events::{take, take_access, take_alone};
 pub use machine::{Actor, Next};
 pub use resting::{next, rest, wants_fit};

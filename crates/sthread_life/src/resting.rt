@@ -1,6 +1,6 @@
 //! Local events: an actor alone, up to its next shared event.
 
-ghost use Rattle.std.specs.Prelude.{◌≡◌, ◌<◌, OnOk, OnErr, IfOk, true, false};
+ghost use Rattle.std.specs.Prelude.{◌≡◌, ◌<◌, OnOk, OnErr, IfOk, IfSome, IfNone, true, false};
 ghost use Rattle.machine.specs.declared.phase.Phase.TheVariants as phase;
 ghost use Rattle.machine.specs.Local as local;
 ghost use Rattle.machine.specs.Actors.{whole};
@@ -9,27 +9,30 @@ ghost use Rattle.machine.specs.Local.{end_reached, run_awaited};
 ghost use Rattle.machine.specs.Take.{current_want};
 ghost use Rattle.machine.specs.Resting.{want_in, end_in, run_in, NextFits};
 ghost use Rattle.sthread_life.specs.Within.{FitsWithin};
+ghost use Rattle.actor_step.specs.Reached.{reached, IsReached};
 
 use crate::entering::entering_want;
 use crate::starting::{ending_want, starting_want};
 use crate::wants::{making_want, opening_want, releasing_want};
-use actor_step::step;
+use actor_step::{Access, step};
 use cow_pages::PrivateView;
 use machine::{Actor, Next, Phase};
 use ready_text::Program;
 use wedge_base::NoMemory;
 
-/// Makes the actor's local events up to its next shared event. An actor that runs out of memory has stopped: from then on
+/// Makes the actor's local events up to its next shared event. Returns the load or the store of a slot to which it comes, if
+/// that is what it wants: the actor itself still runs then. An actor that runs out of memory has stopped: from then on
 /// `rest`, `next` and `take` answer `NoMemory`. `Site` stands for the place of the call, as for `Hart::begin`.
 #[inline(always)]
 pub fn rest<Site>(
     actor: &mut Actor,
     program: &Program<'_>,
     memory: &mut PrivateView,
-) -> Result<(), NoMemory>
-    ensures rests { OnOk result (whole actor.new memory.new
+) -> Result<Option<Access>, NoMemory>
+    ensures rests { IfOk result (λ o. reached (whole actor.new memory.new) o
         ≡ local.rest program.now (whole actor.old memory.old)) }
-    ensures still { OnOk result (local.is_running actor.new.phase ≡ false) }
+    ensures still { IfOk result (λ o. IfNone o (local.is_running actor.new.phase ≡ false)) }
+    ensures comes { IfOk result (λ o. IfSome o (IsReached actor.new.phase)) }
     ensures going { OnOk result ((actor.old.stopped ≡ false) × (actor.new.stopped ≡ false)) }
     ensures stops { OnErr result (actor.new.stopped ≡ true) }
 {
@@ -68,21 +71,24 @@ pub fn wants_fit(actor: &Actor)
     let _ = matches!(actor.phase, Phase::Within(_));
 }
 
-/// Runs instructions until it no longer runs: each takes a unit of fuel.
+/// Runs instructions until it no longer runs, or comes to an access of a slot: each takes a unit of fuel.
 #[inline(always)]
 fn run<Site>(
     actor: &mut Actor,
     program: &Program<'_>,
     memory: &mut PrivateView,
-) -> Result<(), NoMemory>
-    ensures rests { OnOk result (whole actor.new memory.new
+) -> Result<Option<Access>, NoMemory>
+    ensures rests { IfOk result (λ o. reached (whole actor.new memory.new) o
         ≡ local.rest program.now (whole actor.old memory.old)) }
-    ensures stops { OnOk result (local.is_running actor.new.phase ≡ false) }
+    ensures stops { IfOk result (λ o. IfNone o (local.is_running actor.new.phase ≡ false)) }
+    ensures comes { IfOk result (λ o. IfSome o (IsReached actor.new.phase)) }
 {
     while is_running(actor) {
-        step::<Site>(actor, program, memory)?;
+        if let Some(access) = step::<Site>(actor, program, memory)? {
+            return Ok(Some(access));
+        }
     }
-    Ok(())
+    Ok(None)
 }
 
 /// Returns the actor's next want, its end, or the run it waits for.

@@ -6,7 +6,8 @@ use Rattle.wedge_events.specs.declared.events.CellName.TheVariants as cell
 use Rattle.wedge_events.specs.declared.events.Event.{Event}
 use Rattle.wedge_events.specs.declared.events.Event.TheVariants as event
 use Rattle.thread_laws.specs.Histories.{is_of, entries_on}
-use Rattle.tag_laws.specs.DeclaredTags.{is_on_declared, entries_on_declared, DeclaredHaveAll}
+use Rattle.thread_laws.specs.KeptEntries.{is_on_declared}
+use Rattle.tag_laws.specs.DeclaredTags.{entries_on_declared, DeclaredHaveAll}
 
 -- an event that is on none of the first n slots is not on this one of them
 not_on : (n slot : ℕ) (e : Event) → slot < n → is_on_declared n e ≡ false → is_of (cell.Slot slot) e ≡ false

@@ -1,6 +1,6 @@
 -- The slots of declared tags: entries on them, what passes entered there, and what their locks kept. Declared tags
 -- live in the first slots.
-use Rattle.std.specs.Prelude.{◌≡◌, ℕ, ◌<◌, nat_lt, Bool, false, List, [], ◌∷◌, ◌++◌, length, if◌then◌else◌, IsPermutation, Option}
+use Rattle.std.specs.Prelude.{◌≡◌, ℕ, ◌<◌, List, [], ◌∷◌, ◌++◌, length, if◌then◌else◌, IsPermutation, Option}
 use mathlib.Core.Option.{some}
 use lib.ListN.{get_elem?}
 use Rattle.wedge_base.specs.Images.{Image}
@@ -19,6 +19,7 @@ use Rattle.ruled_cell.specs.Visits.{entry_list}
 use Rattle.ruled_cell.specs.Passes.{IsClosing}
 use Rattle.thread_laws.specs.Histories.{entries_on}
 use Rattle.thread_laws.specs.Joining.{all_logged, AgreeOn}
+use Rattle.thread_laws.specs.KeptEntries.{is_on_declared}
 use Rattle.thread_laws.specs.Replaying.{logged_as, history_of, Legal}
 use Rattle.thread_laws.specs.declared.gathered.ActorLog.{ActorLog}
 use Rattle.thread_laws.specs.declared.gathered.CellHistory.{CellHistory}
@@ -27,11 +28,6 @@ use Rattle.thread_laws.specs.declared.gathered.CellHistory.{CellHistory}
 abbrev pub IsDeclared : ℕ → CellName → Type 0
 IsDeclared n (cell.Slot slot) = slot < n
 IsDeclared n c = ⊥
-
--- whether an event is on one of the first n slots
-abbrev pub is_on_declared : ℕ → Event → Bool
-is_on_declared n (event.Slot slot q r) = nat_lt slot n
-is_on_declared n e = false
 
 -- the entries on the first n slots, in their order
 abbrev pub entries_on_declared : ℕ → List LogEntry → List LogEntry

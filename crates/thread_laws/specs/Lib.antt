@@ -12,6 +12,8 @@ pub mod Sorting
 pub mod Laws
 -- The tags that an actor looks up in its cache, and the counts of the cache.
 pub mod LookUps
+-- What the log of an actor keeps of its entries.
+pub mod KeptEntries
 -- What a run on threads leaves, and the theorem.
 pub mod Joining
 -- The counts of the caches of all actors, read off the logs.

@@ -11,7 +11,7 @@ use wedge_events::{
     SlotReply, StreamAsk, StreamReply,
 };
 
-/// The log of an actor: how it ended, and its entries, the oldest first.
+/// The log of an actor: how it ended, and its entries, the oldest first. What a log keeps of them is for the run to say.
 #[derive(Debug)]
 pub struct ActorLog {
     pub name: ActorName,
@@ -26,7 +26,12 @@ pub struct ActorLog {
     pub denials: Items<DenialAt>,
     /// The paths of the files that it opened.
     pub labels: Items<StreamLabel>,
-    pub entries: Items<LogEntry>,
+    /// All its entries. Only proofs read them.
+    pub entries: GhostList<LogEntry>,
+    /// Those of its entries that are kept.
+    pub kept: Items<LogEntry>,
+    /// How many entries it has in all.
+    pub count: u64,
     /// The counts of its cache of rights.
     pub cache: CacheCount,
 }
@@ -43,15 +48,17 @@ impl Drop for ActorLog {
             denials: _,
             labels: _,
             entries: _,
+            kept: _,
+            count: _,
             cache: _,
         } = self;
     }
 }
 
 impl ActorLog {
-    /// Consumes a log, and returns its entries.
-    pub fn into_entries(self) -> Items<LogEntry>
-        ensures { result ≡ self.entries }
+    /// Consumes a log, and returns those of its entries that it keeps.
+    pub fn into_kept(self) -> Items<LogEntry>
+        ensures { result ≡ self.kept }
     {
         let Self {
             name: _name,
@@ -61,10 +68,12 @@ impl ActorLog {
             fuel: _fuel,
             denials: _denials,
             labels: _labels,
-            entries,
+            entries: _entries,
+            kept,
+            count: _count,
             cache: _cache,
         } = self;
-        entries
+        kept
     }
 }
 

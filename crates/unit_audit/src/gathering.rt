@@ -1,9 +1,12 @@
 //! Logs and histories to be audited.
 
+ghost use Rattle.std.specs.Prelude.{◌≡◌, take};
+ghost use Rattle.thread_laws.specs.KeptEntries.{IsKept};
+
 use cow_pages::PrivateView;
 use grant_cache::CacheCount;
 use image_form::{Image, ImageParts, finish_image};
-use journal_cell::Entry;
+use journal_cell::{Entry, GhostList};
 use std::alloc::Global;
 use std::test::Fail;
 use thread_laws::{ActorLog, CellHistory};
@@ -49,8 +52,24 @@ pub fn image(alloc: Global) -> Result<Image, Fail> {
     Ok(finish_image(alloc, parts).ok().ok_or("an image")?)
 }
 
-/// The log of an actor that began at `main`, looked up no tag, and exited with so much fuel left.
-pub fn log(alloc: Global, name: ActorName, fuel: u32, entries: Vec<LogEntry>) -> ActorLog {
+/// Entries, as contracts see them.
+fn seen(entries: &[LogEntry]) -> GhostList<LogEntry>
+    ensures { result ≡ entries.now }
+{
+    let mut all = GhostList::new();
+    for entry in entries {
+        all.push(entry);
+    }
+    all
+}
+
+/// The log of an actor that began at `main`, looked up no tag, and exited with so much fuel left. It keeps all its
+/// entries.
+pub fn log(alloc: Global, name: ActorName, fuel: u32, entries: Vec<LogEntry>) -> ActorLog
+    ensures { IsKept 0 result }
+{
+    let all = seen(entries.as_slice());
+    let count = entries.len() as u64;
     ActorLog {
         name,
         compartment: 0x1_0000,
@@ -59,7 +78,9 @@ pub fn log(alloc: Global, name: ActorName, fuel: u32, entries: Vec<LogEntry>) ->
         fuel,
         denials: Items::new(Vec::new(alloc)),
         labels: Items::new(Vec::new(alloc)),
-        entries: Items::new(entries),
+        entries: all,
+        kept: Items::new(entries),
+        count,
         cache: CacheCount {
             lookups: 0,
             hits: 0,

@@ -1,5 +1,8 @@
 //! Two actors do two events of each kind of cell, in turns.
 
+ghost use Rattle.std.specs.Prelude.{◌≡◌, All, IfOk};
+ghost use Rattle.thread_laws.specs.KeptEntries.{AreKept, IsKept};
+
 use crate::gathering::{Histories, event_of, image, log};
 use run_audit::{AuditFault, AuditRefusal, Audited, Difference, audit};
 use std::alloc::Global;
@@ -86,8 +89,10 @@ fn add_kept(
     Ok(())
 }
 
-/// Logs and histories of both actors, with a change of the history of a kind.
-fn gathered(alloc: Global, kind: u32, change: Option<Change>) -> Result<Gathered, NoMemory> {
+/// Logs and histories of both actors, with a change of the history of a kind. The logs keep all.
+fn gathered(alloc: Global, kind: u32, change: Option<Change>) -> Result<Gathered, NoMemory>
+    ensures { IfOk result (λ g. All (IsKept 0) g.logs) }
+{
     let mut own = Vec::new(alloc);
     let mut others = Vec::new(alloc);
     let mut histories = Histories::new(alloc);
@@ -110,13 +115,18 @@ fn gathered(alloc: Global, kind: u32, change: Option<Change>) -> Result<Gathered
 }
 
 /// The answer of an audit over the image.
-fn audit_of(alloc: Global, gathered: Gathered) -> Result<Result<Audited, AuditRefusal>, Fail> {
+fn audit_of(alloc: Global, gathered: Gathered) -> Result<Result<Audited, AuditRefusal>, Fail>
+    requires { All (IsKept 0) gathered.logs }
+    ensures { IfOk result (λ r. IfOk r (λ a. a.journal.kept ≡ a.journal.entries)) }
+{
     let image = image(alloc)?;
     Ok(audit(alloc, &image, gathered))
 }
 
 /// What an audit gives of histories that agree.
-fn agreed(alloc: Global) -> Result<Audited, Fail> {
+fn agreed(alloc: Global) -> Result<Audited, Fail>
+    ensures { IfOk result (λ a. a.journal.kept ≡ a.journal.entries) }
+{
     Ok(
         audit_of(alloc, gathered(alloc, 0, None)?)?
             .ok()
@@ -177,7 +187,9 @@ fn kind_of(cell: &CellName) -> u32 {
 }
 
 /// The first difference of what was gathered.
-fn difference_of(alloc: Global, gathered: Gathered) -> Result<Difference, Fail> {
+fn difference_of(alloc: Global, gathered: Gathered) -> Result<Difference, Fail>
+    requires { All (IsKept 0) gathered.logs }
+{
     let AuditRefusal { fault, .. } = audit_of(alloc, gathered)?.err().ok_or("a difference")?;
     match fault {
         AuditFault::NoMemory => Err(Fail::from("memory")),

@@ -1,5 +1,7 @@
 //! Runs on threads, audited, and compared with runs of the core.
 
+ghost use Rattle.thread_laws.specs.KeptEntries.{AreKept};
+
 use crate::parts::{DECLARED, DEEP, FRESH, HANDSHAKE, OPENED, RECYCLED, REUSED};
 use gate_runner::run_image;
 use host_io::NoPace;
@@ -11,7 +13,7 @@ use std::alloc::Global;
 use std::sync::Wait;
 use std::test::Fail;
 use std::thread::Threads;
-use thread_laws::Gathered;
+use thread_laws::{ActorLog, Gathered};
 use wedge_base::Items;
 use wedge_core::serial;
 use wedge_events::CellName;
@@ -32,7 +34,9 @@ fn image_from(alloc: Global, part: &str) -> Result<Image, Fail> {
 }
 
 /// Audits what a run left.
-fn audit_of(alloc: Global, image: &Image, gathered: Gathered) -> Result<Audited, AuditRefusal> {
+fn audit_of(alloc: Global, image: &Image, gathered: Gathered) -> Result<Audited, AuditRefusal>
+    requires { AreKept gathered }
+{
     audit(alloc, image, gathered)
 }
 
@@ -42,7 +46,7 @@ fn threaded<R: Threads + Wait + Sync>(
     alloc: Global,
     image: &Image,
 ) -> Result<Vec<u8>, Fail> {
-    let gathered = run_image(rt, alloc, image, &NoPace)?;
+    let gathered = run_image(rt, alloc, image, &NoPace, false)?;
     match audit_of(alloc, image, gathered) {
         Ok(audited) => Ok(report(alloc, &audited.outcome)?),
         Err(_) => Err("no audit".into()),
@@ -135,20 +139,46 @@ fn differs_at_once(refusal: &AuditRefusal) -> bool {
     }
 }
 
+/// Consumes what a run left, and returns its logs alone, without the histories.
+fn emptied(alloc: Global, gathered: Gathered) -> Gathered
+    requires { AreKept gathered }
+    ensures { AreKept result }
+{
+    let Gathered { logs, declared, .. } = gathered;
+    Gathered {
+        logs,
+        declared,
+        others: Items::new(Vec::new(alloc)),
+    }
+}
+
 /// A run whose histories are emptied disagrees at the first cell that has an entry, at its first.
 #[test]
 fn emptied_histories_disagree(rt: HostRuntime) -> Result<(), Fail> {
     let alloc = rt.alloc();
     let image = image_of(alloc, 1000, REUSED)?;
-    let Gathered { logs, declared, .. } = run_image(&rt, alloc, &image, &NoPace)?;
-    let emptied = Gathered {
-        logs,
-        declared,
-        others: Items::new(Vec::new(alloc)),
-    };
+    let emptied = emptied(alloc, run_image(&rt, alloc, &image, &NoPace, false)?);
     let Err(refusal) = audit_of(alloc, &image, emptied) else {
         return Err("no difference".into());
     };
     assert!(&rt; differs_at_once(&refusal));
+    Ok(())
+}
+
+/// Whether each log keeps as many entries as it counts.
+fn keep_all(logs: &[ActorLog]) -> bool {
+    logs.iter()
+        .all(|log| log.kept.as_slice().len() as u64 == log.count)
+}
+
+/// Of loads of a declared tag logs keep no entry, unless all entries are asked for.
+#[test]
+fn loads_of_a_declared_tag_are_not_kept(rt: HostRuntime) -> Result<(), Fail> {
+    let alloc = rt.alloc();
+    let image = image_of(alloc, 1000, FRESH)?;
+    let whole = run_image(&rt, alloc, &image, &NoPace, true)?;
+    assert!(&rt; keep_all(whole.logs.as_slice()));
+    let others = run_image(&rt, alloc, &image, &NoPace, false)?;
+    assert!(&rt; !keep_all(others.logs.as_slice()));
     Ok(())
 }

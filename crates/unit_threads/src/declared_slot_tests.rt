@@ -36,6 +36,8 @@ impl RunOf for OneTag {
       user = 0;
       root = [];
     } };
+
+    ghost unkept = { 0 };
 }
 
 /// The slot of the tag, under its lock.

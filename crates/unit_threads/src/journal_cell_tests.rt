@@ -42,6 +42,8 @@ impl RunOf for Bare {
       user = 0;
       root = [];
     } };
+
+    ghost unkept = { 0 };
 }
 
 /// The count of live sthreads, with its history.

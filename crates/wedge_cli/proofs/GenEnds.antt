@@ -1,7 +1,6 @@
 -- What `gen` ended with.
 use Rattle.std.proofs.Common.{◌≡◌, inl, inr, ℕ, List, refl, sym, ap, subst, ◌∙◌, arith}
 use Rattle.std.specs.Prelude.{Option, Some, None}
-use Rattle.wedge_events.specs.declared.events.Journal.{Journal}
 use Rattle.wedge_cli.specs.declared.status.Ended.{Ended}
 use Rattle.audited_run.specs.declared.run.Differs.{Differs}
 use Rattle.audited_run.specs.Texts.{difference_text}
@@ -14,10 +13,11 @@ use Rattle.wedge_cli.specs.Ended.{AreTaken, summary_line, IsSummaryOfKept, IsGen
 use Rattle.wedge_cli.specs.Causes.{IsRefusal}
 use Rattle.wedge_cli.proofs.Written.{took_out, took_both}
 use Rattle.wedge_cli.proofs.Statuses.{IsEither, refusal_status, refused_not_0, refused_not_7, status_of_done}
+use Rattle.run_audit.specs.RunJournals.{RunEntries}
 
 -- ---- the status 0
 
-summed : (workers : ℕ) (kept : Option Journal) (differs : Option Differs) (texts : List Text) (s u : Sinks)
+summed : (workers : ℕ) (kept : Option RunEntries) (differs : Option Differs) (texts : List Text) (s u : Sinks)
     → IsSummaryOfKept (workload workers) workers kept differs texts → done_status differs ≡ 0 → AreTaken texts s u → IsGenDone workers kept s u
 summed workers None differs texts s u r zero taken = absurd r
 summed workers (Some journal) (Some d) texts s u r zero taken = absurd (omega (arith, zero))
@@ -46,7 +46,7 @@ gen_done workers ended before after (inr d) is =
 
 -- ---- the status 7
 
-summed_again : (workers : ℕ) (kept : Option Journal) (differs : Option Differs) (texts : List Text) (ended : Ended) (s u : Sinks)
+summed_again : (workers : ℕ) (kept : Option RunEntries) (differs : Option Differs) (texts : List Text) (ended : Ended) (s u : Sinks)
     → IsSummaryOfKept (workload workers) workers kept differs texts
     → ended.journal ≡ kept → ended.differs ≡ differs → done_status differs ≡ 7 → AreTaken texts s u → IsGenMadeAgain workers ended s u
 summed_again workers None differs texts ended s u r journal_is differs_is seven taken = absurd r

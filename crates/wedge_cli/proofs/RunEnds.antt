@@ -2,7 +2,6 @@
 use Rattle.std.proofs.Common.{◌≡◌, ◌⊎◌, inl, inr, ℕ, List, ◌++◌, refl, sym, subst, ◌∙◌, arith}
 use Rattle.std.specs.Prelude.{Option, Some, None, Ok, Err}
 use Rattle.wedge_base.specs.Images.{Image}
-use Rattle.wedge_events.specs.declared.events.Journal.{Journal}
 use Rattle.wedge_cli.specs.declared.status.Ended.{Ended}
 use Rattle.cli_inputs.specs.declared.words.RunFlag.{RunFlag}
 use Rattle.cli_inputs.specs.declared.words.RunFlag.TheVariants.{Plain, Schedule, Stats}
@@ -23,10 +22,11 @@ use Rattle.wedge_cli.specs.Causes.{IsCommandDone}
 use Rattle.wedge_cli.proofs.Written.{took_out, took_both}
 use Rattle.wedge_cli.proofs.Again.{schedule_replays}
 use Rattle.wedge_cli.proofs.Statuses.{IsEither, IsRefusalEnd, refused_end, refused_not_0, refused_not_7, status_of_done}
+use Rattle.run_audit.specs.RunJournals.{RunEntries}
 
 -- ---- a run with the status 0
 
-reported : (i : Image) (kept : Option Journal) (differs : Option Differs) (texts : List Text) (bytes : List ℕ) (s u : Sinks)
+reported : (i : Image) (kept : Option RunEntries) (differs : Option Differs) (texts : List Text) (bytes : List ℕ) (s u : Sinks)
     → Encodes i bytes → IsReportOfKept i Plain kept differs texts → done_status differs ≡ 0 → AreTaken texts s u → IsRunDone bytes kept s u
 reported i None differs texts bytes s u encoded r zero taken = absurd r
 reported i (Some journal) (Some d) texts bytes s u encoded r zero taken = absurd (omega (arith, zero))
@@ -60,7 +60,7 @@ run_done image bytes ended before after (inr d) exposed is = done_0 image bytes 
 
 -- ---- a run with its schedule and the status 0
 
-scheduled : (i : Image) (kept : Option Journal) (differs : Option Differs) (texts : List Text) (bytes : List ℕ) (s u : Sinks)
+scheduled : (i : Image) (kept : Option RunEntries) (differs : Option Differs) (texts : List Text) (bytes : List ℕ) (s u : Sinks)
     → Encodes i bytes → image_from_bytes bytes ≡ Ok i → IsReportOfKept i Schedule kept differs texts → done_status differs ≡ 0 → AreTaken texts s u → IsScheduleDone bytes kept s u
 scheduled i None differs texts bytes s u encoded accepted r zero taken = absurd r
 scheduled i (Some journal) (Some d) texts bytes s u encoded accepted r zero taken = absurd (omega (arith, zero))
@@ -94,7 +94,7 @@ schedule_done image bytes ended before after (inr d) exposed is =
 
 -- ---- a run with the counts of its caches and the status 0
 
-counted : (i : Image) (kept : Option Journal) (differs : Option Differs) (texts : List Text) (bytes : List ℕ) (s u : Sinks)
+counted : (i : Image) (kept : Option RunEntries) (differs : Option Differs) (texts : List Text) (bytes : List ℕ) (s u : Sinks)
     → Encodes i bytes → IsReportOfKept i Stats kept differs texts → done_status differs ≡ 0 → AreTaken texts s u → IsStatsDone bytes kept s u
 counted i None differs texts bytes s u encoded r zero taken = absurd r
 counted i (Some journal) (Some d) texts bytes s u encoded r zero taken = absurd (omega (arith, zero))
@@ -126,7 +126,7 @@ stats_done image bytes ended before after (inr d) exposed is =
 
 -- ---- a run with the status 7
 
-made_again : (i : Image) (flag : RunFlag) (kept : Option Journal) (differs : Option Differs) (texts : List Text) (bytes : List ℕ) (ended : Ended) (s u : Sinks)
+made_again : (i : Image) (flag : RunFlag) (kept : Option RunEntries) (differs : Option Differs) (texts : List Text) (bytes : List ℕ) (ended : Ended) (s u : Sinks)
     → Encodes i bytes → image_from_bytes bytes ≡ Ok i → IsReportOfKept i flag kept differs texts
     → ended.journal ≡ kept → ended.differs ≡ differs → done_status differs ≡ 7 → AreTaken texts s u → IsMadeAgain bytes flag ended s u
 made_again i flag None differs texts bytes ended s u encoded accepted r journal_is differs_is seven taken = absurd r

@@ -2,7 +2,6 @@
 use Rattle.std.specs.Prelude.{◌≡◌, ◌≤◌, ◌++◌, ℕ, ◌⊎◌, List, [], ◌∷◌, length, Option, Some, None, Result, Ok, Err}
 use Rattle.wedge_base.specs.Images.{Image}
 use Rattle.image_form.specs.Rules.{Encodes}
-use Rattle.wedge_events.specs.declared.events.Journal.{Journal}
 use Rattle.wedge_base.specs.declared.outcome.Outcome.{Outcome}
 use Rattle.host_io.specs.Exposed.{WhereExposed}
 use Rattle.run_laws.specs.CompleteRuns.{IsJournaledRun}
@@ -16,6 +15,7 @@ use Rattle.report_text.specs.Reports.{report_of}
 use Rattle.report_text.specs.Schedules.{actors_of, schedule_of, names_in}
 use Rattle.report_text.specs.Summaries.{summary_of}
 use Rattle.wedge_events.specs.declared.events.LogEntry.{LogEntry}
+use Rattle.run_audit.specs.RunJournals.{RunEntries}
 use Rattle.cli_inputs.specs.declared.loading.FileKind.TheVariants as kind
 use Rattle.cli_inputs.specs.declared.words.RunFlag.{RunFlag}
 use Rattle.cli_inputs.specs.declared.words.RunFlag.TheVariants.{Plain, Schedule, Stats}
@@ -52,10 +52,16 @@ abbrev pub no_run : KeptRun
 no_run = record { journal = None; differs = None }
 
 -- the texts of a run with this journal, this outcome and these counts of its caches
-abbrev pub run_texts : RunFlag → Journal → Outcome → List CacheLine → List Text
+abbrev pub run_texts : RunFlag → RunEntries → Outcome → List CacheLine → List Text
 run_texts Plain journal outcome caches = on_out (report_of outcome)
 run_texts Schedule journal outcome caches = on_both (schedule_of (actors_of journal.entries)) (report_of outcome)
 run_texts Stats journal outcome caches = on_out (report_of outcome ++ cache_lines caches)
+
+-- all entries of the journal are there for the texts that need them: for a schedule
+abbrev pub IsEnoughFor : RunFlag → RunEntries → Type 0
+IsEnoughFor Plain journal = Unit {0}
+IsEnoughFor Schedule journal = journal.kept ≡ journal.entries
+IsEnoughFor Stats journal = Unit {0}
 
 -- a schedule that is written is read as the names of the journal's actors
 abbrev pub IsScheduleReadAgain : RunFlag → List LogEntry → Type 0
@@ -70,7 +76,7 @@ differs_texts (Some d) = on_err (line (difference_text d.disagree))
 
 -- The journal is that of a complete run of the image, made on threads, or, where what these left differs,
 -- once more on one; and the texts are of that run.
-pub record IsReportOf (i : Image) (flag : RunFlag) (journal : Journal) (differs : Option Differs) (texts : List Text) : Type 0 where
+pub record IsReportOf (i : Image) (flag : RunFlag) (journal : RunEntries) (differs : Option Differs) (texts : List Text) : Type 0 where
   pub outcome : Outcome
   pub run : IsJournaledRun i journal.entries outcome
   pub made : IsMadeSo i differs journal.entries outcome
@@ -80,7 +86,7 @@ pub record IsReportOf (i : Image) (flag : RunFlag) (journal : Journal) (differs 
   pub again : IsScheduleReadAgain flag journal.entries
 
 -- and it is kept
-abbrev pub IsReportOfKept : Image → RunFlag → Option Journal → Option Differs → List Text → Type 0
+abbrev pub IsReportOfKept : Image → RunFlag → Option RunEntries → Option Differs → List Text → Type 0
 IsReportOfKept i flag None differs texts = ⊥
 IsReportOfKept i flag (Some journal) differs texts = IsReportOf i flag journal differs texts
 
@@ -88,18 +94,18 @@ abbrev pub IsReported : Image → RunFlag → KeptRun → List Text → Type 0
 IsReported i flag kept texts = IsReportOfKept i flag kept.journal kept.differs texts
 
 -- the line that sums up a run of a workload with this journal and this outcome
-abbrev pub summary_line : ℕ → Journal → Outcome → List ℕ
+abbrev pub summary_line : ℕ → RunEntries → Outcome → List ℕ
 summary_line workers journal outcome = summary_of workers outcome (length journal.entries)
 
 -- The same of the image of a workload, with the line that sums the run up in place of the report.
-pub record IsSummaryOf (i : Image) (workers : ℕ) (journal : Journal) (differs : Option Differs) (texts : List Text) : Type 0 where
+pub record IsSummaryOf (i : Image) (workers : ℕ) (journal : RunEntries) (differs : Option Differs) (texts : List Text) : Type 0 where
   pub outcome : Outcome
   pub run : IsJournaledRun i journal.entries outcome
   pub made : IsMadeSo i differs journal.entries outcome
   pub are : texts ≡ on_out (summary_line workers journal outcome) ++ differs_texts differs
 
 -- and it is kept
-abbrev pub IsSummaryOfKept : Image → ℕ → Option Journal → Option Differs → List Text → Type 0
+abbrev pub IsSummaryOfKept : Image → ℕ → Option RunEntries → Option Differs → List Text → Type 0
 IsSummaryOfKept i workers None differs texts = ⊥
 IsSummaryOfKept i workers (Some journal) differs texts = IsSummaryOf i workers journal differs texts
 
@@ -189,10 +195,10 @@ IsSaid status text ended before after =
 
 -- `run IMAGE` was done: the file's bytes encode an image, the journal is that of a complete run of
 -- it on threads, out has grown by the report of its outcome, and err is as it was
-pub record IsRunDone (bytes : List ℕ) (kept : Option Journal) (before after : Sinks) : Type 0 where
+pub record IsRunDone (bytes : List ℕ) (kept : Option RunEntries) (before after : Sinks) : Type 0 where
   pub image : Image
   pub encoded : Encodes image bytes
-  pub journal : Journal
+  pub journal : RunEntries
   pub kept_is : kept ≡ Some journal
   pub outcome : Outcome
   pub run : IsJournaledRun image journal.entries outcome
@@ -206,10 +212,10 @@ Replays bytes schedule text = length schedule ≤ most_of kind.Schedule → repl
 
 -- `run IMAGE --schedule` was done: besides, out has grown by the schedule of the run, and err by
 -- the report; and that schedule replayed over the same image gives the same report
-pub record IsScheduleDone (bytes : List ℕ) (kept : Option Journal) (before after : Sinks) : Type 0 where
+pub record IsScheduleDone (bytes : List ℕ) (kept : Option RunEntries) (before after : Sinks) : Type 0 where
   pub image : Image
   pub encoded : Encodes image bytes
-  pub journal : Journal
+  pub journal : RunEntries
   pub kept_is : kept ≡ Some journal
   pub outcome : Outcome
   pub run : IsJournaledRun image journal.entries outcome
@@ -222,10 +228,10 @@ pub record IsScheduleDone (bytes : List ℕ) (kept : Option Journal) (before aft
 
 -- `run IMAGE --stats` was done: out has grown by the report, and then by a line for each of its actors
 -- with the counts of the actor's cache of rights, which are those for its entries in the journal
-pub record IsStatsDone (bytes : List ℕ) (kept : Option Journal) (before after : Sinks) : Type 0 where
+pub record IsStatsDone (bytes : List ℕ) (kept : Option RunEntries) (before after : Sinks) : Type 0 where
   pub image : Image
   pub encoded : Encodes image bytes
-  pub journal : Journal
+  pub journal : RunEntries
   pub kept_is : kept ≡ Some journal
   pub outcome : Outcome
   pub run : IsJournaledRun image journal.entries outcome
@@ -245,7 +251,7 @@ pub record IsMadeAgain (bytes : List ℕ) (flag : RunFlag) (ended : Ended) (befo
   pub differs : Differs
   pub differs_is : ended.differs ≡ Some differs
   pub threads : IsDiffering image differs
-  pub journal : Journal
+  pub journal : RunEntries
   pub journal_is : ended.journal ≡ Some journal
   pub outcome : Outcome
   pub run : IsJournaledRun image journal.entries outcome
@@ -266,8 +272,8 @@ IsCutShort status = (status ≡ 4) ⊎ (status ≡ 5) ⊎ (status ≡ 6)
 
 -- `gen N` was done: the journal is that of a complete run of the workload of N workers on threads, out
 -- has grown by the line that sums the run up, and err is as it was
-pub record IsGenDone (workers : ℕ) (kept : Option Journal) (before after : Sinks) : Type 0 where
-  pub journal : Journal
+pub record IsGenDone (workers : ℕ) (kept : Option RunEntries) (before after : Sinks) : Type 0 where
+  pub journal : RunEntries
   pub kept_is : kept ≡ Some journal
   pub outcome : Outcome
   pub run : IsJournaledRun (workload workers) journal.entries outcome
@@ -282,7 +288,7 @@ pub record IsGenMadeAgain (workers : ℕ) (ended : Ended) (before after : Sinks)
   pub differs : Differs
   pub differs_is : ended.differs ≡ Some differs
   pub threads : IsDiffering (workload workers) differs
-  pub journal : Journal
+  pub journal : RunEntries
   pub journal_is : ended.journal ≡ Some journal
   pub outcome : Outcome
   pub run : IsJournaledRun (workload workers) journal.entries outcome

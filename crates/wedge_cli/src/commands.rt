@@ -1,13 +1,14 @@
 //! What each command makes of its files.
 
-ghost use Rattle.std.specs.Prelude.{◌≡◌, ◌≤◌, ◌++◌, ℕ, List, Some, None, IfOk, IfErr, OnOk};
+ghost use Rattle.std.specs.Prelude.{◌≡◌, ◌≤◌, ◌++◌, ℕ, List, Some, None, true, IfOk, IfErr, OnOk};
 ghost use Rattle.cli_inputs.specs.Words as asking;
 ghost use Rattle.cli_inputs.specs.Loading.{IsRefusedBy, image_from_bytes};
+ghost use Rattle.run_audit.specs.RunJournals.{RunEntries};
 ghost use Rattle.audited_run.specs.Texts.{difference_text};
 ghost use Rattle.command_texts.specs.Answers.{RunsNothing, IsTextOf};
 ghost use Rattle.refusal_lines.specs.Lines as lines;
 ghost use Rattle.wedge_cli.specs.Causes.{IsRefused};
-ghost use Rattle.wedge_cli.specs.Ended.{on_out, run_texts, differs_texts, no_run, IsAnswered, IsReported, IsScheduleReadAgain, RunsImage, IsCommandOutput};
+ghost use Rattle.wedge_cli.specs.Ended.{on_out, run_texts, differs_texts, no_run, IsAnswered, IsReported, IsEnoughFor, IsScheduleReadAgain, RunsImage, IsCommandOutput};
 
 use crate::workloads::run_workload;
 use crate::writing::{KeptRun, Ready, SinkName, Text};
@@ -114,7 +115,7 @@ fn run_image<R: Threads + Wait + Sync, P: Pace + Sync>(
         outcome,
         caches,
         differs,
-    } = run_audited(rt, alloc, image, pace)?;
+    } = run_audited(rt, alloc, image, pace, needs_all(flag))?;
     let (journal, mut texts) = texts_of(alloc, journal, &outcome, &caches, flag)?;
     add_difference(alloc, &mut texts, &differs)?;
     let kept = KeptRun {
@@ -122,6 +123,17 @@ fn run_image<R: Threads + Wait + Sync, P: Pace + Sync>(
         differs,
     };
     Ok(Ready { kept, texts })
+}
+
+/// Returns whether the texts of a run need all entries of its journal.
+fn needs_all(flag: RunFlag) -> bool
+    ensures { (journal : RunEntries) → (result ≡ true → journal.kept ≡ journal.entries)
+        → IsEnoughFor flag journal }
+{
+    match flag {
+        RunFlag::Schedule => true,
+        RunFlag::Plain | RunFlag::Stats => false,
+    }
 }
 
 /// The texts of a run with this journal, this outcome and these counts of its caches; and the journal, whose entries are
@@ -133,6 +145,7 @@ fn texts_of(
     caches: &Items<CacheLine>,
     flag: RunFlag,
 ) -> Result<(RunJournal, Vec<Text>), NoMemory>
+    requires { IsEnoughFor flag journal }
     ensures same { IfOk result (λ t. t.0 ≡ journal) }
     ensures texts { IfOk result
         (λ t. t.1.items ≡ run_texts flag journal outcome.now caches.now) }

@@ -49,7 +49,7 @@ fn run_summed<R: Threads + Wait + Sync, P: Pace + Sync>(
         outcome,
         differs,
         ..
-    } = run_audited(rt, alloc, image, pace)?;
+    } = run_audited(rt, alloc, image, pace, false)?;
     let mut texts = summary_texts(alloc, workers, &journal, &outcome)?;
     add_difference(alloc, &mut texts, &differs)?;
     let kept = KeptRun {

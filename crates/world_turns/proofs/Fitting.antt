@@ -2,11 +2,13 @@
 use Rattle.std.proofs.Common.{◌≡◌, ℕ, refl, sym, ap, subst, ◌∙◌}
 use Rattle.std.specs.Prelude.{Option, Some, None, option_map}
 use Rattle.wedge_events.specs.Slots.{Segment, IsPair}
+use Rattle.wedge_events.specs.declared.events.SlotWant.{SlotWant}
 use Rattle.wedge_events.specs.declared.events.SlotWant.TheVariants as slot_want
 use Rattle.wedge_events.specs.declared.events.Want.{Want}
 use Rattle.wedge_events.specs.declared.events.Want.TheVariants as want
 use Rattle.wedge_events.specs.declared.cells.StreamAsk.TheVariants as stream_ask
-use Rattle.machine.specs.Actors.{ActorState}
+use Rattle.machine.specs.Actors.{ActorState, wants}
+use Rattle.actor_step.specs.Reached.{IsAccess}
 use Rattle.wedge_base.specs.Images.{Image}
 use Rattle.wedge_events.specs.Wants.{slot_ask_with}
 use Rattle.wedge_events.specs.Slots.{slot_reply}
@@ -21,7 +23,7 @@ use Rattle.machine.specs.Between.{WantFits, IsInBounds, SuitsActor, TakesFit}
 use Rattle.machine.specs.Cells.{Cells, AskFits, live_at, slot_in, stream_in, event_of}
 use Rattle.machine.specs.Take.{asks, pair, actor_begun}
 use Rattle.machine.specs.Worlds.{WorldState, event_at}
-use Rattle.world_turns.specs.Turning.{IsOfCell, event_asked}
+use Rattle.world_turns.specs.Turning.{IsOfCell, IsOfSlot, event_asked}
 
 -- the pair of an actor names what lives there
 pair_names : (s : Option Segment) (a : ActorState) → IsPair s (pair a (option_map (λ (g : Segment). g.tag) s))
@@ -101,3 +103,24 @@ asked_is w a (want.Lives q) k = refl
 asked_is w a (want.Gate id q) k = absurd k
 asked_is w a (want.Enter run) k = absurd k
 asked_is w a (want.Leave end) k = absurd k
+
+-- an access fits whoever comes to it
+pub access_fits : (b : ActorState) (slot : ℕ) (w : SlotWant) → IsAccess slot w → WantFits b (want.Slot slot w)
+access_fits b slot (slot_want.Load offset width) h = h
+access_fits b slot (slot_want.Store offset width value) h = h
+access_fits b slot (slot_want.Open tag pages) h = absurd h
+access_fits b slot (slot_want.Close tag) h = absurd h
+access_fits b slot (slot_want.Smalloc tag size) h = absurd h
+access_fits b slot (slot_want.Sfree offset) h = absurd h
+access_fits b slot (slot_want.Snap tag) h = absurd h
+
+-- its event is one of a slot
+pub slot_event : (c : Cells) (a : ActorState) (slot : ℕ) (w : SlotWant) (l : Option ℕ) (e : Event) → event_of c (asks a l (want.Slot slot w)) ≡ Some e → IsInBounds e → IsOfSlot e
+slot_event c a slot w l e comes bounds =
+    let is : event.Slot slot (slot_ask_with w (pair a l)) (slot_reply (slot_in c slot) (slot_ask_with w (pair a l))) ≡ e = cc in
+    subst (λ x. IsInBounds x → IsOfSlot x) is (λ b. b) bounds
+
+-- and it is asked as one asks that wants it
+pub asks_running : (a : ActorState) (w q : Want) (l : Option ℕ) → asks (wants a w) l q ≡ asks a l q
+asks_running a w q None = refl
+asks_running a w q (Some t) = refl

@@ -2,9 +2,8 @@
 use Rattle.std.specs.Prelude.{◌≡◌, ℕ, ◌<◌, ◌+◌, Bool, true, false, List, [], ◌∷◌, ◌++◌, length, Option, Some, None, IsSomeAnd, slice_get, slice_set, ◌⊎◌}
 use Rattle.wedge_base.specs.Images.{Image}
 use Rattle.wedge_events.specs.declared.events.Turn.{Turn}
-use Rattle.wedge_events.specs.Gates.{Kept}
 use Rattle.wedge_base.specs.declared.grants.GateId.{GateId}
-use Rattle.machine.specs.Cells.{Cells, GateCell, kept_among, kept_in, put_kept}
+use Rattle.machine.specs.Cells.{Cells, kept_in}
 use Rattle.machine.specs.Worlds.{WorldState, initial_state, actor_named, put_actor, turn_of, Runs, is_ended, all_at_rest, ready, at_rest}
 use Rattle.machine.specs.Actors.{ActorState}
 use Rattle.machine.specs.Local.{rest, has_ended}

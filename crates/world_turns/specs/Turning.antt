@@ -7,9 +7,10 @@ use Rattle.wedge_events.specs.declared.cells.GateAsk.TheVariants as gate_ask
 use Rattle.wedge_events.specs.declared.events.Want.{Want}
 use Rattle.wedge_events.specs.declared.events.Want.TheVariants as want
 use Rattle.wedge_events.specs.declared.events.Event.{Event}
+use Rattle.wedge_events.specs.declared.events.Event.TheVariants as event
 use Rattle.wedge_events.specs.declared.events.LogEntry.{LogEntry}
 use Rattle.machine.specs.Actors.{ActorState}
-use Rattle.machine.specs.Between.{WantFits, TakesFit}
+use Rattle.machine.specs.Between.{WantFits, TakesFit, IsInBounds}
 use Rattle.machine.specs.Cells.{Cells, live_at, event_of, cells_after, kept_in}
 use Rattle.machine.specs.Children.{is_child, child_name}
 use Rattle.run_laws.specs.FamilyTrees.{Family}
@@ -32,6 +33,11 @@ IsOfCell (want.Enter run) = ⊥
 IsOfCell (want.Leave e) = ⊥
 IsOfCell (want.Gate id q) = ⊥
 IsOfCell q = Unit {0}
+
+-- an event of a slot, within bounds
+abbrev pub IsOfSlot : Event → Type 0
+IsOfSlot (event.Slot slot ask reply) = IsInBounds (event.Slot slot ask reply)
+IsOfSlot e = ⊥
 
 -- the event that an actor at rest wants of a cell is done and noted
 pub record IsEventDone (i : Image) (cells : Cells) (a : ActorState) (q : Want) (entries : List LogEntry) (name : List ℕ) (new_cells : Cells) (new : ActorState) (new_entries : List LogEntry) : Type 0 where

@@ -2,7 +2,7 @@
 
 ghost use Rattle.std.specs.Prelude.{◌≡◌, ◌++◌, ◌∷◌, [], ◌↔◌, ◌⊎◌, ℕ, false, true, Some, None, IfOk, IfSome, IfNone, OnOk, OnErr, IsErrOf, option_map};
 ghost use Rattle.machine.specs.Actors.{whole};
-ghost use Rattle.wedge_events.specs.declared.events.SlotWant.{SlotWant as ASlotWant};
+ghost use Rattle.actor_step.specs.Reached.{reached, IsReached};
 ghost use Rattle.wedge_events.specs.declared.events.Want.{Want as AWant};
 ghost use Rattle.machine.specs.Between.{WantFits};
 ghost use Rattle.machine.specs.Cells.{Cells as SomeCells, cells_after};
@@ -16,16 +16,17 @@ ghost use Rattle.machine.specs.Worlds.{actor_named, is_ended};
 ghost use Rattle.run_laws.specs.Written.{TurnAppendsOwn, TurnWritesOwn};
 ghost use Rattle.world_turns.specs.Progress.{IsTurn, HasEnded, IsIndexOf, IsWaiting, IsBusy, AreRecorded, rested, TookTurnOf};
 ghost use Rattle.world_turns.specs.Progress.{Notes};
-ghost use Rattle.world_turns.specs.Turning.{event_asked, IsOfCell, IsOfFamily, IsEventDone, IsLeft, HasGoneOn, StillWaits, IsAwakeAt, WantsOfFamily, MayCreate, IsGoingAlone, IsJoining, IsTaking, HasTaken, HasDone, IsDoneAt, FindsBusy, WasTaken, HasWaited, HasMetBusy};
+ghost use Rattle.world_turns.specs.Turning.{event_asked, IsOfCell, IsOfFamily, IsEventDone, IsLeft, HasGoneOn, StillWaits, IsAwakeAt, WantsOfFamily, MayCreate, IsGoingAlone, IsJoining, IsOfSlot, IsTaking, HasTaken, HasDone, IsDoneAt, FindsBusy, WasTaken, HasWaited, HasMetBusy};
 
 use crate::error::NoTurn;
 use crate::residents::{Residents, drop_all};
 use crate::world::World;
+use actor_step::Access;
 use cow_pages::PrivateView;
-use machine::{Phase, Resident};
+use machine::Resident;
 use ready_text::Program;
-use sthread_life::{Actor, Next, resume, take, take_alone, wants_fit};
-use wedge_base::{ActorName, GateId, NoMemory, Slot, Stamp};
+use sthread_life::{Actor, Next, resume, take, take_access, take_alone};
+use wedge_base::{ActorName, GateId, NoMemory, Stamp};
 use wedge_events::{Ask, Event, GateAsk, LogEntry, SlotWant, Want};
 use world_cells::Cells;
 
@@ -232,7 +233,7 @@ fn advance_awake(
 }
 
 /// The turn of an actor that has not ended and waits for no run, up to what other actors have part in. Loads and stores of
-/// slots, which are the most, are found by the actor's phase: what it wants is not copied for them.
+/// slots, which are the most, are made while the actor runs: nothing is written of what it wants.
 fn advance_one(
     program: &Program<'_>,
     cells: &mut Cells,
@@ -252,44 +253,151 @@ fn advance_one(
         (cells.new ≡ cells.old) × (entries.new.items ≡ entries.old.items))) }
     ensures kept { OnErr result (entries.new.items ≡ entries.old.items) }
 {
-    bring_to_rest(program, resident)?;
-    let still = &*resident;
-    wants_fit(&still.actor);
-    if let Phase::Within(Want::Slot { slot, want }) = &still.actor.phase {
-        match want {
-            SlotWant::Load { offset, width } => {
-                let (slot, offset, width) = (*slot, *offset, *width);
-                load(program, cells, resident, entries, name, slot, offset, width)?;
-                return Ok(None);
-            }
-            SlotWant::Store {
-                offset,
-                width,
-                value,
-            } => {
-                let (slot, offset, width, value) = (*slot, *offset, *width, *value);
-                store(
-                    program, cells, resident, entries, name, slot, offset, width, value,
-                )?;
-                return Ok(None);
-            }
-            _ => {}
+    match bring_to_rest(program, resident)? {
+        Some(access) => {
+            make_access(program, cells, resident, entries, name, access)?;
+            Ok(None)
         }
+        None => advance_next(program, cells, resident, entries, name),
     }
-    advance_next(program, cells, resident, entries, name)
 }
 
 /// The place of the instructions of turns that are not logged.
 struct InTurn;
 
-/// An actor makes its local events, up to its next shared event. Out of line, so that the loop over instructions has the
-/// registers of the processor to itself.
+/// An actor makes its local events, up to its next shared event. Returns the access of a slot to which it comes, if that is
+/// it. Out of line, so that the loop over instructions has the registers of the processor to itself.
 #[inline(never)]
-fn bring_to_rest(program: &Program<'_>, resident: &mut Resident) -> Result<(), NoMemory>
-    ensures rests { OnOk result (resident.new ≡ rest program.now resident.old) }
-    ensures still { OnOk result (is_running resident.new.phase ≡ false) }
+fn bring_to_rest(program: &Program<'_>, resident: &mut Resident) -> Result<Option<Access>, NoMemory>
+    ensures rests { IfOk result (λ o. reached resident.new o ≡ rest program.now resident.old) }
+    ensures still { IfOk result (λ o. IfNone o (is_running resident.new.phase ≡ false)) }
+    ensures comes { IfOk result (λ o. IfSome o (IsReached resident.new.phase)) }
 {
     sthread_life::rest::<InTurn>(&mut resident.actor, program, &mut resident.memory)
+}
+
+/// The load or the store to which an actor has come, with its kind known: so the compiler leaves out of the most frequent
+/// events what only others need.
+#[inline(always)]
+fn make_access(
+    program: &Program<'_>,
+    cells: &mut Cells,
+    resident: &mut Resident,
+    entries: &mut Vec<LogEntry>,
+    name: &ActorName,
+    access: Access,
+) -> Result<(), NoMemory>
+    requires { IsReached resident.old.phase access }
+    ensures made { OnOk result (IsEventDone program.now cells.old
+        (reached resident.old (Some access)) (AWant.Slot access.slot access.want)
+        entries.old.items name.now cells.new resident.new entries.new.items) }
+    ensures kept { OnErr result (entries.new.items ≡ entries.old.items) }
+{
+    let slot = access.slot;
+    match access.want {
+        SlotWant::Load { offset, width } => {
+            let want = SlotWant::Load { offset, width };
+            let access = Access { slot, want };
+            let want = SlotWant::Load { offset, width };
+            let want = Want::Slot { slot, want };
+            do_access(program, cells, resident, entries, name, access, want)
+        }
+        SlotWant::Store {
+            offset,
+            width,
+            value,
+        } => {
+            let want = SlotWant::Store {
+                offset,
+                width,
+                value,
+            };
+            let access = Access { slot, want };
+            let want = SlotWant::Store {
+                offset,
+                width,
+                value,
+            };
+            let want = Want::Slot { slot, want };
+            do_access(program, cells, resident, entries, name, access, want)
+        }
+        _ => unreachable!(),
+    }
+}
+
+/// An access, done and noted.
+#[inline(always)]
+fn do_access(
+    program: &Program<'_>,
+    cells: &mut Cells,
+    resident: &mut Resident,
+    entries: &mut Vec<LogEntry>,
+    name: &ActorName,
+    access: Access,
+    want: Want,
+) -> Result<(), NoMemory>
+    requires comes { IsReached resident.old.phase access }
+    requires wants { want ≡ AWant.Slot access.slot access.want }
+    ensures made { OnOk result (IsEventDone program.now cells.old
+        (reached resident.old (Some access)) want
+        entries.old.items name.now cells.new resident.new entries.new.items) }
+    ensures kept { OnErr result (entries.new.items ≡ entries.old.items) }
+{
+    let event = event_of_access(program, cells, resident, access, want)?;
+    note(entries, name, event)
+}
+
+/// The event of an access.
+#[inline(always)]
+fn event_of_access(
+    program: &Program<'_>,
+    cells: &mut Cells,
+    resident: &mut Resident,
+    access: Access,
+    want: Want,
+) -> Result<Event, NoMemory>
+    requires comes { IsReached resident.old.phase access }
+    requires wants { want ≡ AWant.Slot access.slot access.want }
+    ensures is { IfOk result (λ e. event_asked cells.old (reached resident.old (Some access))
+        want ≡ Some e) }
+    ensures cells { IfOk result (λ e. cells.new ≡ cells_after cells.old e) }
+    ensures takes { IfOk result (λ e. resident.new
+        ≡ takes program.now (reached resident.old (Some access)) e) }
+    ensures name { OnOk result (resident.new.name ≡ resident.old.name) }
+{
+    let tag = cells.live(&want);
+    let event = cells.act(resident.actor.ask(want, tag))?;
+    take_slot(program, resident, access, &event)?;
+    Ok(event)
+}
+
+/// An actor that has come to an access takes the event of a slot.
+#[inline(always)]
+#[tactic(auto, unfolding(machine::specs::Take::takes))]
+fn take_slot(
+    program: &Program<'_>,
+    resident: &mut Resident,
+    access: Access,
+    event: &Event,
+) -> Result<(), NoMemory>
+    requires comes { IsReached resident.old.phase access }
+    requires of_slot { IsOfSlot event.now }
+    ensures takes { OnOk result (resident.new
+        ≡ takes program.now (reached resident.old (Some access)) event.now) }
+    ensures name { OnOk result (resident.new.name ≡ resident.old.name) }
+{
+    let Event::Slot { slot, ask, reply } = event else {
+        unreachable!()
+    };
+    take_access(
+        &mut resident.actor,
+        program,
+        &mut resident.memory,
+        access,
+        *slot,
+        ask,
+        reply,
+    )
 }
 
 /// The turn of an actor at rest, up to what other actors have part in. Out of line, so that it is in no load's or store's way.
@@ -554,70 +662,6 @@ fn join(
     let event = Event::Join { child, end, fuel };
     go_alone(program, residents, entries, name, index, event)?;
     Ok(Went::Took)
-}
-
-/// A load of an actor at rest, with the kind of what is wanted known: so the compiler leaves out of the most frequent events
-/// what only others need.
-#[inline(always)]
-fn load(
-    program: &Program<'_>,
-    cells: &mut Cells,
-    resident: &mut Resident,
-    entries: &mut Vec<LogEntry>,
-    name: &ActorName,
-    slot: Slot,
-    offset: u32,
-    width: u8,
-) -> Result<(), NoMemory>
-    requires { WantFits resident.old (AWant.Slot slot (ASlotWant.Load offset width)) }
-    ensures made { OnOk result (IsEventDone program.now cells.old resident.old
-        (AWant.Slot slot (ASlotWant.Load offset width)) entries.old.items name.now cells.new
-        resident.new entries.new.items) }
-    ensures kept { OnErr result (entries.new.items ≡ entries.old.items) }
-{
-    let want = SlotWant::Load { offset, width };
-    do_and_note(
-        program,
-        cells,
-        resident,
-        entries,
-        name,
-        Want::Slot { slot, want },
-    )
-}
-
-/// A store of an actor at rest, by itself for the same reason.
-#[inline(always)]
-fn store(
-    program: &Program<'_>,
-    cells: &mut Cells,
-    resident: &mut Resident,
-    entries: &mut Vec<LogEntry>,
-    name: &ActorName,
-    slot: Slot,
-    offset: u32,
-    width: u8,
-    value: u32,
-) -> Result<(), NoMemory>
-    requires { WantFits resident.old (AWant.Slot slot (ASlotWant.Store offset width value)) }
-    ensures made { OnOk result (IsEventDone program.now cells.old resident.old
-        (AWant.Slot slot (ASlotWant.Store offset width value)) entries.old.items name.now
-        cells.new resident.new entries.new.items) }
-    ensures kept { OnErr result (entries.new.items ≡ entries.old.items) }
-{
-    let want = SlotWant::Store {
-        offset,
-        width,
-        value,
-    };
-    do_and_note(
-        program,
-        cells,
-        resident,
-        entries,
-        name,
-        Want::Slot { slot, want },
-    )
 }
 
 /// The event that an actor at rest wants, done and noted.

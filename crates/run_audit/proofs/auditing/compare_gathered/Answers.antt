@@ -2,8 +2,12 @@ use Rattle.std.proofs.Common.{rules}
 use Rattle.std.specs.Prelude.{Some, None, length}
 use Rattle.thread_laws.specs.Joining.{journal_of}
 use Rattle.thread_laws.specs.Replaying.{all_histories}
-use Rattle.run_audit.proofs.ComparedCells.{of_gathered, others_agree, at_another, first_of_all}
+use Rattle.run_audit.proofs.ComparedCells.{keep_gathered, of_gathered, others_agree, at_another, first_of_all}
 use Rattle.run_audit.proofs.auditing.compare_gathered.Goals as goal
+
+pub compared_journal-requires : goal.compared_journal-requires
+compared_journal-requires c =
+    keep_gathered c.args.gathered.now c.as_slice-declared.result.now c.as_slice.result.now c.as_slice-declared.ensures c.as_slice.ensures c.requires
 
 pub returns-in-Some-clause-found : goal.returns-in-Some-clause-found
 returns-in-Some-clause-found c =

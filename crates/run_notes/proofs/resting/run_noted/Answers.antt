@@ -9,7 +9,7 @@ use Rattle.run_notes.proofs.resting.run_noted.Goals as goal
 pub loop-actor-smaller : goal.loop-actor-smaller
 loop-actor-smaller c =
     let runs : is_running c.loop-actor.actor.phase ≡ true = search rules in
-    rw (ap (λ (a : ActorState). left a.phase a.fuel) c.in_ok-step.ensures) (step_less c.args.context.now.program.now (whole c.loop-actor.actor c.loop-actor.memory) runs)
+    rw (ap (λ (a : ActorState). left a.phase a.fuel) c.in_ok-make_step.ensures) (step_less c.args.context.now.program.now (whole c.loop-actor.actor c.loop-actor.memory) runs)
 
 pub loop-actor-preserved : goal.loop-actor-preserved
 loop-actor-preserved c =
@@ -21,8 +21,8 @@ loop-actor-preserved c =
     let after : Noted = record { chain = c.note_step.new.chain; notes = c.note_step.new.list.items } in
     let noted : after ≡ noted_step i m a before = c.in_ok-note_step.ensures in
     record {
-      rests = ap (rest i) c.in_ok-step.ensures ∙ (rest-step i a runs ∙ c.loop-actor.invariant.rests);
-      noted = ap (λ b. noted_rest i m b after) c.in_ok-step.ensures ∙ (ap (noted_rest i m (step i a)) noted ∙ (noted_next i m a before runs ∙ c.loop-actor.invariant.noted));
+      rests = ap (rest i) c.in_ok-make_step.ensures ∙ (rest-step i a runs ∙ c.loop-actor.invariant.rests);
+      noted = ap (λ b. noted_rest i m b after) c.in_ok-make_step.ensures ∙ (ap (noted_rest i m (step i a)) noted ∙ (noted_next i m a before runs ∙ c.loop-actor.invariant.noted));
     }
 
 pub returns : goal.returns

@@ -24,6 +24,7 @@ invariant_of-new g c =
     let begun : actor_begun i r.state c.args.entry.event ≡ Some born = search rules in
     let cells : HasCells c.args.cells r.state.gates = subst (λ k. HasCells c.args.cells k.progress.state.gates) (sym c.self.view_is) c.requires.cells in
     record {
+      of_run = c.unkept.ensures;
       begins = begun_new i r.state c.args.entry.event born begun;
       cells = born_cells i r.state c.args.entry.event born c.args.cells cells begun;
       few = search rules;

@@ -1,0 +1,2 @@
+-- Accesses of slots to which a running actor comes.
+pub mod Reached
