@@ -246,7 +246,7 @@ RUN = [
                 "journal_cell/Histories",
                 "Read `IsHistory` and `entry_at`: the stamp is one above the greater of two clocks.",
             ),
-            ("journal_cell/GhostLists", "One function: the items of a list of no bytes, as it grew."),
+            ("journal_cell/GhostLists", "One function: the items of a ghost list, as it grew."),
             (
                 "thread_laws/Executions",
                 "See that `at_next_event` is the machine's own `rest` and `has_joined`, and that `IsNext` asks "
@@ -450,6 +450,7 @@ OTHERS = [
             ("cb_log/Names", ""),
             ("grant_sheet/Excess", ""),
             ("grant_sheet/NumberMap", ""),
+            ("wedge_base/NameParts", ""),
             ("grant_sheet/Paths", ""),
             ("rv_isa/Fields", ""),
             ("cow_pages/SharedPages", ""),
@@ -500,7 +501,7 @@ OTHERS = [
             ("thread_laws/Auditing", "Two folds over lists."),
             ("thread_laws/ActorWalks", "The walk is `IsWalk` of run_laws."),
             ("thread_laws/KeptEntries", "What a log keeps in memory is a filter over its entries."),
-            ("gate_runner/Gathering", "What `run_image` returns: `AreWalked`, `IsOfRoot`, `AreLegalHistories`, `AreRuled` and `AreKept`, nothing else."),
+            ("gate_runner/Gathering", "What `run_image` returns: `AreWalked`, `IsOfRoot`, `AreLegalHistories`, `AreRuled` and `AreKept`; and what its logs keep."),
             ("run_audit/Audits", "What `audit` returns."),
             (
                 "run_audit/ComparedCells",

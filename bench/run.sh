@@ -205,13 +205,13 @@ command -v valgrind > /dev/null || exit 0
 
 # Register instructions alone.
 printf '.proc main\nagain:\naddi a0, a0, 1\nxor a1, a1, a0\nsub a2, a1, a0\nj again\n' |
-    count 'a local instruction' local 100000 200000 100000 40 || exit 1
+    count 'a local instruction' local 100000 200000 100000 42 || exit 1
 
 # A load and a store of private memory in ten instructions.
 {
     printf '.proc main\nagain:\nlw a1, -8(sp)\naddi a0, a0, 1\nxor a2, a0, a1\nslli a3, a2, 3\nadd a4, a3, a0\n'
     printf 'sw a4, -8(sp)\nandi a5, a4, 255\nsub a6, a4, a5\naddi a0, a0, 3\nj again\n'
-} | count 'the same, two in ten private' private 100000 200000 100000 55 || exit 1
+} | count 'the same, two in ten private' private 100000 200000 100000 53 || exit 1
 
 # Loads and stores of a tag, 32 of 33 instructions: each is counted with its part of the jump. First with the audit and
 # the report of the run, then what its threads alone do, and last a turn of a replay, on one thread and under no lock.
@@ -220,6 +220,6 @@ accesses() {
     awk 'BEGIN { for (k = 0; k < 16; k++) print "lw a0, 0(t0)\nsw a0, 4(t0)" }'
     printf 'j again\n'
 }
-accesses | count 'a shared access' shared 33000 66000 32000 475 || exit 1
-accesses | count 'a shared access, before the audit' shared 33000 66000 32000 465 gate_runner::runner::run_whole || exit 1
-accesses | count 'a shared access, a turn of a replay' turn 33000 66000 32000 355 world_turns::turns::advance replay || exit 1
+accesses | count 'a shared access' shared 33000 66000 32000 495 || exit 1
+accesses | count 'a shared access, before the audit' shared 33000 66000 32000 495 gate_runner::runner::run_whole || exit 1
+accesses | count 'a shared access, a turn of a replay' turn 33000 66000 32000 335 world_turns::turns::advance replay || exit 1

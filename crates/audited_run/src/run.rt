@@ -51,8 +51,8 @@ pub struct AuditedRun {
 /// Where they differ, the image is run again on one thread, each turn that of the actor that was started last and has
 /// not ended, and `differs` has what differed.
 ///
-/// `is_whole` says whether the logs keep all entries, so that the journal can be asked for. If not, they do not keep
-/// those on the slots of declared tags.
+/// `is_whole` says whether the logs keep all entries, so that the journal can be asked for. If not, they need not keep those
+/// on the slots of declared tags.
 ///
 /// Fails only where out of memory or of stamps, after all threads have ended.
 pub fn run_audited<R: Threads + Wait + Sync, P: Pace + Sync>(

@@ -1,6 +1,6 @@
 //! The threads of a run.
 
-ghost use Rattle.std.specs.Prelude.{◌≡◌, ◌≤◌, All, IfOk, true, length};
+ghost use Rattle.std.specs.Prelude.{◌≡◌, ◌≤◌, All, IfOk, true, false, length};
 ghost use Rattle.ruled_cell.specs.Passes.{first_view};
 ghost use Rattle.wedge_events.specs.declared.events.Want.{Want as AWant};
 ghost use Rattle.thread_laws.specs.KeptEntries.{IsKept};
@@ -454,6 +454,8 @@ pub fn run_image<R: Threads + Wait + Sync, P: Pace + Sync>(
 ) -> Result<Gathered, NoMemory>
     ensures gathered { IfOk result (IsGathered image.now) }
     ensures whole { is_whole ≡ true → IfOk result (λ g. All (IsKept 0) g.logs) }
+    ensures elsewhere { is_whole ≡ false
+        → IfOk result (λ g. All (IsKept (length image.now.tags)) g.logs) }
 {
     let unkept = if is_whole { 0 } else { image.tags().len() };
     run_of::<Brand, R, P>(rt, alloc, image, pace, unkept)

@@ -1,5 +1,6 @@
 pub mod Bytes
 pub mod Names
+pub mod NameParts
 pub mod Identities
 pub mod Texts
 pub mod Maps

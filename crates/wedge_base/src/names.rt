@@ -1,9 +1,10 @@
 //! Names of actors.
 
-ghost use Rattle.std.specs.Prelude.{◌≡◌, ◌≤◌, ◌<◌, ◌++◌, ◌∷◌, [], length, nat_lt, true, IfOk, IsErrOf, IsTrue, ◌↔◌};
+ghost use Rattle.std.specs.Prelude.{◌≡◌, ◌≤◌, ◌<◌, ◌++◌, ◌∷◌, [], length, take, nat_lt, true, IfOk, IsErrOf, IsTrue, ◌↔◌};
 ghost use Rattle.std.specs.List.{list_all};
 ghost use Rattle.wedge_base.specs.Names.{same, root_name, most_parts};
 ghost use Rattle.wedge_base.specs.Names as names;
+ghost use Rattle.wedge_base.specs.NameParts.{parts_of, IsCounted};
 
 use crate::errors::{NameFault, NoMemory};
 use crate::limits::MOST_PARTS;
@@ -14,22 +15,41 @@ use std::sync::Arc;
 /// An actor's name: its path of start numbers. The root is `0`, and the k-th actor that `p` starts is
 /// `p.k`, with k from 1. A name has at most 32 parts.
 ///
-/// The parts are held once, by all copies of the name, so a copy takes no memory for them.
-#[derive(Clone, Debug, Drop)]
+/// A name of at most three parts is held in itself: it takes no memory, and a copy counts nothing that others count too. The
+/// parts of a longer one are held once, by all copies of the name.
+#[derive(Clone, Debug)]
 pub struct ActorName {
-    parts: Arc<Vec<u32>>,
+    parts: Parts,
+}
+
+/// The parts of a name.
+#[derive(Clone, Debug, Drop)]
+enum Parts {
+    /// The first `count` of these.
+    Few { count: u8, parts: [u32; FEW] },
+    Many(Arc<Vec<u32>>),
+}
+
+/// How many parts a name has at most that is held in itself.
+const FEW: usize = 3;
+
+// By hand: a derived drop would be proved again in each function that drops one.
+impl Drop for ActorName {
+    fn drop(self) {
+        let Self { parts: _ } = self;
+    }
 }
 
 impl Model for ActorName {
     ghost use Rattle.std.specs.Prelude.{ℕ, List, ◌≡◌, true};
-    ghost use Rattle.std.specs.Arc.{arc_value};
     ghost use Rattle.wedge_base.specs.Names.{is_actor_name};
+    ghost use Rattle.wedge_base.specs.NameParts.{parts_of, IsCounted};
 
     ghost Value = { List ℕ };
 
-    ghost view = { λ n. (arc_value n.parts).items };
+    ghost view = { λ n. parts_of n.parts };
 
-    ghost invariant = { λ n. is_actor_name (arc_value n.parts).items ≡ true };
+    ghost invariant = { λ n. (is_actor_name (parts_of n.parts) ≡ true) × IsCounted n.parts };
 }
 
 impl PartialEq for ActorName {
@@ -52,9 +72,7 @@ impl ActorName {
     pub fn root(alloc: Global) -> Result<ActorName, NoMemory>
         ensures { IfOk result (λ n. n ≡ root_name) }
     {
-        Ok(ActorName {
-            parts: Arc::new(alloc, Vec::from_slice(alloc, &[0])?)?,
-        })
+        ActorName::of_parts(alloc, &[0])
     }
 
     /// The name of these parts.
@@ -63,7 +81,7 @@ impl ActorName {
         ensures { IfOk result (λ n. n ≡ parts.now) }
     {
         Ok(ActorName {
-            parts: Arc::new(alloc, Vec::from_slice(alloc, parts)?)?,
+            parts: parts_from(alloc, parts)?,
         })
     }
 
@@ -72,7 +90,10 @@ impl ActorName {
         ensures is { result.now ≡ self.now }
         ensures named { names.is_actor_name self.now ≡ true }
     {
-        self.parts.as_slice()
+        match &self.parts {
+            Parts::Few { count, parts } => &parts[..usize::from(*count)],
+            Parts::Many(parts) => parts.as_slice(),
+        }
     }
 
     /// The name of the k-th actor that the actor of this name starts. `Deep` exactly where this name has 32
@@ -82,15 +103,14 @@ impl ActorName {
         ensures ok { IfOk result (λ n. n ≡ self.now ++ k ∷ []) }
         ensures deep { IsErrOf result NameFault.Deep ↔ (most_parts ≤ length self.now) }
     {
-        if self.parts.len() >= MOST_PARTS {
+        let parts = self.parts();
+        if parts.len() >= MOST_PARTS {
             return Err(NameFault::Deep);
         }
-        let mut parts = Vec::with_capacity(alloc, self.parts.len() + 1)?;
-        parts.extend_from_slice(self.parts.as_slice())?;
-        parts.push(k)?;
-        Ok(ActorName {
-            parts: Arc::new(alloc, parts)?,
-        })
+        match parts_with(alloc, parts, k) {
+            Ok(parts) => Ok(ActorName { parts }),
+            Err(NoMemory) => Err(NameFault::NoMemory),
+        }
     }
 
     /// An equal name.
@@ -98,7 +118,7 @@ impl ActorName {
         ensures { IfOk result (λ n. n ≡ self.now) }
     {
         Ok(ActorName {
-            parts: Arc::try_clone(&self.parts)?,
+            parts: self.parts.copy()?,
         })
     }
 
@@ -107,8 +127,65 @@ impl ActorName {
         ensures is { result ≡ same self.now other.now }
         ensures exact { IsTrue result ↔ (self.now ≡ other.now) }
     {
-        self.parts.as_slice() == other.parts.as_slice()
+        self.parts() == other.parts()
     }
+}
+
+impl Parts {
+    /// Returns the same parts.
+    #[inline(always)]
+    fn copy(&self) -> Result<Parts, NoMemory>
+        ensures is { IfOk result (λ p. parts_of p ≡ parts_of self.now) }
+        ensures counted { IsCounted self.now → IfOk result IsCounted }
+    {
+        match self {
+            Parts::Few { count, parts } => Ok(Parts::Few {
+                count: *count,
+                parts: *parts,
+            }),
+            Parts::Many(parts) => Ok(Parts::Many(Arc::try_clone(parts)?)),
+        }
+    }
+}
+
+/// Returns these numbers as parts.
+fn parts_from(alloc: Global, parts: &[u32]) -> Result<Parts, NoMemory>
+    ensures is { IfOk result (λ p. parts_of p ≡ parts.now) }
+    ensures counted { IfOk result IsCounted }
+{
+    match parts {
+        [a] => Ok(few(1, [*a, 0, 0])),
+        [a, b] => Ok(few(2, [*a, *b, 0])),
+        [a, b, c] => Ok(few(3, [*a, *b, *c])),
+        _ => Ok(Parts::Many(Arc::new(alloc, Vec::from_slice(alloc, parts)?)?)),
+    }
+}
+
+/// Returns these numbers as parts, and one more behind them.
+fn parts_with(alloc: Global, parts: &[u32], last: u32) -> Result<Parts, NoMemory>
+    requires { length parts.now < most_parts }
+    ensures is { IfOk result (λ p. parts_of p ≡ parts.now ++ last ∷ []) }
+    ensures counted { IfOk result IsCounted }
+{
+    match parts {
+        [a] => Ok(few(2, [*a, last, 0])),
+        [a, b] => Ok(few(3, [*a, *b, last])),
+        _ => {
+            let mut all = Vec::with_capacity(alloc, parts.len() + 1)?;
+            all.extend_from_slice(parts)?;
+            all.push(last)?;
+            Ok(Parts::Many(Arc::new(alloc, all)?))
+        }
+    }
+}
+
+/// Returns the first of three numbers as parts.
+fn few(count: u8, parts: [u32; FEW]) -> Parts
+    requires { count ≤ 3 }
+    ensures is { parts_of result ≡ take count parts }
+    ensures counted { IsCounted result }
+{
+    Parts::Few { count, parts }
 }
 
 /// Whether numbers are the parts of a name.

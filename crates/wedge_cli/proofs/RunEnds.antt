@@ -72,6 +72,7 @@ scheduled i (Some journal) None texts bytes s u encoded accepted r zero taken =
       encoded = encoded;
       journal = journal;
       kept_is = refl;
+      whole = r.whole;
       outcome = r.outcome;
       run = r.run;
       threads = r.made;
@@ -141,6 +142,7 @@ made_again i flag (Some journal) (Some d) texts bytes ended s u encoded accepted
       threads = r.made.0;
       journal = journal;
       journal_is = journal_is;
+      whole = r.whole;
       outcome = r.outcome;
       run = r.run;
       serial = r.made.1;

@@ -83,6 +83,7 @@ pub record IsReportOf (i : Image) (flag : RunFlag) (journal : RunEntries) (diffe
   pub caches : List CacheLine
   pub counted : AreCachesOf differs journal.entries outcome.actors caches
   pub are : texts ≡ run_texts flag journal outcome caches ++ differs_texts differs
+  pub whole : IsEnoughFor flag journal
   pub again : IsScheduleReadAgain flag journal.entries
 
 -- and it is kept
@@ -210,13 +211,15 @@ pub record IsRunDone (bytes : List ℕ) (kept : Option RunEntries) (before after
 abbrev pub Replays : List ℕ → List ℕ → List ℕ → Type 0
 Replays bytes schedule text = length schedule ≤ most_of kind.Schedule → replay_text bytes schedule ≡ Ok text
 
--- `run IMAGE --schedule` was done: besides, out has grown by the schedule of the run, and err by
--- the report; and that schedule replayed over the same image gives the same report
+-- `run IMAGE --schedule` was done: besides, all entries of the journal are there, out has grown by the
+-- schedule of the run, and err by the report; and that schedule replayed over the same image gives the same
+-- report
 pub record IsScheduleDone (bytes : List ℕ) (kept : Option RunEntries) (before after : Sinks) : Type 0 where
   pub image : Image
   pub encoded : Encodes image bytes
   pub journal : RunEntries
   pub kept_is : kept ≡ Some journal
+  pub whole : journal.kept ≡ journal.entries
   pub outcome : Outcome
   pub run : IsJournaledRun image journal.entries outcome
   pub threads : IsOfThreads image journal.entries outcome
@@ -242,9 +245,9 @@ pub record IsStatsDone (bytes : List ℕ) (kept : Option RunEntries) (before aft
   pub err : after.err ≡ before.err
 
 -- `run` ended with the status 7: what the threads left differs, and says so; the journal is that of a
--- complete run of the image on one thread, of which the texts were written, with no counts of caches, and
--- then the line of what differs; and the schedule of that run, where it was written, replayed gives its
--- report
+-- complete run of the image on one thread, all of it there where the schedule was written, of which the
+-- texts were written, with no counts of caches, and then the line of what differs; and that schedule
+-- replayed gives its report
 pub record IsMadeAgain (bytes : List ℕ) (flag : RunFlag) (ended : Ended) (before after : Sinks) : Type 0 where
   pub image : Image
   pub encoded : Encodes image bytes
@@ -253,6 +256,7 @@ pub record IsMadeAgain (bytes : List ℕ) (flag : RunFlag) (ended : Ended) (befo
   pub threads : IsDiffering image differs
   pub journal : RunEntries
   pub journal_is : ended.journal ≡ Some journal
+  pub whole : IsEnoughFor flag journal
   pub outcome : Outcome
   pub run : IsJournaledRun image journal.entries outcome
   pub serial : IsInSerialOrder image journal.entries

@@ -9,6 +9,7 @@ use crate::cells::{
     DirectoryAsk, DirectoryReply, GateAsk, GateReply, Live, LivesAsk, LivesReply, SlotAsk,
     SlotReply, StreamAsk, StreamReply,
 };
+use std::mem;
 use wedge_base::{ActorName, End, FdNo, GateId, Items, NoMemory, Slot, Stamp, TagNo};
 
 /// A cell: a piece of shared state on which one event happens at a time.
@@ -181,6 +182,19 @@ pub enum Event {
 }
 
 impl Event {
+    /// Whether it is a load or a store that took place.
+    #[inline(always)]
+    fn is_access(&self) -> bool {
+        matches!(
+            self,
+            Event::Slot {
+                ask: SlotAsk::Load { .. } | SlotAsk::Store { .. },
+                reply: SlotReply::Loaded { .. } | SlotReply::Stored,
+                ..
+            }
+        )
+    }
+
     /// The cell of the event; none of a start, a join, and the enter and leave of a fresh gate.
     pub fn cell(&self) -> Result<Option<CellName>, NoMemory>
         ensures { IfOk result (λ c. c ≡ cell_of self.now) }
@@ -215,14 +229,25 @@ pub struct LogEntry {
 
 // By hand: a derived drop would be proved again in each function that drops one.
 impl Drop for LogEntry {
+    #[inline(always)]
     fn drop(self) {
         let Self {
             stamp: _,
             actor: _,
-            event: _,
+            event,
         } = self;
+        if event.is_access() {
+            // It holds nothing: so what an event may hold is not looked for.
+            mem::forget(event);
+        } else {
+            drop_any(event);
+        }
     }
 }
+
+/// Drops an event. Out of line, since most are loads and stores.
+#[inline(never)]
+fn drop_any(_event: Event) {}
 
 /// The events of a run, in order.
 #[derive(Debug, Drop)]
