@@ -231,31 +231,23 @@ pub struct LogEntry {
 impl Drop for LogEntry {
     #[inline(always)]
     fn drop(self) {
-        if self.event.is_access() {
+        let Self {
+            stamp: _,
+            actor: _,
+            event,
+        } = self;
+        if event.is_access() {
             // It holds nothing: so what an event may hold is not looked for.
-            let Self {
-                stamp: _,
-                actor: _,
-                event,
-            } = self;
             mem::forget(event);
         } else {
-            self.drop_any();
+            drop_any(event);
         }
     }
 }
 
-impl LogEntry {
-    /// Drops an entry of any event. Out of line, since most are loads and stores.
-    #[inline(never)]
-    fn drop_any(self) {
-        let Self {
-            stamp: _,
-            actor: _,
-            event: _,
-        } = self;
-    }
-}
+/// Drops an event. Out of line, since most are loads and stores.
+#[inline(never)]
+fn drop_any(_event: Event) {}
 
 /// The events of a run, in order.
 #[derive(Debug, Drop)]
