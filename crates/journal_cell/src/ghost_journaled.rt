@@ -22,6 +22,9 @@ pub struct GhostJournaled<O: Object, I: RunOf> {
     history: GhostList<Entry<O::Ask, O::Reply>>,
     clock: Stamp,
     run: PhantomData<I>,
+    /// Nothing. What lies behind it in a table of cells so shares no cache line with what is written here: threads that enter
+    /// cells side by side would wait for each other.
+    apart: [u64; 8],
 }
 
 // Said here, so that whoever sends one to a thread need not look into its fields.
@@ -61,6 +64,7 @@ impl<O: Object, I: RunOf> GhostJournaled<O, I> {
             history: GhostList::new(),
             clock: Stamp(0),
             run: PhantomData,
+            apart: [0; 8],
         }
     }
 

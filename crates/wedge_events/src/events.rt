@@ -231,23 +231,31 @@ pub struct LogEntry {
 impl Drop for LogEntry {
     #[inline(always)]
     fn drop(self) {
-        let Self {
-            stamp: _,
-            actor: _,
-            event,
-        } = self;
-        if event.is_access() {
+        if self.event.is_access() {
             // It holds nothing: so what an event may hold is not looked for.
+            let Self {
+                stamp: _,
+                actor: _,
+                event,
+            } = self;
             mem::forget(event);
         } else {
-            drop_any(event);
+            self.drop_any();
         }
     }
 }
 
-/// Drops an event. Out of line, since most are loads and stores.
-#[inline(never)]
-fn drop_any(_event: Event) {}
+impl LogEntry {
+    /// Drops an entry of any event. Out of line, since most are loads and stores.
+    #[inline(never)]
+    fn drop_any(self) {
+        let Self {
+            stamp: _,
+            actor: _,
+            event: _,
+        } = self;
+    }
+}
 
 /// The events of a run, in order.
 #[derive(Debug, Drop)]
