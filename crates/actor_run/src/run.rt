@@ -8,7 +8,7 @@ ghost use Rattle.machine.specs.Local.{end_reached, has_ended, is_running, rest, 
 ghost use Rattle.machine.specs.Resting.{want_in, end_in, run_in, NextFits};
 ghost use Rattle.machine.specs.Take.{asks, pair, current_want, actor_begun, takes};
 ghost use Rattle.machine.specs.Actors.{whole};
-ghost use Rattle.actor_step.specs.Reached.{reached, IsAccess, IsReached};
+ghost use Rattle.actor_step.specs.Reached.{reached, IsSlotAccess, IsReached};
 ghost use Rattle.wedge_events.specs.declared.events.Want.{Want as AWant};
 ghost use Rattle.std.specs.Arc.{arc_value};
 ghost use Rattle.machine.specs.declared.phase.Phase.TheVariants as phase;
@@ -181,7 +181,7 @@ impl<I: RunOf> ActorRun<I> {
     #[inline(always)]
     pub fn access(&self) -> Option<Access>
         ensures { IfSome result (λ x. (self.now.progress.state.phase
-            ≡ phase.Within (AWant.Slot x.slot x.want)) × IsAccess x.slot x.want) }
+            ≡ phase.Within (AWant.Slot x.slot x.want)) × IsSlotAccess x.slot x.want) }
     {
         self.access
     }
@@ -245,13 +245,7 @@ impl<I: RunOf> ActorRun<I> {
         let count = count_after(self.count)?;
         let access = self.access;
         self.access = None;
-        take_one(
-            &mut self.actor,
-            program,
-            &mut self.memory,
-            access,
-            &entry.event,
-        )?;
+        let entry = take_one(&mut self.actor, program, &mut self.memory, access, entry)?;
         note_entry(&mut self.cache, &self.actor, &entry);
         let stamp = entry.stamp;
         add_entry(&mut self.entries, &mut self.kept, self.unkept, entry);
@@ -424,33 +418,73 @@ fn take_any(
     sthread_life::take(actor, program, memory, event)
 }
 
-/// An actor's part of an event that creates no actor, where it may have come to this access.
+/// An actor's part of the event of an entry that creates no actor, where it may have come to this access. Consumes the entry,
+/// and returns it.
 #[inline(always)]
-#[tactic(auto, unfolding(machine::specs::Take::takes))]
 fn take_one(
     actor: &mut Actor,
     program: &Program<'_>,
     memory: &mut PrivateView,
     access: Option<Access>,
-    event: &Event,
-) -> Result<(), NoMemory>
+    entry: LogEntry,
+) -> Result<LogEntry, NoMemory>
     requires comes { IfSome access (IsReached actor.old.phase) }
-    requires fits { TakesFit (reached (whole actor.old memory.old) access) event.now }
+    requires fits { TakesFit (reached (whole actor.old memory.old) access) entry.event }
     requires alone { actor_begun program.now (reached (whole actor.old memory.old) access)
-        event.now ≡ None }
+        entry.event ≡ None }
     ensures takes { OnOk result (whole actor.new memory.new
-        ≡ takes program.now (reached (whole actor.old memory.old) access) event.now) }
+        ≡ takes program.now (reached (whole actor.old memory.old) access) entry.event) }
+    ensures same { IfOk result (λ e. e ≡ entry) }
+    ensures going { OnOk result ((actor.old.stopped ≡ false) × (actor.new.stopped ≡ false)) }
+    ensures stops { OnErr result (actor.new.stopped ≡ true) }
+{
+    let (stamp, name, event) = entry.into_parts();
+    let event = take_event(actor, program, memory, access, event)?;
+    Ok(LogEntry {
+        stamp,
+        actor: name,
+        event,
+    })
+}
+
+/// The same of an event. What is passed on by reference is moved before, so that a load or a store is put in no memory.
+#[inline(always)]
+#[tactic(auto, unfolding(machine::specs::Take::takes))]
+fn take_event(
+    actor: &mut Actor,
+    program: &Program<'_>,
+    memory: &mut PrivateView,
+    access: Option<Access>,
+    event: Event,
+) -> Result<Event, NoMemory>
+    requires comes { IfSome access (IsReached actor.old.phase) }
+    requires fits { TakesFit (reached (whole actor.old memory.old) access) event }
+    requires alone { actor_begun program.now (reached (whole actor.old memory.old) access)
+        event ≡ None }
+    ensures takes { OnOk result (whole actor.new memory.new
+        ≡ takes program.now (reached (whole actor.old memory.old) access) event) }
+    ensures same { IfOk result (λ e. e ≡ event) }
     ensures going { OnOk result ((actor.old.stopped ≡ false) × (actor.new.stopped ≡ false)) }
     ensures stops { OnErr result (actor.new.stopped ≡ true) }
 {
     let Some(access) = access else {
-        return sthread_life::take_alone(actor, program, memory, event);
+        let other = event;
+        sthread_life::take_alone(actor, program, memory, &other)?;
+        return Ok(other);
     };
-    if let Event::Slot { slot, ask, reply } = event {
-        return sthread_life::take_access(actor, program, memory, access, *slot, ask, reply);
+    match event {
+        Event::Slot { slot, ask, reply } => {
+            let reply = sthread_life::take_access(
+                actor, program, memory, access, slot, &ask, reply,
+            )?;
+            Ok(Event::Slot { slot, ask, reply })
+        }
+        other => {
+            want_access(actor, access);
+            sthread_life::take_alone(actor, program, memory, &other)?;
+            Ok(other)
+        }
     }
-    want_access(actor, access);
-    sthread_life::take_alone(actor, program, memory, event)
 }
 
 /// Returns the count of one entry more. Fails where there are as many as can be counted.

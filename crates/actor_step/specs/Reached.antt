@@ -16,12 +16,12 @@ reached a None = a
 reached a (Some x) = wants a (want.Slot x.slot x.want)
 
 -- a load or a store that may be asked of a slot
-abbrev pub IsAccess : ℕ → SlotWant → Type 0
-IsAccess slot (slot_want.Load offset width) = (slot < slots) × IsAligned offset width
-IsAccess slot (slot_want.Store offset width value) = (slot < slots) × IsAligned offset width
-IsAccess slot q = ⊥
+abbrev pub IsSlotAccess : ℕ → SlotWant → Type 0
+IsSlotAccess slot (slot_want.Load offset width) = (slot < slots) × IsAligned offset width
+IsSlotAccess slot (slot_want.Store offset width value) = (slot < slots) × IsAligned offset width
+IsSlotAccess slot q = ⊥
 
--- an access to which an actor has come that is at this: it runs
+-- an actor in this phase has come to this access: it still runs, and the access may be asked
 pub record IsReached (p : Phase) (x : Access) : Type 0 where
   pub runs : p ≡ phase.Running
-  pub fits : IsAccess x.slot x.want
+  pub fits : IsSlotAccess x.slot x.want

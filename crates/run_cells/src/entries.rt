@@ -111,6 +111,7 @@ pub(crate) fn gate_entry(
         ask,
         reply,
     } = entry;
+    let gate = Boxed::new(alloc, gate)?;
     let ask = Boxed::new(alloc, ask)?;
     Ok(LogEntry {
         stamp,

@@ -225,7 +225,8 @@ fn take_gate(
 }
 
 /// What the reply of a slot makes of an actor that came to this access and still runs. It takes the reply as one that wants
-/// the access. An actor that runs out of memory has stopped.
+/// the access. Consumes the reply, and returns it: so a load or a store is put in no memory for this. An actor that runs out of
+/// memory has stopped.
 #[inline(always)]
 pub fn take_access(
     actor: &mut Actor,
@@ -234,12 +235,13 @@ pub fn take_access(
     access: Access,
     slot: Slot,
     ask: &SlotAsk,
-    reply: &SlotReply,
-) -> Result<(), NoMemory>
+    reply: SlotReply,
+) -> Result<SlotReply, NoMemory>
     requires comes { IsReached actor.old.phase access }
-    requires bounds { IsInBounds (AnEvent.Slot slot ask.now reply.now) }
+    requires bounds { IsInBounds (AnEvent.Slot slot ask.now reply) }
     ensures takes { OnOk result (whole actor.new memory.new ≡ taking.takes_slot program.now
-        (reached (whole actor.old memory.old) (Some access)) slot ask.now reply.now) }
+        (reached (whole actor.old memory.old) (Some access)) slot ask.now reply) }
+    ensures same { IfOk result (λ r. r ≡ reply) }
     ensures name { OnOk result (actor.new.name ≡ actor.old.name) }
     ensures going { OnOk result ((actor.old.stopped ≡ false) × (actor.new.stopped ≡ false)) }
     ensures stops { OnErr result (actor.new.stopped ≡ true) }
@@ -262,26 +264,31 @@ fn take_reply(
     access: Access,
     slot: Slot,
     ask: &SlotAsk,
-    reply: &SlotReply,
-) -> Result<(), NoMemory>
+    reply: SlotReply,
+) -> Result<SlotReply, NoMemory>
     requires comes { IsReached actor.old.phase access }
-    requires bounds { IsInBounds (AnEvent.Slot slot ask.now reply.now) }
+    requires bounds { IsInBounds (AnEvent.Slot slot ask.now reply) }
     ensures takes { OnOk result (whole actor.new memory.new ≡ taking.takes_slot program.now
-        (reached (whole actor.old memory.old) (Some access)) slot ask.now reply.now) }
+        (reached (whole actor.old memory.old) (Some access)) slot ask.now reply) }
+    ensures same { IfOk result (λ r. r ≡ reply) }
     ensures name { OnOk result (actor.new.name ≡ actor.old.name) }
 {
     match reply {
         SlotReply::Loaded { value } => {
-            take_load(actor, program, *value);
-            Ok(())
+            take_load(actor, program, value);
+            Ok(SlotReply::Loaded { value })
         }
         SlotReply::Stored => {
             actor.hart.advance();
-            Ok(())
+            Ok(SlotReply::Stored)
         }
-        _ => {
-            want_access(actor, access);
-            take_other(actor, program, memory, slot, ask, reply)
+        reply => {
+            // Moved and copied here, so that what is passed on in memory is another.
+            let wanted = access;
+            let asked = *ask;
+            want_access(actor, wanted);
+            take_other(actor, program, memory, slot, &asked, &reply)?;
+            Ok(reply)
         }
     }
 }

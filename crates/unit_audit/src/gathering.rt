@@ -156,11 +156,12 @@ fn leave(alloc: Global, code: u32) -> Result<Event, NoMemory> {
         end: End::Exited(code),
         memory: memory(alloc)?,
     };
+    let gate = GateId {
+        maker: ActorName::root(alloc)?,
+        number: 1,
+    };
     Ok(Event::Gate {
-        gate: GateId {
-            maker: ActorName::root(alloc)?,
-            number: 1,
-        },
+        gate: Boxed::new(alloc, gate)?,
         ask: Boxed::new(alloc, ask)?,
         reply: GateReply::Left,
     })

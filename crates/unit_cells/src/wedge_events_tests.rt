@@ -57,7 +57,7 @@ fn gate(alloc: Global) -> Result<GateId, NoMemory> {
 /// The event of a gate that is left with this word in a run's memory.
 fn left_event(alloc: Global, word: u32) -> Result<Event, NoMemory> {
     let ask = Boxed::new(alloc, leave_ask(alloc, word)?)?;
-    let gate = gate(alloc)?;
+    let gate = Boxed::new(alloc, gate(alloc)?)?;
     let reply = GateReply::Left;
     Ok(Event::Gate { gate, ask, reply })
 }

@@ -1,4 +1,5 @@
-//! Equal copies of asks, replies, wants and events. Pages and names are shared, not copied.
+//! Equal copies of asks, replies, wants and events. Pages are shared, not copied, and so are the parts of
+//! long names.
 
 ghost use Rattle.std.specs.Prelude.{◌≡◌, IfOk};
 
@@ -142,7 +143,7 @@ impl Event {
                 reply: *reply,
             },
             Event::Gate { gate, ask, reply } => Event::Gate {
-                gate: gate.copy()?,
+                gate: Boxed::new(alloc, gate.copy()?)?,
                 ask: Boxed::new(alloc, ask.copy(alloc)?)?,
                 reply: reply.copy(alloc)?,
             },

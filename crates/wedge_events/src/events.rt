@@ -156,8 +156,9 @@ pub enum Event {
         ask: LivesAsk,
         reply: LivesReply,
     },
+    /// What is boxed here is seldom there: so an event takes 48 bytes.
     Gate {
-        gate: GateId,
+        gate: Boxed<GateId>,
         ask: Boxed<GateAsk>,
         reply: GateReply,
     },
@@ -240,12 +241,29 @@ impl Drop for LogEntry {
             } = self;
             mem::forget(event);
         } else {
-            self.drop_any();
+            // Moved here, so that an access is put in no memory for this.
+            let rare = self;
+            rare.drop_any();
         }
     }
 }
 
 impl LogEntry {
+    /// Consumes an entry, and returns its stamp, its actor and its event.
+    #[inline(always)]
+    pub fn into_parts(self) -> (Stamp, ActorName, Event)
+        ensures stamp { result.0 ≡ self.stamp }
+        ensures actor { result.1 ≡ self.actor }
+        ensures event { result.2 ≡ self.event }
+    {
+        let Self {
+            stamp,
+            actor,
+            event,
+        } = self;
+        (stamp, actor, event)
+    }
+
     /// Drops an entry of any event. Out of line, since most are loads and stores.
     #[inline(never)]
     fn drop_any(self) {

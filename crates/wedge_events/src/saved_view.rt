@@ -11,7 +11,7 @@ use wedge_base::NoMemory;
 /// hold too. Contracts see it as that memory.
 #[derive(Debug, Drop)]
 pub struct SavedView {
-    // Boxed, so that the events of gates are no larger than the others.
+    // Boxed, so that an event of a gate, which is rare, makes no event larger.
     inside: Box<PrivateView>,
 }
 

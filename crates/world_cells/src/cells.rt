@@ -167,6 +167,7 @@ impl Cells {
                 Ok(Event::Fds { ask, reply })
             }
             Ask::Gate { gate, ask } => {
+                let gate = Boxed::new(self.alloc, gate)?;
                 let ask = Boxed::new(self.alloc, ask)?;
                 let reply = ask_gate(self.alloc, &mut self.gates, &gate, &ask)?;
                 Ok(Event::Gate { gate, ask, reply })

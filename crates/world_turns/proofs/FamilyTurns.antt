@@ -34,7 +34,7 @@ use Rattle.machine.proofs.Resting.{rest-name}
 use Rattle.run_laws.proofs.Settling.{put_ends}
 use Rattle.run_laws.proofs.Turns.{ready_else}
 use Rattle.run_laws.proofs.Waits.{IsAwake}
-use Rattle.world_turns.specs.Progress.{IsFirstNamed, IsRecorded, IsTurn, state_of, rested, rested_in}
+use Rattle.world_turns.specs.Progress.{IsFirstNamed, IsRecorded, state_of, rested, rested_in}
 use Rattle.world_turns.specs.Progress.{Notes}
 use Rattle.world_turns.specs.Turning.{IsOfCell, IsEventDone, IsLeft, WantsOfFamily, MayCreate, IsGoingAlone, IsJoining, HasTaken, HasDone, IsDoneAt, FindsBusy, WasTaken, HasWaited, HasMetBusy}
 use Rattle.world_turns.proofs.AtRest.{family_rests, rest_end, recorded_at_rest}

@@ -8,7 +8,7 @@ use Rattle.wedge_events.specs.declared.events.Want.{Want}
 use Rattle.wedge_events.specs.declared.events.Want.TheVariants as want
 use Rattle.wedge_events.specs.declared.cells.StreamAsk.TheVariants as stream_ask
 use Rattle.machine.specs.Actors.{ActorState, wants}
-use Rattle.actor_step.specs.Reached.{IsAccess}
+use Rattle.actor_step.specs.Reached.{IsSlotAccess}
 use Rattle.wedge_base.specs.Images.{Image}
 use Rattle.wedge_events.specs.Wants.{slot_ask_with}
 use Rattle.wedge_events.specs.Slots.{slot_reply}
@@ -105,7 +105,7 @@ asked_is w a (want.Enter run) k = absurd k
 asked_is w a (want.Leave end) k = absurd k
 
 -- an access fits whoever comes to it
-pub access_fits : (b : ActorState) (slot : ℕ) (w : SlotWant) → IsAccess slot w → WantFits b (want.Slot slot w)
+pub access_fits : (b : ActorState) (slot : ℕ) (w : SlotWant) → IsSlotAccess slot w → WantFits b (want.Slot slot w)
 access_fits b slot (slot_want.Load offset width) h = h
 access_fits b slot (slot_want.Store offset width value) h = h
 access_fits b slot (slot_want.Open tag pages) h = absurd h

@@ -1,6 +1,6 @@
 -- An actor of a run that lives has a turn, unless it awaits a child or a run that has not ended, or is to enter a recycled gate in
 -- which a run is.
-use Rattle.std.proofs.Common.{◌≡◌, ℕ, ◌+◌, ◌<◌, Bool, true, false, true≢false, List, [], ◌∷◌, length, refl, sym, ap, subst, ◌∙◌, arith, inl, inr}
+use Rattle.std.proofs.Common.{◌≡◌, ℕ, ◌+◌, ◌<◌, Bool, true, false, true≢false, List, [], ◌∷◌, length, refl, sym, ap, ◌∙◌, arith, inl, inr}
 use Rattle.std.specs.Prelude.{Option, Some, None, is_some, option_map, if◌then◌else◌}
 use Rattle.wedge_base.specs.declared.grants.GateId.{GateId}
 use Rattle.wedge_base.specs.declared.rights.End.{End}
@@ -16,10 +16,10 @@ use Rattle.machine.specs.declared.phase.Phase.{Phase}
 use Rattle.machine.specs.declared.phase.Phase.TheVariants as phase
 use Rattle.machine.specs.Actors.{ActorState}
 use Rattle.machine.specs.Children.{child_name, without_child}
-use Rattle.machine.specs.Local.{has_ended, is_running, run_awaited, rest}
+use Rattle.machine.specs.Local.{has_ended, is_running, run_awaited}
 use Rattle.machine.specs.Take.{current_want, wanted_at, making_want, answered_end, has_joined}
-use Rattle.machine.specs.Cells.{Cells, event_of, kept_in}
-use Rattle.machine.specs.Worlds.{WorldState, Taken, actor_named, put_actor, apply_event, ended_with, join_event, gate_event, event_at, wanting, resumes, ready_at, ready, resumed, turn_with, turn_of, is_ended, at_rest}
+use Rattle.machine.specs.Cells.{event_of, kept_in}
+use Rattle.machine.specs.Worlds.{WorldState, Taken, actor_named, apply_event, ended_with, join_event, event_at, wanting, resumes, ready_at, ready, resumed, turn_with, turn_of, is_ended, at_rest}
 use Rattle.machine.proofs.Resting.{rest-name, rest-stops, rest-uncalm}
 use Rattle.run_laws.proofs.Meeting.{ReadsAs}
 use Rattle.run_laws.proofs.Named.{found_name}

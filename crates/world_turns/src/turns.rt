@@ -1,6 +1,6 @@
 //! One turn of a world.
 
-ghost use Rattle.std.specs.Prelude.{◌≡◌, ◌++◌, ◌∷◌, [], ◌↔◌, ◌⊎◌, ℕ, false, true, Some, None, IfOk, IfSome, IfNone, OnOk, OnErr, IsErrOf, option_map};
+ghost use Rattle.std.specs.Prelude.{◌≡◌, ◌++◌, ◌∷◌, [], ◌↔◌, ◌⊎◌, ℕ, slice_get, false, true, Some, None, IfOk, IfSome, IfNone, OnOk, OnErr, IsErrOf, option_map};
 ghost use Rattle.machine.specs.Actors.{whole};
 ghost use Rattle.actor_step.specs.Reached.{reached, IsReached};
 ghost use Rattle.wedge_events.specs.declared.events.Want.{Want as AWant};
@@ -179,6 +179,7 @@ fn advance_over(
 }
 
 /// The actor at an index goes on if it waits for the run of a gate that has ended. Returns false where it waits still.
+#[inline(always)]
 pub fn go_on(residents: &mut Residents, name: &ActorName, index: usize) -> Result<bool, NoMemory>
     requires there { IsIndexOf residents.old name.now index }
     requires family { Family residents.old }
@@ -188,9 +189,29 @@ pub fn go_on(residents: &mut Residents, name: &ActorName, index: usize) -> Resul
         → StillWaits residents.old index name.now residents.new) }
     ensures err { OnErr result (residents.new ≡ residents.old) }
 {
-    let Some(run) = residents.run_awaited(index) else {
-        return Ok(true);
-    };
+    match residents.run_awaited(index) {
+        None => Ok(true),
+        Some(run) => go_on_after(residents, name, index, run),
+    }
+}
+
+/// The same of an actor that waits for this run. Out of line, since few do.
+#[inline(never)]
+fn go_on_after(
+    residents: &mut Residents,
+    name: &ActorName,
+    index: usize,
+    run: u32,
+) -> Result<bool, NoMemory>
+    requires there { IsIndexOf residents.old name.now index }
+    requires family { Family residents.old }
+    requires waits { IfSome (slice_get residents.old index) (λ a. Some run ≡ run_awaited a.phase) }
+    ensures goes { IfOk result (λ r. r ≡ true
+        → HasGoneOn residents.old index name.now residents.new) }
+    ensures waits { IfOk result (λ r. r ≡ false
+        → StillWaits residents.old index name.now residents.new) }
+    ensures err { OnErr result (residents.new ≡ residents.old) }
+{
     let Some((end, fuel)) = residents.ended_with(name, run)? else {
         return Ok(false);
     };
@@ -367,37 +388,41 @@ fn event_of_access(
 {
     let tag = cells.live(&want);
     let event = cells.act(resident.actor.ask(want, tag))?;
-    take_slot(program, resident, access, &event)?;
+    let event = take_slot(program, resident, access, event)?;
     Ok(event)
 }
 
-/// An actor that has come to an access takes the event of a slot.
+/// An actor that has come to an access takes the event of a slot. Consumes the event, and returns it.
 #[inline(always)]
 #[tactic(auto, unfolding(machine::specs::Take::takes))]
 fn take_slot(
     program: &Program<'_>,
     resident: &mut Resident,
     access: Access,
-    event: &Event,
-) -> Result<(), NoMemory>
+    event: Event,
+) -> Result<Event, NoMemory>
     requires comes { IsReached resident.old.phase access }
-    requires of_slot { IsOfSlot event.now }
+    requires of_slot { IsOfSlot event }
     ensures takes { OnOk result (resident.new
-        ≡ takes program.now (reached resident.old (Some access)) event.now) }
+        ≡ takes program.now (reached resident.old (Some access)) event) }
+    ensures same { IfOk result (λ e. e ≡ event) }
     ensures name { OnOk result (resident.new.name ≡ resident.old.name) }
 {
-    let Event::Slot { slot, ask, reply } = event else {
-        unreachable!()
-    };
-    take_access(
-        &mut resident.actor,
-        program,
-        &mut resident.memory,
-        access,
-        *slot,
-        ask,
-        reply,
-    )
+    match event {
+        Event::Slot { slot, ask, reply } => {
+            let reply = take_access(
+                &mut resident.actor,
+                program,
+                &mut resident.memory,
+                access,
+                slot,
+                &ask,
+                reply,
+            )?;
+            Ok(Event::Slot { slot, ask, reply })
+        }
+        _ => unreachable!(),
+    }
 }
 
 /// The turn of an actor at rest, up to what other actors have part in. Out of line, so that it is in no load's or store's way.

@@ -41,4 +41,5 @@ returns-clause-is c =
     let asked : c.ask.result ≡ asks a (live_at cells q) q = c.ask.ensures c.resident.inside.memory ∙ ap (λ l. asks a l q) live in
     let comes : event_of cells (asks a (live_at cells q) q) ≡ Some c.in_ok-event.event = ap (event_of cells) (sym asked) ∙ c.in_ok-event.ensures.is in
     ap (event_of cells) (asks_running c.args.resident.now (want.Slot c.args.access.slot c.args.access.want) q (live_at cells q))
-    ∙ (ap (λ (b : ActorState). event_of cells (asks b (live_at cells q) q)) (sym c.resident.view_is) ∙ comes)
+    ∙ (ap (λ (b : ActorState). event_of cells (asks b (live_at cells q) q)) (sym c.resident.view_is)
+    ∙ (comes ∙ ap Some (sym c.in_ok-event-2.ensures.same)))

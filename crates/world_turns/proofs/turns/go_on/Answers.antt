@@ -1,76 +1,15 @@
-use Rattle.std.proofs.Common.{◌≡◌, ◌≤◌, ◌∙◌, ap, sym, subst}
-use Rattle.std.specs.Prelude.{Some, None, IsSomeAnd, slice_set}
-use Rattle.machine.specs.declared.phase.Phase.TheVariants as phase
-use Rattle.machine.specs.Actors.{ActorState, whole}
-use Rattle.machine.specs.Children.{child_name, fuel_given}
+use Rattle.std.proofs.Common.{◌≡◌, ◌∙◌, sym, subst}
+use Rattle.std.specs.Prelude.{ℕ, Option, None, IfSome, slice_get}
 use Rattle.machine.specs.Local.{run_awaited}
-use Rattle.machine.specs.Take.{has_joined}
-use Rattle.machine.specs.Worlds.{actor_named, ended_with}
-use Rattle.world_turns.specs.Progress.{IsFirstNamed}
-use Rattle.world_turns.specs.Turning.{HasGoneOn}
-use Rattle.world_turns.proofs.GoingOn.{waits_at, awaited_there, stays_awake, gone_back, back_given}
-use Rattle.world_turns.proofs.Indexing.{name_map_put_back}
-use Rattle.world_turns.proofs.Turning.{found_through}
+use Rattle.world_turns.proofs.GoingOn.{awaited_there, stays_awake}
 use Rattle.world_turns.proofs.turns.go_on.Goals as goal
 
-pub returns-in_default-clause-goes : goal.returns-in_default-clause-goes
-returns-in_default-clause-goes c = λ _.
+pub returns-in-None-clause-goes : goal.returns-in-None-clause-goes
+returns-in-None-clause-goes c = λ _.
     let at = c.requires.there in
-    let none : None ≡ run_awaited at.0.phase = sym c.in_default.is ∙ awaited_there c.args.residents.now c.args.index at.0 c.run_awaited.result at.1.there c.run_awaited.ensures in
+    let none : None ≡ run_awaited at.0.phase = sym c.in-None.is ∙ awaited_there c.args.residents.now c.args.index at.0 c.run_awaited.result at.1.there c.run_awaited.ensures in
     stays_awake c.args.residents.now c.args.index c.args.name.now at.0 at.1 (sym none)
 
-pub resume-requires-clause-waits : goal.resume-requires-clause-waits
-resume-requires-clause-waits c =
-    let items = c.residents.inside.list.items in
-    let actors = c.args.residents.now in
-    let index = c.args.index in
-    let name = c.args.name.now in
-    let a = c.index_mut-resident.result.now in
-    let there : IsFirstNamed items name index a = found_through items actors name index a c.residents.view_is c.requires.there c.index_mut-resident.ensures.value in
-    let f : IsFirstNamed actors name index a = subst (λ as_. IsFirstNamed as_ name index a) c.residents.view_is there in
-    let at : a.phase ≡ phase.Waiting c.in-Some.run' = waits_at a.phase c.in-Some.run' (sym c.in-Some.is ∙ awaited_there actors index a c.run_awaited.result f.there c.run_awaited.ensures) in
-    ap (λ (x : ActorState). x.phase) c.resident.view_is ∙ at
-
-pub resume-requires-clause-back : goal.resume-requires-clause-back
-resume-requires-clause-back c =
-    let items = c.residents.inside.list.items in
-    let actors = c.args.residents.now in
-    let index = c.args.index in
-    let name = c.args.name.now in
-    let a = c.index_mut-resident.result.now in
-    let there : IsFirstNamed items name index a = found_through items actors name index a c.residents.view_is c.requires.there c.index_mut-resident.ensures.value in
-    let f : IsFirstNamed actors name index a = subst (λ as_. IsFirstNamed as_ name index a) c.residents.view_is there in
-    let at : a.phase ≡ phase.Waiting c.in-Some.run' = waits_at a.phase c.in-Some.run' (sym c.in-Some.is ∙ awaited_there actors index a c.run_awaited.result f.there c.run_awaited.ensures) in
-    let ends : ended_with (actor_named actors (child_name name c.in-Some.run')) ≡ Some (c.in-Some-2.end, c.in-Some-2.fuel) = sym c.in_ok-end.ensures ∙ c.in-Some-2.is in
-    subst (λ (x : ActorState). IsSomeAnd (fuel_given x.unjoined c.in-Some.run') (λ g. c.in-Some-2.fuel ≤ g)) (sym c.resident.view_is)
-    (back_given actors index name a c.in-Some.run' c.in-Some-2.end c.in-Some-2.fuel f c.requires.family at ends)
-
-pub invariant_of-residents : goal.invariant_of-residents
-invariant_of-residents c =
-    let items = c.residents.inside.list.items in
-    let actors = c.args.residents.now in
-    let index = c.args.index in
-    let name = c.args.name.now in
-    let a = c.index_mut-resident.result.now in
-    let there : IsFirstNamed items name index a = found_through items actors name index a c.residents.view_is c.requires.there c.index_mut-resident.ensures.value in
-    let f : IsFirstNamed actors name index a = subst (λ as_. IsFirstNamed as_ name index a) c.residents.view_is there in
-    let at : a.phase ≡ phase.Waiting c.in-Some.run' = waits_at a.phase c.in-Some.run' (sym c.in-Some.is ∙ awaited_there actors index a c.run_awaited.result f.there c.run_awaited.ensures) in
-    let new = whole c.resume.new.actor c.resident.inside.memory in
-    let own : new.name ≡ a.name = c.resume.ensures.name ∙ ap (λ (x : ActorState). x.name) c.resident.view_is in
-    name_map_put_back c.residents.inside.by_name items index a new there.there own c.residents.invariant
-
-pub returns-clause-goes : goal.returns-clause-goes
-returns-clause-goes c = λ _.
-    let items = c.residents.inside.list.items in
-    let actors = c.args.residents.now in
-    let index = c.args.index in
-    let name = c.args.name.now in
-    let a = c.index_mut-resident.result.now in
-    let there : IsFirstNamed items name index a = found_through items actors name index a c.residents.view_is c.requires.there c.index_mut-resident.ensures.value in
-    let f : IsFirstNamed actors name index a = subst (λ as_. IsFirstNamed as_ name index a) c.residents.view_is there in
-    let at : a.phase ≡ phase.Waiting c.in-Some.run' = waits_at a.phase c.in-Some.run' (sym c.in-Some.is ∙ awaited_there actors index a c.run_awaited.result f.there c.run_awaited.ensures) in
-    let ends : ended_with (actor_named actors (child_name name c.in-Some.run')) ≡ Some (c.in-Some-2.end, c.in-Some-2.fuel) = sym c.in_ok-end.ensures ∙ c.in-Some-2.is in
-    let new = whole c.resume.new.actor c.resident.inside.memory in
-    let goes : new ≡ has_joined a c.in-Some.run' c.in-Some-2.end c.in-Some-2.fuel = c.resume.ensures.goes c.resident.inside.memory ∙ ap (λ x. has_joined x c.in-Some.run' c.in-Some-2.end c.in-Some-2.fuel) c.resident.view_is in
-    subst (λ as_. HasGoneOn actors index name (slice_set as_ index new)) (sym c.residents.view_is)
-    (gone_back actors index name a c.in-Some.run' c.in-Some-2.end c.in-Some-2.fuel new f at ends goes)
+pub go_on_after-requires-clause-waits : goal.go_on_after-requires-clause-waits
+go_on_after-requires-clause-waits c =
+    subst (λ (o : Option ℕ). IfSome (slice_get c.args.residents.now c.args.index) (λ a. o ≡ run_awaited a.phase)) c.in-Some.is c.run_awaited.ensures
