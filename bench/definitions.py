@@ -509,7 +509,7 @@ OTHERS = [
             ),
             ("run_audit/Differences", "`IsFirstDifference` speaks of all cell names, listed or not."),
             ("run_audit/CellOrder", "The order of cells in which the first difference is sought."),
-            ("run_audit/KeptEntries", ""),
+            ("run_audit/HistoryEntries", ""),
             ("run_audit/ListDifferences", ""),
             ("run_audit/LogOrder", ""),
             ("run_audit/Orders", ""),

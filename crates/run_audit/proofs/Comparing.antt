@@ -11,7 +11,7 @@ use Rattle.thread_laws.specs.Replaying.{history_of}
 use Rattle.thread_laws.specs.declared.gathered.CellHistory.{CellHistory}
 use Rattle.run_audit.specs.CellOrder.{by_cell}
 use Rattle.run_audit.specs.Differences.{IsComparison}
-use Rattle.run_audit.specs.KeptEntries.{history_first, entries_kept, kept_as}
+use Rattle.run_audit.specs.HistoryEntries.{history_first, entries_kept, kept_as}
 use Rattle.run_audit.specs.declared.kept.KeptEntry.{KeptEntry}
 use Rattle.run_audit.specs.Orders.{entries_ordered}
 use Rattle.run_audit.specs.ListDifferences.{AreInCellOrder, IsListDifference}

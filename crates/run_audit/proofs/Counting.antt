@@ -4,7 +4,7 @@ use Rattle.std.specs.Prelude.{slice_index_or, ◌≢◌, if◌then◌else◌}
 use Rattle.wedge_events.specs.declared.events.CellName.{CellName}
 use Rattle.wedge_events.specs.declared.events.LogEntry.{LogEntry}
 use Rattle.thread_laws.specs.Histories.{is_of, entries_on}
-use Rattle.run_audit.specs.KeptEntries.{kept_as}
+use Rattle.run_audit.specs.HistoryEntries.{kept_as}
 use Rattle.run_audit.specs.ListDifferences.{DifferHere}
 use Rattle.run_audit.specs.declared.kept.KeptEntry.{KeptEntry}
 

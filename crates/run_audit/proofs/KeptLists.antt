@@ -20,7 +20,7 @@ use Rattle.thread_laws.proofs.Replaying.{cell_is}
 use Rattle.std.proofs.lemmas.Bool.{eq-eqb}
 use Rattle.run_laws.proofs.KnownGates.{itself}
 use Rattle.run_audit.specs.CellOrder.{cell_order, comes_first, by_cell}
-use Rattle.run_audit.specs.KeptEntries.{history_first, entries_behind, entries_kept}
+use Rattle.run_audit.specs.HistoryEntries.{history_first, entries_behind, entries_kept}
 use Rattle.run_audit.specs.Orders.{entries_ordered, histories_ordered}
 use Rattle.run_audit.proofs.CellKeys.{level_cells, not_itself, is_here, of_is}
 

@@ -1,7 +1,7 @@
 -- Where two lists of entries in the order of cells differ at their heads.
 use Rattle.std.proofs.Common.{◌≡◌, true, List, [], ◌∷◌, ◌++◌, length, map, drop, ◌<◌, ◌≤◌, get_or, arith, refl, sym, ap, subst, ◌∙◌, Less, Equal, Greater}
 use Rattle.std.specs.Prelude.{Option, Some, None, Result, Ok, Err, IfOk}
-use Rattle.run_audit.specs.KeptEntries.{kept_as}
+use Rattle.run_audit.specs.HistoryEntries.{kept_as}
 use Rattle.run_audit.specs.declared.kept.KeptEntry.{KeptEntry}
 use Rattle.std.specs.Ordering.{is_lt, ordering_reverse}
 use Rattle.std.specs.declared.cmp.Ordering.{Ordering}

@@ -2,7 +2,7 @@
 use Rattle.std.proofs.Common.{◌≡◌, ℕ, zero, suc, List, [], ◌∷◌, ◌++◌, take, drop, map, refl, sym, ap, subst, ◌∙◌}
 use Rattle.std.specs.Prelude.{Option}
 use Rattle.wedge_events.specs.declared.events.LogEntry.{LogEntry}
-use Rattle.run_audit.specs.KeptEntries.{kept_as}
+use Rattle.run_audit.specs.HistoryEntries.{kept_as}
 use Rattle.run_audit.specs.ListDifferences.{AreInCellOrder, IsListDifference, DifferHere}
 use Rattle.run_audit.specs.declared.fault.Difference.{Difference}
 use Rattle.run_audit.specs.declared.kept.KeptEntry.{KeptEntry}

@@ -1,7 +1,7 @@
 -- The order of cells.
 pub mod CellOrder
 -- The entries of histories, as entries of the journal.
-pub mod KeptEntries
+pub mod HistoryEntries
 -- The cells that an audit compares: all but the slots of declared tags.
 pub mod ComparedCells
 -- The first difference between what cells kept and what actors logged.
@@ -22,5 +22,5 @@ pub mod IndexedEntries
 pub mod Merges
 -- What it takes to move the entries that logs keep into a journal.
 pub mod Rooms
--- The journal of a run, and what of it is in memory.
+-- The journal of a run, and the entries that its logs keep in memory.
 pub mod RunJournals

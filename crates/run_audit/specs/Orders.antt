@@ -9,7 +9,7 @@ use Rattle.wedge_events.specs.declared.events.LogEntry.{LogEntry}
 use Rattle.thread_laws.specs.Replaying.{cell_in}
 use Rattle.thread_laws.specs.declared.gathered.CellHistory.{CellHistory}
 use Rattle.run_audit.specs.CellOrder.{cell_kind, cell_maker, cell_number, cell_order, by_cell}
-use Rattle.run_audit.specs.KeptEntries.{history_first}
+use Rattle.run_audit.specs.HistoryEntries.{history_first}
 
 pub cells_total : IsTotalOrder cell_order
 cells_total = then_total (on_total cell_kind nat_cmp_total)

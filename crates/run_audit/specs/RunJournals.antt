@@ -1,9 +1,9 @@
--- The journal of a run, and what of it is in memory.
+-- The journal of a run, and the entries that its logs keep in memory.
 use Rattle.std.specs.Prelude.{◌≡◌, List, length}
 use Rattle.wedge_events.specs.declared.events.LogEntry.{LogEntry}
 use Rattle.thread_laws.specs.declared.gathered.ActorLog.{ActorLog}
 
--- the entries of a run in the order of its journal, and those of them that are in memory
+-- the entries of a run in the order of its journal, and the entries that its logs keep in memory
 pub record RunEntries : Type 0 where
   pub entries : List LogEntry
   pub kept : List LogEntry

@@ -4,7 +4,7 @@ ghost use Rattle.std.specs.Prelude.{◌≡◌, ◌≤◌, ◌++◌, length, map,
 ghost use Rattle.wedge_events.specs.Journals.{cell_of};
 ghost use Rattle.thread_laws.specs.Histories.{is_of, entries_on};
 ghost use Rattle.run_audit.specs.CellOrder.{cell_order};
-ghost use Rattle.run_audit.specs.KeptEntries.{kept_as};
+ghost use Rattle.run_audit.specs.HistoryEntries.{kept_as};
 ghost use Rattle.run_audit.specs.ListDifferences.{IsDifferenceAt, IsEntryAt, IsLoggedOnly};
 ghost use Rattle.run_audit.specs.ListDifferences.{AreInCellOrder, IsListDifference, DifferHere};
 

@@ -1,7 +1,7 @@
 //! Whether an entry that a cell kept is one of the journal.
 
 ghost use Rattle.std.specs.Prelude.{◌≡◌, ◌↔◌, true};
-ghost use Rattle.run_audit.specs.KeptEntries.{kept_as};
+ghost use Rattle.run_audit.specs.HistoryEntries.{kept_as};
 
 use crate::kept::KeptEntry;
 use wedge_base::{ActorName, GateId, Stamp};

@@ -3,7 +3,7 @@
 ghost use Rattle.std.specs.Prelude.{◌≡◌, ◌++◌, map, IfOk};
 ghost use Rattle.thread_laws.specs.Replaying.{logged_as, logged};
 ghost use Rattle.wedge_events.specs.declared.events.Event.TheVariants as event;
-ghost use Rattle.run_audit.specs.KeptEntries.{kept_as};
+ghost use Rattle.run_audit.specs.HistoryEntries.{kept_as};
 
 use journal_cell::Entry;
 use std::alloc::Global;
@@ -196,7 +196,7 @@ pub(crate) fn logged_entry(alloc: Global, kept: &KeptEntry<'_>) -> Result<LogEnt
             stamp: entry.stamp,
             actor: entry.actor.copy()?,
             event: Event::Gate {
-                gate: gate.copy()?,
+                gate: Boxed::new(alloc, gate.copy()?)?,
                 ask: Boxed::new(alloc, entry.ask.copy(alloc)?)?,
                 reply: entry.reply.copy(alloc)?,
             },

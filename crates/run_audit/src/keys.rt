@@ -6,7 +6,7 @@ ghost use Rattle.std.specs.Ordering.{nat_cmp};
 ghost use Rattle.wedge_events.specs.Journals.{cell_of};
 ghost use Rattle.thread_laws.specs.Replaying.{cell_in};
 ghost use Rattle.run_audit.specs.CellOrder.{IsKeyOf, keys_order};
-ghost use Rattle.run_audit.specs.KeptEntries.{kept_as};
+ghost use Rattle.run_audit.specs.HistoryEntries.{kept_as};
 
 use crate::kept::KeptEntry;
 use std::cmp::Ordering;

@@ -6,7 +6,7 @@ ghost use Rattle.std.specs.Option.{option_copied};
 ghost use Rattle.run_audit.specs.CellOrder.{by_cell};
 ghost use Rattle.run_audit.specs.ComparedCells.{compared_histories};
 ghost use Rattle.run_audit.specs.IndexedEntries.{entries_without_index};
-ghost use Rattle.run_audit.specs.KeptEntries.{entries_kept, history_first, kept_as, new_after};
+ghost use Rattle.run_audit.specs.HistoryEntries.{entries_kept, history_first, kept_as, new_after};
 
 use crate::declared_slots::is_of_declared;
 use crate::kept::{KeptEntry, add_history};
@@ -82,7 +82,7 @@ impl<'a> Sortable for ByCell<'a> {
 }
 
 impl<'a> Sortable for HistoryByCell<'a> {
-    ghost use Rattle.run_audit.specs.KeptEntries.{history_first};
+    ghost use Rattle.run_audit.specs.HistoryEntries.{history_first};
     ghost use Rattle.run_audit.specs.Orders.{histories_ordered};
 
     ghost comes_before = { history_first };

@@ -5,13 +5,13 @@ use Rattle.std.specs.Prelude.{Option, Some, None, nat_lt, if◌then◌else◌}
 use Rattle.wedge_events.specs.Directories.{Directory, Claim, no_number, claim, claim_from, claim_next, directory_next, is_claimed}
 use Rattle.wedge_events.specs.declared.cells.DirectoryAsk.{DirectoryAsk}
 use Rattle.wedge_events.specs.declared.cells.DirectoryAsk.TheVariants as ask
-use Rattle.tag_directory.specs.Tables.{AreReleasedBelow, IsKept}
+use Rattle.tag_directory.specs.Tables.{AreReleasedBelow, IsAllocatorState}
 
 apart_within : (unused places : ℕ) (ps : List ℕ) → unused ≤ places → AreReleasedBelow unused ps → AllByRecursion (λ p. p < places) ps
 apart_within unused places [] within h = tt
 apart_within unused places (p ∷ ps) within h = (omega (arith, within, h.0), apart_within unused places ps within h.2)
 
-pub kept_within : (places unused room : ℕ) (released : List ℕ) (table : List Bool) → IsKept places unused room released table → AllByRecursion (λ p. p < places) released
+pub kept_within : (places unused room : ℕ) (released : List ℕ) (table : List Bool) → IsAllocatorState places unused room released table → AllByRecursion (λ p. p < places) released
 kept_within places unused room released table k = apart_within unused places released k.within k.apart
 
 pub used_within : (unused places limit : ℕ) → unused ≤ places → places ≤ limit → unused ≤ limit

@@ -4,7 +4,7 @@ use Rattle.std.proofs.lemmas.Bool.{lt-ltb, eq-eqb, ne_eqb, cases_eq, and_right}
 use Rattle.std.proofs.lemmas.List.{reverse-append, get_or-set_same, get_or-set_other, length-set}
 use Rattle.std.proofs.lemmas.List.Sums.{sum_by-set}
 use Rattle.wedge_events.specs.Directories.{contains_place}
-use Rattle.tag_directory.specs.Tables.{weight, IsKept}
+use Rattle.tag_directory.specs.Tables.{weight, IsAllocatorState}
 
 -- a write to the table leaves the other places
 told_other : (t : Bool) (unused x p : ℕ) (xs : List ℕ) (table : List Bool) → p ≢ x → get_or table p false ≡ (nat_lt p unused && not (contains_place xs p)) → get_or (set table x t) p false ≡ (nat_lt p unused && not (contains_place xs p))
@@ -23,7 +23,7 @@ released_tells : (unused x : ℕ) (xs : List ℕ) → (nat_lt x unused && not (c
 released_tells unused x xs = rw (eq-eqb x x refl) (and_right (nat_lt x unused) false refl)
 
 -- a place that was released is claimed
-pub kept_again : (places unused room x : ℕ) (xs : List ℕ) (table : List Bool) → IsKept places unused room (x ∷ xs) table → IsKept places unused room xs (set table x true)
+pub kept_again : (places unused room x : ℕ) (xs : List ℕ) (table : List Bool) → IsAllocatorState places unused room (x ∷ xs) table → IsAllocatorState places unused room xs (set table x true)
 kept_again places unused room x xs table k =
     let free : weight (get_or table x false) ≡ 0 = ap weight (k.claims x ∙ released_tells unused x xs) in
     let write : sum_by weight (set table x true) + weight (get_or table x false) ≡ sum_by weight table + 1 = sum_by-set weight table x true false (omega (arith, k.apart.0, k.sized)) in
@@ -37,8 +37,8 @@ kept_again places unused room x xs table k =
     }
 
 -- the same, with the places released kept in a list of which the last is taken
-pub kept_pop : (places unused room more x : ℕ) (ys zs : List ℕ) (table : List Bool) → IsKept places unused room (reverse ys) table → ys ≡ zs ++ x ∷ [] → room ≤ more → IsKept places unused more (reverse zs) (set table x true)
+pub kept_pop : (places unused room more x : ℕ) (ys zs : List ℕ) (table : List Bool) → IsAllocatorState places unused room (reverse ys) table → ys ≡ zs ++ x ∷ [] → room ≤ more → IsAllocatorState places unused more (reverse zs) (set table x true)
 kept_pop places unused room more x ys zs table k is roomy =
-    let P : List ℕ → Type 0 = λ xs. IsKept places unused room xs table in
+    let P : List ℕ → Type 0 = λ xs. IsAllocatorState places unused room xs table in
     let k' = kept_again places unused room x (reverse zs) table (subst P (ap reverse is ∙ reverse-append zs (x ∷ [])) k) in
     record { within = k'.within; roomy = omega (arith, k'.roomy); apart = k'.apart; sized = k'.sized; claims = k'.claims; counted = k'.counted }

@@ -14,7 +14,7 @@ weight false = 0
 
 -- What the type keeps: `table` says of each slot once used whether it is claimed, and there is room
 -- to release every claimed one.
-pub record IsKept (places unused room : ℕ) (released : List ℕ) (table : List Bool) : Type 0 where
+pub record IsAllocatorState (places unused room : ℕ) (released : List ℕ) (table : List Bool) : Type 0 where
   pub within : unused ≤ places
   pub roomy : unused ≤ room
   pub apart : AreReleasedBelow unused released

@@ -29,13 +29,13 @@ pub struct Directory {
 impl Model for Directory {
     ghost use Rattle.std.specs.Prelude.{reverse, vec_capacity};
     ghost use Rattle.wedge_events.specs.Directories.{Directory as Plain};
-    ghost use Rattle.tag_directory.specs.Tables.{IsKept};
+    ghost use Rattle.tag_directory.specs.Tables.{IsAllocatorState};
 
     ghost Value = { Plain };
 
     ghost view = { λ d. record { places = d.places; number = d.number; unused = d.unused; released = reverse d.released.items } };
 
-    ghost invariant = { λ d. IsKept d.places d.unused (vec_capacity d.released) (reverse d.released.items) d.claimed.items };
+    ghost invariant = { λ d. IsAllocatorState d.places d.unused (vec_capacity d.released) (reverse d.released.items) d.claimed.items };
 }
 
 /// A slot that is allocated, and its number.

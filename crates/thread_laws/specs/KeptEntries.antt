@@ -26,8 +26,8 @@ abbrev pub all_kept : List ActorLog → List LogEntry
 all_kept [] = []
 all_kept (g ∷ gs) = g.kept ++ all_kept gs
 
--- The logs of a run keep what an audit compares: all entries but those on so many slots, which are no
--- more than those of declared tags.
+-- The logs of a run count all their entries, and keep what an audit compares: all but those on the first
+-- `unkept` slots, which are no more than those of declared tags.
 pub record AreKept (g : Gathered) : Type 0 where
   pub unkept : ℕ
   pub few : unkept ≤ length g.declared

@@ -1,5 +1,5 @@
 use Rattle.std.proofs.Common.{◌≡◌, ◌≤◌, ◌-◌, take, map, length}
-use Rattle.run_audit.specs.KeptEntries.{kept_as}
+use Rattle.run_audit.specs.HistoryEntries.{kept_as}
 use Rattle.run_audit.proofs.comparison.common_prefix.Given as goal
 
 abbrev pub invariant-loop-index : goal.invariant-loop-index

@@ -1,5 +1,5 @@
 use Rattle.std.proofs.Common.{map, drop, Some, IfOk, sym, subst, ◌∙◌, arith}
-use Rattle.run_audit.specs.KeptEntries.{kept_as}
+use Rattle.run_audit.specs.HistoryEntries.{kept_as}
 use Rattle.run_audit.specs.ListDifferences.{IsLoggedOnly, IsEntryAt}
 use Rattle.run_audit.proofs.TwoHeads.{kept_first, logged_first, kept_none, logged_none, logged_of, kept_of, less_of, equal_of, greater_of, ok_map}
 use Rattle.run_audit.proofs.comparison.difference_at_heads.Goals as goal
