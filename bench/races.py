@@ -2,7 +2,7 @@
 """Runs images that race, many times each: two children that add to one word, eight callers of a recycled gate, sixteen
 children that make and delete tags, 255 children that live while one more is asked for. Each run has to end with the
 status 0, so logs and histories agreed, and its schedule has to replay to its report. Prints, for each image, the runs, the
-different schedules among them and the seconds. The programs are those of crates/unit_races.
+different schedules among them and the seconds. The programs are those of crates/unit_runs.
 
 usage: bench/races.py [RUNS [PROCESSORS]]     1000 runs of each image; on these processors alone, as `taskset -c` lists them
 
@@ -19,7 +19,7 @@ from pathlib import Path
 
 ROOT = Path(__file__).resolve().parent.parent
 PROGRAM = os.environ.get("WEDGE") or str(ROOT / "crates" / "wedge" / "out" / "wedge")
-PARTS = ROOT / "crates" / "unit_races" / "src" / "parts.rt"
+PARTS = ROOT / "crates" / "unit_runs" / "src" / "race_parts.rt"
 
 # The name of a program in PARTS, and the fuel that it begins with.
 IMAGES = [("RACE", 5000), ("COUNT", 10_000), ("TAGS", 20_000), ("FULL", 100_000)]

@@ -1,6 +1,6 @@
 //! Runs on threads that race.
 
-use crate::parts::{
+use crate::race_parts::{
     BOX, COUNT, CROWD, FILED, FULL, MEET, ONE_BY_ONE, RACE, READ, SIGN, SIGNED, TAGS,
 };
 use run_check::{CheckedRun, ended, exit_of_root, image_of, length, run_at_once};

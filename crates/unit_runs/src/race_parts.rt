@@ -1,4 +1,4 @@
-//! Programs that the tests run, and what is declared beside them.
+//! Programs that race, and what is declared beside them.
 
 /// What is declared beside most programs.
 pub(crate) static BOX: &str = "
