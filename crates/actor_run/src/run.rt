@@ -469,7 +469,7 @@ fn take_event(
 {
     let Some(access) = access else {
         let other = event;
-        sthread_life::take_alone(actor, program, memory, &other)?;
+        take_other(actor, program, memory, None, &other)?;
         return Ok(other);
     };
     match event {
@@ -480,11 +480,34 @@ fn take_event(
             Ok(Event::Slot { slot, ask, reply })
         }
         other => {
-            want_access(actor, access);
-            sthread_life::take_alone(actor, program, memory, &other)?;
+            take_other(actor, program, memory, Some(access), &other)?;
             Ok(other)
         }
     }
+}
+
+/// The same of an event that is no load or store of an actor that came to one. Out of line, since these are rare.
+#[inline(never)]
+fn take_other(
+    actor: &mut Actor,
+    program: &Program<'_>,
+    memory: &mut PrivateView,
+    access: Option<Access>,
+    event: &Event,
+) -> Result<(), NoMemory>
+    requires comes { IfSome access (IsReached actor.old.phase) }
+    requires fits { TakesFit (reached (whole actor.old memory.old) access) event.now }
+    requires alone { actor_begun program.now (reached (whole actor.old memory.old) access)
+        event.now ≡ None }
+    ensures takes { OnOk result (whole actor.new memory.new
+        ≡ takes program.now (reached (whole actor.old memory.old) access) event.now) }
+    ensures going { OnOk result ((actor.old.stopped ≡ false) × (actor.new.stopped ≡ false)) }
+    ensures stops { OnErr result (actor.new.stopped ≡ true) }
+{
+    if let Some(access) = access {
+        want_access(actor, access);
+    }
+    sthread_life::take_alone(actor, program, memory, event)
 }
 
 /// Returns the count of one entry more. Fails where there are as many as can be counted.

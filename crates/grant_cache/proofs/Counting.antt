@@ -9,9 +9,9 @@ use Rattle.std.proofs.lemmas.Bool.{eqb-true}
 use Rattle.lru.specs.LruCache.{promoted}
 use Rattle.lru.proofs.CallerLemmas.{Contains-lookup_entry}
 use Rattle.wedge_base.specs.declared.rights.Right.{Right}
-use Rattle.grant_cache.specs.Caches.{Cache, is_cached, after_hit, after_put, after_refusal, IsLookedUp}
+use Rattle.grant_cache.specs.Caches.{Cache, empty_cache, is_cached, after_hit, after_put, after_refusal, IsLookedUp}
 use Rattle.grant_cache.proofs.Promoting.{lookup_value}
-use Rattle.grant_cache.specs.Hits.{without_tag, distinct_tags, latest_tags, hits_back, hits, IsExact, IsAfter}
+use Rattle.grant_cache.specs.Hits.{IsLookUpOf, AreLookedUp, without_tag, distinct_tags, latest_tags, hits_back, hits, IsExact, IsAfter}
 
 module _ (t : ℕ) where
   -- a tag among the first ones is taken out of them
@@ -67,6 +67,11 @@ module _ {V : Type 0} (t : ℕ) where
 taken_keys : {V : Type 0} (n : ℕ) (es : List (ℕ × V)) → keys_of (take n es) ≡ take n (keys_of es)
 taken_keys n es = sym (take-map (λ e. e.0) n es)
 
+-- and one look-up more
+looked_up_more : (tags : List ℕ) (t : ℕ) (first old new : Cache) → AreLookedUp tags first old → IsLookUpOf t old new → AreLookedUp (tags ++ t ∷ []) first new
+looked_up_more [] t first old new was one = (new, subst (λ (c : Cache). IsLookUpOf t c new) was one, refl)
+looked_up_more (x ∷ tags) t first old new was one = (was.0, was.1, looked_up_more tags t was.0 old new was.2 one)
+
 module _ (t : ℕ) (tags : List ℕ) (old : Cache) where
   abbrev after : List ℕ
   after = tags ++ t ∷ []
@@ -117,14 +122,19 @@ module _ (t : ℕ) (tags : List ℕ) (old : Cache) where
   one_more : length after ≡ length tags + 1
   one_more = length-append tags (t ∷ [])
 
-  missed_counts : (given : Option Right) (new : Cache) → 1 ≤ old.capacity → is_cached t old ≡ false → IsAfter tags old
+  abbrev IsMade : Cache → Type 0
+  IsMade new = AreLookedUp after (empty_cache old.capacity) new
+
+  missed_counts : (given : Option Right) (new : Cache) → 1 ≤ old.capacity → is_cached t old ≡ false → IsAfter tags old → IsMade new
       → (new ≡ after_put given t old) ⊎ (new ≡ after_refusal old) → IsAfter after new
-  missed_counts given new room is a (inl to) = subst (IsAfter after) (sym to) record {
+  missed_counts given new room is a made (inl to) = subst (IsAfter after) (sym to) record {
+    made = subst IsMade to made;
     lookups = ap (λ n. n + 1) a.lookups ∙ sym one_more;
     refused = let le = a.refused in omega arith;
     exact = λ none. exact_put given room is (a.exact none);
   }
-  missed_counts given new room is a (inr to) = subst (IsAfter after) (sym to) record {
+  missed_counts given new room is a made (inr to) = subst (IsAfter after) (sym to) record {
+    made = subst IsMade to made;
     lookups = ap (λ n. n + 1) a.lookups ∙ sym one_more;
     refused = let le = a.refused in omega arith;
     exact = λ none. absurd (omega arith);
@@ -133,13 +143,14 @@ module _ (t : ℕ) (tags : List ℕ) (old : Cache) where
   -- a cache as it is after look-ups of some tags is, after a look-up of one more, as it is after all
   -- of them
   pub look_up_counts : (given : Option Right) (new : Cache) → 1 ≤ old.capacity → IsLookedUp given t old new → IsAfter tags old → IsAfter after new
-  look_up_counts given new room to a = (elim (is_cached t old) as (λ b. is_cached t old ≡ b → IsAfter after new) [
+  look_up_counts given new room to a = let made : IsMade new = looked_up_more tags t (empty_cache old.capacity) old new a.made (given, to) in (elim (is_cached t old) as (λ b. is_cached t old ≡ b → IsAfter after new) [
     | true ↦ λ is. subst (IsAfter after) (sym (to.found is)) record {
+      made = subst IsMade (to.found is) made;
       lookups = ap (λ n. n + 1) a.lookups ∙ sym one_more;
       refused = let le = a.refused in omega arith;
       exact = λ none. exact_hit room is (a.exact none);
     }
-    | false ↦ λ is. missed_counts given new room is a (to.missed is)
+    | false ↦ λ is. missed_counts given new room is a made (to.missed is)
   ]) refl
 
 -- so many look-ups were made

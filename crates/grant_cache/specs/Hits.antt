@@ -1,8 +1,19 @@
--- Which tags were looked up last, and how many look-ups are hits.
-use Rattle.std.specs.Prelude.{◌≡◌, ℕ, ◌+◌, ◌≤◌, List, [], ◌∷◌, length, take, reverse, nat_eq, if◌then◌else◌}
+-- What look-ups of tags, one after another, make of a cache: which tags it has, and how many look-ups
+-- are hits.
+use Rattle.std.specs.Prelude.{◌≡◌, ℕ, ◌+◌, ◌≤◌, List, [], ◌∷◌, length, take, reverse, nat_eq, if◌then◌else◌, Option}
 use Rattle.std.specs.List.{list_any}
 use Rattle.std.specs.Map.{keys_of}
-use Rattle.grant_cache.specs.Caches.{Cache}
+use Rattle.wedge_base.specs.declared.rights.Right.{Right}
+use Rattle.grant_cache.specs.Caches.{Cache, IsLookedUp, empty_cache}
+
+-- the cache after the look-up of a tag on which a sheet gives some right, or none
+abbrev pub IsLookUpOf : ℕ → Cache → Cache → Type 0
+IsLookUpOf tag old new = (given : Option Right) × IsLookedUp given tag old new
+
+-- the cache after look-ups of these tags, one after another
+abbrev pub AreLookedUp : List ℕ → Cache → Cache → Type 0
+AreLookedUp [] old new = new ≡ old
+AreLookedUp (t ∷ ts) old new = (c : Cache) × IsLookUpOf t old c × AreLookedUp ts c new
 
 -- tags without the first that is this one
 abbrev pub without_tag : ℕ → List ℕ → List ℕ
@@ -35,6 +46,7 @@ pub record IsExact (tags : List ℕ) (c : Cache) : Type 0 where
 
 -- a cache that was empty, after look-ups of these tags in their order
 pub record IsAfter (tags : List ℕ) (c : Cache) : Type 0 where
+  pub made : AreLookedUp tags (empty_cache c.capacity) c
   pub lookups : c.count.lookups ≡ length tags
   pub refused : c.count.hits + c.count.refused ≤ c.count.lookups
   pub exact : c.count.refused ≡ 0 → IsExact tags c

@@ -9,8 +9,8 @@ use Rattle.wedge_events.specs.declared.cells.SlotAsk.TheVariants as slot_ask
 use Rattle.wedge_events.specs.declared.events.Event.{Event}
 use Rattle.wedge_events.specs.declared.events.Event.TheVariants as event
 use Rattle.wedge_events.specs.declared.events.LogEntry.{LogEntry}
-use Rattle.grant_cache.specs.Caches.{cache_capacity}
-use Rattle.grant_cache.specs.Hits.{hits}
+use Rattle.grant_cache.specs.Caches.{Cache, cache_capacity, empty_cache}
+use Rattle.grant_cache.specs.Hits.{AreLookedUp, hits}
 use Rattle.grant_cache.specs.declared.count.CacheCount.{CacheCount}
 use Rattle.grant_cache.specs.declared.count.CacheLine.{CacheLine}
 use Rattle.run_laws.specs.Walks.{entries_of}
@@ -32,10 +32,16 @@ tag_looked_up e = None
 abbrev pub tags_looked_up : List LogEntry → List ℕ
 tags_looked_up entries = filter_map (λ e. tag_looked_up e.event) entries
 
--- The counts of an actor's cache for these entries of its log: it looked up as many tags as these
--- looked up; hits and refused entries are no more than the look-ups; and where none was refused, the
--- hits are those of a cache of 8 tags.
+-- these are the counts of a cache of 8 tags that was empty, after look-ups of these tags
+abbrev pub AreCounted : List ℕ → CacheCount → Type 0
+AreCounted tags c = (k : Cache) × AreLookedUp tags (empty_cache cache_capacity) k × (k.count ≡ c)
+
+-- The counts of an actor's cache for these entries of its log: they are those of a cache of 8 tags in
+-- which the tags of these entries were looked up. So there were as many look-ups as tags; hits and
+-- refused entries are no more than the look-ups; and where none was refused, the hits are as many as
+-- tags that were among the 8 distinct ones looked up before them.
 pub record IsCounted (entries : List LogEntry) (c : CacheCount) : Type 0 where
+  pub cached : AreCounted (tags_looked_up entries) c
   pub lookups : c.lookups ≡ length (tags_looked_up entries)
   pub most : c.hits + c.refused ≤ c.lookups
   pub hits_ : c.refused ≡ 0 → c.hits ≡ hits cache_capacity (tags_looked_up entries)
