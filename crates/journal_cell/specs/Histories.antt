@@ -30,6 +30,15 @@ IsHistory fits reply next s clock (e ∷ es) =
     (clock < e.stamp) × fits s e.ask × (e.reply ≡ reply s e.ask)
     × IsHistory fits reply next (next s e.ask) e.stamp es
 
+-- A cell as it is kept: its history is one from the opening state of its name on, its state is the one
+-- to which that leads, and its clock is the stamp of the last entry.
+abbrev pub IsKeptCell : {S Q R : Type 0} → (S → Q → Type 0) → (S → Q → R) → (S → Q → S)
+    → (CellName → S) → CellState S Q R → Type 0
+IsKeptCell fits reply next opening c =
+    IsHistory fits reply next (opening c.name) 0 c.history
+    × (c.state ≡ state_after next (opening c.name) c.history)
+    × (c.clock ≡ last_stamp 0 c.history)
+
 -- the greater of two clocks
 abbrev pub greater : ℕ → ℕ → ℕ
 greater a b = if nat_lt a b then b else a

@@ -2,7 +2,7 @@
 
 ghost use Rattle.std.specs.Prelude.{◌≡◌, [], IfOk, IsErr, OnErr};
 ghost use Rattle.journal_cell.specs.Histories.{entry_at, cell_after, pass_after};
-ghost use Rattle.journal_cell.specs.Histories.{IsHistory, state_after, highest_stamp, greater};
+ghost use Rattle.journal_cell.specs.Histories.{IsHistory, state_after, last_stamp, highest_stamp, greater};
 
 use crate::entry::{Entry, Pass};
 use crate::ghost_list::GhostList;
@@ -13,8 +13,8 @@ use std::mem;
 use wedge_base::{NoMemory, Stamp};
 use wedge_events::{CellName, Object};
 
-/// A `Journaled` whose history is a ghost list: contracts see the same, and at run time it has the state and the clock
-/// alone.
+/// A `Journaled` whose history is a ghost list: contracts see the same, and at run time it has its name, the state and the
+/// clock, and no entries.
 #[derive(Drop)]
 pub struct GhostJournaled<O: Object, I: RunOf> {
     name: CellName,
@@ -68,7 +68,8 @@ impl<O: Object, I: RunOf> GhostJournaled<O, I> {
         }
     }
 
-    /// Returns a reference to the state. It is the one to which the history leads, which is legal.
+    /// Returns a reference to the state. It is the one to which the history leads, which is legal, and the clock is the
+    /// stamp of its last entry.
     #[inline(always)]
     pub fn state(&self) -> &O
         ensures state { result.now ≡ self.now.state }
@@ -76,6 +77,7 @@ impl<O: Object, I: RunOf> GhostJournaled<O, I> {
             self.now.history }
         ensures leads { self.now.state
             ≡ state_after O.next (O.opening I.image self.now.name) self.now.history }
+        ensures clock { self.now.clock ≡ last_stamp 0 self.now.history }
     {
         &self.state
     }

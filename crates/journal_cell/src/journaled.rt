@@ -66,13 +66,15 @@ impl<O: Object, I: RunOf> Journaled<O, I> {
         }
     }
 
-    /// Returns a reference to the state. It is the one to which the history leads, which is legal.
+    /// Returns a reference to the state. It is the one to which the history leads, which is legal, and the clock is the
+    /// stamp of its last entry.
     pub fn state(&self) -> &O
         ensures state { result.now ≡ self.now.state }
         ensures legal { IsHistory (O.fits I.image) O.reply O.next (O.opening I.image self.now.name) 0
             self.now.history }
         ensures leads { self.now.state
             ≡ state_after O.next (O.opening I.image self.now.name) self.now.history }
+        ensures clock { self.now.clock ≡ last_stamp 0 self.now.history }
     {
         &self.state
     }

@@ -2,7 +2,6 @@
 use Rattle.std.proofs.Common.{◌≡◌, ℕ, List, [], ◌∷◌, ◌++◌, true, Option, Some, None, Result, Ok, Err, IfOk, OnErr, sym, refl, ap, ◌∙◌, subst}
 use mathlib.Core.List.{append-nil, append_assoc}
 use Rattle.atomic_table.specs.Table.{Me}
-use Rattle.wedge_events.specs.declared.events.CellName.{CellName}
 use Rattle.wedge_events.specs.declared.events.CellName.TheVariants.{Slot}
 use Rattle.journal_cell.specs.declared.entry.Entry.{Entry}
 use Rattle.journal_cell.specs.declared.entry.Pass.{Pass}
@@ -92,29 +91,29 @@ module _ (S Q R : Type 0) where
   pub had_cell : (c : ℕ) (m m2 : M) → m.0.cell ≡ c → m.1 ≡ [] → (w : IsServed m m2) → m2.1 ≡ (c, w.1) ∷ []
   had_cell c m m2 at bare w = ap (λ (z : M). z.1) w.2 ∙ (λ i. (at i, w.1) ∷ bare i)
 
-  module _ (reply : S → Q → R) (next : S → Q → S) (legal : CellName → List (Entry Q R) → Type 0) (makes : S → Q) (finds : S → Type 0) (actor : Pass) (c t : ℕ) (m m2 m3 : M) (ticket : HasTicket c t m) (w : IsServed m m2) (same : m3.0 ≡ m2.0) where
+  module _ (reply : S → Q → R) (next : S → Q → S) (keeps : CellState S Q R → Type 0) (makes : S → Q) (finds : S → Type 0) (actor : Pass) (c t : ℕ) (m m2 m3 : M) (ticket : HasTicket c t m) (w : IsServed m m2) (same : m3.0 ≡ m2.0) where
     -- what the cell has become, whichever the answer was
-    pub answers : {E : Type 0} (r : Result (Entry Q R) E) → IfOk r (λ e. IsCellAsked reply next legal makes finds c actor e m2 m3) → OnErr r (m3 ≡ m2) → (k : CellState S Q R) × (x : Option (Entry Q R)) × HoldsCell c t k x m3
+    pub answers : {E : Type 0} (r : Result (Entry Q R) E) → IfOk r (λ e. IsCellAsked reply next keeps makes finds c actor e m2 m3) → OnErr r (m3 ≡ m2) → (k : CellState S Q R) × (x : Option (Entry Q R)) × HoldsCell c t k x m3
     answers (Ok e) ok err = let k = ok.0 in let k' = cell_after next k e in (k', Some e, holds_cell c t m m2 m3 ticket w same k k' (Some e) ok.1 ok.4 refl refl)
     answers (Err e) ok err = let had = had_cell c m m2 ticket.1 ticket.6 w in (w.1, None, holds_cell c t m m2 m3 ticket w same w.1 w.1 None had (ap (λ (z : M). z.1) err ∙ had) (sym (append-nil w.1.history)) refl)
 
     module _ (m4 : M) (passed : (k : CellState S Q R) (x : Option (Entry Q R)) → HoldsCell c t k x m3 → HasPassedOn c x m3 m4) where
-      ok_turn : (e : Entry Q R) (a : IsCellAsked reply next legal makes finds c actor e m2 m3) → IsTurn c a.0 (Some e) m m4
+      ok_turn : (e : Entry Q R) (a : IsCellAsked reply next keeps makes finds c actor e m2 m3) → IsTurn c a.0 (Some e) m m4
       ok_turn e a = let k = a.0 in is_turn c t m m2 m3 ticket w same k (cell_after next k e) (Some e) a.1 a.4 refl refl m4 passed
 
       err_turn : m3 ≡ m2 → IsTurn c w.1 None m m4
       err_turn err = let had = had_cell c m m2 ticket.1 ticket.6 w in is_turn c t m m2 m3 ticket w same w.1 w.1 None had (ap (λ (z : M). z.1) err ∙ had) (sym (append-nil w.1.history)) refl m4 passed
 
-      pub ends_idle : {E : Type 0} (r : Result (Entry Q R) E) → IfOk r (λ e. IsCellAsked reply next legal makes finds c actor e m2 m3) → OnErr r (m3 ≡ m2) → (m4.1 ≡ []) × IsIdle m4.0 × (m4.0.unjoined ≡ m.0.unjoined)
+      pub ends_idle : {E : Type 0} (r : Result (Entry Q R) E) → IfOk r (λ e. IsCellAsked reply next keeps makes finds c actor e m2 m3) → OnErr r (m3 ≡ m2) → (m4.1 ≡ []) × IsIdle m4.0 × (m4.0.unjoined ≡ m.0.unjoined)
       ends_idle (Ok e) ok err = is_idle c ok.0 (Some e) m m4 (ok_turn e ok) ticket.3 ticket.4
       ends_idle (Err e) ok err = is_idle c w.1 None m m4 (err_turn err) ticket.3 ticket.4
 
-      pub ends_visited : {E : Type 0} (r : Result (Entry Q R) E) → IfOk r (λ e. IsCellAsked reply next legal makes finds c actor e m2 m3) → IfOk r (λ e. IsVisit c (Some e) m.0 m4.0)
+      pub ends_visited : {E : Type 0} (r : Result (Entry Q R) E) → IfOk r (λ e. IsCellAsked reply next keeps makes finds c actor e m2 m3) → IfOk r (λ e. IsVisit c (Some e) m.0 m4.0)
       ends_visited (Ok e) ok = is_visit c ok.0 (Some e) m m4 (ok_turn e ok)
       ends_visited (Err e) ok = tt
 
-      pub ends_entered : {E : Type 0} (r : Result (Entry Q R) E) → IfOk r (λ e. IsCellAsked reply next legal makes finds c actor e m2 m3) → IfOk r (λ e. IsNewEntry reply legal makes finds c actor e m4.0)
-      ends_entered (Ok e) ok = let t' = ok_turn e ok in record { before = ok.0; name_ = t'.4; history_ = history_is c ok.0 (Some e) m m4 t'; finds_ = ok.2; entry_ = ok.3; legal_ = ok.5 }
+      pub ends_entered : {E : Type 0} (r : Result (Entry Q R) E) → IfOk r (λ e. IsCellAsked reply next keeps makes finds c actor e m2 m3) → IfOk r (λ e. IsNewEntry reply next keeps makes finds c actor e m4.0)
+      ends_entered (Ok e) ok = let t' = ok_turn e ok in record { before = ok.0; name_ = t'.4; history_ = history_is c ok.0 (Some e) m m4 t'; finds_ = ok.2; entry_ = ok.3; before_ = ok.5; after_ = ok.6 }
       ends_entered (Err e) ok = tt
 
       pub ends_err : {E : Type 0} (r : Result (Entry Q R) E) → OnErr r (m3 ≡ m2) → OnErr r (IsVisit c None m.0 m4.0)

@@ -1,6 +1,5 @@
 -- For the proof alone: the parts of one turn at a cell.
 use Rattle.std.specs.Prelude.{◌≡◌, ℕ, ◌+◌, ◌*◌, ◌<◌, List, [], ◌∷◌, ◌++◌, Option, true}
-use Rattle.wedge_events.specs.declared.events.CellName.{CellName}
 use Rattle.wedge_events.specs.declared.events.CellName.TheVariants.{Slot}
 use Rattle.journal_cell.specs.declared.entry.Entry.{Entry}
 use Rattle.journal_cell.specs.declared.entry.Pass.{Pass}
@@ -26,11 +25,11 @@ module _ {S Q R : Type 0} where
       × (m.1 ≡ [])
 
   -- the cell that the seat has is asked what the maker makes of its state, and has this entry more
-  abbrev pub IsCellAsked : (S → Q → R) → (S → Q → S) → (CellName → List (Entry Q R) → Type 0) → (S → Q)
+  abbrev pub IsCellAsked : (S → Q → R) → (S → Q → S) → (CellState S Q R → Type 0) → (S → Q)
       → (S → Type 0) → ℕ → Pass → Entry Q R → CellSeat S Q R → CellSeat S Q R → Type 0
-  IsCellAsked reply next legal makes finds c p e m m' = (k : CellState S Q R) × (m.1 ≡ (c, k) ∷ [])
+  IsCellAsked reply next keeps makes finds c p e m m' = (k : CellState S Q R) × (m.1 ≡ (c, k) ∷ [])
       × finds k.state × (e ≡ entry_at reply k p (makes k.state)) × (m'.1 ≡ (c, cell_after next k e) ∷ [])
-      × legal k.name (k.history ++ e ∷ [])
+      × keeps k × keeps (cell_after next k e)
 
   -- the seat has the cell, which has one entry more than what the seat has seen of it, or none
   abbrev pub HoldsCell : ℕ → ℕ → CellState S Q R → Option (Entry Q R) → CellSeat S Q R → Type 0

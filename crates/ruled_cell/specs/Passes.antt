@@ -6,8 +6,7 @@ use Rattle.atomic_table.specs.Seated.{TableId}
 use Rattle.wedge_events.specs.declared.events.CellName.TheVariants.{Slot}
 use Rattle.journal_cell.specs.declared.entry.Entry.{Entry}
 use Rattle.journal_cell.specs.declared.entry.Pass.{Pass}
-use Rattle.wedge_events.specs.declared.events.CellName.{CellName}
-use Rattle.journal_cell.specs.Histories.{CellState, IsHistory, entry_at}
+use Rattle.journal_cell.specs.Histories.{CellState, entry_at, cell_after}
 use Rattle.ruled_cell.specs.declared.visits.Visit.{Visit}
 use Rattle.ruled_cell.specs.declared.passes.PassView.{PassView}
 use Rattle.ruled_cell.specs.declared.passes.PassOrigin.{PassOrigin}
@@ -88,21 +87,17 @@ module _ {Q R : Type 0} where
     pub view_ : w ≡ after_visit c x others v
     pub apart : HasNoneBy (pass_numbers v) others
 
-  -- these are a legal history of the cell of this name, from its opening state on
-  abbrev pub IsHistoryOf : {S : Type 0} → (S → Q → Type 0) → (S → Q → R) → (S → Q → S) → (CellName → S)
-      → CellName → List (Entry Q R) → Type 0
-  IsHistoryOf fits reply next opening name es = IsHistory fits reply next (opening name) 0 es
-
-  -- An entry is last in the history of the cell, which is legal, and is what the ask that was made of the state
-  -- before it leads to. The maker's finding holds of that state.
-  pub record IsNewEntry {S : Type 0} (reply : S → Q → R) (legal : CellName → List (Entry Q R) → Type 0)
+  -- An entry is last in the history of the cell, and is what the ask that was made of the state before it leads
+  -- to. The maker's finding holds of that state. The cell is one that is kept, before the entry and after.
+  pub record IsNewEntry {S : Type 0} (reply : S → Q → R) (next : S → Q → S) (keeps : CellState S Q R → Type 0)
       (makes : S → Q) (finds : S → Type 0) (c : ℕ) (p : Pass) (e : Entry Q R) (w : PassView Q R) : Type 0 where
     pub before : CellState S Q R
     pub name_ : before.name ≡ Slot c
     pub history_ : cell_history c w.seen ≡ before.history ++ e ∷ []
     pub finds_ : finds before.state
     pub entry_ : e ≡ entry_at reply before p (makes before.state)
-    pub legal_ : legal before.name (before.history ++ e ∷ [])
+    pub before_ : keeps before
+    pub after_ : keeps (cell_after next before e)
 
   -- a pass that has no ticket and is joined to no other
   abbrev pub IsIdle : PassView Q R → Type 0

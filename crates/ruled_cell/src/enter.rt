@@ -1,9 +1,9 @@
 //! One turn of a pass at a cell.
 
 ghost use Rattle.std.specs.Prelude.{◌≡◌, ◌<◌, ◌+◌, ◌∷◌, [], ◌⊎◌, IfOk, OnErr, MatchOption, Option, Some, None};
-ghost use Rattle.journal_cell.specs.Histories.{CellState, entry_at, cell_after, pass_after};
+ghost use Rattle.journal_cell.specs.Histories.{CellState, IsKeptCell, entry_at, cell_after, pass_after};
 ghost use Rattle.journal_cell.specs.declared.entry.Entry.{Entry as AnEntry};
-ghost use Rattle.ruled_cell.specs.Passes.{IsIdle, IsVisit, IsNewEntry, IsHistoryOf};
+ghost use Rattle.ruled_cell.specs.Passes.{IsIdle, IsVisit, IsNewEntry};
 ghost use Rattle.ruled_cell.specs.Enter.{highest_ticket, HasTicket, IsCellAsked, HoldsCell};
 ghost use Rattle.ruled_cell.specs.Order.{with_ticket, IsServed, HasPassedOn};
 
@@ -56,7 +56,7 @@ impl<O: Object, I: RunOf> RuledCells<O, I> {
         ensures table { pass.new.table ≡ pass.old.table }
         ensures visit { IfOk result (λ e. IsVisit cell (Some e) pass.old.view pass.new.view) }
         ensures entry { IfOk result (λ e.
-            IsNewEntry O.reply (IsHistoryOf (O.fits I.image) O.reply O.next (O.opening I.image))
+            IsNewEntry O.reply O.next (IsKeptCell (O.fits I.image) O.reply O.next (O.opening I.image))
             (M.makes maker.now) (M.finds maker.now) cell actor.old e pass.new.view) }
         ensures actor { IfOk result (λ e. actor.new ≡ pass_after actor.old e) }
         ensures err { OnErr result
@@ -195,7 +195,7 @@ impl<O: Object, I: RunOf> RuledCells<O, I> {
             × (seat.new.me.0 ≡ seat.old.me.0) }
         ensures ok { IfOk result (λ e.
             IsCellAsked O.reply O.next
-            (IsHistoryOf (O.fits I.image) O.reply O.next (O.opening I.image))
+            (IsKeptCell (O.fits I.image) O.reply O.next (O.opening I.image))
             (M.makes maker.now) (M.finds maker.now) cell actor.old e seat.old.me seat.new.me) }
         ensures actor { IfOk result (λ e. actor.new ≡ pass_after actor.old e) }
         ensures err { OnErr result (seat.new.me ≡ seat.old.me) }
@@ -244,7 +244,7 @@ impl<O: Object, I: RunOf> RuledCells<O, I> {
             × (seat.new.me.0.unjoined ≡ seat.old.me.0.unjoined) }
         ensures visit { IfOk result (λ e. IsVisit cell (Some e) seat.old.me.0 seat.new.me.0) }
         ensures entry { IfOk result (λ e.
-            IsNewEntry O.reply (IsHistoryOf (O.fits I.image) O.reply O.next (O.opening I.image))
+            IsNewEntry O.reply O.next (IsKeptCell (O.fits I.image) O.reply O.next (O.opening I.image))
             (M.makes maker.now) (M.finds maker.now) cell actor.old e seat.new.me.0) }
         ensures actor { IfOk result (λ e. actor.new ≡ pass_after actor.old e) }
         ensures err { OnErr result (IsVisit cell None seat.old.me.0 seat.new.me.0) }

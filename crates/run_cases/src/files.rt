@@ -1,6 +1,6 @@
 //! The files that the commands of a case file may name.
 
-use crate::value::{bytes_of, file_name, malformed, push_line, split_at_blank};
+use crate::value::{bytes_of, file_name, malformed, push_line, split_at_space};
 use host_io::MemFile;
 use std::alloc::Global;
 use std::io;
@@ -66,7 +66,7 @@ impl Drop for MadeFile {
 impl MadeFile {
     /// The file of a name, with a value if one is said.
     pub(crate) fn new(files: &FileSet, text: &str) -> io::Result<MadeFile> {
-        let (name, value) = split_at_blank(text);
+        let (name, value) = split_at_space(text);
         let value = if value.is_empty() { "\"\"" } else { value };
         Ok(MadeFile {
             name: file_name(files.alloc, name)?,

@@ -2,7 +2,7 @@
 
 use crate::files::{FileSet, MadeFile};
 use crate::row::Row;
-use crate::value::{malformed, split_at_blank};
+use crate::value::{malformed, split_at_space};
 use std::fmt::Display;
 use std::sync::Wait;
 use std::thread::Threads;
@@ -81,7 +81,7 @@ impl Transcript {
         if line.is_empty() || line.starts_with('#') {
             return Ok(());
         }
-        let (head, rest) = split_at_blank(line);
+        let (head, rest) = split_at_space(line);
         match head {
             "$" => {
                 self.close()?;

@@ -8,7 +8,7 @@ use std::{io, str};
 /// or `as` with a file, behind which `first=N` takes its first bytes, `from=N` those behind them, and `AT=HH` puts a byte in place of
 /// another.
 pub(crate) fn bytes_of(files: &FileSet, text: &str) -> io::Result<Vec<u8>> {
-    let (head, rest) = split_at_blank(text);
+    let (head, rest) = split_at_space(text);
     match head {
         "hex" => hex_bytes(files.alloc, rest),
         "times" => repeated(files.alloc, rest),
@@ -22,15 +22,15 @@ pub(crate) fn malformed(why: &str) -> io::Error {
     io::Error::other(why)
 }
 
-/// What is before the first blank, and what is behind it.
-pub(crate) fn split_at_blank(text: &str) -> (&str, &str) {
+/// What is before the first space, and what is behind it.
+pub(crate) fn split_at_space(text: &str) -> (&str, &str) {
     match text.split_once(' ') {
         Some((head, rest)) => (head, rest),
         None => (text, ""),
     }
 }
 
-/// The bytes of pairs of hexadecimal digits, with blanks between them.
+/// The bytes of pairs of hexadecimal digits, with spaces between them.
 fn hex_bytes(alloc: Global, text: &str) -> io::Result<Vec<u8>> {
     let mut bytes = Vec::new(alloc);
     for pair in text.split_whitespace() {
@@ -56,7 +56,7 @@ pub(crate) fn push_line(bytes: &mut Vec<u8>, line: &str) -> io::Result<()> {
 
 /// A text so many times.
 fn repeated(alloc: Global, text: &str) -> io::Result<Vec<u8>> {
-    let (times, text) = split_at_blank(text);
+    let (times, text) = split_at_space(text);
     let times = number(times)?;
     let piece = text_bytes(alloc, text)?;
     let mut bytes = Vec::new(alloc);
@@ -73,17 +73,17 @@ pub(crate) fn number(digits: &str) -> io::Result<u32> {
         .map_err(|_| malformed("no number stands here"))
 }
 
-/// The name of a file, which has no blank in it.
+/// The name of a file, which has no space in it.
 pub(crate) fn file_name(alloc: Global, name: &str) -> io::Result<String> {
     if name.is_empty() || name.contains(' ') {
-        return Err(malformed("a file has a name without a blank"));
+        return Err(malformed("a file has a name without a space"));
     }
     Ok(String::from_str(alloc, name)?)
 }
 
 /// The bytes of a file, with the changes that words say, one after another.
 fn changed(files: &FileSet, text: &str) -> io::Result<Vec<u8>> {
-    let (name, changes) = split_at_blank(text);
+    let (name, changes) = split_at_space(text);
     let mut bytes = Vec::from_slice(files.alloc, files.bytes_of(name)?)?;
     for word in changes.split_whitespace() {
         bytes = change(files.alloc, bytes.as_slice(), word)?;

@@ -52,7 +52,7 @@ use Rattle.run_cells.specs.Names.{IsSlotName, IsFdName}
 use Rattle.thread_laws.specs.ActorProgresses.{ActorProgress}
 use Rattle.actor_run.specs.Runs.{AffordsGate}
 use Rattle.run_cells.specs.Entries.{IsPlainEntry, IsCreatingEntry, IsNextActor, IsLastOfCell, IsKeptInGate}
-use Rattle.run_cells.specs.Entries.{slot_entry_of, stream_entry_of, lives_entry_of, slot_directory_entry_of, fd_directory_entry_of, gate_entry_of}
+use Rattle.run_cells.specs.Entries.{slot_entry_of, stream_entry_of, lives_entry_of, slot_directory_entry_of, fd_directory_entry_of, gate_entry_of, entry_in_gate}
 
 pub above : (a b : ℕ) → b < greater a b + 1
 above a b = by_test (nat_lt a b) refl
@@ -293,10 +293,12 @@ if_entry P x (Ok e) is h = subst P (sym is) h
 if_entry P x (Err e) is h = tt
 
 -- the gate keeps the entry
-pub gate_kept : (id : GateId) (q : GateAsk) (old new : CellState Kept GateAsk GateReply) (p : Pass) (e : Entry GateAsk GateReply) → e ≡ entry_at gate_replies old p q
-    → new ≡ cell_after gate_next old e → IsKeptInGate id q old new (gate_entry_of id e)
-gate_kept id q old new p e is kept =
-    subst (λ (x : Entry GateAsk GateReply). IsKeptInGate id q old new (gate_entry_of id x)) (sym is) (record { event_ = refl; kept_ = kept ∙ ap (cell_after gate_next old) is })
+pub gate_kept : (id : GateId) (q : GateAsk) (r : ActorProgress) (old new : CellState Kept GateAsk GateReply) (p : Pass) (e : Entry GateAsk GateReply)
+    → p.name.now ≡ r.state.name → p.clock ≡ r.clock → e ≡ entry_at gate_replies old p q → new ≡ cell_after gate_next old e → IsKeptInGate id q r old new (gate_entry_of id e)
+gate_kept id q r old new p e who clock is kept =
+    let entry : ℕ → List ℕ → Entry GateAsk GateReply = λ n a. record { stamp = greater old.clock n + 1; actor = a; ask = q; reply = gate_replies old.state q } in
+    let own : e ≡ entry_in_gate r old q = is ∙ (ap (entry p.clock) who ∙ ap (λ n. entry n r.state.name) clock) in
+    record { entry_ = ap (gate_entry_of id) own; kept_ = kept ∙ ap (cell_after gate_next old) own }
 
 -- ---- what is asked of a slot fits it, with the tag that lives there
 

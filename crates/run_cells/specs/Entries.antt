@@ -1,5 +1,5 @@
 -- Entries of an actor at rest.
-use Rattle.std.specs.Prelude.{◌≡◌, ℕ, ◌≤◌, ◌++◌, ◌∷◌, List, [], Option, Some, None, IsSomeAnd}
+use Rattle.std.specs.Prelude.{◌≡◌, ℕ, ◌+◌, ◌≤◌, ◌++◌, ◌∷◌, List, [], Option, Some, None, IsSomeAnd}
 use Rattle.wedge_base.specs.Images.{Image}
 use Rattle.wedge_base.specs.declared.grants.GateId.{GateId}
 use Rattle.wedge_events.specs.Directories.{Directory, DirectoryFits, directory_reply, directory_next, slots_opening, fds_opening}
@@ -24,7 +24,7 @@ use Rattle.wedge_events.specs.declared.events.Event.TheVariants as event
 use Rattle.wedge_events.specs.declared.events.LogEntry.{LogEntry}
 use Rattle.wedge_events.specs.declared.events.Want.{Want}
 use Rattle.wedge_events.specs.declared.events.Want.TheVariants as want
-use Rattle.journal_cell.specs.Histories.{CellState, IsHistory, cell_after}
+use Rattle.journal_cell.specs.Histories.{CellState, IsHistory, cell_after, greater}
 use Rattle.journal_cell.specs.declared.entry.Entry.{Entry}
 use Rattle.machine.specs.Actors.{ActorState}
 use Rattle.machine.specs.Between.{TakesFit}
@@ -106,12 +106,6 @@ pub record IsCreatingEntry (i : Image) (r : ActorProgress) (e : LogEntry) : Type
   pub creates : IsSomeAnd (actor_begun i r.state e.event) (IsNextActor r.state)
   pub last_ : IsLastOfCell i e.stamp e.actor e.event
 
--- the cell of a recycled gate kept the entry of what it was asked, with its reply
-pub record IsKeptInGate (id : GateId) (q : GateAsk) (old new : CellState Kept GateAsk GateReply) (e : LogEntry) : Type 0 where
-  pub event_ : e.event ≡ event.Gate id q (gate_reply old.state q)
-  pub kept_ : new ≡ cell_after gate_next old
-      (record { stamp = e.stamp; actor = e.actor; ask = q; reply = gate_reply old.state q })
-
 -- entries of cells as entries of logs
 abbrev pub slot_entry_of : ℕ → Entry SlotAsk SlotReply → LogEntry
 slot_entry_of slot e =
@@ -136,3 +130,19 @@ fd_directory_entry_of e =
 abbrev pub gate_entry_of : GateId → Entry GateAsk GateReply → LogEntry
 gate_entry_of gate e =
     record { stamp = e.stamp; actor = e.actor; event = event.Gate gate e.ask e.reply }
+
+-- what the cell of a recycled gate keeps of an actor that asks it this: one above the greater of the two clocks, under
+-- the actor's name, with the gate's reply
+abbrev pub entry_in_gate : ActorProgress → CellState Kept GateAsk GateReply → GateAsk → Entry GateAsk GateReply
+entry_in_gate r k q = record {
+  stamp = greater k.clock r.clock + 1;
+  actor = r.state.name;
+  ask = q;
+  reply = gate_reply k.state q;
+}
+
+-- an actor asked a recycled gate this: its entry is the one that the gate's cell has more
+pub record IsKeptInGate (id : GateId) (q : GateAsk) (r : ActorProgress)
+    (old new : CellState Kept GateAsk GateReply) (e : LogEntry) : Type 0 where
+  pub entry_ : e ≡ gate_entry_of id (entry_in_gate r old q)
+  pub kept_ : new ≡ cell_after gate_next old (entry_in_gate r old q)

@@ -3,6 +3,7 @@
 ghost use Rattle.std.specs.Prelude.{◌≡◌, ◌<◌, ◌+◌, ◌++◌, All, IfOk, IfSome, OnOk, OnErr, [], length, map, is_some};
 ghost use Rattle.std.specs.Arc.{arc_value};
 ghost use Rattle.thread_laws.specs.Replaying.{IsLegalHistory};
+ghost use Rattle.run_cells.specs.Prefixes.{IsPrefixOf};
 ghost use Rattle.run_cells.specs.RecycledGates.{with_recycled, has_cell, HasCells};
 
 use crate::locked_cell::LockedCell;
@@ -154,12 +155,13 @@ impl<I: RunOf> GateCells<I> {
         Ok(None)
     }
 
-    /// Consumes those of an actor that has ended, and adds the histories of its own gates to others. All actors
+    /// Consumes those of an actor that has ended, and adds the histories of its own gates behind others. All actors
     /// that knew these gates have ended, so that nobody else has their cells; were there one that somebody has,
     /// its history would be left out. Out of memory, those behind one that could not be added are lost.
     pub fn into_histories(self, histories: &mut Vec<CellHistory>) -> Result<(), NoMemory>
         requires { All (IsLegalHistory I.image) histories.old.items }
-        ensures { All (IsLegalHistory I.image) histories.new.items }
+        ensures legal { All (IsLegalHistory I.image) histories.new.items }
+        ensures prefix { IsPrefixOf histories.old.items histories.new.items }
     {
         let GateCells {
             alloc: _alloc,
@@ -168,14 +170,29 @@ impl<I: RunOf> GateCells<I> {
             mut list,
         } = self;
         for _ in inherited..list.len() {
-            if let Some(cell) = list.pop() {
-                if let Some(history) = cell.into_history() {
-                    histories.push(history)?;
-                }
-            }
+            move_last(&mut list, histories)?;
         }
         Ok(())
     }
+}
+
+/// Takes the last of these cells, if there is one, and adds its history behind others, unless somebody else has it.
+fn move_last<I: RunOf>(
+    cells: &mut Vec<GateCell<I>>,
+    histories: &mut Vec<CellHistory>,
+) -> Result<(), NoMemory>
+    requires { All (IsLegalHistory I.image) histories.old.items }
+    ensures legal { All (IsLegalHistory I.image) histories.new.items }
+    ensures prefix { IsPrefixOf histories.old.items histories.new.items }
+{
+    let Some(cell) = cells.pop() else {
+        return Ok(());
+    };
+    let Some(history) = cell.into_history() else {
+        return Ok(());
+    };
+    histories.push(history)?;
+    Ok(())
 }
 
 impl<I: RunOf> GateCell<I> {

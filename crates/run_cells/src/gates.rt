@@ -35,8 +35,8 @@ pub fn enter_gate<I: RunOf>(
         (AWant.Gate gate (gate_ask.Enter child memory)) }
     requires free { locked.old.state.entered ≡ false }
     ensures entry { IfOk result (IsCreatingEntry I.image run.now.progress) }
-    ensures kept { IfOk result
-        (IsKeptInGate gate (gate_ask.Enter child memory) locked.old locked.new) }
+    ensures kept { IfOk result (IsKeptInGate gate (gate_ask.Enter child memory)
+        run.now.progress locked.old locked.new) }
     ensures entered { OnOk result (locked.new.state.entered ≡ true) }
 {
     run.affords_gate();
@@ -62,8 +62,8 @@ pub fn leave_gate<I: RunOf>(
     ensures entry { IfOk result (IsPlainEntry I.image run.now.progress) }
     ensures event { IfOk result (λ e. e.event
         ≡ event.Gate gate (gate_ask.Leave end memory) gate_reply.Left) }
-    ensures kept { IfOk result
-        (IsKeptInGate gate (gate_ask.Leave end memory) locked.old locked.new) }
+    ensures kept { IfOk result (IsKeptInGate gate (gate_ask.Leave end memory)
+        run.now.progress locked.old locked.new) }
     ensures free { OnOk result (locked.new.state.entered ≡ false) }
 {
     let mut pass = pass_of(run);

@@ -6,6 +6,7 @@ ghost use Rattle.wedge_events.specs.declared.events.CellName.TheVariants.{Slot a
 ghost use Rattle.thread_laws.specs.Replaying.{AreLegalHistories, IsLegalHistory};
 ghost use Rattle.thread_laws.specs.Replaying.{all_histories, slot_histories};
 ghost use Rattle.tag_laws.specs.DeclaredTags.{AreRuled};
+ghost use Rattle.run_cells.specs.Prefixes.{IsPrefixOf};
 ghost use Rattle.run_cells.specs.TagPasses.{all_entered, histories_in, AreNamedFrom};
 
 use crate::locked_cell::LockedCell;
@@ -24,8 +25,8 @@ use wedge_events::{CellName, SlotAsk, SlotReply};
 
 impl<I: RunOf, T: TableOf> RunCells<I, T> {
     /// Consumes the cells, and returns with these logs the histories of the slots of declared tags, and of all other
-    /// cells in which something happened, these of recycled gates among them: each as its cell kept it. Those of
-    /// declared tags have just what these passes entered. Fails only where out of memory, and where a pass is missing.
+    /// cells in which something happened, these of recycled gates first: each as its cell kept it. Those of declared
+    /// tags have just what these passes entered. Fails only where out of memory, and where a pass is missing.
     pub fn into_gathered(
         self,
         alloc: Global,
@@ -36,6 +37,7 @@ impl<I: RunOf, T: TableOf> RunCells<I, T> {
         requires { All (IsLegalHistory I.image) gates.items }
         ensures logs { IfOk result (λ g. g.logs ≡ logs) }
         ensures count { IfOk result (λ g. length g.declared ≡ T.table.slots) }
+        ensures gates { IfOk result (λ g. IsPrefixOf gates.items g.others) }
         ensures kept { IfOk result (λ g. AreLegalHistories I.image (all_histories g)) }
         ensures ruled { IfOk result (λ g.
             AreRuled T.table.slots (all_entered passes.items) (all_histories g)) }
@@ -101,7 +103,8 @@ fn add_slot_directory<I: RunOf>(
     cell: Mutex<LockedCell<SlotDirectory, I>>,
 ) -> Result<(), NoMemory>
     requires { All (IsLegalHistory I.image) cells.old.items }
-    ensures { OnOk result (All (IsLegalHistory I.image) cells.new.items) }
+    ensures legal { OnOk result (All (IsLegalHistory I.image) cells.new.items) }
+    ensures prefix { OnOk result (IsPrefixOf cells.old.items cells.new.items) }
 {
     let JournalParts { history, .. } = cell.into_inner().into_parts();
     if history.is_empty() {
@@ -119,7 +122,8 @@ fn add_slots<I: RunOf>(
     slots: Vec<Mutex<LockedCell<SlotState, I>>>,
 ) -> Result<(), NoMemory>
     requires { All (IsLegalHistory I.image) cells.old.items }
-    ensures { OnOk result (All (IsLegalHistory I.image) cells.new.items) }
+    ensures legal { OnOk result (All (IsLegalHistory I.image) cells.new.items) }
+    ensures prefix { OnOk result (IsPrefixOf cells.old.items cells.new.items) }
 {
     for cell in slots {
         add_slot(cells, cell)?;
@@ -133,7 +137,8 @@ fn add_slot<I: RunOf>(
     cell: Mutex<LockedCell<SlotState, I>>,
 ) -> Result<(), NoMemory>
     requires { All (IsLegalHistory I.image) cells.old.items }
-    ensures { OnOk result (All (IsLegalHistory I.image) cells.new.items) }
+    ensures legal { OnOk result (All (IsLegalHistory I.image) cells.new.items) }
+    ensures prefix { OnOk result (IsPrefixOf cells.old.items cells.new.items) }
 {
     let JournalParts { name, history } = cell.into_inner().into_parts();
     if history.is_empty() {
@@ -155,7 +160,8 @@ fn add_fd_directory<I: RunOf>(
     cell: Mutex<LockedCell<FdDirectory, I>>,
 ) -> Result<(), NoMemory>
     requires { All (IsLegalHistory I.image) cells.old.items }
-    ensures { OnOk result (All (IsLegalHistory I.image) cells.new.items) }
+    ensures legal { OnOk result (All (IsLegalHistory I.image) cells.new.items) }
+    ensures prefix { OnOk result (IsPrefixOf cells.old.items cells.new.items) }
 {
     let JournalParts { history, .. } = cell.into_inner().into_parts();
     if history.is_empty() {
@@ -173,7 +179,8 @@ fn add_streams<I: RunOf>(
     streams: Vec<Mutex<LockedCell<Stream, I>>>,
 ) -> Result<(), NoMemory>
     requires { All (IsLegalHistory I.image) cells.old.items }
-    ensures { OnOk result (All (IsLegalHistory I.image) cells.new.items) }
+    ensures legal { OnOk result (All (IsLegalHistory I.image) cells.new.items) }
+    ensures prefix { OnOk result (IsPrefixOf cells.old.items cells.new.items) }
 {
     for cell in streams {
         add_stream(cells, cell)?;
@@ -187,7 +194,8 @@ fn add_stream<I: RunOf>(
     cell: Mutex<LockedCell<Stream, I>>,
 ) -> Result<(), NoMemory>
     requires { All (IsLegalHistory I.image) cells.old.items }
-    ensures { OnOk result (All (IsLegalHistory I.image) cells.new.items) }
+    ensures legal { OnOk result (All (IsLegalHistory I.image) cells.new.items) }
+    ensures prefix { OnOk result (IsPrefixOf cells.old.items cells.new.items) }
 {
     let JournalParts { name, history } = cell.into_inner().into_parts();
     if history.is_empty() {
@@ -209,7 +217,8 @@ fn add_lives<I: RunOf>(
     cell: Mutex<LockedCell<Lives, I>>,
 ) -> Result<(), NoMemory>
     requires { All (IsLegalHistory I.image) cells.old.items }
-    ensures { OnOk result (All (IsLegalHistory I.image) cells.new.items) }
+    ensures legal { OnOk result (All (IsLegalHistory I.image) cells.new.items) }
+    ensures prefix { OnOk result (IsPrefixOf cells.old.items cells.new.items) }
 {
     let JournalParts { history, .. } = cell.into_inner().into_parts();
     if history.is_empty() {

@@ -27,7 +27,7 @@ use wedge_events::{
 
 /// What the event that it wanted makes of the actor. Returns the actor that the event begins, a
 /// child or the run of a gate, with its private memory. An actor that runs out of memory has
-/// stopped: from then on `rest`, `next` and `take` answer `NoMemory`.
+/// stopped: from then on `rest` and `take` fail.
 #[inline(always)]
 pub fn take(
     actor: &mut Actor,

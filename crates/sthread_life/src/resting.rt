@@ -22,7 +22,8 @@ use wedge_base::NoMemory;
 
 /// Makes the actor's local events up to its next shared event. Returns the load or the store of a slot to which it comes, if
 /// that is what it wants: the actor itself still runs then. An actor that runs out of memory has stopped: from then on
-/// `rest`, `next` and `take` answer `NoMemory`. `Site` stands for the place of the call, as for `Hart::begin`.
+/// `rest` and `take` fail, and it is not asked for what is `next`. `Site` stands for the place of the call, as for
+/// `Hart::begin`.
 #[inline(always)]
 pub fn rest<Site>(
     actor: &mut Actor,

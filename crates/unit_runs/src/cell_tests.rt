@@ -136,9 +136,9 @@ fn gate_has_one_cell(rt: HostRuntime) -> Result<(), Fail> {
     Ok(())
 }
 
-/// Only the maker of a gate hands out its history, once the others are done with it.
+/// Only the maker of a gate returns its history, once the others are done with it.
 #[test]
-fn maker_hands_out_the_history(rt: HostRuntime) -> Result<(), Fail> {
+fn maker_returns_the_history(rt: HostRuntime) -> Result<(), Fail> {
     let alloc = rt.alloc();
     let gates = two_gates(alloc)?;
     let maker = maker_of(alloc, gates.as_slice())?;

@@ -1,6 +1,6 @@
 use Rattle.std.proofs.Common.{rules, ap, sym, ◌∙◌, subst, ◌≡◌, ◌∷◌, []}
 use Rattle.atomic_table.specs.Table.{rest}
-use Rattle.journal_cell.specs.Histories.{IsHistory, entry_at}
+use Rattle.journal_cell.specs.Histories.{IsKeptCell, entry_at}
 use Rattle.ruled_cell.proofs.cells.RuledCells.act.Goals as goal
 
 pub slot_mut-inside-requires : goal.slot_mut-inside-requires
@@ -12,5 +12,6 @@ returns-clause-ok g c = let k = c.slot_mut-inside.result.now in let bare : rest 
     let finds = subst (g.M.AskMaker.finds c.args.maker.now) state c.ask-ask.ensures.finds in
     let asked = c.ask-ask.ensures.makes ∙ ap (g.M.AskMaker.makes c.args.maker.now) state in
     let kept = c.in_ok-entry.ensures.kept in
-    let legal = subst (λ j. IsHistory (g.O.Object.fits g.I.RunOf.image) g.O.Object.reply g.O.Object.next (g.O.Object.opening g.I.RunOf.image j.name) 0 j.history) kept c.state-2.ensures.legal in
-    (k, carried, finds, c.in_ok-entry.ensures.entry ∙ ap (entry_at g.O.Object.reply k c.args.actor.now) asked, λ i. (c.args.cell, kept i) ∷ bare i, legal)
+    let before : IsKeptCell (g.O.Object.fits g.I.RunOf.image) g.O.Object.reply g.O.Object.next (g.O.Object.opening g.I.RunOf.image) k = (c.state.ensures.legal, c.state.ensures.leads, c.state.ensures.clock) in
+    let after = subst (IsKeptCell (g.O.Object.fits g.I.RunOf.image) g.O.Object.reply g.O.Object.next (g.O.Object.opening g.I.RunOf.image)) kept (c.state-2.ensures.legal, c.state-2.ensures.leads, c.state-2.ensures.clock) in
+    (k, carried, finds, c.in_ok-entry.ensures.entry ∙ ap (entry_at g.O.Object.reply k c.args.actor.now) asked, λ i. (c.args.cell, kept i) ∷ bare i, before, after)

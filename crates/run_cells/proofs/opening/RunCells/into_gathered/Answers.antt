@@ -20,7 +20,7 @@ returns-clause-kept g c =
     let i = g.I.RunOf.image in
     let first : c.new.result ≡ c.in_ok-tag_histories.field-0.items = search rules in
     let declared = subst (λ ess. All (IsLegalHistory i) (slot_histories 0 ess)) (sym first) c.in_ok-tag_histories.ensures.kept in
-    let others = subst (All (IsLegalHistory i)) (sym c.new-2.ensures) c.in_ok-add_lives.ensures in
+    let others = subst (All (IsLegalHistory i)) (sym c.new-2.ensures) c.in_ok-add_lives.ensures.legal in
     all_are_kept i (slot_histories 0 c.new.result ++ c.new-2.result) (All-append (IsLegalHistory i) (slot_histories 0 c.new.result) c.new-2.result declared others)
 
 pub returns-clause-ruled : goal.returns-clause-ruled

@@ -22,4 +22,4 @@ returns-clause-plain g c =
     subst (IsPlainEntry g.I.RunOf.image r) (sym c.slot_entry.ensures)
     (slot_plain g.I.RunOf.image r c.args.slot c.args.want new.before c.pass_of-actor.result c.in_ok-entry.entry
     c.requires.wants new.finds_.1 (subst IsSlotName (sym new.name_) (subst (λ n. n < most_slots) (sym c.slot.view_is) few))
-    c.pass_of-actor.ensures.name c.pass_of-actor.ensures.clock new.entry_ new.legal_)
+    c.pass_of-actor.ensures.name c.pass_of-actor.ensures.clock new.entry_ new.after_.0)
