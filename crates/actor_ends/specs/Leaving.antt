@@ -19,7 +19,7 @@ use Rattle.actor_task.specs.declared.step.Last.TheVariants as last
 pub record HasLeftGate (id : GateId) (end_ : End) (memory : PrivateMemory) (old : ActorProgress) (log : ActorLog)
     (was now_ : CellState Kept GateAsk GateReply) : Type 0 where
   pub entry : LogEntry
-  pub kept_ : IsKeptInGate id (gate_ask.Leave end_ memory) was now_ entry
+  pub kept_ : IsKeptInGate id (gate_ask.Leave end_ memory) old was now_ entry
   pub log_ : log.entries ≡ old.entries ++ entry ∷ []
 
 -- what is left to do of an actor changes the cell of the gate that it leaves, and no other

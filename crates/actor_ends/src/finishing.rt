@@ -216,7 +216,9 @@ fn add<I: RunOf, T: TableOf>(
     requires own { All (IsLegalHistory I.image) returned.gates.items }
     ensures others { OnOk result (all.new.others.items
         ≡ all.old.others.items ++ returned.log ∷ returned.others.items) }
-    ensures gates { OnOk result (All (IsLegalHistory I.image) all.new.gates.items) }
+    ensures gates { OnOk result (all.new.gates.items
+        ≡ all.old.gates.items ++ returned.gates.items) }
+    ensures legal { OnOk result (All (IsLegalHistory I.image) all.new.gates.items) }
     ensures passes { OnOk result (all.new.passes.items
         ≡ all.old.passes.items ++ returned.passes.items) }
 {

@@ -4,9 +4,9 @@ ghost use Rattle.std.specs.Prelude.{◌≡◌, ◌<◌, ◌+◌, IfOk, OnOk, OnE
 ghost use Rattle.machine.specs.Children.{is_child};
 ghost use Rattle.wedge_events.specs.declared.events.Want.{Want as AWant};
 ghost use Rattle.thread_laws.specs.ActorProgresses.{after_entry};
-ghost use Rattle.actor_task.specs.Tasks.{IsBesideSlots, Wants, Waits, IsIndexed, HasLearned, HasLearnedOf, IsJoinEntry, IsJoinOf};
+ghost use Rattle.actor_task.specs.Tasks.{IsBesideSlots, Wants, Waits, IsIndexed, HasLearned, IsJoinEntry, IsJoinOf};
 ghost use Rattle.actor_task.specs.Tasks.{going_on};
-ghost use Rattle.actor_ends.specs.Joins.{HasJoined, HasResumed};
+ghost use Rattle.actor_ends.specs.Joins.{LearnsJust, HasJoined, HasResumed};
 
 use actor_run::ActorRun;
 use actor_task::{ActorTask, Created};
@@ -46,7 +46,7 @@ fn learn_child<I: RunOf, T: TableOf, R: Threads>(
     requires child { is_child task.old.progress.state.unjoined number ≡ true }
     ensures progress { OnOk result (task.new.progress ≡ task.old.progress) }
     ensures going { OnOk result (task.new.stopped ≡ false) }
-    ensures learned { IfOk result (HasLearnedOf task.new.created number) }
+    ensures learned { IfOk result (LearnsJust number task.old.created task.new.created) }
 {
     let index = index_of(task.created.as_slice(), number);
     learn(rt, &mut task.created, index)

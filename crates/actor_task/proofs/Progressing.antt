@@ -36,7 +36,7 @@ use Rattle.run_cells.proofs.OnDeclared.{none_more, creating_on_no_slot}
 use Rattle.thread_laws.specs.Joining.{all_logged}
 use Rattle.actor_task.specs.Returning.{IsReturned}
 use Rattle.run_cells.specs.RecycledGates.{HasCells}
-use Rattle.actor_task.specs.Tasks.{HasFamilies, IsNew, IsPairOf, IsBesideSlots, IsTask, KeepsTask, TaskState, CreatingState, HasCreated, HasLearned, HasLearnedOf, IsIndexed, IsJoinEntry}
+use Rattle.actor_task.specs.Tasks.{HasFamilies, IsNew, IsPairOf, IsBesideSlots, IsTask, KeepsTask, TaskState, CreatingState, HasCreatedBy, HasCreated, HasLearned, HasLearnedOf, IsIndexed, IsJoinEntry}
 use Rattle.actor_task.proofs.GateCellsKnown.{begun_gates, cells_more}
 use Rattle.actor_task.proofs.CreatedLists.{there_last, set_last, there_set, below_there}
 
@@ -60,14 +60,14 @@ and_some P o x is h = subst (λ p. IsSomeAnd p P) is h
 pub task_creates : (i : Image) (k : CreatingState) (progress : ActorProgress) (created more : List CreatedActor) (one : CreatedActor) → HasCreated i k → progress ≡ k.progress → created ≡ k.created
     → one ≡ created_actor k.born k.stamp None → more ≡ created ++ one ∷ [] → IsTask i progress more
 task_creates i k progress created more one h now_ same is grown =
-    let next : IsNextActor h.old.state k.born = and_some (IsNextActor h.old.state) (actor_begun i h.old.state h.entry.event) k.born h.begun h.creates.creates in
+    let next : IsNextActor h.old.state k.born = and_some (IsNextActor h.old.state) (actor_begun i h.old.state h.entry.event) k.born h.made.begun h.made.creates.creates in
     let born : one.began ≡ k.born = ap (λ (x : CreatedActor). x.began) is in
-    let begins : actor_begun i h.old.state h.entry.event ≡ Some one.began = h.begun ∙ ap Some (sym born) in
+    let begins : actor_begun i h.old.state h.entry.event ≡ Some one.began = h.made.begun ∙ ap Some (sym born) in
     record {
-      progress = starts h.old progress k.created more one h.entry h.task.progress h.creates.own h.creates.stamp begins
+      progress = starts h.old progress k.created more one h.entry h.task.progress h.made.creates.own h.made.creates.stamp begins
           (ap (λ (x : ActorState). x.name) born ∙ next.name_) (subst (λ (x : ActorState). x.fuel ≤ h.old.state.fuel) (sym born) next.fuel_)
-          (ap (λ (x : CreatedActor). x.stamp) is ∙ h.stamp_) (ap (λ (x : CreatedActor). x.learned) is) (now_ ∙ h.now_) (grown ∙ ap (λ xs. xs ++ one ∷ []) same);
-      new_ = subst (λ (x : ActorProgress). IsNew x.began) (sym (now_ ∙ h.now_)) h.task.new_;
+          (ap (λ (x : CreatedActor). x.stamp) is ∙ h.made.stamp_) (ap (λ (x : CreatedActor). x.learned) is) (now_ ∙ h.made.now_) (grown ∙ ap (λ xs. xs ++ one ∷ []) same);
+      new_ = subst (λ (x : ActorProgress). IsNew x.began) (sym (now_ ∙ h.made.now_)) h.task.new_;
     }
 
 pub task_learns : (i : Image) (r : ActorProgress) (old new : List CreatedActor) (index : ℕ) (t : ActorEnd) → IsTask i r old → HasLearned old new index t → IsTask i r new
@@ -249,10 +249,6 @@ pub kept_waits : (i : Image) (r : ActorProgress) (old new : List CreatedActor) (
 kept_waits i r old new cells index (Ok t) h l e = record { task = task_learns i r old new index t h.task l; cells_ = h.cells_ }
 kept_waits i r old new cells index (Err n) h l e = subst (λ ks. KeepsTask i r ks cells) (sym e) h
 
-pub learned_if : (old new : List CreatedActor) (number index : ℕ) (o : Result ActorEnd NoMemory) → number ≡ index + 1 → IfOk o (HasLearned old new index) → IfOk o (HasLearnedOf new number)
-learned_if old new number index (Ok t) is l = learned_of_number old new number index t is l
-learned_if old new number index (Err n) is l = tt
-
 pub kept_joins : (i : Image) (r now_ : ActorProgress) (created : List CreatedActor) (cells : GateCellsState) (number : ℕ) (t : ActorEnd) (e : LogEntry) → KeepsTask i r created cells → is_child r.state.unjoined number ≡ true → HasLearnedOf created number t
     → IsEntryOf r.state r.clock e → IsJoinEntry r number t e → now_ ≡ after_entry i r e → KeepsTask i now_ created cells
 kept_joins i r now_ created cells number t e h child l own j after = record {
@@ -282,7 +278,7 @@ creates_some i r e h = some_of_and (IsNextActor r.state) (actor_begun i r.state 
 
 pub has_created : (i : Image) (old : ActorProgress) (e : LogEntry) (created : List CreatedActor) (cells : GateCellsState) (progress : ActorProgress) (born : ActorState) → KeepsTask i old created cells → IsCreatingEntry i old e
     → actor_begun i old.state e.event ≡ Some born → progress ≡ after_entry i old e → HasCreated i (record { progress = progress; created = created; born = born; stamp = e.stamp })
-has_created i old e created cells progress born h creates begun_ is = record { old = old; entry = e; task = h.task; creates = creates; begun = begun_; now_ = is; stamp_ = refl }
+has_created i old e created cells progress born h creates begun_ is = record { old = old; entry = e; task = h.task; made = record { creates = creates; begun = begun_; now_ = is; stamp_ = refl } }
 
 pub created_cells : (i : Image) (old : ActorProgress) (e : LogEntry) (cells : GateCellsState) (progress : ActorProgress) → HasCells cells old.state.gates → progress ≡ after_entry i old e → HasCells cells progress.state.gates
 created_cells i old e cells progress h is =
@@ -301,8 +297,11 @@ born_longer i r created cells e born h creates begun_ =
     ap length next.name_ ∙ (longer_name r.state.name (next_start r.state) ∙ ap (λ name. length name + 1) (account i r created h.task).name)
 
 pub pair_of : (i : Image) (r : ActorProgress) (created : List CreatedActor) (cells : GateCellsState) (e : LogEntry) (born : ActorState) (k : TaskState) (c : CreatingState) → KeepsTask i r created cells → IsCreatingEntry i r e → actor_begun i r.state e.event ≡ Some born
-    → r ≡ k.progress → c.progress ≡ after_entry i r e → c.born ≡ born → c.stamp ≡ e.stamp → IsPairOf k c born e.stamp
-pair_of i r created cells e born k c h creates begun_ same now_ born_is stamp_is = record {
+    → r ≡ k.progress → c.progress ≡ after_entry i r e → c.created ≡ k.created → c.born ≡ born → c.stamp ≡ e.stamp → IsPairOf i k c born e.stamp
+pair_of i r created cells e born k c h creates begun_ same now_ created_is born_is stamp_is = record {
+  entry = e;
+  made = subst (λ (x : ActorProgress). HasCreatedBy i x e c) same (record { creates = creates; begun = begun_ ∙ ap Some (sym born_is); now_ = now_; stamp_ = stamp_is });
+  created_ = created_is;
   beside = record {
     same = record { began = ap (λ (x : ActorProgress). x.began) now_ ∙ ap (λ (x : ActorProgress). x.began) same; low = ap (λ (x : ActorProgress). x.low) now_ ∙ ap (λ (x : ActorProgress). x.low) same };
     entries_ = λ n. ap (λ (x : ActorProgress). entries_on_declared n x.entries) now_ ∙ (none_more n r.entries e (creating_on_no_slot i r e creates) ∙ ap (λ (x : ActorProgress). entries_on_declared n x.entries) same);

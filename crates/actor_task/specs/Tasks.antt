@@ -1,5 +1,5 @@
 -- What the thread of an actor has in hand: the actor, and those that it created.
-use Rattle.std.specs.Prelude.{◌≡◌, ◌+◌, ◌<◌, ℕ, Bool, true, false, List, [], length, slice_get, slice_set, Some}
+use Rattle.std.specs.Prelude.{◌≡◌, ◌+◌, ◌<◌, ℕ, Bool, true, false, List, [], ◌∷◌, ◌++◌, length, slice_get, slice_set, Option, Some}
 use Rattle.wedge_base.specs.Images.{Image}
 use Rattle.wedge_base.specs.declared.grants.GateId.{GateId}
 use Rattle.wedge_events.specs.declared.events.Event.{Event}
@@ -18,7 +18,7 @@ use Rattle.machine.specs.Between.{WantFits, RunsIn}
 use Rattle.machine.specs.Children.{is_child}
 use Rattle.machine.specs.Local.{run_awaited}
 use Rattle.machine.specs.Take.{actor_begun, current_want}
-use Rattle.thread_laws.specs.ActorProgresses.{ActorProgress, after_entry, CreatedActor, IsProgress, Families}
+use Rattle.thread_laws.specs.ActorProgresses.{ActorProgress, after_entry, CreatedActor, created_actor, IsProgress, Families}
 use Rattle.actor_task.specs.declared.step.GateEntry.{GateEntry}
 use Rattle.thread_laws.specs.declared.gathered.ActorEnd.{ActorEnd}
 use Rattle.thread_laws.specs.declared.gathered.ActorLog.{ActorLog}
@@ -132,24 +132,35 @@ pub record CreatingState : Type 0 where
   pub born : ActorState
   pub stamp : ℕ
 
+-- it did so by this entry, that of what it wanted: its log has just that more
+pub record HasCreatedBy (i : Image) (old : ActorProgress) (e : LogEntry) (k : CreatingState) : Type 0 where
+  pub creates : IsCreatingEntry i old e
+  pub begun : actor_begun i old.state e.event ≡ Some k.born
+  pub now_ : k.progress ≡ after_entry i old e
+  pub stamp_ : k.stamp ≡ e.stamp
+
 pub record HasCreated (i : Image) (k : CreatingState) : Type 0 where
   pub old : ActorProgress
   pub entry : LogEntry
   pub task : IsTask i old k.created
-  pub creates : IsCreatingEntry i old entry
-  pub begun : actor_begun i old.state entry.event ≡ Some k.born
-  pub now_ : k.progress ≡ after_entry i old entry
-  pub stamp_ : k.stamp ≡ entry.stamp
+  pub made : HasCreatedBy i old entry k
+
+-- the other put at the end of those that it created, with how it ended if that is known
+abbrev pub with_created : CreatingState → Option ActorEnd → TaskState
+with_created k learned = going_on k.progress (k.created ++ created_actor k.born k.stamp learned ∷ [])
 
 -- an actor entered a recycled gate: its log has just the entry more that the gate's cell kept
 pub record HasEnteredGate (i : Image) (e : GateEntry) (old new : ActorProgress)
     (was now_ : CellState Kept GateAsk GateReply) : Type 0 where
   pub entry : LogEntry
-  pub kept_ : IsKeptInGate e.gate (gate_ask.Enter e.run e.memory) was now_ entry
+  pub kept_ : IsKeptInGate e.gate (gate_ask.Enter e.run e.memory) old was now_ entry
   pub progress_ : new ≡ after_entry i old entry
 
--- an actor and one that it created: as it begins, at the stamp of the entry
-pub record IsPairOf (k : TaskState) (c : CreatingState) (born : ActorState) (stamp : ℕ) : Type 0 where
+-- an actor and one that it created by an entry: as it begins, at the stamp of the entry
+pub record IsPairOf (i : Image) (k : TaskState) (c : CreatingState) (born : ActorState) (stamp : ℕ) : Type 0 where
+  pub entry : LogEntry
+  pub made : HasCreatedBy i k.progress entry c
+  pub created_ : c.created ≡ k.created
   pub beside : IsBesideSlots k.progress c.progress
   pub born_ : c.born ≡ born
   pub stamp_ : c.stamp ≡ stamp

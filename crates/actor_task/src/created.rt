@@ -24,7 +24,7 @@ pub struct Returned<I: RunOf, T: TableOf> {
     pub end: ActorEnd,
     pub others: Vec<KeptLog<I>>,
     pub gates: Vec<CellHistory>,
-    /// One for each log, in the order of the logs.
+    /// One for each log.
     pub passes: Vec<TagPass<I, T>>,
 }
 

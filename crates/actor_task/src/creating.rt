@@ -1,13 +1,13 @@
 //! Starts, and entries of gates.
 
-ghost use Rattle.std.specs.Prelude.{◌≡◌, ◌<◌, ◌+◌, ◌++◌, ◌∷◌, [], IfOk, IsErr, OnOk, Some, None, true, false, length};
+ghost use Rattle.std.specs.Prelude.{◌≡◌, ◌<◌, IfOk, IsErr, OnOk, Some, None, true, false, length};
 ghost use Rattle.wedge_events.specs.declared.events.Want.{Want as AWant};
 ghost use Rattle.run_cells.specs.Entries.{IsCreatingEntry};
 ghost use Rattle.thread_laws.specs.ActorProgresses.{created_actor, after_entry};
 ghost use Rattle.actor_task.specs.Returning.{IsReturned};
 ghost use Rattle.machine.specs.Take.{actor_begun};
 ghost use Rattle.run_cells.specs.RecycledGates.{HasCells};
-ghost use Rattle.actor_task.specs.Tasks.{IsNew, IsPairOf, IsUnlocked, Wants, WantsEntry, going_on, cellless_entry_of};
+ghost use Rattle.actor_task.specs.Tasks.{IsNew, IsPairOf, IsUnlocked, Wants, WantsEntry, with_created, cellless_entry_of};
 ghost use Rattle.actor_task.specs.Tasks.{HasEnteredGate};
 
 use crate::created::{Created, Returned};
@@ -81,7 +81,7 @@ impl<I: RunOf, T: TableOf> Creating<I, T> {
     /// Puts the actor that it created among those that it created, on its thread.
     pub fn adopt(self, one: Created<I, T>) -> Result<ActorTask<I, T>, NoMemory>
         requires { one ≡ created_actor self.born self.stamp None }
-        ensures { IfOk result (λ k. k ≡ going_on self.progress (self.created ++ one ∷ [])) }
+        ensures { IfOk result (λ k. k ≡ with_created self None) }
     {
         let Creating {
             alloc,
@@ -102,8 +102,7 @@ impl<I: RunOf, T: TableOf> Creating<I, T> {
     /// Puts the actor that it created among those that it created, which has ended.
     pub fn adopt_ended(self, returned: Returned<I, T>) -> Result<ActorTask<I, T>, NoMemory>
         requires { IsReturned I.image T.table.slots self.born self.stamp returned }
-        ensures { IfOk result (λ k. k ≡ going_on self.progress
-            (self.created ++ created_actor self.born self.stamp (Some returned.end) ∷ [])) }
+        ensures { IfOk result (λ k. k ≡ with_created self (Some returned.end)) }
     {
         let Creating {
             alloc,
@@ -132,7 +131,7 @@ impl<I: RunOf, T: TableOf> ActorTask<I, T> {
     ) -> Result<(Creating<I, T>, NewActor<I>), NoMemory>
         requires image { program.now ≡ I.image }
         requires wants { Wants self (AWant.Start child) }
-        ensures pair { IfOk result (λ p. IsPairOf self p.0 p.1.resident p.1.stamp) }
+        ensures pair { IfOk result (λ p. IsPairOf I.image self p.0 p.1.resident p.1.stamp) }
         ensures unlocked { IfOk result (λ p. IsUnlocked p.1.resident) }
     {
         let entry = cellless_entry(&self.run, Event::Start { child })?;
@@ -147,7 +146,7 @@ impl<I: RunOf, T: TableOf> ActorTask<I, T> {
     ) -> Result<(Creating<I, T>, NewActor<I>), NoMemory>
         requires image { program.now ≡ I.image }
         requires wants { Wants self (AWant.Enter run) }
-        ensures pair { IfOk result (λ p. IsPairOf self p.0 p.1.resident p.1.stamp) }
+        ensures pair { IfOk result (λ p. IsPairOf I.image self p.0 p.1.resident p.1.stamp) }
         ensures unlocked { IfOk result (λ p. IsUnlocked p.1.resident) }
     {
         self.run.affords_gate();
@@ -165,7 +164,7 @@ impl<I: RunOf, T: TableOf> ActorTask<I, T> {
     ) -> Result<(Creating<I, T>, NewActor<I>), NoMemory>
         requires image { program.now ≡ I.image }
         requires wants { WantsEntry self entry }
-        ensures pair { IfOk result (λ p. IsPairOf self p.0 p.1.resident p.1.stamp) }
+        ensures pair { IfOk result (λ p. IsPairOf I.image self p.0 p.1.resident p.1.stamp) }
         ensures kept { IfOk result (λ p.
             HasEnteredGate I.image entry self.progress p.0.progress locked.old locked.new) }
         ensures entered { OnOk result (locked.new.state.entered ≡ true) }
@@ -188,7 +187,7 @@ impl<I: RunOf, T: TableOf> ActorTask<I, T> {
         requires image { program.now ≡ I.image }
         requires going { self.stopped ≡ false }
         requires creates { IsCreatingEntry I.image self.progress entry }
-        ensures pair { IfOk result (λ p. IsPairOf self p.0 p.1.resident p.1.stamp) }
+        ensures pair { IfOk result (λ p. IsPairOf I.image self p.0 p.1.resident p.1.stamp) }
         ensures begun { IfOk result (λ p.
             actor_begun I.image self.progress.state entry.event ≡ Some p.1.resident) }
         ensures progress { IfOk result (λ p.
@@ -220,7 +219,7 @@ impl<I: RunOf, T: TableOf> ActorTask<I, T> {
         requires going { self.stopped ≡ false }
         requires creates { IsCreatingEntry I.image self.progress entry }
         requires cells { HasCells cells self.progress.state.gates }
-        ensures pair { IfOk result (λ p. IsPairOf self p.0 p.1.resident p.1.stamp) }
+        ensures pair { IfOk result (λ p. IsPairOf I.image self p.0 p.1.resident p.1.stamp) }
         ensures begun { IfOk result (λ p.
             actor_begun I.image self.progress.state entry.event ≡ Some p.1.resident) }
         ensures progress { IfOk result (λ p.

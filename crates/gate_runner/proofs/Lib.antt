@@ -6,5 +6,7 @@ pub mod RuledSlots
 pub mod BesideSlots
 -- What the thread of the root returned, and what the cells kept.
 pub mod Gathered
+-- Those that an actor created.
+pub mod Adopting
 -- What threads are given and return.
 pub mod Crossing

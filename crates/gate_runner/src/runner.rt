@@ -7,7 +7,7 @@ ghost use Rattle.thread_laws.specs.KeptEntries.{IsKept};
 ghost use Rattle.gate_runner.specs.Gathering.{IsGathered};
 ghost use Rattle.actor_task.specs.Returning.{IsReturned};
 ghost use Rattle.gate_runner.specs.Endings.{IsAtEnd};
-ghost use Rattle.gate_runner.specs.Joints.{IsJointDone};
+ghost use Rattle.gate_runner.specs.Joints.{HasStarted, HasEntered, IsAdopted, IsAdoptedEnded, IsJointDone};
 ghost use Rattle.actor_ends.specs.Joins.{HasJoined};
 ghost use Rattle.actor_task.specs.Steps.{IsStep, IsJointStep};
 ghost use Rattle.actor_task.specs.Tasks.{IsBesideSlots, IsUnlocked, Wants, WantsEntry};
@@ -181,7 +181,8 @@ fn start<
     child: ActorName,
 ) -> Result<ActorTask<I, T>, NoMemory>
     requires { Wants task (AWant.Start child) }
-    ensures { IfOk result (λ k. IsBesideSlots task.progress k.progress) }
+    ensures beside { IfOk result (λ k. IsBesideSlots task.progress k.progress) }
+    ensures started { IfOk result (HasStarted I.image task) }
 {
     all.pace.before(task.name());
     let (creating, new) = task.start(all.program.ready, child)?;
@@ -190,7 +191,7 @@ fn start<
 
 /// Runs a child on a thread of its own; where none can be made, here.
 #[cycle(run)]
-#[tactic(auto, using(crate::proofs::BesideSlots::beside_then, crate::proofs::BesideSlots::beside_same, crate::proofs::BesideSlots::tracked_beside, crate::proofs::Crossing::Returned_send, crate::proofs::Crossing::Shared_sync))]
+#[tactic(auto, using(crate::proofs::BesideSlots::beside_then, crate::proofs::BesideSlots::beside_same, crate::proofs::BesideSlots::tracked_beside, crate::proofs::Crossing::Returned_send, crate::proofs::Crossing::Shared_sync, crate::proofs::Adopting::adopted_running, crate::proofs::Adopting::adopted_some))]
 fn launch<
     's,
     'e,
@@ -207,7 +208,8 @@ fn launch<
     requires born { creating.born ≡ new.resident }
     requires stamp { creating.stamp ≡ new.stamp }
     requires unlocked { IsUnlocked new.resident }
-    ensures { IfOk result (λ k. IsBesideSlots creating.progress k.progress) }
+    ensures beside { IfOk result (λ k. IsBesideSlots creating.progress k.progress) }
+    ensures adopted { IfOk result (IsAdopted creating) }
 {
     let stamp = new.stamp;
     let began = Snapshot::of(&new.resident);
@@ -258,7 +260,8 @@ fn enter_fresh<
     run: ActorName,
 ) -> Result<ActorTask<I, T>, NoMemory>
     requires { Wants task (AWant.Enter run) }
-    ensures { IfOk result (λ k. IsBesideSlots task.progress k.progress) }
+    ensures beside { IfOk result (λ k. IsBesideSlots task.progress k.progress) }
+    ensures entered { IfOk result (HasEntered I.image task) }
 {
     all.pace.before(task.name());
     let (creating, new) = task.enter_fresh(all.program.ready, run)?;
@@ -280,7 +283,8 @@ fn enter_recycled<
     entry: GateEntry,
 ) -> Result<ActorTask<I, T>, NoMemory>
     requires { WantsEntry task entry }
-    ensures { IfOk result (λ k. IsBesideSlots task.progress k.progress) }
+    ensures beside { IfOk result (λ k. IsBesideSlots task.progress k.progress) }
+    ensures entered { IfOk result (HasEntered I.image task) }
 {
     let (task, cell) = with_cell(all, task, &entry)?;
     run_locked(all, task, cell, entry)
@@ -301,7 +305,8 @@ fn run_locked<
     entry: GateEntry,
 ) -> Result<ActorTask<I, T>, NoMemory>
     requires { WantsEntry task entry }
-    ensures { IfOk result (λ k. IsBesideSlots task.progress k.progress) }
+    ensures beside { IfOk result (λ k. IsBesideSlots task.progress k.progress) }
+    ensures entered { IfOk result (HasEntered I.image task) }
 {
     let mut guard = cell.lock(all.rt);
     run_inside(all, task, &mut *guard, entry)
@@ -323,7 +328,8 @@ fn run_inside<
     entry: GateEntry,
 ) -> Result<ActorTask<I, T>, NoMemory>
     requires { WantsEntry task entry }
-    ensures { IfOk result (λ k. IsBesideSlots task.progress k.progress) }
+    ensures beside { IfOk result (λ k. IsBesideSlots task.progress k.progress) }
+    ensures entered { IfOk result (HasEntered I.image task) }
 {
     let (creating, new) = task.enter_recycled(all.program.ready, locked, entry)?;
     let at_end = run_to_end(all, new)?;
@@ -346,7 +352,7 @@ fn with_cell<'e, I: RunOf, T: TableOf, R, P: Pace>(
 }
 
 /// The leave of a recycled gate whose lock is held, and what it leaves for the caller.
-#[tactic(auto, using(crate::proofs::BesideSlots::beside_then, crate::proofs::BesideSlots::beside_same, crate::proofs::BesideSlots::tracked_beside))]
+#[tactic(auto, using(crate::proofs::BesideSlots::beside_then, crate::proofs::BesideSlots::beside_same, crate::proofs::BesideSlots::tracked_beside, crate::proofs::Adopting::adopted_ended))]
 fn leave_inside<'e, I: RunOf, T: TableOf, R: Threads, P: Pace>(
     all: &'e Shared<'e, I, T, R, P>,
     locked: &mut LockedCell<Kept, I>,
@@ -355,7 +361,8 @@ fn leave_inside<'e, I: RunOf, T: TableOf, R: Threads, P: Pace>(
 ) -> Result<ActorTask<I, T>, NoMemory>
     requires entered { locked.old.state.entered ≡ true }
     requires at_end { IsAtEnd T.table.slots creating.born creating.stamp at_end }
-    ensures { IfOk result (λ k. IsBesideSlots creating.progress k.progress) }
+    ensures beside { IfOk result (λ k. IsBesideSlots creating.progress k.progress) }
+    ensures adopted { IfOk result (IsAdoptedEnded creating) }
 {
     let AtEnd { task, pass, last } = at_end;
     let returned = finish_locked(

@@ -19,5 +19,5 @@ returns-clause-returned g c =
     let r : Returned _ _ = record { log = c.finish-log.result.0; end = c.finish-log.result.1; others = all.others; gates = c.into_histories.new.histories; passes = all.passes } in
     let tracked = c.requires.tracked ∙ ap (λ (k : TaskState). entries_on_declared n k.progress.entries) (sym c.task.view_is) in
     subst (λ k. IsReturned i n k.progress.began k.progress.low r) c.task.view_is
-    (returned_so i n way c.task.inside.created.items r task (c.in_ok-others.ensures.families way task) c.finish-log.ensures.entries c.finish-log.ensures.log c.finish-log.ensures.end c.in_ok-into_histories.ensures
+    (returned_so i n way c.task.inside.created.items r task (c.in_ok-others.ensures.families way task) c.finish-log.ensures.entries c.finish-log.ensures.log c.finish-log.ensures.end c.in_ok-into_histories.ensures.legal
     (whole_family n c.args.pass (all_entered all.passes.items) way.entries c.finish-log.result.0 all.others.items tracked c.finish-log.ensures.entries c.in_ok-others.ensures.passes))

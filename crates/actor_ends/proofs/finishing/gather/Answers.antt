@@ -29,7 +29,7 @@ loop-one-preserved g c =
       another d.0 _ c.loop-one.all.others.items _ k fam.way fam.its f.log f.others.items f.end d.1 fam.progress fam.left fam.others_ refl c.in_ok-add.ensures.others,
       λ r task. learns r (d.0 ++ one ∷ rest) _ (length d.0) one f.end (subst (λ xs. IsProgress g.I.RunOf.image r (d.0 ++ xs)) step (d.2 r task)) (there_last d.0 one rest) h.fits.was h.fits.fuel_
           (append_step d.0 k rest ∙ sym (set_last d.0 one k rest)),
-      c.in_ok-add.ensures.gates,
+      c.in_ok-add.ensures.legal,
       family_more g.T.TableOf.table.slots c.args.pass (all_entered c.loop-one.all.passes.items) (all_entered f.passes.items) _ c.loop-one.all.others.items (f.log ∷ f.others.items) d.4 h.returned.entered
           (ap all_entered c.in_ok-add.ensures.passes ∙ all_entered_append c.loop-one.all.passes.items f.passes.items) ∙ ap (λ gs. c.args.pass ++ entries_on_declared g.T.TableOf.table.slots (all_logged gs)) (sym c.in_ok-add.ensures.others),
       search rules,

@@ -1,6 +1,7 @@
-use Rattle.std.proofs.Common.{ap, ◌∙◌}
+use Rattle.std.proofs.Common.{ap, subst, ◌∙◌}
 use Rattle.actor_task.proofs.Progressing.{if_ok}
 use Rattle.wedge_events.specs.declared.cells.GateReply.TheVariants as gate_reply
+use Rattle.run_cells.specs.Entries.{IsKeptInGate}
 use Rattle.actor_task.specs.Tasks.{TaskState}
 use Rattle.actor_task.proofs.EntriesFit.{gate_leave_ends}
 use Rattle.wedge_events.specs.declared.cells.GateAsk.TheVariants as gate_ask
@@ -21,4 +22,6 @@ finish-requires-clause-tracked g c =
 pub returns-clause-left : goal.returns-clause-left
 returns-clause-left g c =
     let is = ap (λ (k : TaskState). k.progress.entries) c.in_ok-take_plain.ensures in
-    if_ok _ _ c.finish.result (λ t log. record { entry = c.in_ok-entry.entry; kept_ = c.in_ok-entry.ensures.kept; log_ = log ∙ is }) c.finish.ensures.log
+    let q = gate_ask.Leave c.args.end c.args.memory in
+    let kept = subst (λ (k : TaskState). IsKeptInGate c.args.gate q k.progress c.args.locked.now c.leave_gate.new.locked c.in_ok-entry.entry) c.leaving.view_is c.in_ok-entry.ensures.kept in
+    if_ok _ _ c.finish.result (λ t log. record { entry = c.in_ok-entry.entry; kept_ = kept; log_ = log ∙ is }) c.finish.ensures.log

@@ -1,9 +1,9 @@
-use Rattle.std.proofs.Common.{rules, Ok, sym, subst, ap, length, ◌∙◌}
+use Rattle.std.proofs.Common.{rules, sym, subst, ap, length, ◌∙◌}
 use Rattle.thread_laws.specs.ActorProgresses.{after_run}
 use Rattle.actor_task.specs.Tasks.{Waits, IsIndexed}
-use Rattle.actor_task.proofs.Progressing.{kept_resumes, child_indexed, learned_if, learned_within, waits_so}
+use Rattle.actor_task.proofs.Progressing.{kept_resumes, child_indexed, learned_within, waits_so}
 use Rattle.actor_run.specs.Runs.{RunState}
-use Rattle.actor_task.specs.Tasks.{IsBesideSlots, TaskState}
+use Rattle.actor_task.specs.Tasks.{HasLearned, IsBesideSlots, TaskState}
 use Rattle.actor_task.proofs.Tracking.{beside_run}
 use Rattle.actor_ends.proofs.joining.resume.Goals as goal
 
@@ -34,8 +34,10 @@ returns-clause-beside g c = subst (λ k. IsBesideSlots k.progress c.resume.new.s
 pub returns-clause-resumed : goal.returns-clause-resumed
 returns-clause-resumed g c =
     let end = c.in_ok-end.end in
+    let index = c.index_of-index.result in
+    let new = c.learn.new.created.items in
     record {
       end_ = end;
-      learned_ = learned_if c.task.inside.created.items _ c.args.number c.index_of-index.result (Ok end) c.index_of-index.ensures.is c.in_ok-end.ensures.learned;
+      learned_ = record { index = index; number_ = c.index_of-index.ensures.is; learned_ = subst (λ (k : TaskState). HasLearned k.created new index end) c.task.view_is c.in_ok-end.ensures.learned };
       progress_ = ap (λ (x : RunState). x.progress) c.resume.ensures ∙ ap (λ (k : TaskState). after_run k.progress c.args.number end) c.task.view_is;
     }

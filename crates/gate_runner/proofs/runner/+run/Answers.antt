@@ -5,6 +5,8 @@ use Rattle.std.proofs.result.Result.TheSendSync as result
 use Rattle.wedge_base.proofs.errors.NoMemory.TheSendSync as no_memory
 use Rattle.actor_task.proofs.creating.NewActor.TheSendSync as new
 use Rattle.gate_runner.specs.contracts.runner.Shared as Shared
+use Rattle.actor_task.proofs.Progressing.{if_ok}
+use Rattle.gate_runner.proofs.Adopting.{started_so, entered_so, entered_ended}
 use Rattle.gate_runner.proofs.Crossing.{Returned_send, Shared_sync}
 use Rattle.gate_runner.proofs.runner.+run.Lts-launch as lts
 use Rattle.gate_runner.proofs.runner.+run.Goals as goal
@@ -24,3 +26,14 @@ launch-spawn_with-requires-send-F g t c κs within =
 
 pub launch-spawn_with-requires-send-T : goal.launch-spawn_with-requires-send-T
 launch-spawn_with-requires-send-T g t c κs within = search (sendable, Returned_send, no_memory.the_send, result.the_send, c.requires-raw) depth 40 fits 100000
+
+-- what became of an actor that created another
+pub start-returns-clause-started : goal.start-returns-clause-started
+start-returns-clause-started g t c = if_ok _ _ c.launch.result (λ k h. started_so g.I.RunOf.image c.args.task k c.in_ok-creating.creating _ _ c.in_ok-creating.ensures.pair h) c.launch.ensures.adopted
+
+pub enter_fresh-returns-clause-entered : goal.enter_fresh-returns-clause-entered
+enter_fresh-returns-clause-entered g t c =
+    if_ok _ _ c.adopt_ended.result (λ k is. entered_ended g.I.RunOf.image c.args.task k c.in_ok-creating.creating _ _ c.in_ok-returned.returned.end c.in_ok-creating.ensures.pair is) c.adopt_ended.ensures
+
+pub run_inside-returns-clause-entered : goal.run_inside-returns-clause-entered
+run_inside-returns-clause-entered g t c = if_ok _ _ c.leave_inside.result (λ k h. entered_so g.I.RunOf.image c.args.task k c.in_ok-creating.creating _ _ c.in_ok-creating.ensures.pair h) c.leave_inside.ensures.adopted

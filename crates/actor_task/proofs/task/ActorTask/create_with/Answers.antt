@@ -51,4 +51,4 @@ returns-clause-pair g c =
     let going = subst (λ k. k.stopped ≡ false) (sym c.self.view_is) c.requires.going in
     let creates = subst (λ k. IsCreatingEntry i k.progress c.args.entry) (sym c.self.view_is) c.requires.creates in
     let begun : actor_begun i r.state c.args.entry.event ≡ Some born = search rules in
-    pair_of i r c.self.inside.created.items c.self.inside.gates c.args.entry born c.args.self _ (c.self.invariant going) creates begun (ap (λ k. k.progress) c.self.view_is) (search rules) (search rules) refl
+    pair_of i r c.self.inside.created.items c.self.inside.gates c.args.entry born c.args.self _ (c.self.invariant going) creates begun (ap (λ k. k.progress) c.self.view_is) (search rules) (ap (λ k. k.created) c.self.view_is) (search rules) refl
