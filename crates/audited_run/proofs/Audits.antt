@@ -55,9 +55,7 @@ pub differing : (i : Image) (g : Gathered) (d : Difference) → IsGathered i g
     → IsFirstDifference (journal_of g.logs) (all_histories g) d → IsUndeclared (length g.declared) d.cell
     → IsDiffering i (record { gathered = g; disagree = d })
 differing i g d left first undeclared = record {
-  walked = left.walked;
-  of_root = left.of_root;
-  legal = kept_are_legal i (all_histories g) left.kept;
+  left = left;
   first = first;
   undeclared = subst (λ n. IsUndeclared n d.cell) left.declared_ undeclared;
 }

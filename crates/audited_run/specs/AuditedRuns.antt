@@ -13,9 +13,9 @@ use Rattle.grant_cache.specs.declared.count.CacheLine.{CacheLine}
 use Rattle.thread_laws.specs.Joining.{AreWalked, Agrees, journal_of, outcome_gathered}
 use Rattle.thread_laws.specs.LookUps.{AreCountsOf}
 use Rattle.thread_laws.specs.Merging.{IsNondecreasing}
-use Rattle.thread_laws.specs.Replaying.{all_histories, AreLegalHistories, Legal}
+use Rattle.thread_laws.specs.Replaying.{all_histories, AreLegalHistories}
 use Rattle.thread_laws.specs.declared.gathered.Gathered.{Gathered}
-use Rattle.gate_runner.specs.Gathering.{IsOfRoot}
+use Rattle.gate_runner.specs.Gathering.{IsGathered, IsOfRoot}
 use Rattle.run_audit.specs.ComparedCells.{IsUndeclared}
 use Rattle.run_audit.specs.Differences.{IsFirstDifference}
 use Rattle.audited_run.specs.declared.run.AuditedRun.{AuditedRun}
@@ -34,13 +34,11 @@ pub record IsOfThreads (i : Image) (entries : List LogEntry) (outcome : Outcome)
   pub rising : IsNondecreasing entries
   pub outcome_is : outcome ≡ outcome_gathered i gathered.logs (all_histories gathered)
 
--- The history of a cell that threads left differs from the entries of that cell that they logged: the logs are those
--- of whole executions and the histories legal, the cell is the first of which this holds, and the entries are the
--- first of its that differ. It is not the slot of a declared tag.
+-- What threads left, where the history of a cell differs from the entries of that cell that they logged: it is what a
+-- run of the image leaves, the cell is the first of which this holds, and the entries are the first of its that differ.
+-- It is not the slot of a declared tag.
 pub record IsDiffering (i : Image) (d : Differs) : Type 0 where
-  pub walked : AreWalked i d.gathered.logs
-  pub of_root : IsOfRoot i d.gathered.logs
-  pub legal : Legal i (all_histories d.gathered)
+  pub left : IsGathered i d.gathered
   pub first : IsFirstDifference (journal_of d.gathered.logs) (all_histories d.gathered) d.disagree
   pub undeclared : IsUndeclared (length i.tags) d.disagree.cell
 
