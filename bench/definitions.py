@@ -244,7 +244,7 @@ RUN = [
         [
             (
                 "journal_cell/Histories",
-                "Read `IsHistory` and `entry_at`: the stamp is one above the greater of two clocks.",
+                "Read `IsHistory`, `entry_at` (the stamp is one above the greater of two clocks) and `IsKeptCell`.",
             ),
             ("journal_cell/GhostLists", "One function: the items of a ghost list, as it grew."),
             (
@@ -501,7 +501,7 @@ OTHERS = [
             ("thread_laws/Auditing", "Two folds over lists."),
             ("thread_laws/ActorWalks", "The walk is `IsWalk` of run_laws."),
             ("thread_laws/KeptEntries", "What a log keeps in memory is a filter over its entries."),
-            ("gate_runner/Gathering", "What `run_image` returns: `AreWalked`, `IsOfRoot`, `AreLegalHistories`, `AreRuled` and `AreKept`; and what its logs keep."),
+            ("gate_runner/Gathering", "What `run_image` returns: `AreWalked`, `IsOfRoot`, `AreLegalHistories`, `AreRuled`; and what its logs keep (`AreKept`)."),
             ("run_audit/Audits", "What `audit` returns."),
             (
                 "run_audit/ComparedCells",
@@ -530,10 +530,11 @@ OTHERS = [
             ("actor_task/Steps", ""),
             ("actor_task/States", ""),
             ("actor_steps/Logged", "Where a step went, the progress is that after one entry more."),
-            ("actor_ends/Joins", "A join logs just its entry, and a caller goes on with the end that it learned."),
+            ("actor_ends/Joins", "A join logs just its entry, and a caller goes on with the end that it learned; of no other is "
+             "anything learned."),
             ("actor_ends/Leaving", "`LeavesCell`: what the cell of a recycled gate has more is what its run logged."),
             ("gate_runner/Endings", ""),
-            ("gate_runner/Joints", ""),
+            ("gate_runner/Joints", "`IsJointDone`: a start, the entry of a gate, a join, and the return from a gate, each done."),
         ],
     ),
 ]
