@@ -524,6 +524,7 @@ OTHERS = [
             ("run_cells/Names", ""),
             ("run_cells/Entries", ""),
             ("run_cells/RecycledGates", ""),
+            ("run_cells/Prefixes", ""),
             ("run_cells/TagPasses", "Read `AreClosed`: what is known of the slots of declared tags at the end."),
             ("actor_task/Returning", "`AreReturned` of thread_laws, and what a creator needs besides."),
             ("actor_task/Tasks", "`KeepsTask` is `IsProgress` with the cells of the gates that are known."),
