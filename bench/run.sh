@@ -220,6 +220,6 @@ accesses() {
     awk 'BEGIN { for (k = 0; k < 16; k++) print "lw a0, 0(t0)\nsw a0, 4(t0)" }'
     printf 'j again\n'
 }
-accesses | count 'a shared access' shared 33000 66000 32000 495 || exit 1
-accesses | count 'a shared access, before the audit' shared 33000 66000 32000 495 gate_runner::runner::run_whole || exit 1
-accesses | count 'a shared access, a turn of a replay' turn 33000 66000 32000 335 world_turns::turns::advance replay || exit 1
+accesses | count 'a shared access' shared 33000 66000 32000 500 || exit 1
+accesses | count 'a shared access, before the audit' shared 33000 66000 32000 500 gate_runner::runner::run_whole || exit 1
+accesses | count 'a shared access, a turn of a replay' turn 33000 66000 32000 300 world_turns::turns::advance replay || exit 1
